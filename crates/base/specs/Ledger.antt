@@ -1,0 +1,60 @@
+-- Who owns a page, what it is to its owner, and what each partition reaches of it.
+use Rattle.std.specs.Prelude.{ℕ, Bool, false, ◌&&◌, ◌==◌, not, if◌then◌else◌, List, [], ◌∷◌, Option, Some, None, is_some}
+use Rattle.std.specs.List.{find}
+use Rattle.std.specs.Option.{option_map, option_and_then, option_map_or}
+use Rattle.base.specs.declared.transaction.Kind.{Kind}
+use Rattle.base.specs.declared.transaction.Kind.TheVariants.{Share, Lend, Donate}
+use Rattle.base.specs.Pages.{covers}
+use Rattle.base.specs.Permissions.{Answer}
+use Rattle.base.specs.Manifest.{ManifestRows, region_at, granted_in, grant, is_sharable}
+use Rattle.base.specs.Transactions.{Receiver, Live, Donation}
+
+-- the live transaction that covers a page
+abbrev pub live_at : List Live → ℕ → Option Live
+live_at live n = find (λ t. covers t.ranges n) live
+
+-- the last donation that covers a page
+abbrev pub donation_at : List Donation → ℕ → Option Donation
+donation_at [] n = None
+donation_at (d ∷ ds) n = option_map_or Some (donation_at ds n) (if covers d.ranges n then Some d else None)
+
+-- the taker of the last donation that covers the page, else the manifest's owner
+abbrev pub owner : ManifestRows → List Donation → ℕ → Option ℕ
+owner m ds n = option_map_or (λ d. Some d.taker) (donation_at ds n) (option_map (λ r. r.owner) (region_at m n))
+
+-- the access of that donation, else the owner's grant
+abbrev pub home : ManifestRows → List Donation → ℕ → Answer
+home m ds n = option_map_or (λ d. Some d.access) (donation_at ds n) (option_and_then (λ r. granted_in r r.owner) (region_at m n))
+
+-- what a partition reaches of a page that no live transaction covers: where a donation covers it the owner has the home and all others nothing, else the manifest's grants decide
+abbrev pub settled_view : ManifestRows → List Donation → ℕ → ℕ → Answer
+settled_view m ds p n = option_map_or (λ d. if d.taker == p then Some d.access else None) (donation_at ds n) (grant m p n)
+
+-- what a partition has retrieved as one of these receivers
+abbrev pub retrieved : List Receiver → ℕ → Answer
+retrieved receivers p = option_and_then (λ r. r.retrieved) (find (λ r. r.partition == p) receivers)
+
+-- what the sender keeps of its home: all of it under a share, else nothing
+abbrev pub kept : Kind → Answer → Answer
+kept Share home = home
+kept Lend home = None
+kept Donate home = None
+
+-- what a partition reaches of a page that a live transaction covers: the sender what it keeps, a receiver what it has retrieved, all others nothing
+abbrev pub view_under : Live → Answer → ℕ → Answer
+view_under t home p = if t.sender == p then kept t.kind home else retrieved t.receivers p
+
+-- what a partition reaches of a page
+abbrev pub view : ManifestRows → List Donation → List Live → ℕ → ℕ → Answer
+view m ds live p n = option_map_or (λ t. view_under t (home m ds n) p) (live_at live n) (settled_view m ds p n)
+
+-- the partition owns the page
+abbrev pub is_owner : ManifestRows → List Donation → ℕ → ℕ → Bool
+is_owner m ds p n = option_map_or (λ o. o == p) (owner m ds n) false
+
+-- the partition owns the page, its region is normal memory with exactly one grant, and no live transaction covers it
+abbrev pub is_idle : ManifestRows → List Donation → List Live → ℕ → ℕ → Bool
+is_idle m ds live p n =
+    is_owner m ds p n
+    && option_map_or is_sharable (region_at m n) false
+    && not (is_some (live_at live n))

@@ -1,0 +1,7 @@
+pub mod Pages
+pub mod Permissions
+pub mod Manifest
+pub mod Transactions
+pub mod Ledger
+pub mod State
+pub mod Send

@@ -1,0 +1,66 @@
+-- The manifest as data: which partitions there are, and what its regions grant.
+use Rattle.std.specs.Prelude.{ℕ, ◌+◌, Bool, ◌&&◌, ◌==◌, List, length, map, sum_by, Option}
+use Rattle.std.specs.List.{list_any, find, position_from}
+use Rattle.std.specs.Option.{option_map, option_and_then}
+use Rattle.base.specs.declared.access.Rights.{Rights}
+use Rattle.base.specs.declared.access.MemoryKind.{MemoryKind}
+use Rattle.base.specs.Pages.{PageRun, in_run}
+use Rattle.base.specs.Permissions.{Permission, Answer, is_normal}
+
+-- a partition, and how many table pages it may have, its root apart
+pub record PartitionRow : Type 0 where
+  pub id : ℕ
+  pub quota : ℕ
+
+-- what a region grants to a partition
+pub record GrantRow : Type 0 where
+  pub partition : ℕ
+  pub rights : Rights
+  pub exec : Bool
+
+-- pages of one kind and one owner that are granted alike
+pub record RegionRow : Type 0 where
+  pub pages : PageRun
+  pub kind : MemoryKind
+  pub owner : ℕ
+  pub grants : List GrantRow
+
+-- the first page of the table pool, the partitions and the regions
+pub record ManifestRows : Type 0 where
+  pub pool : ℕ
+  pub partitions : List PartitionRow
+  pub regions : List RegionRow
+
+abbrev pub ids_of : List PartitionRow → List ℕ
+ids_of partitions = map (λ row. row.id) partitions
+
+abbrev pub is_partition : ManifestRows → ℕ → Bool
+is_partition m p = list_any (λ row. row.id == p) m.partitions
+
+-- the place of a partition among the others, from 0
+abbrev pub place_of : List ℕ → ℕ → Option ℕ
+place_of ids p = position_from (λ id. id == p) 0 ids
+
+-- the region of a page
+abbrev pub region_at : ManifestRows → ℕ → Option RegionRow
+region_at m n = find (λ r. in_run r.pages n) m.regions
+
+-- the permission that a grant gives for memory of this kind
+abbrev pub permission_of : MemoryKind → GrantRow → Permission
+permission_of kind g = record { rights = g.rights; exec = g.exec; kind = kind }
+
+-- what a region grants to a partition
+abbrev pub granted_in : RegionRow → ℕ → Answer
+granted_in r p = option_map (permission_of r.kind) (find (λ g. g.partition == p) r.grants)
+
+-- what the manifest grants to a partition at a page
+abbrev pub grant : ManifestRows → ℕ → ℕ → Answer
+grant m p n = option_and_then (λ r. granted_in r p) (region_at m n)
+
+-- the region may be shared, lent and given away: normal memory with exactly one grant
+abbrev pub is_sharable : RegionRow → Bool
+is_sharable r = is_normal r.kind && (length r.grants == 1)
+
+-- the number of table pages: a root for each partition, and its quota
+abbrev pub page_count : List PartitionRow → ℕ
+page_count partitions = length partitions + sum_by (λ row. row.quota) partitions

@@ -1,0 +1,91 @@
+ghost use Rattle.std.specs.Prelude.{◌≡◌, false};
+
+use std::marker::Model;
+
+/// The data access that a page is mapped with (Arm ARM, stage 2 descriptors, S2AP).
+#[derive(Clone, Copy, Debug, PartialEq, Eq)]
+pub enum Rights {
+    /// Read-only.
+    Ro,
+    /// Read and write.
+    Rw,
+}
+
+/// The kind of memory (Arm ARM, stage 2 descriptors, MemAttr).
+#[derive(Clone, Copy, Debug, PartialEq, Eq)]
+pub enum MemoryKind {
+    /// Normal memory, write-back, inner shareable.
+    Normal,
+    /// Device memory, nGnRE.
+    Device,
+}
+
+/// What a partition may do with a page. Only normal memory is executable.
+#[derive(Clone, Copy, Debug, PartialEq, Eq)]
+pub struct Access {
+    rights: Rights,
+    exec: bool,
+    kind: MemoryKind,
+}
+
+impl Model for Access {
+    ghost use Rattle.base.specs.Permissions.{Permission, IsLegal};
+
+    ghost Value = { Permission };
+
+    ghost view = { λ a. record { rights = a.rights; exec = a.exec; kind = a.kind } };
+
+    ghost invariant = { λ a. IsLegal (record { rights = a.rights; exec = a.exec; kind = a.kind }) };
+
+    ghost inverse = { λ a. record { rights = a.rights; exec = a.exec; kind = a.kind } };
+}
+
+impl Access {
+    ghost use Rattle.base.specs.Permissions.{IsLegal};
+
+    /// Access to normal memory.
+    pub fn normal(rights: Rights, exec: bool) -> Self
+        ensures { result ≡ record { rights = rights; exec = exec; kind = MemoryKind.Normal } }
+    {
+        Access {
+            rights,
+            exec,
+            kind: MemoryKind::Normal,
+        }
+    }
+
+    /// Access to device memory.
+    pub fn device(rights: Rights) -> Self
+        ensures { result ≡ record { rights = rights; exec = false; kind = MemoryKind.Device } }
+    {
+        Access {
+            rights,
+            exec: false,
+            kind: MemoryKind::Device,
+        }
+    }
+
+    /// The data access.
+    pub fn rights(self) -> Rights
+        ensures same { result ≡ self.rights }
+        ensures legal { IsLegal self }
+    {
+        self.rights
+    }
+
+    /// Whether instructions may be fetched.
+    pub fn is_executable(self) -> bool
+        ensures same { result ≡ self.exec }
+        ensures legal { IsLegal self }
+    {
+        self.exec
+    }
+
+    /// The kind of memory.
+    pub fn kind(self) -> MemoryKind
+        ensures same { result ≡ self.kind }
+        ensures legal { IsLegal self }
+    {
+        self.kind
+    }
+}
