@@ -1,6 +1,6 @@
 -- The manifest as data: which partitions there are, and what its regions grant.
-use Rattle.std.specs.Prelude.{ℕ, ◌+◌, Bool, ◌&&◌, ◌==◌, List, length, map, sum_by, Option}
-use Rattle.std.specs.List.{list_any, find, position_from}
+use Rattle.std.specs.Prelude.{ℕ, ◌+◌, Bool, ◌&&◌, ◌==◌, List, length, map, sum, Option}
+use Rattle.std.specs.List.{list_any, find, position_or_len}
 use Rattle.std.specs.Option.{option_map, option_and_then}
 use Rattle.base.specs.declared.access.Rights.{Rights}
 use Rattle.base.specs.declared.access.MemoryKind.{MemoryKind}
@@ -37,9 +37,12 @@ ids_of partitions = map (λ row. row.id) partitions
 abbrev pub is_partition : ManifestRows → ℕ → Bool
 is_partition m p = list_any (λ row. row.id == p) m.partitions
 
--- the place of a partition among the others, from 0
-abbrev pub place_of : List ℕ → ℕ → Option ℕ
-place_of ids p = position_from (λ id. id == p) 0 ids
+abbrev pub quotas_of : List PartitionRow → List ℕ
+quotas_of partitions = map (λ row. row.quota) partitions
+
+-- the place of a partition among the others, from 0; for one that has no row, their number
+abbrev pub row_of : List ℕ → ℕ → ℕ
+row_of ids p = position_or_len (λ id. id == p) ids
 
 -- the region of a page
 abbrev pub region_at : ManifestRows → ℕ → Option RegionRow
@@ -61,6 +64,6 @@ grant m p n = option_and_then (λ r. granted_in r p) (region_at m n)
 abbrev pub is_sharable : RegionRow → Bool
 is_sharable r = is_normal r.kind && (length r.grants == 1)
 
--- the number of table pages: a root for each partition, and its quota
-abbrev pub page_count : List PartitionRow → ℕ
-page_count partitions = length partitions + sum_by (λ row. row.quota) partitions
+-- the number of table pages: a root for each partition, and their quotas
+abbrev pub page_count : List ℕ → ℕ
+page_count quotas = length quotas + sum quotas

@@ -1,0 +1,10 @@
+//! The manifest: which partitions there are, which regions of memory, and what is granted to whom.
+#![tactic(auto)]
+
+mod common;
+mod manifest;
+mod region;
+
+pub use common::common_manifest;
+pub use manifest::{Manifest, Partition};
+pub use region::{Grant, Region};

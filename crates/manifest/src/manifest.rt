@@ -1,0 +1,125 @@
+ghost use Rattle.std.specs.Prelude.{◌≡◌, ◌==◌, IsTrue};
+ghost use Rattle.std.specs.List.{find};
+ghost use Rattle.std.specs.Option.{option_map};
+ghost use Rattle.base.specs.Manifest as rows;
+ghost use Rattle.manifest.specs.Valid.{is_valid, quota_of};
+
+use crate::region::Region;
+use base::{Access, Page, PartitionId};
+use std::marker::Model;
+
+/// A partition, and how many table pages it may have, its root apart.
+#[derive(Clone, Copy, Debug, PartialEq, Eq)]
+pub struct Partition {
+    pub id: PartitionId,
+    pub quota: u32,
+}
+
+impl Model for Partition {
+    ghost use Rattle.base.specs.Manifest.{PartitionRow};
+
+    ghost Value = { PartitionRow };
+
+    ghost view = { λ p. record { id = p.id; quota = p.quota } };
+
+    ghost inverse = { λ p. record { id = p.id; quota = p.quota } };
+}
+
+/// The partitions in ascending order of identifier, the regions in ascending order of address, and
+/// where the table pool begins. Every value of the type keeps the rules of a manifest.
+#[derive(Drop)]
+pub struct Manifest {
+    pool: Page,
+    partitions: Vec<Partition>,
+    regions: Vec<Region>,
+}
+
+impl Model for Manifest {
+    ghost use Rattle.std.specs.Prelude.{IsTrue};
+    ghost use Rattle.base.specs.Manifest.{ManifestRows};
+    ghost use Rattle.manifest.specs.Valid.{is_valid};
+
+    ghost Value = { ManifestRows };
+
+    ghost view = { λ m. record { pool = m.pool; partitions = m.partitions.items; regions = m.regions.items } };
+
+    ghost invariant = { λ m. IsTrue (is_valid (record { pool = m.pool; partitions = m.partitions.items; regions = m.regions.items })) };
+}
+
+impl Manifest {
+    /// A manifest of these rows.
+    pub(crate) fn new(pool: Page, partitions: Vec<Partition>, regions: Vec<Region>) -> Self
+        requires { IsTrue (is_valid (record { pool = pool; partitions = partitions.items; regions = regions.items })) }
+        ensures { result ≡ record { pool = pool; partitions = partitions.items; regions = regions.items } }
+    {
+        Manifest {
+            pool,
+            partitions,
+            regions,
+        }
+    }
+
+    /// The first page of the table pool.
+    pub fn pool(&self) -> Page
+        ensures same { result ≡ self.now.pool }
+        ensures valid { IsTrue (is_valid self.now) }
+    {
+        self.pool
+    }
+
+    /// The partitions, in ascending order of identifier.
+    pub fn partitions(&self) -> &[Partition]
+        ensures same { result.now ≡ self.now.partitions }
+        ensures valid { IsTrue (is_valid self.now) }
+    {
+        &self.partitions
+    }
+
+    /// The regions, in ascending order of address.
+    pub fn regions(&self) -> &[Region]
+        ensures same { result.now ≡ self.now.regions }
+        ensures valid { IsTrue (is_valid self.now) }
+    {
+        &self.regions
+    }
+
+    /// How many table pages a partition may have, its root apart; 0 for one that has no row.
+    pub fn quota(&self, p: PartitionId) -> u32
+        ensures { result ≡ quota_of self.now p }
+    {
+        match self.row(p) {
+            Some(row) => row.quota,
+            None => 0,
+        }
+    }
+
+    /// The row of a partition.
+    fn row(&self, p: PartitionId) -> Option<&Partition>
+        ensures { option_map (λ row. row.now) result ≡ find (λ row. row.id == p) self.now.partitions }
+    {
+        self.partitions.iter().find(|row| row.id == p)
+    }
+
+    /// The region of a page.
+    fn region_at(&self, page: Page) -> Option<&Region>
+        ensures { option_map (λ r. r.now) result ≡ rows.region_at self.now page }
+    {
+        self.regions
+            .iter()
+            .find(|region| region.pages().contains(page))
+    }
+
+    /// What the manifest grants to a partition at a page.
+    pub fn grant(&self, p: PartitionId, page: Page) -> Option<Access>
+        ensures { result ≡ rows.grant self.now p page }
+    {
+        self.region_at(page)?.access(p)
+    }
+
+    /// The partition that owns a page; None outside all regions.
+    pub fn owner(&self, page: Page) -> Option<PartitionId>
+        ensures { result ≡ option_map (λ r. r.owner) (rows.region_at self.now page) }
+    {
+        Some(self.region_at(page)?.owner())
+    }
+}
