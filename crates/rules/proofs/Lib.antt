@@ -1,0 +1,5 @@
+pub mod Steps
+pub mod Reached
+pub mod Pages
+pub mod Viewing
+pub mod Owning

@@ -1,0 +1,5 @@
+use Rattle.rules.proofs.Owning.{owned_once}
+use Rattle.rules.proofs.law.pages_have_one_owner.Goals as goal
+
+pub returns : goal.returns
+returns c = owned_once

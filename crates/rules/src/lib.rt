@@ -1,0 +1,9 @@
+//! The definition of the manager: the table of tests of each call, its reply, the state after it, and
+//! what holds in every state that calls reach. `specs/` has the definitions, `proofs/` the laws.
+#![tactic(auto)]
+
+mod function;
+mod law;
+
+pub use function::Function;
+pub use law::pages_have_one_owner;
