@@ -1,5 +1,5 @@
 -- Pages of 4 KB by their numbers, and sets of pages as lists of runs (Arm ARM, VMSAv8-64, 4 KB granule).
-use Rattle.std.specs.Prelude.{ℕ, ◌+◌, ◌^◌, ◌<◌, ◌≤◌, Bool, true, ◌&&◌, ◌||◌, nat_le, nat_lt, List, [], ◌∷◌}
+use Rattle.std.specs.Prelude.{ℕ, ◌+◌, ◌-◌, ◌/◌, ◌^◌, ◌<◌, ◌≤◌, Bool, true, ◌&&◌, ◌||◌, nat_le, nat_lt, List, [], ◌∷◌}
 use Rattle.std.specs.List.{list_any, list_all}
 
 -- the pages first, first + 1, .., first + count - 1
@@ -18,6 +18,10 @@ in_run run n = nat_le run.first n && nat_lt n (run.first + run.count)
 -- the page is in one of the runs
 abbrev pub covers : List PageRun → ℕ → Bool
 covers runs n = list_any (λ run. in_run run n) runs
+
+-- how many chunks of 512 pages (2 MB) the run touches
+abbrev pub chunks_in : PageRun → ℕ
+chunks_in run = (run.first + run.count - 1) / 512 + 1 - run.first / 512
 
 -- the two share no page
 abbrev pub are_apart : PageRun → PageRun → Bool

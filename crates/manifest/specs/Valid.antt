@@ -2,7 +2,7 @@
 use Rattle.std.specs.Prelude.{ℕ, ◌+◌, ◌-◌, ◌*◌, ◌/◌, ◌^◌, Bool, true, not, ◌&&◌, ◌||◌, ◌==◌, nat_le, List, [], ◌∷◌, length, sum_by, if◌then◌else◌, is_some}
 use Rattle.std.specs.List.{list_all, list_any, find}
 use Rattle.std.specs.Option.{option_map_or}
-use Rattle.base.specs.Pages.{PageRun, are_apart}
+use Rattle.base.specs.Pages.{PageRun, are_apart, chunks_in}
 use Rattle.base.specs.Permissions.{is_normal}
 use Rattle.base.specs.Manifest.{PartitionRow, GrantRow, RegionRow, ManifestRows, is_partition, quotas_of, page_count, granted_in}
 
@@ -49,10 +49,6 @@ names_partitions m r = is_partition m r.owner && list_all (λ g. is_partition m 
 
 abbrev pub pool_pages : ManifestRows → PageRun
 pool_pages m = record { first = m.pool; count = page_count (quotas_of m.partitions) }
-
--- how many chunks of 2 MB a run touches
-abbrev pub chunks_in : PageRun → ℕ
-chunks_in run = (run.first + run.count - 1) / 512 + 1 - run.first / 512
 
 -- how many chunks the grants of a partition touch, each region's counted by itself
 abbrev pub chunks_granted : List RegionRow → ℕ → ℕ

@@ -1,4 +1,4 @@
-ghost use Rattle.std.specs.Prelude.{◌≡◌, ◌==◌, IsTrue};
+ghost use Rattle.std.specs.Prelude.{◌≡◌, ◌+◌, ◌≤◌, ◌^◌, ◌==◌, IsTrue};
 ghost use Rattle.std.specs.List.{find};
 ghost use Rattle.std.specs.Option.{option_map};
 ghost use Rattle.base.specs.Manifest as rows;
@@ -93,6 +93,14 @@ impl Manifest {
         }
     }
 
+    /// How many pages the table pool has: a root for each partition, and their quotas.
+    pub fn table_pages(&self) -> u32
+        ensures same { result ≡ rows.page_count (rows.quotas_of self.now.partitions) }
+        ensures in_range { self.now.pool + result ≤ 2 ^ 27 }
+    {
+        page_count(self.partitions())
+    }
+
     /// The row of a partition.
     fn row(&self, p: PartitionId) -> Option<&Partition>
         ensures { option_map (λ row. row.now) result ≡ find (λ row. row.id == p) self.now.partitions }
@@ -100,8 +108,8 @@ impl Manifest {
         self.partitions.iter().find(|row| row.id == p)
     }
 
-    /// The region of a page.
-    fn region_at(&self, page: Page) -> Option<&Region>
+    /// The region of a page, if one covers it.
+    pub fn region_at(&self, page: Page) -> Option<&Region>
         ensures { option_map (λ r. r.now) result ≡ rows.region_at self.now page }
     {
         self.regions
@@ -122,4 +130,16 @@ impl Manifest {
     {
         Some(self.region_at(page)?.owner())
     }
+}
+
+/// How many pages the table pool has for these partitions.
+fn page_count(partitions: &[Partition]) -> u32
+    requires { rows.page_count (rows.quotas_of partitions.now) ≤ 2 ^ 27 }
+    ensures { result ≡ rows.page_count (rows.quotas_of partitions.now) }
+{
+    let mut pages = 0;
+    for row in partitions {
+        pages += 1 + row.quota;
+    }
+    pages
 }

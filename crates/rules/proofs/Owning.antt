@@ -71,4 +71,4 @@ some_owner None = refl
 some_owner (Some r) = refl
 
 pub owned_once : (s : State) → IsReached s → IsOwnedOnce s
-owned_once s r = rw (← r.1) (from (start s.manifest) r.0 (record { owners = λ n. some_owner (region_at s.manifest n); senders = tt; apart = tt }))
+owned_once s r = rw (← r.leads) (from (start s.manifest) r.calls (record { owners = λ n. some_owner (region_at s.manifest n); senders = tt; apart = tt }))

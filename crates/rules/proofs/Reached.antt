@@ -25,11 +25,15 @@ pub step_keeps : (s : State) (c : CallWords) → (step s c).manifest ≡ s.manif
 step_keeps s c = step_cases (λ t. t.manifest ≡ s.manifest) s c refl (λ f is passed. changed_keeps s c f)
 
 pub IsReached-start : (m : ManifestRows) → IsReached (start m)
-IsReached-start m = ([], refl)
+IsReached-start m = record { calls = []; leads = refl }
 
 pub IsReached-step : (s : State) (c : CallWords) → IsReached s → IsReached (step s c)
 IsReached-step s c r =
-    (r.0 ++ c ∷ [], ap (λ (m : ManifestRows). state_from (start m) (r.0 ++ c ∷ [])) (step_keeps s c) ∙ state_from-append (start s.manifest) r.0 c ∙ ap (λ (t : State). step t c) r.1)
+    let calls = r.calls ++ c ∷ [] in
+    record {
+      calls = calls;
+      leads = ap (λ (m : ManifestRows). state_from (start m) calls) (step_keeps s c) ∙ state_from-append (start s.manifest) r.calls c ∙ ap (λ (t : State). step t c) r.leads;
+    }
 
 -- the step of a call that passes its tests
 pub accepted : (s : State) (c : CallWords) (f : Function) → is_partition s.manifest c.caller ≡ true → function_of (word c 0) ≡ Some f → first_refusal (tests_of s c f) ≡ None → step s c ≡ changed s c f

@@ -73,29 +73,6 @@ settled_none None (Some r) p q home owns share has ne =
     let e : r.owner ≡ p = eqb-true _ _ owns in
     only_grant r.kind r.grants p q home (both (is_normal r.kind) (eqb (length r.grants) 1) share).1 (rw e at has) ne
 
--- its owner reaches it
-settled_some : (g : Option Donation) (r : Option RegionRow) (p : ℕ) (home : Permission)
-    → option_map_or (λ o. eqb o p) (option_map_or (λ (d : Donation). Some d.taker) g (option_map (λ (x : RegionRow). x.owner) r)) false ≡ true
-    → is_reached_with home (option_map_or (λ (d : Donation). Some d.access) g (option_and_then (λ (x : RegionRow). granted_in x x.owner) r)) ≡ true
-    → is_some (option_map_or (λ (d : Donation). cond (eqb d.taker p) (Some d.access) None) g (option_and_then (λ (x : RegionRow). granted_in x p) r)) ≡ true
-settled_some (Some d) r p home owns has = rw owns refl
-settled_some None None p home owns has = absurd cc
-settled_some None (Some r) p home owns has =
-    let e : r.owner ≡ p = eqb-true _ _ owns in
-    let h : is_reached_with home (granted_in r p) ≡ true = rw e at has in
-    elim (granted_in r p) as (λ a. is_reached_with home a ≡ true → is_some a ≡ true) [ None ↦ λ x. absurd cc | Some a ↦ λ x. refl ] h
-
-view_idle : (l : Option Live) (home settled : Answer) (q : ℕ) → is_some l ≡ false → option_map_or (λ (u : Live). view_under u home q) l settled ≡ settled
-view_idle None home settled q e = refl
-view_idle (Some u) home settled q e = absurd cc
-
--- the sender reaches each page that it may send
-pub sent_view : (s : State) (p : ℕ) (home : Permission) (n : ℕ) → may_be_sent s p home n ≡ true → is_some (sees s p n) ≡ true
-sent_view s p home n h =
-    let k = may_send s p home n h in
-    ap is_some (view_idle (live_at s.live n) (home_of s n) (settled_view s.manifest s.donations p n) p k.idle)
-    ∙ settled_some (donation_at s.donations n) (region_at s.manifest n) p home k.owns k.has
-
 -- ---- a lend
 
 -- a transaction joins those that are live

@@ -58,5 +58,6 @@ state_from s [] = s
 state_from s (c ∷ cs) = state_from (step s c) cs
 
 -- some list of calls leads from the manifest to the state
-abbrev pub IsReached : State → Type 0
-IsReached s = (calls : List CallWords) × (state_from (start s.manifest) calls ≡ s)
+pub record IsReached (s : State) : Type 0 where
+  pub calls : List CallWords
+  pub leads : state_from (start s.manifest) calls ≡ s

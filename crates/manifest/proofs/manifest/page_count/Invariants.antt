@@ -1,0 +1,7 @@
+use Rattle.std.proofs.Common.{◌≡◌, ◌+◌, drop}
+use Rattle.base.specs.Manifest as rows
+use Rattle.manifest.proofs.manifest.page_count.Given as goal
+
+-- the pages so far and those of the rows that are left are all pages
+abbrev pub invariant-loop-row : goal.invariant-loop-row
+invariant-loop-row l = l.pages + rows.page_count (rows.quotas_of (drop l.row-index l.partitions)) ≡ rows.page_count (rows.quotas_of l.partitions)

@@ -1,0 +1,84 @@
+-- How many of the first numbers pass a test.
+use Rattle.std.proofs.Common.{◌≡◌, ◌≢◌, ℕ, zero, suc, ◌+◌, ◌<◌, ◌≤◌, arith, Bool, true, false, cond, refl, inl, inr, add-one}
+use Rattle.std.proofs.lemmas.Bool.{cases_eq, cases_Bool}
+use Rattle.pool.specs.Pool.{count_below}
+
+-- tests that agree have the same count
+pub count_below-same : (passes others : ℕ → Bool) (n : ℕ) → ((k : ℕ) → k < n → others k ≡ passes k) → count_below others n ≡ count_below passes n
+unfolding count_below
+count_below-same passes others zero same = refl
+count_below-same passes others (suc n) same =
+    let here = same n (omega arith) in
+    let rest = count_below-same passes others n (λ k below. same k (omega arith)) in
+    rw (here, rest)
+
+-- one number passes that did not
+pub count_below-one : (passes others : ℕ → Bool) (n x : ℕ) → x < n → passes x ≡ false → others x ≡ true → ((k : ℕ) → k < n → k ≢ x → others k ≡ passes k) → count_below others n ≡ count_below passes n + 1
+unfolding count_below
+count_below-one passes others zero x inside old new same = absurd (omega arith)
+count_below-one passes others (suc n) x inside old new same = elim (cases_eq n x) [
+  | inl is ↦
+      let rest = count_below-same passes others n (λ k below. same k (omega arith) (λ equal. omega arith)) in
+      let here : others n ≡ true = rw is new in
+      let there : passes n ≡ false = rw is old in
+      rw (here, there, rest) (omega arith)
+  | inr is_other ↦
+      let rest = count_below-one passes others n x (omega arith) old new (λ k below other. same k (omega arith) other) in
+      let here : others n ≡ passes n = same n (omega arith) is_other in
+      rw (here, rest) (omega arith)
+]
+
+-- none passes
+pub count_below-none : (passes : ℕ → Bool) (n : ℕ) → ((k : ℕ) → k < n → passes k ≡ false) → count_below passes n ≡ 0
+unfolding count_below
+count_below-none passes zero none = refl
+count_below-none passes (suc n) none =
+    let here = none n (omega arith) in
+    let rest = count_below-none passes n (λ k below. none k (omega arith)) in
+    rw (here, rest)
+
+-- a number that passes is counted
+pub count_below-some : (passes : ℕ → Bool) (n k : ℕ) → k < n → passes k ≡ true → 0 < count_below passes n
+unfolding count_below
+count_below-some passes zero k below is_one = absurd (omega arith)
+count_below-some passes (suc n) k below is_one = elim (cases_eq k n) [
+  | inl is ↦ let here : passes n ≡ true = rw (← is) is_one in rw here (omega arith)
+  | inr is_other ↦ let rest = count_below-some passes n k (omega arith) is_one in omega (arith, rest)
+]
+
+-- all pass
+pub count_below-all : (passes : ℕ → Bool) (n : ℕ) → ((k : ℕ) → k < n → passes k ≡ true) → count_below passes n ≡ n
+unfolding count_below
+count_below-all passes zero all = refl
+count_below-all passes (suc n) all =
+    let here = all n (omega arith) in
+    let rest = count_below-all passes n (λ k below. all k (omega arith)) in
+    rw (here, rest) (omega arith)
+
+-- from a number on none passes
+pub count_below-tail : (passes : ℕ → Bool) (n m : ℕ) → n ≤ m → ((k : ℕ) → n ≤ k → k < m → passes k ≡ false) → count_below passes m ≡ count_below passes n
+unfolding count_below
+count_below-tail passes n zero within none = let is : n ≡ 0 = omega arith in rw is refl
+count_below-tail passes n (suc m) within none = elim (cases_eq n (suc m)) [
+  | inl is ↦ rw is refl
+  | inr is_other ↦
+      let here = none m (omega arith) (omega arith) in
+      let rest = count_below-tail passes n m (omega arith) (λ k from below. none k from (omega arith)) in
+      rw (here, rest) (omega arith)
+]
+
+-- one number more
+pub count_below-more : (passes : ℕ → Bool) (n : ℕ) → count_below passes (n + 1) ≡ cond (passes n) 1 0 + count_below passes n
+unfolding count_below
+count_below-more passes n = rw add-one refl
+
+-- no more pass than there are
+pub count_below-le : (passes : ℕ → Bool) (n : ℕ) → count_below passes n ≤ n
+unfolding count_below
+count_below-le passes zero = omega arith
+count_below-le passes (suc n) =
+    let rest = count_below-le passes n in
+    elim (cases_Bool (passes n)) [
+      | inl is_one ↦ rw is_one (omega (arith, rest))
+      | inr is_none ↦ rw is_none (omega (arith, rest))
+    ]

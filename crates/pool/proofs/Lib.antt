@@ -1,0 +1,4 @@
+pub mod Words
+pub mod Count
+pub mod Shares
+mod Kept

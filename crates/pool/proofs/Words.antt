@@ -1,0 +1,81 @@
+-- Words and marks after a write, in the lists and in the functions that show them.
+use Rattle.std.proofs.Common.{◌≡◌, ◌≢◌, ℕ, ◌+◌, ◌*◌, ◌<◌, List, Bool, true, length, replicate, slice_set, arith, ap}
+use mathlib.Core.Path.{fun_ext}
+use Rattle.std.proofs.lemmas.Grind.{common_steps}
+use Rattle.std.proofs.lemmas.Bool.Decides.{nat_tests}
+use Rattle.base.specs.Manifest.{ManifestRows, quotas_of, page_count}
+use Rattle.pool.specs.Pool.{Memory, Words, IsWhole, words_of, taken_of, pages_of, put, mark, with_word, with_taken, with_put, with_mark, new_memory}
+
+-- ---- words
+
+pub put-same : (words : Words) (page index word : ℕ) → put page index word words page index ≡ word
+unfolding put
+put-same words page index word = grind (arith, nat_tests)
+
+-- another index keeps its word, in all pages
+pub put-other_index : (words : Words) (page index word q i : ℕ) → i ≢ index → put page index word words q i ≡ words q i
+unfolding put
+put-other_index words page index word q i other = grind (arith, nat_tests)
+
+-- another page keeps its words
+pub put-other_page : (words : Words) (page index word q i : ℕ) → q ≢ page → put page index word words q i ≡ words q i
+unfolding put
+put-other_page words page index word q i other = grind (arith, nat_tests)
+
+words_at-set : (items : List ℕ) (page index word q i : ℕ) → index < 512 → 512 * page + index < length items → words_of (slice_set items (512 * page + index) word) q i ≡ put page index word (words_of items) q i
+unfolding words_of put
+words_at-set items page index word q i below inside = grind (arith, common_steps, nat_tests)
+
+pub words_of-set : (items : List ℕ) (count page index word : ℕ) → length items ≡ 512 * count → page < count → index < 512 → words_of (slice_set items (512 * page + index) word) ≡ put page index word (words_of items)
+words_of-set items count page index word whole inside below =
+    let here : 512 * page + index < length items = omega arith in
+    fun_ext (λ q. fun_ext (λ i. words_at-set items page index word q i below here))
+
+-- a word past the end of a page is 0, so a page of zeros is 0 at each index
+pub words_of-beyond : (items : List ℕ) (page : ℕ) → ((i : ℕ) → i < 512 → words_of items page i ≡ 0) → (i : ℕ) → words_of items page i ≡ 0
+unfolding words_of
+words_of-beyond items page empty i = grind (arith, nat_tests, empty i)
+
+-- ---- marks
+
+pub mark-same : (taken : ℕ → Bool) (page : ℕ) (is : Bool) → mark page is taken page ≡ is
+unfolding mark
+mark-same taken page is = grind (arith, nat_tests)
+
+pub mark-other : (taken : ℕ → Bool) (page q : ℕ) (is : Bool) → q ≢ page → mark page is taken q ≡ taken q
+unfolding mark
+mark-other taken page q is other = grind (arith, nat_tests)
+
+-- what is taken stays so when a page is taken
+pub mark-kept : (taken : ℕ → Bool) (page q : ℕ) → taken q ≡ true → mark page true taken q ≡ true
+unfolding mark
+mark-kept taken page q held = grind (arith, nat_tests)
+
+taken_at-set : (items : List Bool) (page q : ℕ) (is : Bool) → page < length items → taken_of (slice_set items page is) q ≡ mark page is (taken_of items) q
+unfolding taken_of mark
+taken_at-set items page q is inside = grind (arith, common_steps, nat_tests)
+
+pub taken_of-set : (items : List Bool) (page : ℕ) (is : Bool) → page < length items → taken_of (slice_set items page is) ≡ mark page is (taken_of items)
+taken_of-set items page is inside = fun_ext (λ q. taken_at-set items page q is inside)
+
+-- ---- the pages of a memory
+
+pub pages_of-set : (m : Memory) (page index word : ℕ) → IsWhole m → page < page_count m.quotas → index < 512 → pages_of (with_word page index word m) ≡ with_put page index word (pages_of m)
+pages_of-set m page index word whole inside below =
+    ap (λ (w : Words). record { ids = m.ids; quotas = m.quotas; words = w; taken = taken_of m.taken })
+    (words_of-set m.words (page_count m.quotas) page index word whole.words inside below)
+
+pub pages_of-mark : (m : Memory) (page : ℕ) (is : Bool) → IsWhole m → page < page_count m.quotas → pages_of (with_taken page is m) ≡ with_mark page is (pages_of m)
+pages_of-mark m page is whole inside =
+    let here : page < length m.taken = omega (arith, whole.taken, inside) in
+    ap (λ (t : ℕ → Bool). record { ids = m.ids; quotas = m.quotas; words = words_of m.words; taken = t }) (taken_of-set m.taken page is here)
+
+-- ---- a new memory
+
+pub words_of-zeros : (count page index : ℕ) → words_of (replicate count 0) page index ≡ 0
+unfolding words_of
+words_of-zeros count page index = grind (arith, common_steps, nat_tests)
+
+-- all its words are 0
+pub new_memory-is_zero : (m : ManifestRows) (page index : ℕ) → words_of (new_memory m).words page index ≡ 0
+new_memory-is_zero m page index = words_of-zeros (512 * page_count (quotas_of m.partitions)) page index

@@ -1,0 +1,138 @@
+-- What a table memory holds, and what its calls make of it.
+use Rattle.std.specs.Prelude.{suc, zero, ◌≡◌, ℕ, ◌+◌, ◌-◌, ◌*◌, ◌%◌, ◌^◌, ◌<◌, ◌≤◌, Bool, true, false, ◌==◌, ◌&&◌, if◌then◌else◌, nat_lt, List, [], ◌∷◌, ◌++◌, length, sum, take, replicate, slice_index, slice_index_or, slice_set}
+use Rattle.base.specs.Pages.{PageRun}
+use Rattle.base.specs.Manifest.{ManifestRows, ids_of, quotas_of, row_of, page_count}
+use Rattle.pool.specs.declared.operation.Op.{Op}
+use Rattle.pool.specs.declared.operation.Op.TheVariants.{Set, Invalidate}
+
+-- the partitions' identifiers and quotas, the words of all pages, page by page and 512 to a page, and which pages are taken
+pub record Memory : Type 0 where
+  pub ids : List ℕ
+  pub quotas : List ℕ
+  pub words : List ℕ
+  pub taken : List Bool
+
+-- the memory, the operations since the list was emptied, the latest first, and how many were made in all, modulo 2^64
+pub record Pool : Type 0 where
+  pub memory : Memory
+  pub operations : List Op
+  pub made : ℕ
+
+-- ---- the same memory as functions
+
+-- the words of all pages, by page and index
+abbrev pub Words : Type 0
+Words = ℕ → ℕ → ℕ
+
+unfoldable pub words_of : List ℕ → Words
+words_of words = λ page index. if nat_lt index 512 then slice_index words (512 * page + index) else 0
+
+unfoldable pub taken_of : List Bool → ℕ → Bool
+taken_of taken = λ page. slice_index_or taken page false
+
+pub record Pages : Type 0 where
+  pub ids : List ℕ
+  pub quotas : List ℕ
+  pub words : Words
+  pub taken : ℕ → Bool
+
+abbrev pub pages_of : Memory → Pages
+pages_of m = record { ids = m.ids; quotas = m.quotas; words = words_of m.words; taken = taken_of m.taken }
+
+-- these words with one of them changed
+unfoldable pub put : ℕ → ℕ → ℕ → Words → Words
+put page index word words = λ q i. if (q == page) && (i == index) then word else words q i
+
+-- this set of pages with one of them in it or not
+unfoldable pub mark : ℕ → Bool → (ℕ → Bool) → ℕ → Bool
+mark page is taken = λ q. if q == page then is else taken q
+
+abbrev pub with_put : ℕ → ℕ → ℕ → Pages → Pages
+with_put page index word m = record m { words = put page index word m.words }
+
+abbrev pub with_mark : ℕ → Bool → Pages → Pages
+with_mark page is m = record m { taken = mark page is m.taken }
+
+-- ---- roots and shares
+
+-- the row of a partition, which is also the page of its root; for one that has no row, the number of rows
+abbrev pub row_in : Memory → ℕ → ℕ
+row_in m p = row_of m.ids p
+
+-- the first page of a row's share
+abbrev pub share_start : List ℕ → ℕ → ℕ
+share_start quotas row = length quotas + sum (take row quotas)
+
+abbrev pub quota_of : List ℕ → ℕ → ℕ
+quota_of quotas row = slice_index quotas row
+
+-- the page stands in the share of a row
+pub record InShare (quotas : List ℕ) (row page : ℕ) : Type 0 where
+  pub partition : row < length quotas
+  pub from : share_start quotas row ≤ page
+  pub to : page < share_start quotas row + quota_of quotas row
+
+-- how many of the first n numbers pass
+unfoldable pub count_below : (ℕ → Bool) → ℕ → ℕ
+count_below passes zero = 0
+count_below passes (suc n) = (if passes n then 1 else 0) + count_below passes n
+
+-- how many pages of a row's share are taken
+abbrev pub used_by : Pages → ℕ → ℕ
+used_by m row = count_below (λ k. m.taken (share_start m.quotas row + k)) (quota_of m.quotas row)
+
+-- how many pages of a partition's share are free
+abbrev pub free_of : Pages → ℕ → ℕ
+free_of m p = quota_of m.quotas (row_of m.ids p) - used_by m (row_of m.ids p)
+
+-- the free page of a row's share with the lowest number
+pub record IsLowestFree (m : Pages) (row page : ℕ) : Type 0 where
+  pub inside : InShare m.quotas row page
+  pub free : m.taken page ≡ false
+  pub lowest : (q : ℕ) → InShare m.quotas row q → q < page → m.taken q ≡ true
+
+-- ---- the calls
+
+-- all words are 0, and the roots alone are taken
+abbrev pub new_memory : ManifestRows → Memory
+new_memory m =
+    record {
+      ids = ids_of m.partitions;
+      quotas = quotas_of m.partitions;
+      words = replicate (512 * page_count (quotas_of m.partitions)) 0;
+      taken = replicate (length m.partitions) true ++ replicate (sum (quotas_of m.partitions)) false;
+    }
+
+abbrev pub new_pool : ManifestRows → Pool
+new_pool m = record { memory = new_memory m; operations = []; made = 0 }
+
+abbrev pub with_word : ℕ → ℕ → ℕ → Memory → Memory
+with_word page index word m = record m { words = slice_set m.words (512 * page + index) word }
+
+abbrev pub with_taken : ℕ → Bool → Memory → Memory
+with_taken page is m = record m { taken = slice_set m.taken page is }
+
+-- one more operation, over this memory
+abbrev pub logged : Op → Memory → Pool → Pool
+logged op memory pool = record { memory = memory; operations = op ∷ pool.operations; made = (pool.made + 1) % 2 ^ 64 }
+
+abbrev pub after_set : ℕ → ℕ → ℕ → Pool → Pool
+after_set page index word pool = logged (Set page index word) (with_word page index word pool.memory) pool
+
+abbrev pub after_invalidate : ℕ → PageRun → Pool → Pool
+after_invalidate p run pool = logged (Invalidate p run) pool.memory pool
+
+abbrev pub after_take : ℕ → Pool → Pool
+after_take page pool = record pool { memory = with_taken page true pool.memory }
+
+abbrev pub after_give : ℕ → Pool → Pool
+after_give page pool = record pool { memory = with_taken page false pool.memory }
+
+abbrev pub emptied : Pool → Pool
+emptied pool = record pool { operations = [] }
+
+-- the lists are as long as the quotas say, and have a row for each
+pub record IsWhole (m : Memory) : Type 0 where
+  pub ids : length m.ids ≡ length m.quotas
+  pub words : length m.words ≡ 512 * page_count m.quotas
+  pub taken : length m.taken ≡ page_count m.quotas

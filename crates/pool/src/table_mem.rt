@@ -1,0 +1,95 @@
+ghost use Rattle.std.specs.Prelude.{◌≡◌, ℕ, ◌+◌, ◌<◌, ◌≤◌, length, reverse, IfOk, OnOk, true, false};
+ghost use Rattle.base.specs.Manifest.{ManifestRows, page_count};
+ghost use Rattle.pool.specs.Pool.{Pool, IsWhole, InShare, IsLowestFree, pages_of, words_of, taken_of, new_pool, after_set, after_invalidate, after_take, after_give, emptied, free_of, row_in};
+
+use crate::operation::Op;
+use base::{OutOfMemory, PartitionId, Run};
+use manifest::Manifest;
+use std::alloc::Global;
+
+/// Memory for translation tables: pages of 512 words of 64 bits, numbered from 0. The first pages are
+/// the partitions' roots, in ascending order of identifier; after all roots come the partitions'
+/// shares in the same order, each as many pages as its partition's quota.
+///
+/// A page of a share is free or taken, and a free page holds zeros alone. `set_word` changes one
+/// word, and nothing else changes any. Each `set_word` and `invalidate` is recorded as an `Op`.
+pub trait TableMem {
+    /// What the pages hold, which are taken, and what was done.
+    ghost state: { Self → Pool };
+
+    /// For how many more operations there is room.
+    ghost room: { Self → ℕ };
+
+    /// Memory for the partitions of a manifest: all words are 0, and no page of a share is taken.
+    fn make(alloc: Global, manifest: &Manifest) -> Result<Self, OutOfMemory>
+    where
+        Self: Sized,
+        ensures { IfOk result (λ m. state m ≡ new_pool manifest.now) };
+
+    /// The word at an index of a page.
+    fn word(&self, page: u32, index: u32) -> u64
+        requires page_in { page < page_count (state self.now).memory.quotas }
+        requires index_in { index < 512 }
+        ensures { result ≡ words_of (state self.now).memory.words page index };
+
+    /// Writes a word of a root or of a page that is taken.
+    fn set_word(&mut self, page: u32, index: u32, word: u64)
+        requires page_in { page < page_count (state self.old).memory.quotas }
+        requires index_in { index < 512 }
+        requires taken { taken_of (state self.old).memory.taken page ≡ true }
+        requires ready { 0 < room self.old }
+        ensures state { state self.new ≡ after_set page index word (state self.old) }
+        ensures room { room self.new + 1 ≡ room self.old };
+
+    /// Records that a partition's translations of these pages are invalidated.
+    fn invalidate(&mut self, p: PartitionId, run: Run)
+        requires ready { 0 < room self.old }
+        ensures state { state self.new ≡ after_invalidate p run (state self.old) }
+        ensures room { room self.new + 1 ≡ room self.old };
+
+    /// Takes the free page of a partition's share with the lowest number, and answers that number.
+    fn take_page(&mut self, p: PartitionId) -> u32
+        requires free { 0 < free_of (pages_of (state self.old).memory) p }
+        ensures lowest { IsLowestFree (pages_of (state self.old).memory) (row_in (state self.old).memory p) result }
+        ensures state { state self.new ≡ after_take result (state self.old) }
+        ensures room { room self.new ≡ room self.old };
+
+    /// Gives back a page of a partition's share, all of whose words are 0.
+    fn give_page(&mut self, p: PartitionId, page: u32)
+        requires inside { InShare (state self.old).memory.quotas (row_in (state self.old).memory p) page }
+        requires taken { taken_of (state self.old).memory.taken page ≡ true }
+        requires empty { (i : ℕ) → i < 512 → words_of (state self.old).memory.words page i ≡ 0 }
+        ensures state { state self.new ≡ after_give page (state self.old) }
+        ensures room { room self.new ≡ room self.old };
+
+    /// How many pages of a partition's share are free; 0 for one that has no row.
+    fn free(&self, p: PartitionId) -> u32
+        ensures { result ≡ free_of (pages_of (state self.now).memory) p };
+
+    /// Makes room for this many operations.
+    fn ready(&mut self, operations: usize) -> Result<(), OutOfMemory>
+        ensures state { state self.new ≡ state self.old }
+        ensures room { OnOk result (operations ≤ room self.new) };
+
+    /// Empties the list of operations.
+    fn begin(&mut self)
+        ensures state { state self.new ≡ emptied (state self.old) }
+        ensures room { room self.old ≤ room self.new };
+
+    /// The operations since `begin`, in the order in which they were made.
+    fn ops(&self) -> &[Op]
+        ensures { result.now ≡ reverse (state self.now).operations };
+
+    /// How many operations were made since the memory was, modulo 2^64.
+    fn made(&self) -> u64
+        ensures { result ≡ (state self.now).made };
+
+    /// The lists are as long as the quotas say, and have a row for each quota.
+    ghost whole: { (m : Self) → IsWhole (state m).memory };
+
+    /// Roots are never free.
+    ghost roots_are_taken: { (m : Self) (row : ℕ) → row < length (state m).memory.quotas → taken_of (state m).memory.taken row ≡ true };
+
+    /// A free page holds zeros alone.
+    ghost free_is_zero: { (m : Self) (page index : ℕ) → taken_of (state m).memory.taken page ≡ false → words_of (state m).memory.words page index ≡ 0 };
+}

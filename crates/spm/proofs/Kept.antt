@@ -1,0 +1,92 @@
+-- The tables and the state go on together.
+use Rattle.std.proofs.Common.{◌≡◌, ◌^◌, ◌<◌, ℕ, Bool, ◌&&◌, true, false, List, Some, None, cond, eqb, refl, sym, ap, subst, ◌∙◌, arith}
+use Rattle.std.proofs.lemmas.Bool.{eqb-true, eq-eqb}
+use Rattle.std.proofs.lemmas.Bool.Decides.{nat_tests}
+use Rattle.base.specs.declared.transaction.Kind.TheVariants.{Lend}
+use Rattle.base.specs.Pages.{PageRun, covers}
+use Rattle.base.specs.Permissions.{Answer}
+use Rattle.base.specs.Manifest.{ManifestRows, is_partition, grant}
+use Rattle.base.specs.Send as descriptor
+use Rattle.base.specs.State.{State, Pair, start, sees, each_page_in}
+use Rattle.pool.specs.Pool.{Pool, words_of}
+use Rattle.stage2.specs.declared.walked.Walked.{Walked}
+use Rattle.stage2.specs.declared.walked.Walked.TheVariants.{None as Unmapped}
+use Rattle.stage2.specs.Slot.{Layout, layout_of}
+use Rattle.stage2.specs.Walk.{translation, walked, Agrees}
+use Rattle.rules.specs.declared.function.Function.TheVariants.{RxtxMap, Send}
+use Rattle.rules.specs.Calls.{CallWords, word, function_of}
+use Rattle.rules.specs.Tests.{first_refusal}
+use Rattle.rules.specs.Buffers.{map_tests, named_pair, with_pair}
+use Rattle.rules.specs.Sending.{send_tests, sent, common_home, may_be_sent, with_send}
+use Rattle.rules.specs.Answering.{step, IsReached}
+use Rattle.rules.proofs.Reached.{IsReached-start, IsReached-step, step_keeps, accepted}
+use Rattle.rules.proofs.Owning.{sent_pages}
+use Rattle.rules.proofs.Viewing.{lend_view, pair_view}
+use Rattle.spm.specs.Machine.{IsConsistent}
+
+maps : (identifier : ℕ) → identifier ≡ 0x84000066 → function_of identifier ≡ Some RxtxMap
+maps identifier e = rw e refl
+
+lends : (identifier : ℕ) → identifier ≡ 0x84000072 → function_of identifier ≡ Some (Send Lend)
+lends identifier e = rw e refl
+
+-- what is not reached is not mapped
+not_mapped : (n : ℕ) (b : Bool) (a : Answer) → cond b Unmapped (walked n a) ≡ walked n (cond b None a)
+not_mapped n true a = refl
+not_mapped n false a = refl
+
+-- before any call each partition reaches what the manifest grants it
+pub boot_kept : (m : ManifestRows) (s : State) (layout : Layout) (pool : Pool) → s ≡ start m → layout ≡ layout_of m → Agrees layout (words_of pool.memory.words) (grant m) → IsConsistent s layout pool
+boot_kept m s layout pool is placed agrees =
+    subst (λ (t : State). IsConsistent t layout pool) (sym is) (record {
+      placed = placed;
+      agrees = record { walks = λ p n small. ap (λ l. translation l (words_of pool.memory.words) p n) (sym placed) ∙ agrees p n small };
+      reached = IsReached-start m;
+    })
+
+eqb-sym : (a b : ℕ) → eqb a b ≡ eqb b a
+eqb-sym a b =
+    elim (eqb a b) as (λ t. eqb a b ≡ t → t ≡ eqb b a) [
+      | true ↦ λ e. let same : a ≡ b = eqb-true a b e in sym (ap (λ (x : ℕ). eqb b x) same ∙ eq-eqb b b refl)
+      | false ↦ λ e. grind (arith, nat_tests)
+    ] refl
+
+-- the walks of these pages give nothing to the partition, and all others what they gave
+abbrev pub Unmaps : Layout → Pool → Layout → Pool → ℕ → List PageRun → Type 0
+Unmaps from old to new p runs = (q n : ℕ) → n < 2 ^ 27 → translation to (words_of new.memory.words) q n ≡ cond (eqb q p && covers runs n) Unmapped (translation from (words_of old.memory.words) q n)
+
+module _ (s : State) (c : CallWords) (known : is_partition s.manifest c.caller ≡ true) (layout : Layout) (old : Pool) (kept : IsConsistent s layout old) where
+  layout_kept : (t : State) → step s c ≡ t → layout ≡ layout_of t.manifest
+  layout_kept t stepped = kept.placed ∙ ap layout_of (sym (step_keeps s c) ∙ ap (λ (u : State). u.manifest) stepped)
+
+  pub map_kept : (t : State) (pair : Pair) → word c 0 ≡ 0x84000066 → first_refusal (map_tests s c) ≡ None → pair ≡ named_pair c → t ≡ with_pair s c.caller pair → IsConsistent t layout old
+  map_kept t pair named passed is changed =
+      let stepped : step s c ≡ t = accepted s c RxtxMap known (maps (word c 0) named) passed ∙ sym (changed ∙ ap (with_pair s c.caller) is) in
+      let now = layout_kept t stepped in
+      let seen : (q n : ℕ) → sees t q n ≡ sees s q n = λ q n. ap (λ (u : State). sees u q n) changed ∙ pair_view s c.caller pair q n in
+      record {
+        placed = now;
+        agrees = record { walks = λ q n small. ap (λ l. translation l (words_of old.memory.words) q n) (sym now ∙ kept.placed) ∙ kept.agrees.walks q n small ∙ ap (walked n) (sym (seen q n)) };
+        reached = subst IsReached stepped (IsReached-step s c kept.reached);
+      }
+
+  pub lend_kept : (t : State) (v : descriptor.Send) (place : Layout) (new : Pool) → word c 0 ≡ 0x84000072 → first_refusal (send_tests s c Lend) ≡ None → v ≡ sent s c → t ≡ with_send s c.caller Lend v → place ≡ layout
+      → Unmaps layout old place new c.caller v.ranges
+      → IsConsistent t place new
+  lend_kept t v place new named passed is changed same edited =
+      let stepped : step s c ≡ t = accepted s c (Send Lend) known (lends (word c 0) named) passed ∙ sym (changed ∙ ap (with_send s c.caller Lend) is) in
+      let now = same ∙ layout_kept t stepped in
+      let pages : each_page_in (may_be_sent s c.caller (common_home s c.caller v.ranges)) v.ranges ≡ true =
+      ap (λ (w : descriptor.Send). each_page_in (may_be_sent s c.caller (common_home s c.caller w.ranges)) w.ranges) is ∙ sent_pages s c Lend passed in
+      let seen : (q n : ℕ) → sees t q n ≡ cond (eqb q c.caller && covers v.ranges n) None (sees s q n) =
+      λ q n. ap (λ (u : State). sees u q n) changed ∙ lend_view s c.caller v pages q n ∙ ap (λ b. cond (b && covers v.ranges n) None (sees s q n)) (eqb-sym c.caller q) in
+      record {
+        placed = now;
+        agrees = record {
+          walks = λ q n small.
+              let out = eqb q c.caller && covers v.ranges n in
+              ap (λ l. translation l (words_of new.memory.words) q n) (sym now) ∙ edited q n small ∙ ap (λ l. cond out Unmapped (translation l (words_of old.memory.words) q n)) kept.placed
+              ∙ ap (cond out Unmapped) (kept.agrees.walks q n small) ∙ not_mapped n out (sees s q n) ∙ ap (walked n) (sym (seen q n));
+        };
+        reached = subst IsReached stepped (IsReached-step s c kept.reached);
+      }

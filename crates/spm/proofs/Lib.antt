@@ -1,0 +1,4 @@
+mod Singles
+mod Seats
+mod Turns
+mod Kept

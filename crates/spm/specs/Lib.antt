@@ -1,0 +1,5 @@
+pub mod Filled
+pub mod Inside
+pub mod Single
+pub mod Lists
+pub mod Machine

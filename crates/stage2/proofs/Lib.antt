@@ -1,0 +1,11 @@
+pub mod Edits
+pub mod Links
+pub mod Leaves
+pub mod Linking
+pub mod Changing
+pub mod Taking
+pub mod Parting
+pub mod Rising
+pub mod Booting
+pub mod Fresh
+pub mod Rows
