@@ -1,5 +1,6 @@
 //! Unmapping: chunk by chunk upward, and in a chunk first the words of the pages, upward, then one
-//! invalidation for each run's part.
+//! invalidation for each run's part. A translation may be cached until it is invalidated, so no page
+//! is left out there.
 
 ghost use Rattle.std.specs.Prelude.{◌≡◌, ◌==◌, ◌+◌, ◌/◌, ◌&&◌, ◌<◌, ◌≤◌, length, nat_le, nat_lt, true, Some, None};
 ghost use Rattle.base.specs.Pages.{IsRun, covers, are_normal};
