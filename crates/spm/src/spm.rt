@@ -22,6 +22,9 @@ use stage2::Tables;
 use std::alloc::Global;
 use std::marker::Model;
 
+#[cfg(test)]
+mod tests;
+
 const FFA_RXTX_MAP: u32 = 0x8400_0066;
 
 const FFA_MEM_LEND: u32 = 0x8400_0072;
