@@ -1,0 +1,91 @@
+//! Scripts of calls.
+
+use crate::fault::RunFault;
+use crate::maps::write_maps;
+use base::PartitionId;
+use lines::{Line, read_line};
+use manifest::Manifest;
+use pool::TableMem;
+use spm::{Call, Reply, Spm};
+use std::alloc::Global;
+use std::collections::BTreeMap;
+
+#[cfg(test)]
+mod tests;
+
+/// The manager, and the bytes that each partition's TX buffer holds.
+#[derive(Drop)]
+struct Run<M: TableMem + Drop> {
+    alloc: Global,
+    spm: Spm<M>,
+    kept: BTreeMap<u16, Vec<u8>>,
+}
+
+/// Runs the lines of a script in order, from the manifest on, and appends the text that each writes.
+/// After a fault the text has what the lines before it wrote; after want of memory perhaps also a
+/// beginning of what the line itself writes.
+pub(crate) fn run_script<M: TableMem + Drop>(
+    alloc: Global,
+    manifest: Manifest,
+    script: &[u8],
+    text: &mut String,
+) -> Result<(), RunFault> {
+    let mut run: Run<M> = Run {
+        alloc,
+        spm: Spm::boot(alloc, manifest)?,
+        kept: BTreeMap::new(alloc),
+    };
+    let mut number = 0u32;
+    for bytes in script.split(|byte| *byte == b'\n') {
+        number = number.saturating_add(1);
+        let Some(line) = read_line(alloc, bytes)? else {
+            return Err(RunFault::Line(number));
+        };
+        run.line(line, text)?;
+    }
+    Ok(())
+}
+
+impl<M: TableMem + Drop> Run<M> {
+    fn line(&mut self, line: Line, text: &mut String) -> Result<(), RunFault> {
+        match line {
+            Line::Nothing => Ok(()),
+            Line::Tx(id, bytes) => {
+                self.kept.insert(id.number(), bytes)?;
+                Ok(())
+            }
+            Line::Call(id, regs) => {
+                let reply = self.call(id, regs)?;
+                write_reply(self.alloc, &reply, text)
+            }
+            Line::Maps(id) => write_maps(self.alloc, &self.spm, id, text),
+        }
+    }
+
+    fn call(&mut self, id: PartitionId, regs: [u64; 8]) -> Result<Reply, RunFault> {
+        let tx = match self.kept.get(&id.number()) {
+            Some(bytes) => Vec::from_slice(self.alloc, bytes)?,
+            None => Vec::new(self.alloc),
+        };
+        let call = Call {
+            caller: id.number(),
+            regs,
+            tx,
+        };
+        Ok(self.spm.handle(&call)?)
+    }
+}
+
+/// Writes `reply` and the eight registers, and where RX was filled `rx` and its bytes.
+fn write_reply(alloc: Global, reply: &Reply, text: &mut String) -> Result<(), RunFault> {
+    write!(text, "reply")?;
+    for register in &reply.regs {
+        write!(text, " {register:08x}")?;
+    }
+    writeln!(text)?;
+    if let Some(bytes) = &reply.rx {
+        let digits = hex::encode(alloc, bytes.as_slice())?;
+        writeln!(text, "rx {digits}")?;
+    }
+    Ok(())
+}

@@ -1,0 +1,54 @@
+-- Lower-case hexadecimal digits are a numeral, and few of them write a small number.
+use Rattle.std.proofs.Common.{◌≡◌, ℕ, suc, ◌+◌, ◌*◌, ◌^◌, ◌<◌, ◌≤◌, Bool, true, false, ◌&&◌, eqb, List, [], ◌∷◌, length, Result, Ok, Err, refl, sym, ap, subst, ◌∙◌, cond, drop, arith}
+use Rattle.std.specs.List.{list_all}
+use Rattle.std.specs.Char.{digit_value}
+use Rattle.std.specs.Str.Parse.{AllDigits, digits_value, digits_value_after, without_leading_plus, ParsesUnsigned}
+use Rattle.std.proofs.lemmas.Bool.Decides.{nat_tests}
+use Rattle.std.proofs.Math.Nat.{mul-le-mul_right, mul_assoc, pow-succ', pow-le-pow_right}
+use Rattle.lines.specs.Lines.{is_lower_hex_digit}
+
+both : (a b : Bool) → (a && b) ≡ true → (a ≡ true) × (b ≡ true)
+both true b e = (refl, e)
+both false b e = absurd (cc)
+
+small_digit : (c : ℕ) → is_lower_hex_digit c ≡ true → digit_value c < 16
+small_digit c h = grind (arith, nat_tests)
+
+all_digits : (ds : List ℕ) → list_all is_lower_hex_digit ds ≡ true → AllDigits 16 ds
+all_digits [] h = tt
+all_digits (c ∷ cs) h = let b = both (is_lower_hex_digit c) (list_all is_lower_hex_digit cs) h in (small_digit c b.0, all_digits cs b.1)
+
+bounded : (n : ℕ) (ds : List ℕ) → list_all is_lower_hex_digit ds ≡ true → digits_value_after 16 n ds < (n + 1) * 16 ^ length ds
+bounded n [] h = omega arith
+bounded n (c ∷ cs) h =
+    let b = both (is_lower_hex_digit c) (list_all is_lower_hex_digit cs) h in
+    let value = digit_value c in
+    let small : value < 16 = small_digit c b.0 in
+    let rest : digits_value_after 16 (n * 16 + value) cs < (n * 16 + value + 1) * 16 ^ length cs = bounded (n * 16 + value) cs b.1 in
+    let few : n * 16 + value + 1 ≤ (n + 1) * 16 = omega arith in
+    let more : (n * 16 + value + 1) * 16 ^ length cs ≤ (n + 1) * 16 * 16 ^ length cs = mul-le-mul_right (16 ^ length cs) few in
+    let power : (n + 1) * 16 ^ suc (length cs) ≡ (n + 1) * 16 * 16 ^ length cs = ap (λ x. (n + 1) * x) (pow-succ' 16 (length cs)) ∙ sym (mul_assoc (n + 1) 16 (16 ^ length cs)) in
+    let whole : digits_value_after 16 (n * 16 + value) cs < (n + 1) * 16 * 16 ^ length cs = omega (arith, rest, more) in
+    rw power whole
+
+plain : (ds : List ℕ) → list_all is_lower_hex_digit ds ≡ true → without_leading_plus ds ≡ ds
+plain [] h = refl
+plain (c ∷ cs) h =
+    let digit = (both (is_lower_hex_digit c) (list_all is_lower_hex_digit cs) h).0 in
+    let other : eqb c 43 ≡ false = grind (arith, nat_tests) in
+    ap (λ t. drop (cond t 1 0) (c ∷ cs)) other
+
+-- what a parse of few such digits gives
+pub parsed : {E : Type 0} (bits : ℕ) (word : List ℕ) (r : Result ℕ E) → 0 < length word → list_all is_lower_hex_digit word ≡ true → 16 ^ length word ≤ 2 ^ bits → ParsesUnsigned bits 16 word r → r ≡ Ok (digits_value 16 word)
+parsed bits word (Ok n) some digits fits p = ap (λ x. Ok x) (p.1 ∙ ap (digits_value 16) (plain word digits))
+parsed bits word (Err e) some digits fits p =
+    let small : digits_value 16 word < 2 ^ bits = let b = bounded 0 word digits in omega (arith, b, fits) in
+    let numeral : (0 < length word) × AllDigits 16 word = (some, all_digits word digits) in
+    absurd (p (subst (λ w. ((0 < length w) × AllDigits 16 w) × (digits_value 16 w < 2 ^ bits)) (sym (plain word digits)) (numeral, small)))
+
+-- and of those of a number of 64 bits
+pub number_parsed : {E : Type 0} (word : List ℕ) (r : Result ℕ E) → 0 < length word → length word ≤ 16 → list_all is_lower_hex_digit word ≡ true → ParsesUnsigned 64 16 word r → r ≡ Ok (digits_value 16 word)
+number_parsed word r some few digits p =
+    let positive : 0 < 16 = omega arith in
+    let fits : 16 ^ length word ≤ 16 ^ 16 = pow-le-pow_right positive few in
+    parsed 64 word r some digits fits p

@@ -1,0 +1,147 @@
+ghost use Rattle.std.specs.Prelude.{◌≡◌, ◌≤◌, ◌<◌, length, None, IfSome, IfOk, IsTrue};
+ghost use Rattle.std.specs.List.{list_all};
+ghost use Rattle.lines.specs.Lines.{is_lower_hex_digit, is_nothing, fits_tx, number_of, id_of};
+
+use arrayvec::ArrayVec;
+use base::{OutOfMemory, PartitionId};
+use hex::FromHexError;
+use std::alloc::Global;
+use std::str;
+
+#[cfg(test)]
+mod tests;
+
+/// The most bytes of a line, its line feed apart.
+const MOST_BYTES: usize = 66_000;
+
+/// The most bytes of a copy of a TX buffer.
+const MOST_TX: usize = 32_768;
+
+/// The most words of a line: `call`, the caller and eight registers.
+const MOST_WORDS: usize = 10;
+
+/// A line of a script.
+#[derive(Debug, Drop, PartialEq, Eq)]
+pub enum Line {
+    /// An empty line, or one that begins with `#`.
+    Nothing,
+    /// `tx ID HEX`, or `tx ID` for none: the bytes that ID's TX buffer holds at its next calls.
+    Tx(PartitionId, Vec<u8>),
+    /// `call ID NUM ..`: a call with these registers, of which 1 to 8 are named and the others are 0.
+    Call(PartitionId, [u64; 8]),
+    /// `maps ID`: what ID reaches.
+    Maps(PartitionId),
+}
+
+/// The line that the bytes are, without their line feed; None where they are none. Words are parted by
+/// one blank. ID has four digits and NUM 1 to 16, lower case and hexadecimal; HEX has two digits for
+/// each byte, in either case.
+pub fn read_line(alloc: Global, bytes: &[u8]) -> Result<Option<Line>, OutOfMemory>
+    // A line that is too long is none.
+    ensures long { 66000 < length bytes.now → IfOk result (λ line. line ≡ None) }
+
+    // An empty line and a comment say nothing.
+    ensures nothing { IsTrue (is_nothing bytes.now) → IfOk result (λ line. IfSome line (λ v. v ≡ Line.Nothing)) }
+
+    // A copy of a TX buffer is no longer than one.
+    ensures tx { IfOk result (λ line. IfSome line fits_tx) }
+{
+    if bytes.len() > MOST_BYTES {
+        return Ok(None);
+    }
+    if bytes.is_empty() || bytes[0] == b'#' {
+        return Ok(Some(Line::Nothing));
+    }
+    let Ok(text) = str::from_utf8(bytes) else {
+        return Ok(None);
+    };
+    let Some(words) = words_of(text) else {
+        return Ok(None);
+    };
+    match words.as_slice() {
+        ["tx", id] => Ok(read_id(id).map(|id| Line::Tx(id, Vec::new(alloc)))),
+        ["tx", id, hex] => read_tx(alloc, id, hex),
+        ["call", id, registers @ ..] => Ok(read_call(id, registers)),
+        ["maps", id] => Ok(read_id(id).map(Line::Maps)),
+        _ => Ok(None),
+    }
+}
+
+/// The words between blanks, where they are not too many.
+fn words_of(text: &str) -> Option<ArrayVec<&str, MOST_WORDS>> {
+    let mut words = ArrayVec::new();
+    for word in text.split(' ') {
+        words.try_push(word).ok()?;
+    }
+    Some(words)
+}
+
+fn read_tx(alloc: Global, id: &str, hex: &str) -> Result<Option<Line>, OutOfMemory>
+    ensures { IfOk result (λ line. IfSome line fits_tx) }
+{
+    let Some(id) = read_id(id) else {
+        return Ok(None);
+    };
+    if hex.is_empty() {
+        return Ok(None);
+    }
+    match hex::decode(alloc, hex) {
+        Ok(bytes) if bytes.len() <= MOST_TX => Ok(Some(Line::Tx(id, bytes))),
+        Err(FromHexError::OutOfMemory) => Err(OutOfMemory),
+        _ => Ok(None),
+    }
+}
+
+fn read_call(id: &str, words: &[&str]) -> Option<Line>
+    ensures { IfSome result fits_tx }
+{
+    let id = read_id(id)?;
+    if words.is_empty() {
+        return None;
+    }
+    let mut registers = [0; 8];
+    for (i, word) in words.iter().enumerate() {
+        *registers.get_mut(i)? = read_number(word)?;
+    }
+    Some(Line::Call(id, registers))
+}
+
+/// The identifier that four digits are.
+#[tactic(auto, using(crate::proofs::Digits::parsed))]
+fn read_id(word: &str) -> Option<PartitionId>
+    ensures { result ≡ id_of word.now }
+{
+    if word.len() != 4 || !is_lower_hex(word) {
+        return None;
+    }
+    match u16::from_str_radix(word, 16) {
+        Ok(number) => Some(PartitionId::new(number)),
+        Err(_) => None,
+    }
+}
+
+/// The number that 1 to 16 digits are.
+#[tactic(auto, using(crate::proofs::Digits::number_parsed))]
+fn read_number(word: &str) -> Option<u64>
+    ensures { result ≡ number_of word.now }
+{
+    if word.is_empty() || word.len() > 16 || !is_lower_hex(word) {
+        return None;
+    }
+    match u64::from_str_radix(word, 16) {
+        Ok(number) => Some(number),
+        Err(_) => None,
+    }
+}
+
+fn is_lower_hex(word: &str) -> bool
+    ensures { result ≡ list_all is_lower_hex_digit word.now }
+{
+    word.as_bytes().iter().all(|byte| is_lower_hex_digit(*byte))
+}
+
+fn is_lower_hex_digit(byte: u8) -> bool
+    ensures { result ≡ is_lower_hex_digit byte }
+{
+    matches!(byte, b'0'..=b'9' | b'a'..=b'f')
+}
