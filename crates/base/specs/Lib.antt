@@ -3,5 +3,11 @@ pub mod Permissions
 pub mod Manifest
 pub mod Transactions
 pub mod Ledger
+pub mod Tests
+pub mod Pairs
 pub mod State
 pub mod Send
+pub mod Retrieve
+pub mod Relinquish
+pub mod Response
+pub mod Texts

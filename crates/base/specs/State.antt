@@ -1,25 +1,19 @@
 -- The state that calls change, and what each partition reaches in it.
-use Rattle.std.specs.Prelude.{ℕ, ◌+◌, zero, suc, Bool, true, false, ◌&&◌, ◌||◌, ◌==◌, not, List, [], ◌∷◌, map, Option, None, if◌then◌else◌}
-use Rattle.std.specs.List.{list_any, find}
-use Rattle.std.specs.Option.{option_map_or, option_and_then}
+use Rattle.std.specs.Prelude.{ℕ, ◌+◌, zero, suc, Bool, true, ◌&&◌, ◌==◌, not, List, [], ◌∷◌, map, Option, if◌then◌else◌}
+use Rattle.std.specs.List.{find}
+use Rattle.std.specs.Option.{option_map_or}
 use Rattle.base.specs.declared.partition.Version.{Version}
 use Rattle.base.specs.declared.partition.Version.TheVariants.{V11}
-use Rattle.base.specs.Pages.{PageRun, in_run}
+use Rattle.base.specs.Pages.{PageRun}
 use Rattle.base.specs.Permissions.{Answer}
 use Rattle.base.specs.Manifest.{ManifestRows, PartitionRow}
+use Rattle.base.specs.Pairs.{Mailbox, first_mailbox, is_buffer}
 use Rattle.base.specs.Transactions.{Live, Donation}
 use Rattle.base.specs.Ledger.{view, owner, home, is_owner, is_idle}
 
--- the buffers of a partition, and whether it holds RX (FF-A 1.1, "RX/TX buffers")
-pub record Pair : Type 0 where
-  pub tx : PageRun
-  pub rx : PageRun
-  pub held : Bool
-
--- what is kept for a partition: its pair, its version of FF-A, and how many of its sends were accepted
+-- a partition's version of FF-A, and how many of its sends were accepted
 pub record Seat : Type 0 where
   pub partition : ℕ
-  pub pair : Option Pair
   pub version : Version
   pub sends : ℕ
 
@@ -27,20 +21,18 @@ pub record State : Type 0 where
   pub manifest : ManifestRows
   pub donations : List Donation
   pub live : List Live
+  pub mailboxes : List Mailbox
   pub seats : List Seat
 
 abbrev pub first_seat : PartitionRow → Seat
-first_seat row = record { partition = row.id; pair = None; version = V11; sends = 0 }
+first_seat row = record { partition = row.id; version = V11; sends = 0 }
 
--- before any call: nothing is shared, and no buffers are registered
+-- before any call: nothing is shared, no buffers are registered, and each partition speaks FF-A 1.1
 abbrev pub start : ManifestRows → State
-start m = record { manifest = m; donations = []; live = []; seats = map first_seat m.partitions }
+start m = record { manifest = m; donations = []; live = []; mailboxes = map first_mailbox m.partitions; seats = map first_seat m.partitions }
 
 abbrev pub seat_of : List Seat → ℕ → Option Seat
 seat_of seats p = find (λ s. s.partition == p) seats
-
-abbrev pub pair_of : List Seat → ℕ → Option Pair
-pair_of seats p = option_and_then (λ s. s.pair) (seat_of seats p)
 
 abbrev pub version_of : List Seat → ℕ → Version
 version_of seats p = option_map_or (λ s. s.version) (seat_of seats p) V11
@@ -52,13 +44,6 @@ sends_of seats p = option_map_or (λ s. s.sends) (seat_of seats p) 0
 abbrev pub with_seat : ℕ → (Seat → Seat) → List Seat → List Seat
 with_seat p change [] = []
 with_seat p change (s ∷ seats) = if s.partition == p then change s ∷ seats else s ∷ with_seat p change seats
-
-abbrev pub in_pair : Pair → ℕ → Bool
-in_pair pair n = in_run pair.tx n || in_run pair.rx n
-
--- the page lies in a registered buffer
-abbrev pub is_buffer : List Seat → ℕ → Bool
-is_buffer seats n = list_any (λ s. option_map_or (λ pair. in_pair pair n) s.pair false) seats
 
 -- what a partition reaches of a page
 abbrev pub sees : State → ℕ → ℕ → Answer
@@ -75,7 +60,7 @@ owns s p n = is_owner s.manifest s.donations p n
 
 -- the page is free for the partition
 unfoldable pub is_free : State → ℕ → ℕ → Bool
-is_free s p n = is_idle s.manifest s.donations s.live p n && not (is_buffer s.seats n)
+is_free s p n = is_idle s.manifest s.donations s.live p n && not (is_buffer s.mailboxes n)
 
 -- it holds of each of the count pages from first on
 abbrev pub each_page : (ℕ → Bool) → ℕ → ℕ → Bool

@@ -3,3 +3,4 @@ pub mod Reached
 pub mod Pages
 pub mod Viewing
 pub mod Owning
+pub mod Still

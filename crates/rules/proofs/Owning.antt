@@ -4,17 +4,20 @@ use Rattle.std.specs.List.{AllByRecursion}
 use Rattle.std.specs.Option.{option_map_or, option_map}
 use Rattle.std.proofs.lemmas.Bool.{eqb-true}
 use Rattle.base.specs.declared.transaction.Kind.{Kind}
+use Rattle.base.specs.declared.transaction.Kind.TheVariants.{Share, Lend, Donate}
 use Rattle.base.specs.Pages.{covers}
 use Rattle.base.specs.Manifest.{RegionRow, region_at}
 use Rattle.base.specs.Transactions.{Live}
 use Rattle.base.specs.Ledger.{live_at}
 use Rattle.base.specs.State.{State, start, owner_of, each_page_in}
 use Rattle.base.specs.Send as descriptor
-use Rattle.rules.specs.declared.function.Function.{Function}
-use Rattle.rules.specs.declared.function.Function.TheVariants.{RxtxMap, Send}
+use Rattle.base.specs.Tests.{first_refusal}
+use Rattle.wire.specs.declared.request.Request.{Request}
+use Rattle.wire.specs.declared.request.Transfer.{Transfer}
+use Rattle.wire.specs.declared.request.Request.TheVariants.{Version, Features, RxRelease, RxtxMap, RxtxUnmap, IdGet, Send, Retrieve, Relinquish, Reclaim}
 use Rattle.rules.specs.Calls.{CallWords}
-use Rattle.rules.specs.Tests.{first_refusal}
-use Rattle.rules.specs.Buffers.{with_pair}
+use Rattle.rules.specs.Versions.{with_version}
+use Rattle.rules.specs.Buffers.{with_pair, with_rx_released}
 use Rattle.rules.specs.Sending.{common_home, may_be_sent, opened, with_send, send_tests, sent}
 use Rattle.rules.specs.Answering.{tests_of, changed, step, state_from, IsReached}
 use Rattle.rules.specs.Laws.{IsOwnSend, AreApart, AreAllApart, IsOwnedOnce}
@@ -54,13 +57,23 @@ send_kept s p k v h o =
     }
 
 -- each page of a send that passes its tests may be sent
-pub sent_pages : (s : State) (c : CallWords) (k : Kind) → first_refusal (send_tests s c k) ≡ None → each_page_in (may_be_sent s c.caller (common_home s c.caller (sent s c).ranges)) (sent s c).ranges ≡ true
-sent_pages s c k e = (all_pass (send_tests s c k) e).1.1.1.1.1.1.0
+pub sent_pages : (s : State) (c : CallWords) (k : Kind) (t : Transfer) → first_refusal (send_tests s c k t) ≡ None → each_page_in (may_be_sent s c.caller (common_home s c.caller (sent s c t).ranges)) (sent s c t).ranges ≡ true
+sent_pages s c k t e = (all_pass (send_tests s c k t) e).1.1.1.1.1.1.0
 
-changed_kept : (s : State) (c : CallWords) (f : Function) → first_refusal (tests_of s c f) ≡ None → IsOwnedOnce s → IsOwnedOnce (changed s c f)
-unfolding with_pair
-changed_kept s c RxtxMap e o = record { owners = o.owners; senders = o.senders; apart = o.apart }
-changed_kept s c (Send k) e o = send_kept s c.caller k (sent s c) (sent_pages s c k e) o
+changed_kept : (s : State) (c : CallWords) (r : Request) → first_refusal (tests_of s c r) ≡ None → IsOwnedOnce s → IsOwnedOnce (changed s c r)
+unfolding with_version with_pair with_rx_released
+changed_kept s c (Version word) e o = record { owners = o.owners; senders = o.senders; apart = o.apart }
+changed_kept s c (Features identifier) e o = o
+changed_kept s c RxRelease e o = record { owners = o.owners; senders = o.senders; apart = o.apart }
+changed_kept s c (RxtxMap tx rx count) e o = record { owners = o.owners; senders = o.senders; apart = o.apart }
+changed_kept s c (RxtxUnmap word) e o = record { owners = o.owners; senders = o.senders; apart = o.apart }
+changed_kept s c IdGet e o = o
+changed_kept s c (Send Lend t) e o = send_kept s c.caller Lend (sent s c t) (sent_pages s c Lend t e) o
+changed_kept s c (Send Share t) e o = absurd cc
+changed_kept s c (Send Donate t) e o = absurd cc
+changed_kept s c (Retrieve t) e o = o
+changed_kept s c Relinquish e o = o
+changed_kept s c (Reclaim handle flags) e o = o
 
 from : (s : State) (calls : List CallWords) → IsOwnedOnce s → IsOwnedOnce (state_from s calls)
 from s [] o = o

@@ -8,9 +8,9 @@ use Rattle.base.specs.Permissions.{Permission, Answer, is_reached_with, is_norma
 use Rattle.base.specs.Manifest.{GrantRow, RegionRow, region_at, granted_in, permission_of, is_sharable}
 use Rattle.base.specs.Transactions.{Receiver, Live, Donation}
 use Rattle.base.specs.Ledger.{live_at, donation_at, retrieved, view_under, settled_view, is_idle}
-use Rattle.base.specs.State.{State, Pair, sees, owns, is_free, is_buffer, home_of, each_page_in}
+use Rattle.base.specs.Pairs.{is_buffer}
+use Rattle.base.specs.State.{State, sees, owns, is_free, home_of, each_page_in}
 use Rattle.base.specs.Send.{Send, Endpoint}
-use Rattle.rules.specs.Buffers.{with_pair}
 use Rattle.rules.specs.Sending.{cap, common_home, may_be_sent, opened, with_send}
 use Rattle.rules.proofs.Pages.{both, each_page_in_at}
 
@@ -45,7 +45,7 @@ pub may_send : (s : State) (p : ℕ) (home : Permission) (n : ℕ) → may_be_se
 unfolding may_be_sent is_free
 may_send s p home n h =
     let x = both (is_free s p n) (is_reached_with home (home_of s n)) h in
-    let y = both (is_idle s.manifest s.donations s.live p n) (not (is_buffer s.seats n)) x.0 in
+    let y = both (is_idle s.manifest s.donations s.live p n) (not (is_buffer s.mailboxes n)) x.0 in
     let z = both (owns s p n && option_map_or is_sharable (region_at s.manifest n) false) (not (is_some (live_at s.live n))) y.0 in
     let w = both (owns s p n) (option_map_or is_sharable (region_at s.manifest n) false) z.0 in
     record { owns = w.0; share = w.1; idle = elim (is_some (live_at s.live n)) as (λ b. not b ≡ true → b ≡ false) [ true ↦ λ e. absurd cc | false ↦ λ e. refl ] z.1; has = x.1 }
@@ -103,7 +103,11 @@ lend_view s p v h q n =
     let k = may_send s p a n (each_page_in_at (may_be_sent s p a) v.ranges n h c) in
     (k.idle, λ ne. settled_none (donation_at s.donations n) (region_at s.manifest n) p q a k.owns k.share k.has ne))
 
--- a pair of buffers changes nothing of what is reached
-pub pair_view : (s : State) (p : ℕ) (pair : Pair) (q n : ℕ) → sees (with_pair s p pair) q n ≡ sees s q n
-unfolding with_pair
-pair_view s p pair q n = refl
+-- what is reached is decided by the manifest, the donations and the live transactions alone
+pub record IsSeenAlike (s t : State) : Type 0 where
+  pub manifest : t.manifest ≡ s.manifest
+  pub donations : t.donations ≡ s.donations
+  pub live : t.live ≡ s.live
+
+pub seen_alike : (s t : State) → IsSeenAlike s t → (q n : ℕ) → sees t q n ≡ sees s q n
+seen_alike s t same q n = rw (same.manifest, same.donations, same.live) refl

@@ -1,51 +1,110 @@
 -- The answer to a call, the state after it, and runs of calls.
-use Rattle.std.specs.Prelude.{◌≡◌, ◌%◌, ◌/◌, ◌^◌, List, [], ◌∷◌, Option, is_some}
+use Rattle.std.specs.Prelude.{◌≡◌, ◌%◌, ◌/◌, ◌^◌, Bool, true, false, List, [], ◌∷◌, Option, Some, None, is_some}
 use Rattle.std.specs.Option.{option_map_or}
 use Rattle.base.specs.declared.status.Status.{Status}
 use Rattle.base.specs.declared.status.Status.TheVariants.{NotSupported, Denied}
+use Rattle.base.specs.declared.transaction.Kind.TheVariants.{Share, Lend, Donate}
 use Rattle.base.specs.Manifest.{is_partition}
+use Rattle.base.specs.Tests.{Test, ◌otherwise◌, first_refusal}
+use Rattle.base.specs.Pairs.{named_pair, release_tests}
 use Rattle.base.specs.State.{State, start}
-use Rattle.rules.specs.declared.function.Function.{Function}
-use Rattle.rules.specs.declared.function.Function.TheVariants.{RxtxMap, Send}
-use Rattle.rules.specs.Calls.{CallWords, ReplyWords, word, function_of, error, success}
-use Rattle.rules.specs.Tests.{Test, ◌otherwise◌, first_refusal}
-use Rattle.rules.specs.Buffers.{map_tests, named_pair, with_pair}
+use Rattle.wire.specs.declared.request.Request.{Request}
+use Rattle.wire.specs.declared.request.Request.TheVariants.{Version, Features, RxRelease, RxtxMap, RxtxUnmap, IdGet, Send, Retrieve, Relinquish, Reclaim}
+use Rattle.wire.specs.Functions.{is_feature}
+use Rattle.wire.specs.Requests.{request_of}
+use Rattle.wire.specs.Replies.{ReplyWords, error, success}
+use Rattle.rules.specs.Calls.{CallWords}
+use Rattle.rules.specs.Versions.{version_reply, with_version}
+use Rattle.rules.specs.Buffers.{map_tests, unmap_tests, with_pair, with_rx_released}
 use Rattle.rules.specs.Sending.{send_tests, sent, next_handle, with_send}
 
 -- ---- one call
 
-abbrev pub tests_of : State → CallWords → Function → List Test
-tests_of s c RxtxMap = map_tests s c
-tests_of s c (Send kind) = send_tests s c kind
+-- of a call that is not served yet
+abbrev pub not_yet : List Test
+not_yet = (false otherwise NotSupported) ∷ []
+
+-- the request changes what is reached, where it is granted
+abbrev pub moves_pages : Request → Bool
+moves_pages (Version word) = false
+moves_pages (Features identifier) = false
+moves_pages RxRelease = false
+moves_pages (RxtxMap tx rx count) = false
+moves_pages (RxtxUnmap word) = false
+moves_pages IdGet = false
+moves_pages (Send Lend t) = true
+moves_pages (Send Share t) = false
+moves_pages (Send Donate t) = false
+moves_pages (Retrieve t) = false
+moves_pages Relinquish = false
+moves_pages (Reclaim handle flags) = false
+
+abbrev pub tests_of : State → CallWords → Request → List Test
+tests_of s c (Version word) = []
+tests_of s c (Features identifier) = (is_feature identifier otherwise NotSupported) ∷ []
+tests_of s c RxRelease = release_tests s.mailboxes c.caller
+tests_of s c (RxtxMap tx rx count) = map_tests s c.caller tx rx count
+tests_of s c (RxtxUnmap word) = unmap_tests s c.caller word
+tests_of s c IdGet = []
+tests_of s c (Send Lend t) = send_tests s c Lend t
+tests_of s c (Send Share t) = not_yet
+tests_of s c (Send Donate t) = not_yet
+tests_of s c (Retrieve t) = not_yet
+tests_of s c Relinquish = not_yet
+tests_of s c (Reclaim handle flags) = not_yet
 
 -- the caller has a row, the identifier is known, and then the call's own tests
 abbrev pub tests : State → CallWords → List Test
 tests s c =
-    let function = function_of (word c 0) in
+    let request = request_of c.regs in
     (is_partition s.manifest c.caller otherwise Denied)
-    ∷ (is_some function otherwise NotSupported)
-    ∷ option_map_or (tests_of s c) function []
+    ∷ (is_some request otherwise NotSupported)
+    ∷ option_map_or (tests_of s c) request []
 
 abbrev pub refusal : State → CallWords → Option Status
 refusal s c = first_refusal (tests s c)
 
 -- what a call is answered that passes its tests; a send gives the low and the high half of its handle
-abbrev pub granted : State → CallWords → Function → ReplyWords
-granted s c RxtxMap = success 0 0
-granted s c (Send kind) = let handle = next_handle s c.caller in success (handle % 2 ^ 32) (handle / 2 ^ 32)
+abbrev pub granted : State → CallWords → Request → ReplyWords
+granted s c (Version word) = version_reply word
+granted s c (Features identifier) = success 0 0
+granted s c RxRelease = success 0 0
+granted s c (RxtxMap tx rx count) = success 0 0
+granted s c (RxtxUnmap word) = success 0 0
+granted s c IdGet = success c.caller 0
+granted s c (Send kind t) = let handle = next_handle s c.caller in success (handle % 2 ^ 32) (handle / 2 ^ 32)
+granted s c (Retrieve t) = success 0 0
+granted s c Relinquish = success 0 0
+granted s c (Reclaim handle flags) = success 0 0
 
 -- the state after a call that passes its tests
-abbrev pub changed : State → CallWords → Function → State
-changed s c RxtxMap = with_pair s c.caller (named_pair c)
-changed s c (Send kind) = with_send s c.caller kind (sent s c)
+abbrev pub changed : State → CallWords → Request → State
+changed s c (Version word) = with_version s c.caller word
+changed s c (Features identifier) = s
+changed s c RxRelease = with_rx_released s c.caller
+changed s c (RxtxMap tx rx count) = with_pair s c.caller (Some (named_pair tx rx count))
+changed s c (RxtxUnmap word) = with_pair s c.caller None
+changed s c IdGet = s
+changed s c (Send kind t) = with_send s c.caller kind (sent s c t)
+changed s c (Retrieve t) = s
+changed s c Relinquish = s
+changed s c (Reclaim handle flags) = s
+
+-- the reply to a request of a partition that has a row
+abbrev pub answer_to : State → CallWords → Request → ReplyWords
+answer_to s c request = option_map_or error (first_refusal (tests_of s c request)) (granted s c request)
+
+-- the state after it; where it is refused, nothing has changed
+abbrev pub state_after : State → CallWords → Request → State
+state_after s c request = option_map_or (λ status. s) (first_refusal (tests_of s c request)) (changed s c request)
 
 -- the reply to a call
 unfoldable pub answer : State → CallWords → ReplyWords
-answer s c = option_map_or error (refusal s c) (option_map_or (granted s c) (function_of (word c 0)) (error NotSupported))
+answer s c = option_map_or error (refusal s c) (option_map_or (granted s c) (request_of c.regs) (error NotSupported))
 
 -- the state after a call; a refused call changes nothing
 unfoldable pub step : State → CallWords → State
-step s c = option_map_or (λ status. s) (refusal s c) (option_map_or (changed s c) (function_of (word c 0)) s)
+step s c = option_map_or (λ status. s) (refusal s c) (option_map_or (changed s c) (request_of c.regs) s)
 
 -- ---- runs
 

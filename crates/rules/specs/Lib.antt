@@ -1,6 +1,6 @@
 pub mod Calls
-pub mod Tests
 pub mod Buffers
+pub mod Versions
 pub mod Sending
 pub mod Answering
 pub mod Laws

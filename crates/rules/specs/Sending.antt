@@ -14,29 +14,30 @@ use Rattle.base.specs.Permissions.{Permission, is_reached_with}
 use Rattle.base.specs.Manifest.{is_partition}
 use Rattle.base.specs.Transactions.{Live}
 use Rattle.base.specs.Send.{Send, Endpoint, is_send, send_of, receiver_count, range_count}
-use Rattle.base.specs.State.{State, Seat, pair_of, version_of, sends_of, with_seat, is_free, owns, home_of, each_page_in}
-use Rattle.rules.specs.Calls.{CallWords, word}
-use Rattle.rules.specs.Tests.{Test, ◌otherwise◌}
-use Rattle.rules.specs.Buffers.{has_pair}
+use Rattle.base.specs.Tests.{Test, ◌otherwise◌}
+use Rattle.base.specs.Pairs.{pair_of, has_pair}
+use Rattle.base.specs.State.{State, Seat, version_of, sends_of, with_seat, is_free, owns, home_of, each_page_in}
+use Rattle.wire.specs.declared.request.Transfer.{Transfer}
+use Rattle.rules.specs.Calls.{CallWords}
 
 -- ---- the registers
 
 -- registers 3 and 4 name no other buffer
-unfoldable pub names_tx : CallWords → Bool
-names_tx c = (word c 3 == 0) && (word c 4 == 0)
+unfoldable pub names_tx : Transfer → Bool
+names_tx t = (t.address == 0) && (t.pages == 0)
 
 -- the size of the TX buffer, in bytes
 abbrev pub tx_size : State → ℕ → ℕ
-tx_size s p = option_map_or (λ pair. 4096 * pair.tx.count) (pair_of s.seats p) 0
+tx_size s p = option_map_or (λ pair. 4096 * pair.tx.count) (pair_of s.mailboxes p) 0
 
 -- the total length is the fragment's, and neither the TX buffer nor the bytes that the call carries are shorter
-unfoldable pub has_lengths : State → CallWords → Bool
-has_lengths s c = (word c 1 == word c 2) && nat_le (word c 1) (tx_size s c.caller) && nat_le (word c 1) (length c.tx)
+unfoldable pub has_lengths : State → CallWords → Transfer → Bool
+has_lengths s c t = (t.total == t.fragment) && nat_le t.total (tx_size s c.caller) && nat_le t.total (length c.tx)
 
 -- ---- the descriptor
 
-abbrev pub bytes_of : CallWords → List ℕ
-bytes_of c = take (word c 1) c.tx
+abbrev pub bytes_of : CallWords → Transfer → List ℕ
+bytes_of c t = take t.total c.tx
 
 abbrev pub caller_version : State → CallWords → Version
 caller_version s c = version_of s.seats c.caller
@@ -46,8 +47,8 @@ unfoldable pub is_single_send : Version → List ℕ → Bool
 is_single_send version bytes = is_send version bytes && (receiver_count bytes == 1) && (range_count version bytes == 1)
 
 -- what the descriptor says
-abbrev pub sent : State → CallWords → Send
-sent s c = send_of (caller_version s c) (bytes_of c)
+abbrev pub sent : State → CallWords → Transfer → Send
+sent s c t = send_of (caller_version s c) (bytes_of c t)
 
 -- ---- sender and receivers
 
@@ -127,15 +128,15 @@ has_room s p = nat_lt (length (filter (λ t. t.sender == p) s.live)) 32 && nat_l
 
 -- ---- the table
 
-abbrev pub send_tests : State → CallWords → Kind → List Test
-send_tests s c kind =
+abbrev pub send_tests : State → CallWords → Kind → Transfer → List Test
+send_tests s c kind t =
     let p = c.caller in
-    let v = sent s c in
+    let v = sent s c t in
     let home = common_home s p v.ranges in
-    (has_pair s p otherwise InvalidParameters)
-    ∷ (names_tx c otherwise InvalidParameters)
-    ∷ (has_lengths s c otherwise InvalidParameters)
-    ∷ (is_single_send (caller_version s c) (bytes_of c) otherwise InvalidParameters)
+    (has_pair s.mailboxes p otherwise InvalidParameters)
+    ∷ (names_tx t otherwise InvalidParameters)
+    ∷ (has_lengths s c t otherwise InvalidParameters)
+    ∷ (is_single_send (caller_version s c) (bytes_of c t) otherwise InvalidParameters)
     ∷ (are_parties s p v otherwise InvalidParameters)
     ∷ (suits kind v otherwise InvalidParameters)
     ∷ (each_page_in (may_be_sent s p home) v.ranges otherwise Denied)

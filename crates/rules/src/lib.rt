@@ -2,8 +2,6 @@
 //! what holds in every state that calls reach. `specs/` has the definitions, `proofs/` the laws.
 #![tactic(auto)]
 
-mod function;
 mod law;
 
-pub use function::Function;
 pub use law::pages_have_one_owner;

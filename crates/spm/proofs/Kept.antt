@@ -7,28 +7,25 @@ use Rattle.base.specs.Pages.{PageRun, covers}
 use Rattle.base.specs.Permissions.{Answer}
 use Rattle.base.specs.Manifest.{ManifestRows, is_partition, grant}
 use Rattle.base.specs.Send as descriptor
-use Rattle.base.specs.State.{State, Pair, start, sees, each_page_in}
+use Rattle.base.specs.State.{State, start, sees, each_page_in}
 use Rattle.pool.specs.Pool.{Pool, words_of}
 use Rattle.stage2.specs.declared.walked.Walked.{Walked}
 use Rattle.stage2.specs.declared.walked.Walked.TheVariants.{None as Unmapped}
 use Rattle.stage2.specs.Slot.{Layout, layout_of}
 use Rattle.stage2.specs.Walk.{translation, walked, Agrees}
-use Rattle.rules.specs.declared.function.Function.TheVariants.{RxtxMap, Send}
-use Rattle.rules.specs.Calls.{CallWords, word, function_of}
-use Rattle.rules.specs.Tests.{first_refusal}
-use Rattle.rules.specs.Buffers.{map_tests, named_pair, with_pair}
+use Rattle.wire.specs.declared.request.Transfer.{Transfer}
+use Rattle.wire.specs.declared.request.Request.{Request}
+use Rattle.wire.specs.declared.request.Request.TheVariants.{Send}
+use Rattle.wire.specs.Requests.{request_of}
+use Rattle.base.specs.Tests.{first_refusal}
+use Rattle.rules.specs.Calls.{CallWords}
 use Rattle.rules.specs.Sending.{send_tests, sent, common_home, may_be_sent, with_send}
-use Rattle.rules.specs.Answering.{step, IsReached}
-use Rattle.rules.proofs.Reached.{IsReached-start, IsReached-step, step_keeps, accepted}
+use Rattle.rules.specs.Answering.{moves_pages, state_after, step, IsReached}
+use Rattle.rules.proofs.Reached.{IsReached-start, IsReached-step, step_keeps, accepted, stepped}
 use Rattle.rules.proofs.Owning.{sent_pages}
-use Rattle.rules.proofs.Viewing.{lend_view, pair_view}
+use Rattle.rules.proofs.Viewing.{lend_view, seen_alike}
+use Rattle.rules.proofs.Still.{seen_still}
 use Rattle.spm.specs.Machine.{IsConsistent}
-
-maps : (identifier : ℕ) → identifier ≡ 0x84000066 → function_of identifier ≡ Some RxtxMap
-maps identifier e = rw e refl
-
-lends : (identifier : ℕ) → identifier ≡ 0x84000072 → function_of identifier ≡ Some (Send Lend)
-lends identifier e = rw e refl
 
 -- what is not reached is not mapped
 not_mapped : (n : ℕ) (b : Bool) (a : Answer) → cond b Unmapped (walked n a) ≡ walked n (cond b None a)
@@ -59,25 +56,26 @@ module _ (s : State) (c : CallWords) (known : is_partition s.manifest c.caller �
   layout_kept : (t : State) → step s c ≡ t → layout ≡ layout_of t.manifest
   layout_kept t stepped = kept.placed ∙ ap layout_of (sym (step_keeps s c) ∙ ap (λ (u : State). u.manifest) stepped)
 
-  pub map_kept : (t : State) (pair : Pair) → word c 0 ≡ 0x84000066 → first_refusal (map_tests s c) ≡ None → pair ≡ named_pair c → t ≡ with_pair s c.caller pair → IsConsistent t layout old
-  map_kept t pair named passed is changed =
-      let stepped : step s c ≡ t = accepted s c RxtxMap known (maps (word c 0) named) passed ∙ sym (changed ∙ ap (with_pair s c.caller) is) in
-      let now = layout_kept t stepped in
-      let seen : (q n : ℕ) → sees t q n ≡ sees s q n = λ q n. ap (λ (u : State). sees u q n) changed ∙ pair_view s c.caller pair q n in
+  -- a request that moves no page leaves what is reached, and the tables
+  pub set_up_kept : (t : State) (r : Request) → request_of c.regs ≡ Some r → moves_pages r ≡ false → t ≡ state_after s c r → IsConsistent t layout old
+  set_up_kept t r named still is =
+      let one : step s c ≡ t = stepped s c r known named ∙ sym is in
+      let now = layout_kept t one in
+      let seen : (q n : ℕ) → sees t q n ≡ sees s q n = λ q n. ap (λ (u : State). sees u q n) is ∙ seen_alike s (state_after s c r) (seen_still s c r still) q n in
       record {
         placed = now;
         agrees = record { walks = λ q n small. ap (λ l. translation l (words_of old.memory.words) q n) (sym now ∙ kept.placed) ∙ kept.agrees.walks q n small ∙ ap (walked n) (sym (seen q n)) };
-        reached = subst IsReached stepped (IsReached-step s c kept.reached);
+        reached = subst IsReached one (IsReached-step s c kept.reached);
       }
 
-  pub lend_kept : (t : State) (v : descriptor.Send) (place : Layout) (new : Pool) → word c 0 ≡ 0x84000072 → first_refusal (send_tests s c Lend) ≡ None → v ≡ sent s c → t ≡ with_send s c.caller Lend v → place ≡ layout
+  pub lend_kept : (t : State) (transfer : Transfer) (v : descriptor.Send) (place : Layout) (new : Pool) → request_of c.regs ≡ Some (Send Lend transfer) → first_refusal (send_tests s c Lend transfer) ≡ None → v ≡ sent s c transfer → t ≡ with_send s c.caller Lend v → place ≡ layout
       → Unmaps layout old place new c.caller v.ranges
       → IsConsistent t place new
-  lend_kept t v place new named passed is changed same edited =
-      let stepped : step s c ≡ t = accepted s c (Send Lend) known (lends (word c 0) named) passed ∙ sym (changed ∙ ap (with_send s c.caller Lend) is) in
+  lend_kept t transfer v place new named passed is changed same edited =
+      let stepped : step s c ≡ t = accepted s c (Send Lend transfer) known named passed ∙ sym (changed ∙ ap (with_send s c.caller Lend) is) in
       let now = same ∙ layout_kept t stepped in
       let pages : each_page_in (may_be_sent s c.caller (common_home s c.caller v.ranges)) v.ranges ≡ true =
-      ap (λ (w : descriptor.Send). each_page_in (may_be_sent s c.caller (common_home s c.caller w.ranges)) w.ranges) is ∙ sent_pages s c Lend passed in
+      ap (λ (w : descriptor.Send). each_page_in (may_be_sent s c.caller (common_home s c.caller w.ranges)) w.ranges) is ∙ sent_pages s c Lend transfer passed in
       let seen : (q n : ℕ) → sees t q n ≡ cond (eqb q c.caller && covers v.ranges n) None (sees s q n) =
       λ q n. ap (λ (u : State). sees u q n) changed ∙ lend_view s c.caller v pages q n ∙ ap (λ b. cond (b && covers v.ranges n) None (sees s q n)) (eqb-sym c.caller q) in
       record {

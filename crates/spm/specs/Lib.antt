@@ -1,4 +1,3 @@
-pub mod Filled
 pub mod Inside
 pub mod Single
 pub mod Lists

@@ -2,16 +2,17 @@
 //! edits their translation tables.
 #![tactic(auto)]
 
-mod buffers;
 mod call;
 mod checks;
 mod ledger;
 mod seat;
 mod send;
+mod setup;
 mod spm;
 mod state;
 mod terms;
 
-pub use call::{Call, Reply};
+pub use call::Call;
 pub use ledger::{Donation, Ledger, Live, Receiver};
 pub use spm::{Spm, run_calls};
+pub use wire::Reply;

@@ -1,33 +1,34 @@
 //! The manager: the state, and the translation tables that agree with it.
 
-ghost use Rattle.std.specs.Prelude.{◌≡◌, ◌%◌, ◌/◌, ◌^◌, IfOk, OnOk, OnErr, IsSome, true};
+ghost use Rattle.std.specs.Prelude.{◌≡◌, ◌-◌, ◌%◌, ◌/◌, ◌^◌, ◌<◌, Some, None, IfOk, OnOk, OnErr, IsSome, true, false};
 ghost use Rattle.base.specs.Manifest as rows;
 ghost use Rattle.base.specs.State as state;
 ghost use Rattle.pool.specs.Pool.{words_of};
 ghost use Rattle.stage2.specs.Slot.{layout_of};
 ghost use Rattle.stage2.specs.Walk.{translation, walked};
-ghost use Rattle.rules.specs.Calls.{word};
+ghost use Rattle.base.specs.Tests.{first_refusal};
+ghost use Rattle.wire.specs.Requests.{request_of};
 ghost use Rattle.rules.specs.Answering as rules;
+ghost use Rattle.rules.specs.Sending.{send_tests, sent};
 ghost use Rattle.rules.specs.Laws.{IsOwnedOnce};
 ghost use Rattle.spm.specs.Machine.{WalksAgree, MayWantMemory, unchanged};
 
-use crate::call::{Call, Reply};
-use crate::checks::{check_map, check_send};
+use crate::call::Call;
+use crate::checks::check_send;
 use crate::ledger::Ledger;
+use crate::send::SendDesc;
+use crate::setup::set_up;
 use crate::state::State;
-use base::{Access, Kind, OutOfMemory, Page, PartitionId, Status};
+use base::{Access, Kind, OutOfMemory, Page, PartitionId, Status, Version};
 use manifest::Manifest;
 use pool::TableMem;
 use stage2::Tables;
 use std::alloc::Global;
 use std::marker::Model;
+use wire::{Reply, Request, Transfer, decode};
 
 #[cfg(test)]
 mod tests;
-
-const FFA_RXTX_MAP: u32 = 0x8400_0066;
-
-const FFA_MEM_LEND: u32 = 0x8400_0072;
 
 /// The manager of the partitions of a manifest. In every value of the type the translation tables give
 /// each partition, page by page, what the state says, and some list of calls leads to the state.
@@ -72,6 +73,14 @@ impl<M: TableMem + Drop> Spm<M> {
         ensures once { IsOwnedOnce self.now.state }
     {
         self.state.owner(page)
+    }
+
+    /// The version of FF-A that a partition speaks: 1.1 at boot and for one that has no row, and else
+    /// the one that it named last by FFA_VERSION.
+    pub fn version(&self, p: PartitionId) -> Version
+        ensures { result ≡ state.version_of self.now.state.seats p }
+    {
+        self.state.version(p)
     }
 
     /// The manifest that the manager was booted from.
@@ -128,38 +137,32 @@ impl<M: TableMem + Drop> Spm<M> {
         if !self.state.is_partition(call.partition()) {
             return Ok(Reply::error(Status::Denied));
         }
-        match call.word(0) {
-            FFA_RXTX_MAP => Ok(self.map_buffers(call)),
-            FFA_MEM_LEND => self.lend(call),
-            _ => Ok(Reply::error(Status::NotSupported)),
+        match decode(call.regs) {
+            Ok(Request::Send(Kind::Lend, transfer)) => self.lend(call, transfer),
+            Ok(request) => Ok(self.set_up(call, request)),
+            Err(status) => Ok(Reply::error(status)),
         }
     }
 
-    /// FFA_RXTX_MAP.
-    #[tactic(auto, unfolding(rules::specs::Answering::answer, rules::specs::Answering::step))]
-    fn map_buffers(&mut self, call: &Call) -> Reply
+    /// A request that moves no page.
+    fn set_up(&mut self, call: &Call, request: Request) -> Reply
         requires known { rows.is_partition self.old.state.manifest call.now.caller ≡ true }
-        requires named { word call.now 0 ≡ 0x84000066 }
+        requires named { request_of call.now.regs ≡ Some request }
+        requires still { rules.moves_pages request ≡ false }
         ensures reply { result ≡ rules.answer self.old.state call.now }
         ensures state { self.new.state ≡ rules.step self.old.state call.now }
-        ensures refused { IsSome (rules.refusal self.old.state call.now) → self.new ≡ self.old }
+        ensures pool { self.new.pool ≡ self.old.pool }
         ensures agrees { WalksAgree self.new.state self.new.pool }
         ensures reached { rules.IsReached self.new.state }
     {
-        match check_map(&self.state, call) {
-            Ok(pair) => {
-                self.state.set_pair(call.partition(), pair);
-                Reply::success(0, 0)
-            }
-            Err(status) => Reply::error(status),
-        }
+        set_up(&mut self.state, call, request)
     }
 
     /// FFA_MEM_LEND.
     #[tactic(auto, unfolding(rules::specs::Answering::answer, rules::specs::Answering::step))]
-    fn lend(&mut self, call: &Call) -> Result<Reply, OutOfMemory>
+    fn lend(&mut self, call: &Call, transfer: Transfer) -> Result<Reply, OutOfMemory>
         requires known { rows.is_partition self.old.state.manifest call.now.caller ≡ true }
-        requires named { word call.now 0 ≡ 0x84000072 }
+        requires named { request_of call.now.regs ≡ Some (Request.Send Kind.Lend transfer) }
         ensures reply { IfOk result (λ reply. reply ≡ rules.answer self.old.state call.now) }
         ensures state { OnOk result (self.new.state ≡ rules.step self.old.state call.now) }
         ensures refused { IsSome (rules.refusal self.old.state call.now) → self.new ≡ self.old }
@@ -168,14 +171,35 @@ impl<M: TableMem + Drop> Spm<M> {
         ensures agrees { WalksAgree self.new.state self.new.pool }
         ensures reached { rules.IsReached self.new.state }
     {
+        match check_send(&self.state, call, Kind::Lend, transfer) {
+            Ok(desc) => self.open_lend(call, transfer, &desc),
+            Err(status) => Ok(Reply::error(status)),
+        }
+    }
+
+    /// A lend that has passed its tests: takes the memory that it needs, and then edits the tables.
+    #[tactic(auto, unfolding(rules::specs::Answering::answer, rules::specs::Answering::step))]
+    fn open_lend(
+        &mut self,
+        call: &Call,
+        transfer: Transfer,
+        desc: &SendDesc,
+    ) -> Result<Reply, OutOfMemory>
+        requires known { rows.is_partition self.old.state.manifest call.now.caller ≡ true }
+        requires named { request_of call.now.regs ≡ Some (Request.Send Kind.Lend transfer) }
+        requires passed { first_refusal (send_tests self.old.state call.now Kind.Lend transfer) ≡ None }
+        requires spelled { desc.now ≡ sent self.old.state call.now transfer }
+        requires room { state.sends_of self.old.state.seats call.now.caller < 2 ^ 32 - 1 }
+        ensures reply { IfOk result (λ reply. reply ≡ rules.answer self.old.state call.now) }
+        ensures state { OnOk result (self.new.state ≡ rules.step self.old.state call.now) }
+        ensures err { OnErr result (self.new ≡ self.old) }
+        ensures agrees { WalksAgree self.new.state self.new.pool }
+        ensures reached { rules.IsReached self.new.state }
+    {
         let p = call.partition();
-        let desc = match check_send(&self.state, call, Kind::Lend) {
-            Ok(desc) => desc,
-            Err(status) => return Ok(Reply::error(status)),
-        };
         let handle = self.state.next_handle(p);
         self.tables.ready(&desc.ranges)?;
-        self.state.open(p, Kind::Lend, &desc)?;
+        self.state.open(p, Kind::Lend, desc)?;
         self.tables.unmap(p, &desc.ranges);
         Ok(Reply::success(low_half(handle), high_half(handle)))
     }

@@ -1,19 +1,24 @@
 //! The state that calls change.
 
-ghost use Rattle.std.specs.Prelude.{◌≡◌, ◌+◌, ◌-◌, ◌<◌, ◌^◌, true, false, IfOk, OnOk, OnErr};
+ghost use Rattle.std.specs.Prelude.{◌≡◌, ◌+◌, ◌-◌, ◌<◌, ◌^◌, true, false, Some, None, IfOk, IfErr, OnOk, OnErr};
 ghost use Rattle.std.specs.List.{list_all};
 ghost use Rattle.std.specs.Option.{option_map_or};
 ghost use Rattle.base.specs.Manifest as rows;
 ghost use Rattle.base.specs.State as spec;
+ghost use Rattle.base.specs.Tests.{first_refusal};
+ghost use Rattle.base.specs.Pairs as pairs;
 ghost use Rattle.rules.specs.Buffers as buffers;
+ghost use Rattle.rules.specs.Versions as versions;
 ghost use Rattle.rules.specs.Sending as sending;
 
-use crate::buffers::Pair;
 use crate::ledger::{Ledger, Live};
-use crate::seat::{Seat, count_send, first_seats, is_buffer, seat_of, set_pair};
+use crate::seat::{Seat, count_send, first_seats, seat_of, set_version};
 use crate::send::{Endpoint, SendDesc};
 use crate::terms::{are_distinct, is_reached_with, receivers_of};
-use base::{Access, Kind, MemoryKind, OutOfMemory, Page, PartitionId, Rights, Run, Version};
+use base::{
+    Access, Kind, MemoryKind, OutOfMemory, Page, PartitionId, Rights, Run, Status, Version,
+};
+use mailbox::{Pair, Pairs};
 use manifest::{Manifest, Region};
 use std::alloc::Global;
 use std::marker::Model;
@@ -24,6 +29,7 @@ pub(crate) struct State {
     alloc: Global,
     manifest: Manifest,
     ledger: Ledger,
+    pairs: Pairs,
     seats: Vec<Seat>,
 }
 
@@ -32,7 +38,7 @@ impl Model for State {
 
     ghost Value = { spec.State };
 
-    ghost view = { λ a. record { manifest = a.manifest; donations = a.ledger.donations; live = a.ledger.live; seats = a.seats.items } };
+    ghost view = { λ a. record { manifest = a.manifest; donations = a.ledger.donations; live = a.ledger.live; mailboxes = a.pairs; seats = a.seats.items } };
 }
 
 impl State {
@@ -40,11 +46,13 @@ impl State {
     pub(crate) fn new(alloc: Global, manifest: Manifest) -> Result<Self, OutOfMemory>
         ensures { IfOk result (λ s. s ≡ spec.start manifest) }
     {
+        let pairs = Pairs::new(&manifest);
         let seats = first_seats(alloc, manifest.partitions())?;
         Ok(State {
             alloc,
             manifest,
             ledger: Ledger::new(alloc),
+            pairs,
             seats,
         })
     }
@@ -108,28 +116,21 @@ impl State {
         self.owns(p, page)
             && self.is_sharable(page)
             && !self.ledger.is_live(page)
-            && !is_buffer(&self.seats, page)
+            && !self.pairs.holds_page(page)
     }
 
-    fn pair_of(&self, p: PartitionId) -> Option<Pair>
-        ensures { result ≡ spec.pair_of self.now.seats p }
+    /// The buffer pairs.
+    pub(crate) fn pairs(&self) -> &Pairs
+        ensures { result.now ≡ self.now.mailboxes }
     {
-        seat_of(&self.seats, p)?.pair
-    }
-
-    /// Whether a partition has a pair.
-    #[tactic(auto, unfolding(rules::specs::Buffers::has_pair))]
-    pub(crate) fn has_pair(&self, p: PartitionId) -> bool
-        ensures { result ≡ buffers.has_pair self.now p }
-    {
-        self.pair_of(p).is_some()
+        &self.pairs
     }
 
     /// The size of a partition's TX buffer, in bytes.
     pub(crate) fn tx_size(&self, p: PartitionId) -> u64
         ensures { result ≡ sending.tx_size self.now p }
     {
-        match self.pair_of(p) {
+        match self.pairs.pair_of(p) {
             Some(pair) => 4096 * u64::from(pair.tx.count()),
             None => 0,
         }
@@ -262,10 +263,40 @@ impl State {
 
     /// Registers a pair.
     #[tactic(auto, unfolding(rules::specs::Buffers::with_pair))]
-    pub(crate) fn set_pair(&mut self, p: PartitionId, pair: Pair)
-        ensures { self.new ≡ buffers.with_pair self.old p pair }
+    pub(crate) fn map_pair(&mut self, p: PartitionId, pair: Pair)
+        ensures { self.new ≡ buffers.with_pair self.old p (Some pair) }
     {
-        set_pair(&mut self.seats, p, pair);
+        self.pairs.map(p, pair);
+    }
+
+    /// Ends the registration of a pair. A refusal changes nothing.
+    #[tactic(auto, unfolding(rules::specs::Buffers::with_pair))]
+    pub(crate) fn unmap_pair(&mut self, p: PartitionId) -> Result<(), Status>
+        ensures refused { IfErr result (λ status. first_refusal (pairs.unmap_tests self.old.mailboxes p) ≡ Some status) }
+        ensures err { OnErr result (self.new ≡ self.old) }
+        ensures passed { OnOk result (first_refusal (pairs.unmap_tests self.old.mailboxes p) ≡ None) }
+        ensures ok { OnOk result (self.new ≡ buffers.with_pair self.old p None) }
+    {
+        self.pairs.unmap(p)
+    }
+
+    /// Takes RX back from a partition. A refusal changes nothing.
+    #[tactic(auto, unfolding(rules::specs::Buffers::with_rx_released))]
+    pub(crate) fn release_rx(&mut self, p: PartitionId) -> Result<(), Status>
+        ensures refused { IfErr result (λ status. first_refusal (pairs.release_tests self.old.mailboxes p) ≡ Some status) }
+        ensures err { OnErr result (self.new ≡ self.old) }
+        ensures passed { OnOk result (first_refusal (pairs.release_tests self.old.mailboxes p) ≡ None) }
+        ensures ok { OnOk result (self.new ≡ buffers.with_rx_released self.old p) }
+    {
+        self.pairs.release(p)
+    }
+
+    /// Keeps the version that a partition named.
+    #[tactic(auto, unfolding(rules::specs::Versions::with_version))]
+    pub(crate) fn set_version(&mut self, p: PartitionId, word: u32)
+        ensures { self.new ≡ versions.with_version self.old p word }
+    {
+        set_version(&mut self.seats, p, word);
     }
 
     /// Opens the transaction of a send, and counts the send.

@@ -101,3 +101,107 @@ fn keeps_bytes(rt: HostRuntime) -> Result<(), Fail> {
     )?;
     expect_text::<ListPool>(&rt, alloc, &script, None, REPLIES)
 }
+
+const SUCCESS: &str = "84000061 00000000 00000000 00000000";
+
+const NOT_SUPPORTED: &str = "84000060 00000000 ffffffff 00000000";
+
+const INVALID: &str = "84000060 00000000 fffffffe 00000000";
+
+const REFUSED: &str = "84000060 00000000 fffffffa 00000000";
+
+/// Each line is a call, and is answered by these registers 0 to 3; the others are 0.
+fn expect_replies<M: TableMem + Drop>(
+    rt: &impl Abort,
+    alloc: Global,
+    calls: &[(&str, &str)],
+) -> Result<(), Fail> {
+    let mut script = String::new(alloc);
+    let mut wanted = String::new(alloc);
+    for (line, registers) in calls {
+        writeln!(&mut script, "{line}")?;
+        writeln!(
+            &mut wanted,
+            "reply {registers} 00000000 00000000 00000000 00000000"
+        )?;
+    }
+    expect_text::<M>(rt, alloc, &script, None, &wanted)
+}
+
+#[test]
+fn answers_before_buffers_are_there(rt: HostRuntime) -> Result<(), Fail> {
+    let calls = [
+        ("call 8001 84000070", NOT_SUPPORTED),
+        (
+            "call 8001 84000063 80000000",
+            "ffffffff 00000000 00000000 00000000",
+        ),
+        (
+            "call 8001 84000063 10000",
+            "00010001 00000000 00000000 00000000",
+        ),
+        ("call 9000 84000069", REFUSED),
+        ("call 8002 84000069", "84000061 00000000 00008002 00000000"),
+        ("call 8001 84000065", REFUSED),
+        ("call 8001 c4000065", NOT_SUPPORTED),
+        (
+            "call 8001 ffffffff84000069",
+            "84000061 00000000 00008001 00000000",
+        ),
+        ("call 8001 84000064 84000075", SUCCESS),
+        ("call 8001 84000064 c4000076", NOT_SUPPORTED),
+    ];
+    expect_replies::<ListPool>(&rt, rt.alloc(), &calls)
+}
+
+#[test]
+fn registers_buffers(rt: HostRuntime) -> Result<(), Fail> {
+    let calls = [
+        ("call 8001 84000066 90000000 90001000 0", INVALID),
+        ("call 8001 84000066 90000000 90001000 9", INVALID),
+        ("call 8001 84000066 90000800 90001000 1", INVALID),
+        ("call 8001 84000066 90000000 90000000 1", INVALID),
+        ("call 8001 c4000066 8000000000 90001000 1", INVALID),
+        ("call 8001 84000066 8000000000 90001000 1", REFUSED),
+        ("call 8001 84000066 d0000000 90001000 1", REFUSED),
+        ("call 8001 84000066 80000000 80008000 100000008", SUCCESS),
+        ("call 8001 84000066 80000000 80008000 100000008", REFUSED),
+        ("call 8001 84000067 1", INVALID),
+        ("call 8001 84000067", SUCCESS),
+        ("call 8001 84000067", INVALID),
+    ];
+    expect_replies::<ListPool>(&rt, rt.alloc(), &calls)
+}
+
+/// The same lend in the layout of version 1.0.
+const LEND_1_0: &str = "0180000000000000000000000000000000000000000000000000000001000000\
+    0280020030000000000000000000000001000000010000000000000000000000\
+    00100080000000000100000000000000";
+
+/// A partition's version decides the layout of its descriptors; a refused one leaves it.
+#[test]
+fn reads_the_layout_of_the_version(rt: HostRuntime) -> Result<(), Fail> {
+    let alloc = rt.alloc();
+    let script = format!(in alloc;
+        "call 8001 84000066 90000000 90001000 1\n\
+        tx 8001 {LEND_1_0}\n\
+        call 8001 84000072 50 50\n\
+        call 8001 84000063 10000\n\
+        call 8001 84000063 20000\n\
+        tx 8001 {LEND}\n\
+        call 8001 84000072 60 60\n\
+        tx 8001 {LEND_1_0}\n\
+        call 8001 84000072 50 50\n\
+        call 8001 84000063 10005\n\
+        call 8001 84000072 50 50\n"
+    )?;
+    let wanted = "reply 84000061 00000000 00000000 00000000 00000000 00000000 00000000 00000000\n\
+        reply 84000060 00000000 fffffffe 00000000 00000000 00000000 00000000 00000000\n\
+        reply 00010001 00000000 00000000 00000000 00000000 00000000 00000000 00000000\n\
+        reply ffffffff 00000000 00000000 00000000 00000000 00000000 00000000 00000000\n\
+        reply 84000060 00000000 fffffffe 00000000 00000000 00000000 00000000 00000000\n\
+        reply 84000061 00000000 00000001 00008001 00000000 00000000 00000000 00000000\n\
+        reply 00010001 00000000 00000000 00000000 00000000 00000000 00000000 00000000\n\
+        reply 84000060 00000000 fffffffe 00000000 00000000 00000000 00000000 00000000\n";
+    expect_text::<ListPool>(&rt, alloc, &script, None, wanted)
+}

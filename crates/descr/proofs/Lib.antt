@@ -1,0 +1,5 @@
+mod Apart
+mod Runs
+mod Sends
+mod Tests
+mod Turns

@@ -1,0 +1,5 @@
+use Rattle.descr.proofs.Apart.{sends_apart}
+use Rattle.descr.proofs.law.layouts_are_apart.Goals as goal
+
+pub returns : goal.returns
+returns c = sends_apart

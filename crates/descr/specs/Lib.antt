@@ -1,0 +1,4 @@
+pub mod Inside
+pub mod Spelled
+pub mod Parts
+pub mod Laws

@@ -1,0 +1,94 @@
+//! The access descriptors of a memory transaction descriptor (FF-A 1.1 and 1.0, "Endpoint memory
+//! access descriptor").
+
+ghost use Rattle.std.specs.Prelude.{◌≡◌, ◌+◌, ◌*◌, ◌≤◌, true, false, length, slice_index, IfSome, IfNone};
+ghost use Rattle.base.specs.Send as spec;
+
+use crate::layout::PART_SIZE;
+use crate::numbers::{u16_at, u32_at, u64_at};
+use arrayvec::ArrayVec;
+use base::PartitionId;
+use std::marker::Model;
+
+/// A receiver that an access descriptor names.
+#[derive(Clone, Copy, Debug, PartialEq, Eq)]
+pub struct Endpoint {
+    /// The partition, from bytes 0 and 1 of the access descriptor.
+    pub partition: PartitionId,
+    /// The memory access permissions, byte 2 of the access descriptor: data access in bits 1:0 and
+    /// instruction access in bits 3:2. In each, 0 is not specified; 1 and 2 are read-only and
+    /// read-write, and not executable and executable.
+    pub permissions: u8,
+}
+
+impl Model for Endpoint {
+    ghost use Rattle.base.specs.Send as spec;
+
+    ghost Value = { spec.Endpoint };
+
+    ghost view = { λ e. record { partition = e.partition; permissions = e.permissions } };
+
+    ghost inverse = { λ e. record { partition = e.partition; permissions = e.permissions } };
+}
+
+impl Default for Endpoint {
+    ghost is_default = { λ e. e ≡ record { partition = 0; permissions = 0 } };
+
+    /// Partition 0, with no permission specified.
+    fn default() -> Endpoint {
+        Endpoint {
+            partition: PartitionId::new(0),
+            permissions: 0,
+        }
+    }
+}
+
+/// Whether an access descriptor keeps its rules and points at this composite descriptor.
+#[tactic(auto, unfolding(base::specs::Send::is_access))]
+pub(crate) fn is_access(bytes: &[u8], composite: u32, at: usize) -> bool
+    requires { at + 16 ≤ length bytes.now }
+    ensures { result ≡ spec.is_access bytes.now composite at }
+{
+    let permissions = bytes[at + 2];
+    permissions % 4 < 3
+        && permissions / 4 < 3
+        && bytes[at + 3] == 0
+        && u32_at(bytes, at + 4) == composite
+        && u64_at(bytes, at + 8) == 0
+}
+
+/// The receiver of an access descriptor.
+pub(crate) fn endpoint_at(bytes: &[u8], at: usize) -> Endpoint
+    requires { at + 16 ≤ length bytes.now }
+    ensures { result ≡ record { partition = spec.u16_at bytes.now at; permissions = slice_index bytes.now (at + 2) } }
+{
+    Endpoint {
+        partition: PartitionId::new(u16_at(bytes, at)),
+        permissions: bytes[at + 2],
+    }
+}
+
+/// The receivers of so many access descriptors, if each keeps its rules and points at this composite
+/// descriptor.
+pub(crate) fn read_endpoints(
+    bytes: &[u8],
+    composite: u32,
+    array: usize,
+    count: usize,
+) -> Option<ArrayVec<Endpoint, 8>>
+    requires few { count ≤ 8 }
+    requires inside { array + 16 * count ≤ length bytes.now }
+    ensures some { IfSome result (λ v. (spec.are_accesses count bytes.now composite array ≡ true) × (v.items ≡ spec.endpoints_at count bytes.now array)) }
+    ensures none { IfNone result (spec.are_accesses count bytes.now composite array ≡ false) }
+{
+    let mut receivers = ArrayVec::new();
+    let mut at = array;
+    for _i in 0..count {
+        if !is_access(bytes, composite, at) {
+            return None;
+        }
+        receivers.push(endpoint_at(bytes, at));
+        at += PART_SIZE;
+    }
+    Some(receivers)
+}

@@ -1,0 +1,119 @@
+//! Where the parts of a memory transaction descriptor lie, and the rules of its header (FF-A 1.1 and
+//! 1.0, "Memory transaction descriptor").
+
+ghost use Rattle.std.specs.Prelude.{◌≡◌, ◌^◌, ◌<◌, ◌≤◌, length, IsTrue};
+ghost use Rattle.base.specs.Send as spec;
+ghost use Rattle.descr.specs.Inside.{IsInside};
+
+use crate::numbers::{u16_at, u32_at, u64_at};
+use base::Version;
+
+/// The size of a header of FF-A 1.0, in bytes.
+const HEADER_1_0: usize = 32;
+
+/// The size of a header of FF-A 1.1, in bytes.
+const HEADER_1_1: usize = 48;
+
+/// The size of an access descriptor, of a composite descriptor and of a range, in bytes.
+pub(crate) const PART_SIZE: usize = 16;
+
+/// The most receivers that a send names.
+const MOST_RECEIVERS: usize = 8;
+
+/// The most ranges that a send has.
+const MOST_RANGES: usize = 512;
+
+/// The size of a header in bytes.
+pub(crate) fn header_size(version: Version) -> usize
+    ensures { result ≡ spec.header_size version }
+{
+    match version {
+        Version::V10 => HEADER_1_0,
+        Version::V11 => HEADER_1_1,
+    }
+}
+
+/// The offset of the first access descriptor.
+pub(crate) fn array_at(version: Version, bytes: &[u8]) -> usize
+    requires { spec.header_size version ≤ length bytes.now }
+    ensures value { result ≡ spec.array_at version bytes.now }
+    ensures fits { result < 2 ^ 32 }
+{
+    match version {
+        Version::V10 => HEADER_1_0,
+        Version::V11 => u32_at(bytes, 32) as usize,
+    }
+}
+
+/// Whether the parts of a send stand in order, and end where the bytes do.
+#[tactic(auto, unfolding(base::specs::Send::has_layout))]
+pub(crate) fn has_layout(version: Version, bytes: &[u8]) -> bool
+    ensures value { result ≡ spec.has_layout version bytes.now }
+    ensures inside { IsTrue result → IsInside version bytes.now }
+{
+    let header = header_size(version);
+    if bytes.len() < header {
+        return false;
+    }
+    let receivers = u32_at(bytes, 28) as usize;
+    let array = array_at(version, bytes);
+    if receivers < 1
+        || receivers > MOST_RECEIVERS
+        || array < header
+        || bytes.len() < array + PART_SIZE * receivers
+    {
+        return false;
+    }
+    let composite = u32_at(bytes, array + 4) as usize;
+    if composite < array + PART_SIZE * receivers || bytes.len() < composite + PART_SIZE {
+        return false;
+    }
+    let ranges = u32_at(bytes, composite + 4) as usize;
+    1 <= ranges
+        && ranges <= MOST_RANGES
+        && bytes.len() == composite + PART_SIZE + PART_SIZE * ranges
+}
+
+/// The offset of the composite descriptor of a send.
+pub(crate) fn composite_at(version: Version, bytes: &[u8]) -> u32
+    requires { IsInside version bytes.now }
+    ensures { result ≡ spec.composite_at version bytes.now }
+{
+    u32_at(bytes, array_at(version, bytes) + 4)
+}
+
+/// Whether the attributes are not specified, or are those of normal memory, write-back, inner
+/// shareable.
+pub(crate) fn are_attributes(attributes: u16) -> bool
+    ensures { result ≡ spec.are_attributes attributes }
+{
+    attributes == 0 || attributes == 0x2f
+}
+
+/// Whether the header keeps its rules from byte 24 on.
+pub(crate) fn is_rest_of_header(version: Version, bytes: &[u8]) -> bool
+    requires { spec.header_size version ≤ length bytes.now }
+    ensures { result ≡ spec.is_rest_of_header version bytes.now }
+{
+    match version {
+        Version::V10 => u32_at(bytes, 24) == 0,
+        Version::V11 => {
+            u32_at(bytes, 24) == 16
+                && u32_at(bytes, 32) % 16 == 0
+                && u64_at(bytes, 36) == 0
+                && u32_at(bytes, 44) == 0
+        }
+    }
+}
+
+/// Whether the header of a send keeps its rules.
+#[tactic(auto, unfolding(base::specs::Send::is_header))]
+pub(crate) fn is_header(version: Version, bytes: &[u8]) -> bool
+    requires { spec.header_size version ≤ length bytes.now }
+    ensures { result ≡ spec.is_header version bytes.now }
+{
+    are_attributes(u16_at(bytes, 2))
+        && u32_at(bytes, 4) == 0
+        && u64_at(bytes, 8) == 0
+        && is_rest_of_header(version, bytes)
+}

@@ -1,0 +1,61 @@
+//! Reads the descriptor of a relinquish.
+
+ghost use Rattle.std.specs.Prelude.{◌≡◌, ◌≤◌, false, length, IfSome, IfNone, IsTrue};
+ghost use Rattle.base.specs.Relinquish as spec;
+
+use crate::numbers::{u16_at, u32_at, u64_at};
+use base::PartitionId;
+use std::marker::Model;
+
+#[cfg(test)]
+mod tests;
+
+/// What a relinquish says (FF-A 1.1, "Descriptor to relinquish a memory region").
+#[derive(Clone, Copy, Debug, PartialEq, Eq)]
+pub struct RelinquishDesc {
+    /// The handle of the transaction, from bytes 0 to 7.
+    pub handle: u64,
+    /// The one borrower that gives its access up, from bytes 16 and 17.
+    pub endpoint: PartitionId,
+}
+
+impl Model for RelinquishDesc {
+    ghost use Rattle.base.specs.Relinquish.{Relinquish};
+
+    ghost Value = { Relinquish };
+
+    ghost view = { λ d. record { handle = d.handle; endpoint = d.endpoint } };
+
+    ghost inverse = { λ v. record { handle = v.handle; endpoint = v.endpoint } };
+}
+
+/// The size of the descriptor with one endpoint, in bytes.
+const RELINQUISH_SIZE: usize = 18;
+
+/// Whether the bytes begin with the descriptor of a relinquish.
+#[tactic(auto, unfolding(base::specs::Relinquish::is_relinquish))]
+fn is_relinquish(bytes: &[u8]) -> bool
+    ensures value { result ≡ spec.is_relinquish bytes.now }
+    ensures inside { IsTrue result → 18 ≤ length bytes.now }
+{
+    bytes.len() >= RELINQUISH_SIZE && u32_at(bytes, 8) == 0 && u32_at(bytes, 12) == 1
+}
+
+/// What the first 18 bytes say. `None` means that there are fewer, a flag is set, or more endpoints
+/// than one are named.
+#[tactic(auto, unfolding(base::specs::Relinquish::relinquish_of))]
+pub fn read_relinquish(bytes: &[u8]) -> Option<RelinquishDesc>
+    // What is read is spelled so.
+    ensures some { IfSome result (λ v. IsTrue (spec.is_relinquish bytes.now) × (v ≡ spec.relinquish_of bytes.now)) }
+
+    // Nothing is read only where no relinquish is spelled.
+    ensures none { IfNone result (spec.is_relinquish bytes.now ≡ false) }
+{
+    if !is_relinquish(bytes) {
+        return None;
+    }
+    Some(RelinquishDesc {
+        handle: u64_at(bytes, 0),
+        endpoint: PartitionId::new(u16_at(bytes, 16)),
+    })
+}

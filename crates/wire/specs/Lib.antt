@@ -1,0 +1,3 @@
+pub mod Functions
+pub mod Requests
+pub mod Replies
