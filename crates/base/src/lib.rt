@@ -6,11 +6,13 @@
 mod access;
 mod page;
 mod partition;
+mod runs;
 mod status;
 mod transaction;
 
 pub use access::{Access, MemoryKind, Rights};
 pub use page::{Page, Run};
 pub use partition::{PartitionId, Version};
+pub use runs::normal;
 pub use status::{OutOfMemory, Status};
 pub use transaction::Kind;

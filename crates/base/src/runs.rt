@@ -1,0 +1,60 @@
+ghost use Rattle.base.specs.Pages.{are_disjoint, are_normal, covers};
+ghost use Rattle.base.specs.Send.{pages_in};
+ghost use Rattle.std.specs.List.Sorted.{IsNonDecreasingBy, IsPermutation};
+ghost use Rattle.std.specs.Prelude.{◌≡◌, true, ℕ, ◌≤◌, length, IfOk};
+
+use crate::page::Run;
+use crate::status::OutOfMemory;
+use std::alloc::Global;
+
+#[cfg(test)]
+mod tests;
+
+/// The maximal runs of the pages that the runs cover, in ascending order. Where memory runs out,
+/// nothing has changed.
+pub fn normal(alloc: Global, runs: &[Run]) -> Result<Vec<Run>, OutOfMemory>
+    requires disjoint { are_disjoint runs.now ≡ true }
+    ensures normal { IfOk result (λ normal. are_normal normal.items ≡ true) }
+    ensures same { IfOk result (λ normal. (n : ℕ) → covers normal.items n ≡ covers runs.now n) }
+    ensures fewer { IfOk result (λ normal. length normal.items ≤ length runs.now) }
+    ensures sum { IfOk result (λ normal. pages_in normal.items ≡ pages_in runs.now) }
+{
+    let ascending = ascending(alloc, runs)?;
+    joined(alloc, &ascending)
+}
+
+/// The runs in the order of their first pages.
+fn ascending(alloc: Global, runs: &[Run]) -> Result<Vec<Run>, OutOfMemory>
+    ensures same { IfOk result (λ ascending. IsPermutation runs.now ascending.items) }
+    ensures sorted { IfOk result (λ ascending. IsNonDecreasingBy (λ run. run.first) ascending.items) }
+{
+    let mut sorted: Vec<Run> = runs.iter().copied().collect(alloc)?;
+    sorted.sort_unstable_by_key(|run| run.first().number());
+    Ok(sorted)
+}
+
+/// The maximal runs of the pages that these runs, in ascending order, cover.
+fn joined(alloc: Global, runs: &[Run]) -> Result<Vec<Run>, OutOfMemory>
+    requires disjoint { are_disjoint runs.now ≡ true }
+    requires ascending { IsNonDecreasingBy (λ run. run.first) runs.now }
+    ensures normal { IfOk result (λ normal. are_normal normal.items ≡ true) }
+    ensures same { IfOk result (λ normal. (n : ℕ) → covers normal.items n ≡ covers runs.now n) }
+    ensures fewer { IfOk result (λ normal. length normal.items ≤ length runs.now) }
+    ensures sum { IfOk result (λ normal. pages_in normal.items ≡ pages_in runs.now) }
+{
+    let mut normal = Vec::new(alloc);
+    let Some((first, others)) = runs.split_first() else {
+        return Ok(normal);
+    };
+    let mut last = *first;
+    for run in others {
+        if run.first().number() == last.end() {
+            last = Run::new(last.first(), last.count() + run.count());
+        } else {
+            normal.push(last)?;
+            last = *run;
+        }
+    }
+    normal.push(last)?;
+    Ok(normal)
+}
