@@ -5,12 +5,13 @@ use Rattle.std.specs.Option.{option_map_or, option_map}
 use Rattle.std.proofs.lemmas.Bool.{eqb-true}
 use Rattle.base.specs.declared.transaction.Kind.{Kind}
 use Rattle.base.specs.declared.transaction.Kind.TheVariants.{Share, Lend, Donate}
-use Rattle.base.specs.Pages.{covers}
+use Rattle.base.specs.Pages.{covers, are_disjoint}
 use Rattle.base.specs.Manifest.{RegionRow, region_at}
 use Rattle.base.specs.Transactions.{Live}
 use Rattle.base.specs.Ledger.{live_at}
 use Rattle.base.specs.State.{State, start, owner_of, each_page_in}
 use Rattle.base.specs.Send as descriptor
+use Rattle.base.specs.Send.{is_send, send_of}
 use Rattle.base.specs.Tests.{first_refusal}
 use Rattle.wire.specs.declared.request.Request.{Request}
 use Rattle.wire.specs.declared.request.Transfer.{Transfer}
@@ -18,11 +19,11 @@ use Rattle.wire.specs.declared.request.Request.TheVariants.{Version, Features, R
 use Rattle.rules.specs.Calls.{CallWords}
 use Rattle.rules.specs.Versions.{with_version}
 use Rattle.rules.specs.Buffers.{with_pair, with_rx_released}
-use Rattle.rules.specs.Sending.{common_home, may_be_sent, opened, with_send, send_tests, sent}
+use Rattle.rules.specs.Sending.{common_home, may_be_sent, opened, with_transaction, with_send, caller_version, bytes_of, send_tests, sent}
 use Rattle.rules.specs.Answering.{tests_of, changed, step, state_from, IsReached}
 use Rattle.rules.specs.Laws.{IsOwnSend, AreApart, AreAllApart, IsOwnedOnce}
 use Rattle.rules.proofs.Steps.{all_pass, step_cases}
-use Rattle.rules.proofs.Pages.{each_page_in_at}
+use Rattle.rules.proofs.Pages.{both, each_page_in_at}
 use Rattle.rules.proofs.Viewing.{MaySend, may_send}
 
 all_push : {X : Type 0} (P : X → Type 0) (xs : List X) (x : X) → AllByRecursion P xs → P x → AllByRecursion P (xs ++ x ∷ [])
@@ -46,7 +47,7 @@ owner_from_test None p e = absurd cc
 owner_from_test (Some x) p e = ap (λ (y : ℕ). Some y) (eqb-true x p e)
 
 send_kept : (s : State) (p : ℕ) (k : Kind) (v : descriptor.Send) → each_page_in (may_be_sent s p (common_home s p v.ranges)) v.ranges ≡ true → IsOwnedOnce s → IsOwnedOnce (with_send s p k v)
-unfolding with_send
+unfolding with_transaction with_send
 send_kept s p k v h o =
     let t = opened s p k v in
     let known : (n : ℕ) → covers v.ranges n ≡ true → MaySend s p (common_home s p v.ranges) n = λ n c. may_send s p (common_home s p v.ranges) n (each_page_in_at (may_be_sent s p (common_home s p v.ranges)) v.ranges n h c) in
@@ -59,6 +60,15 @@ send_kept s p k v h o =
 -- each page of a send that passes its tests may be sent
 pub sent_pages : (s : State) (c : CallWords) (k : Kind) (t : Transfer) → first_refusal (send_tests s c k t) ≡ None → each_page_in (may_be_sent s c.caller (common_home s c.caller (sent s c t).ranges)) (sent s c t).ranges ≡ true
 sent_pages s c k t e = (all_pass (send_tests s c k t) e).1.1.1.1.1.1.0
+
+-- the ranges of a send that passes its tests share no page
+pub sent_apart : (s : State) (c : CallWords) (k : Kind) (t : Transfer) → first_refusal (send_tests s c k t) ≡ None → are_disjoint (sent s c t).ranges ≡ true
+unfolding is_send send_of
+sent_apart s c k t e =
+    let v = caller_version s c in
+    let bytes = bytes_of c t in
+    let spells : is_send v bytes ≡ true = (all_pass (send_tests s c k t) e).1.1.1.0 in
+    (both _ _ (both _ _ spells).0).1
 
 changed_kept : (s : State) (c : CallWords) (r : Request) → first_refusal (tests_of s c r) ≡ None → IsOwnedOnce s → IsOwnedOnce (changed s c r)
 unfolding with_version with_pair with_rx_released

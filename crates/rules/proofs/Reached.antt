@@ -9,7 +9,7 @@ use Rattle.wire.specs.Requests.{request_of}
 use Rattle.rules.specs.Calls.{CallWords}
 use Rattle.rules.specs.Versions.{with_version}
 use Rattle.rules.specs.Buffers.{with_pair, with_rx_released}
-use Rattle.rules.specs.Sending.{with_send}
+use Rattle.rules.specs.Sending.{with_transaction, with_send}
 use Rattle.rules.specs.Answering.{tests_of, changed, answer_to, state_after, answer, step, state_from, IsReached}
 use Rattle.rules.proofs.Steps.{step_cases}
 
@@ -18,7 +18,7 @@ state_from-append s [] c = refl
 state_from-append s (d ∷ cs) c = state_from-append (step s d) cs c
 
 changed_keeps : (s : State) (c : CallWords) (r : Request) → (changed s c r).manifest ≡ s.manifest
-unfolding with_version with_pair with_rx_released with_send
+unfolding with_version with_pair with_rx_released with_transaction with_send
 changed_keeps s c (Version word) = refl
 changed_keeps s c (Features identifier) = refl
 changed_keeps s c RxRelease = refl

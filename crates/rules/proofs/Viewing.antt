@@ -11,7 +11,7 @@ use Rattle.base.specs.Ledger.{live_at, donation_at, retrieved, view_under, settl
 use Rattle.base.specs.Pairs.{is_buffer}
 use Rattle.base.specs.State.{State, sees, owns, is_free, home_of, each_page_in}
 use Rattle.base.specs.Send.{Send, Endpoint}
-use Rattle.rules.specs.Sending.{cap, common_home, may_be_sent, opened, with_send}
+use Rattle.rules.specs.Sending.{cap, common_home, may_be_sent, opened, with_transaction, with_send}
 use Rattle.rules.proofs.Pages.{both, each_page_in_at}
 
 -- ---- one more transaction
@@ -91,7 +91,7 @@ joined false l t home settled p q sends lends none apart =
 -- after a lend the sender reaches none of its pages, and everything else is as before
 pub lend_view : (s : State) (p : ℕ) (v : Send) → each_page_in (may_be_sent s p (common_home s p v.ranges)) v.ranges ≡ true
     → (q n : ℕ) → sees (with_send s p Lend v) q n ≡ cond (eqb p q && covers v.ranges n) None (sees s q n)
-unfolding with_send
+unfolding with_transaction with_send
 lend_view s p v h q n =
     let t = opened s p Lend v in
     let a = common_home s p v.ranges in

@@ -13,7 +13,7 @@ use Rattle.base.specs.Pages.{PageRun}
 use Rattle.base.specs.Permissions.{Permission, is_reached_with}
 use Rattle.base.specs.Manifest.{is_partition}
 use Rattle.base.specs.Transactions.{Live}
-use Rattle.base.specs.Send.{Send, Endpoint, is_send, send_of, receiver_count, range_count}
+use Rattle.base.specs.Send.{Send, Endpoint, is_send, send_of}
 use Rattle.base.specs.Tests.{Test, ◌otherwise◌}
 use Rattle.base.specs.Pairs.{pair_of, has_pair}
 use Rattle.base.specs.State.{State, Seat, version_of, sends_of, with_seat, is_free, owns, home_of, each_page_in}
@@ -41,10 +41,6 @@ bytes_of c t = take t.total c.tx
 
 abbrev pub caller_version : State → CallWords → Version
 caller_version s c = version_of s.seats c.caller
-
--- a send of one receiver and one range; others are not read yet
-unfoldable pub is_single_send : Version → List ℕ → Bool
-is_single_send version bytes = is_send version bytes && (receiver_count bytes == 1) && (range_count version bytes == 1)
 
 -- what the descriptor says
 abbrev pub sent : State → CallWords → Transfer → Send
@@ -136,7 +132,7 @@ send_tests s c kind t =
     (has_pair s.mailboxes p otherwise InvalidParameters)
     ∷ (names_tx t otherwise InvalidParameters)
     ∷ (has_lengths s c t otherwise InvalidParameters)
-    ∷ (is_single_send (caller_version s c) (bytes_of c t) otherwise InvalidParameters)
+    ∷ (is_send (caller_version s c) (bytes_of c t) otherwise InvalidParameters)
     ∷ (are_parties s p v otherwise InvalidParameters)
     ∷ (suits kind v otherwise InvalidParameters)
     ∷ (each_page_in (may_be_sent s p home) v.ranges otherwise Denied)
@@ -167,10 +163,13 @@ opened s p kind v =
 abbrev pub seat_with_send : Seat → Seat
 seat_with_send seat = record seat { sends = seat.sends + 1 }
 
--- the transaction is live, and the send is counted
-unfoldable pub with_send : State → ℕ → Kind → Send → State
-with_send s p kind v =
+-- the transaction is live, and its send is counted
+unfoldable pub with_transaction : State → Live → State
+with_transaction s t =
     record s {
-      live = s.live ++ opened s p kind v ∷ [];
-      seats = with_seat p seat_with_send s.seats;
+      live = s.live ++ t ∷ [];
+      seats = with_seat t.sender seat_with_send s.seats;
     }
+
+unfoldable pub with_send : State → ℕ → Kind → Send → State
+with_send s p kind v = with_transaction s (opened s p kind v)

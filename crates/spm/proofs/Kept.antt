@@ -3,7 +3,8 @@ use Rattle.std.proofs.Common.{◌≡◌, ◌^◌, ◌<◌, ℕ, Bool, ◌&&◌, 
 use Rattle.std.proofs.lemmas.Bool.{eqb-true, eq-eqb}
 use Rattle.std.proofs.lemmas.Bool.Decides.{nat_tests}
 use Rattle.base.specs.declared.transaction.Kind.TheVariants.{Lend}
-use Rattle.base.specs.Pages.{PageRun, covers}
+use Rattle.base.specs.Pages.{PageRun, covers, are_disjoint}
+use Rattle.base.specs.Transactions.{Live}
 use Rattle.base.specs.Permissions.{Answer}
 use Rattle.base.specs.Manifest.{ManifestRows, is_partition, grant}
 use Rattle.base.specs.Send as descriptor
@@ -19,10 +20,10 @@ use Rattle.wire.specs.declared.request.Request.TheVariants.{Send}
 use Rattle.wire.specs.Requests.{request_of}
 use Rattle.base.specs.Tests.{first_refusal}
 use Rattle.rules.specs.Calls.{CallWords}
-use Rattle.rules.specs.Sending.{send_tests, sent, common_home, may_be_sent, with_send}
+use Rattle.rules.specs.Sending.{send_tests, sent, common_home, may_be_sent, opened, with_send}
 use Rattle.rules.specs.Answering.{moves_pages, state_after, step, IsReached}
 use Rattle.rules.proofs.Reached.{IsReached-start, IsReached-step, step_keeps, accepted, stepped}
-use Rattle.rules.proofs.Owning.{sent_pages}
+use Rattle.rules.proofs.Owning.{sent_pages, sent_apart}
 use Rattle.rules.proofs.Viewing.{lend_view, seen_alike}
 use Rattle.rules.proofs.Still.{seen_still}
 use Rattle.spm.specs.Machine.{IsConsistent}
@@ -52,6 +53,11 @@ eqb-sym a b =
 abbrev pub Unmaps : Layout → Pool → Layout → Pool → ℕ → List PageRun → Type 0
 Unmaps from old to new p runs = (q n : ℕ) → n < 2 ^ 27 → translation to (words_of new.memory.words) q n ≡ cond (eqb q p && covers runs n) Unmapped (translation from (words_of old.memory.words) q n)
 
+-- the same of other runs of the same pages
+pub unmaps_alike : (from : Layout) (old : Pool) (to : Layout) (new : Pool) (p : ℕ) (runs others : List PageRun) → ((n : ℕ) → covers runs n ≡ covers others n) → Unmaps from old to new p runs → Unmaps from old to new p others
+unmaps_alike from old to new p runs others same unmaps q n small =
+    unmaps q n small ∙ ap (λ b. cond (eqb q p && b) Unmapped (translation from (words_of old.memory.words) q n)) (same n)
+
 module _ (s : State) (c : CallWords) (known : is_partition s.manifest c.caller ≡ true) (layout : Layout) (old : Pool) (kept : IsConsistent s layout old) where
   layout_kept : (t : State) → step s c ≡ t → layout ≡ layout_of t.manifest
   layout_kept t stepped = kept.placed ∙ ap layout_of (sym (step_keeps s c) ∙ ap (λ (u : State). u.manifest) stepped)
@@ -67,6 +73,11 @@ module _ (s : State) (c : CallWords) (known : is_partition s.manifest c.caller �
         agrees = record { walks = λ q n small. ap (λ l. translation l (words_of old.memory.words) q n) (sym now ∙ kept.placed) ∙ kept.agrees.walks q n small ∙ ap (walked n) (sym (seen q n)) };
         reached = subst IsReached one (IsReached-step s c kept.reached);
       }
+
+  -- the ranges of a transaction that an accepted send opens share no page
+  pub opened_apart : (transfer : Transfer) (v : descriptor.Send) (p : ℕ) (t : Live) → first_refusal (send_tests s c Lend transfer) ≡ None → v ≡ sent s c transfer → t ≡ opened s p Lend v → are_disjoint t.ranges ≡ true
+  opened_apart transfer v p t passed is opens =
+      ap (λ (u : Live). are_disjoint u.ranges) opens ∙ ap (λ (w : descriptor.Send). are_disjoint w.ranges) is ∙ sent_apart s c Lend transfer passed
 
   pub lend_kept : (t : State) (transfer : Transfer) (v : descriptor.Send) (place : Layout) (new : Pool) → request_of c.regs ≡ Some (Send Lend transfer) → first_refusal (send_tests s c Lend transfer) ≡ None → v ≡ sent s c transfer → t ≡ with_send s c.caller Lend v → place ≡ layout
       → Unmaps layout old place new c.caller v.ranges

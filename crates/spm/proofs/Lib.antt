@@ -1,4 +1,3 @@
-mod Singles
 mod Seats
 mod Turns
 mod Kept

@@ -8,10 +8,10 @@ ghost use Rattle.rules.specs.Buffers.{map_tests};
 ghost use Rattle.rules.specs.Sending as sending;
 
 use crate::call::Call;
-use crate::send::{SendDesc, read_send};
 use crate::state::State;
 use crate::terms::{are_capped, suits};
 use base::{Kind, PartitionId, Status};
+use descr::{SendDesc, read_send};
 use mailbox::Pair;
 use wire::Transfer;
 
@@ -34,12 +34,12 @@ pub(crate) fn check_map(
 }
 
 /// The tests of a send. Gives what its descriptor says.
-pub(crate) fn check_send(
+pub(crate) fn check_send<'a>(
     state: &State,
-    call: &Call,
+    call: &'a Call,
     kind: Kind,
     transfer: Transfer,
-) -> Result<SendDesc, Status>
+) -> Result<SendDesc<'a>, Status>
     ensures refused { IfErr result (λ status. first_refusal (sending.send_tests state.now call.now kind transfer) ≡ Some status) }
     ensures passed { IfOk result (λ v. (first_refusal (sending.send_tests state.now call.now kind transfer) ≡ None) × (v ≡ sending.sent state.now call.now transfer)) }
     ensures room { OnOk result (spec.sends_of state.now.seats call.now.caller < 2 ^ 32 - 1) }
@@ -55,8 +55,8 @@ pub(crate) fn check_send(
     if !state.are_parties(p, &desc) || !suits(kind, &desc) {
         return Err(Status::InvalidParameters);
     }
-    let home = state.common_home(p, &desc.ranges);
-    if !state.may_send(p, home, &desc.ranges) || !are_capped(kind, home, &desc.receivers) {
+    let home = state.common_home(p, &desc);
+    if !state.may_send(p, home, &desc) || !are_capped(kind, home, &desc.receivers) {
         return Err(Status::Denied);
     }
     if !state.has_room(p) {

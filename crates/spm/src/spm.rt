@@ -16,10 +16,10 @@ ghost use Rattle.spm.specs.Machine.{WalksAgree, MayWantMemory, unchanged};
 use crate::call::Call;
 use crate::checks::check_send;
 use crate::ledger::Ledger;
-use crate::send::SendDesc;
 use crate::setup::set_up;
 use crate::state::State;
-use base::{Access, Kind, OutOfMemory, Page, PartitionId, Status, Version};
+use base::{Access, Kind, OutOfMemory, Page, PartitionId, Status, Version, normal};
+use descr::SendDesc;
 use manifest::Manifest;
 use pool::TableMem;
 use stage2::Tables;
@@ -183,7 +183,7 @@ impl<M: TableMem + Drop> Spm<M> {
         &mut self,
         call: &Call,
         transfer: Transfer,
-        desc: &SendDesc,
+        desc: &SendDesc<'_>,
     ) -> Result<Reply, OutOfMemory>
         requires known { rows.is_partition self.old.state.manifest call.now.caller ≡ true }
         requires named { request_of call.now.regs ≡ Some (Request.Send Kind.Lend transfer) }
@@ -197,10 +197,12 @@ impl<M: TableMem + Drop> Spm<M> {
         ensures reached { rules.IsReached self.new.state }
     {
         let p = call.partition();
-        let handle = self.state.next_handle(p);
-        self.tables.ready(&desc.ranges)?;
-        self.state.open(p, Kind::Lend, desc)?;
-        self.tables.unmap(p, &desc.ranges);
+        let transaction = self.state.transaction(p, Kind::Lend, desc)?;
+        let handle = transaction.handle;
+        let runs = normal(self.state.alloc(), &transaction.ranges)?;
+        self.tables.ready(&runs)?;
+        self.state.open(transaction)?;
+        self.tables.unmap(p, &runs);
         Ok(Reply::success(low_half(handle), high_half(handle)))
     }
 }

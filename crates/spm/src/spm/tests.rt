@@ -304,57 +304,71 @@ fn refuse_long_sends<M: TableMem + Drop>(
     grant(rt, &mut spm, &call, [1, 0x8001])
 }
 
-/// One or two fields of the descriptor are none of a send's.
+/// Changes of the descriptor that make it none of a send, and one that is a send of other bytes.
 fn refuse_fields<M: TableMem + Drop>(rt: &impl Abort, alloc: Global) -> Result<(), OutOfMemory> {
     let mut spm: Spm<M> = with_pair(rt, alloc)?;
     let fields = [
-        ("attributes of device memory", &[(2, 0x1f)][..]),
-        ("the second byte of attributes", &[(3, 1)][..]),
-        ("flags", &[(4, 1)][..]),
-        ("a handle", &[(8, 1)][..]),
-        ("access descriptors of 32 bytes", &[(24, 32)][..]),
-        ("no receiver", &[(28, 0)][..]),
-        ("nine receivers", &[(28, 9)][..]),
-        ("an array inside the header", &[(32, 0x20)][..]),
-        ("reserved byte 36", &[(36, 1)][..]),
-        ("reserved byte 47", &[(47, 1)][..]),
+        ("attributes 0x2e", &[(2, 0x2e)][..]),
         ("data access 3", &[(50, 3)][..]),
-        ("a reserved bit of the permissions", &[(50, 0x12)][..]),
-        ("flags of the receiver", &[(51, 1)][..]),
-        ("a composite inside the array", &[(52, 0x30)][..]),
-        ("a composite past the bytes", &[(53, 1)][..]),
-        ("reserved byte 56", &[(56, 1)][..]),
         ("a total of two pages", &[(64, 2)][..]),
-        ("a range of no page", &[(64, 0), (88, 0)][..]),
-        ("262,145 pages", &[(66, 4), (90, 4)][..]),
-        ("no range", &[(68, 0)][..]),
-        ("two ranges in the bytes of one", &[(68, 2)][..]),
-        ("reserved byte 72", &[(72, 1)][..]),
-        ("an address inside a page", &[(80, 1)][..]),
-        ("an address from 2^39 on", &[(84, 0x80)][..]),
-        ("reserved byte 92", &[(92, 1)][..]),
+        ("an address inside a page", &[(81, 0x18)][..]),
     ];
-    refuse_sends(rt, alloc, &mut spm, INVALID_PARAMETERS, &fields)
+    refuse_sends(rt, alloc, &mut spm, INVALID_PARAMETERS, &fields)?;
+    let longer = with_part(rt, alloc, &LEND, 96, [0; 16])?;
+    let call = lend([0x61, 0x61, 0, 0], longer);
+    refuse(rt, &mut spm, &call, INVALID_PARAMETERS, "a byte appended")?;
+    let other = send(rt, alloc, &[(48, 3)])?;
+    grant(rt, &mut spm, &other, [1, 0x8001])
 }
 
-/// The descriptor has other parts than one receiver and one range, or they stand elsewhere.
-fn refuse_parts<M: TableMem + Drop>(rt: &impl Abort, alloc: Global) -> Result<(), OutOfMemory> {
+/// The descriptor cut short, and each byte that must be 0 with each other value: none uses a number.
+fn refuse_cut_and_set<M: TableMem + Drop>(
+    rt: &impl Abort,
+    alloc: Global,
+) -> Result<(), OutOfMemory> {
+    let mut spm: Spm<M> = with_pair(rt, alloc)?;
+    for length in 0..96 {
+        let bytes = Vec::from_slice(alloc, &LEND[..length])?;
+        let call = lend([length as u64, length as u64, 0, 0], bytes);
+        refuse(rt, &mut spm, &call, INVALID_PARAMETERS, "cut short")?;
+    }
+    for zeros in [4..16, 36..48, 51..52, 56..64, 72..80, 92..96] {
+        for at in zeros {
+            refuse_values(rt, alloc, &mut spm, at)?;
+        }
+    }
+    let call = send(rt, alloc, &[])?;
+    grant(rt, &mut spm, &call, [1, 0x8001])
+}
+
+fn refuse_values<M: TableMem + Drop>(
+    rt: &impl Abort,
+    alloc: Global,
+    spm: &mut Spm<M>,
+    at: usize,
+) -> Result<(), OutOfMemory> {
+    for value in 1..=255 {
+        let call = send(rt, alloc, &[(at, value)])?;
+        refuse(rt, spm, &call, INVALID_PARAMETERS, "a byte that must be 0")?;
+    }
+    Ok(())
+}
+
+/// Sends of two receivers and of two ranges, and one whose parts stand apart.
+fn lend_parts<M: TableMem + Drop>(rt: &impl Abort, alloc: Global) -> Result<(), OutOfMemory> {
     let mut spm: Spm<M> = with_pair(rt, alloc)?;
     let receiver = [3, 0x80, 2, 0, 0x50, 0, 0, 0, 0, 0, 0, 0, 0, 0, 0, 0];
     let bytes = changed(rt, alloc, &[(2, 0x2f), (28, 2), (52, 0x50)])?;
     let two_receivers = with_part(rt, alloc, &bytes, 64, receiver)?;
     let range = [0, 0x30, 0, 0x80, 0, 0, 0, 0, 1, 0, 0, 0, 0, 0, 0, 0];
-    let bytes = changed(rt, alloc, &[(64, 2), (68, 2)])?;
+    let bytes = changed(rt, alloc, &[(64, 2), (68, 2), (81, 0x20)])?;
     let two_ranges = with_part(rt, alloc, &bytes, 96, range)?;
-    let more = with_part(rt, alloc, &LEND, 96, [0; 16])?;
-    for (why, length, bytes) in [
-        ("two receivers", 0x70, two_receivers),
-        ("two ranges", 0x70, two_ranges),
-        ("a byte appended", 0x61, more),
-        ("a composite at byte 72", 0x68, with_gap(alloc, 0x48)?),
-    ] {
-        let call = lend([length, length, 0, 0], bytes);
-        refuse(rt, &mut spm, &call, INVALID_PARAMETERS, why)?;
+    let bytes = changed(rt, alloc, &[(32, 0x40), (52, 0x50), (81, 0x40)])?;
+    let apart = with_part(rt, alloc, &bytes, 48, [0xff; 16])?;
+    let calls = [two_receivers, two_ranges, apart];
+    for (bytes, handle) in calls.into_iter().zip(1..) {
+        let call = lend([0x70, 0x70, 0, 0], bytes);
+        grant(rt, &mut spm, &call, [handle, 0x8001])?;
     }
     Ok(())
 }
@@ -472,7 +486,13 @@ fn refuses_descriptors(rt: HostRuntime) -> Result<(), Fail> {
     refuse_lengths::<ListPool>(&rt, rt.alloc())?;
     refuse_long_sends::<ListPool>(&rt, rt.alloc())?;
     refuse_fields::<ListPool>(&rt, rt.alloc())?;
-    refuse_parts::<ListPool>(&rt, rt.alloc())?;
+    lend_parts::<ListPool>(&rt, rt.alloc())?;
+    Ok(())
+}
+
+#[test]
+fn refuses_cut_and_set_bytes(rt: HostRuntime) -> Result<(), Fail> {
+    refuse_cut_and_set::<ListPool>(&rt, rt.alloc())?;
     Ok(())
 }
 
