@@ -1,9 +1,12 @@
 //! Scripts of calls.
 
+ghost use Rattle.lines.specs.Lines.{HasParts, IsWhole};
+
 use crate::fault::RunFault;
 use crate::maps::write_maps;
-use base::PartitionId;
-use lines::{Line, read_line};
+use base::{Kind, PartitionId};
+use descw::{HeaderFields, SendFields, write_send};
+use lines::{Line, SendLine, read_line};
 use manifest::Manifest;
 use pool::TableMem;
 use spm::{Call, Reply, Spm};
@@ -47,7 +50,9 @@ pub(crate) fn run_script<M: TableMem + Drop>(
 }
 
 impl<M: TableMem + Drop> Run<M> {
-    fn line(&mut self, line: Line, text: &mut String) -> Result<(), RunFault> {
+    fn line(&mut self, line: Line, text: &mut String) -> Result<(), RunFault>
+        requires { HasParts line }
+    {
         match line {
             Line::Nothing => Ok(()),
             Line::Tx(id, bytes) => {
@@ -58,8 +63,40 @@ impl<M: TableMem + Drop> Run<M> {
                 let reply = self.call(id, regs)?;
                 write_reply(self.alloc, &reply, text)
             }
+            Line::Send(kind, send) => {
+                let reply = self.send(kind, &send)?;
+                write_reply(self.alloc, &reply, text)
+            }
             Line::Maps(id) => write_maps(self.alloc, &self.spm, id, text),
         }
+    }
+
+    /// A send whose descriptor is in the layout of the sender's version. The bytes that are kept for it
+    /// stay.
+    fn send(&mut self, kind: Kind, send: &SendLine) -> Result<Reply, RunFault>
+        requires { IsWhole send.now }
+    {
+        let header = HeaderFields {
+            sender: send.sender,
+            attributes: attributes_of(kind, send.receivers.len()),
+            flags: 0,
+            handle: 0,
+            tag: send.tag,
+        };
+        let fields = SendFields {
+            header,
+            receivers: &send.receivers,
+            total: send.total,
+            ranges: &send.ranges,
+        };
+        let tx = write_send(self.alloc, self.spm.version(send.sender), &fields)?;
+        let length = tx.len() as u64;
+        let call = Call {
+            caller: send.sender.number(),
+            regs: [identifier_of(kind), length, length, 0, 0, 0, 0, 0],
+            tx,
+        };
+        Ok(self.spm.handle(&call)?)
     }
 
     fn call(&mut self, id: PartitionId, regs: [u64; 8]) -> Result<Reply, RunFault> {
@@ -73,6 +110,25 @@ impl<M: TableMem + Drop> Run<M> {
             tx,
         };
         Ok(self.spm.handle(&call)?)
+    }
+}
+
+/// The identifier of the 32-bit call that sends.
+fn identifier_of(kind: Kind) -> u64 {
+    match kind {
+        Kind::Donate => 0x8400_0071,
+        Kind::Lend => 0x8400_0072,
+        Kind::Share => 0x8400_0073,
+    }
+}
+
+/// The memory region attributes that a send specifies: none where it has one receiver and is no share,
+/// and else normal memory, write-back, inner shareable.
+fn attributes_of(kind: Kind, receivers: usize) -> u16 {
+    match kind {
+        Kind::Donate => 0,
+        Kind::Lend if receivers == 1 => 0,
+        Kind::Lend | Kind::Share => 0x2f,
     }
 }
 

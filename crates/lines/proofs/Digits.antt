@@ -1,11 +1,12 @@
 -- Lower-case hexadecimal digits are a numeral, and few of them write a small number.
-use Rattle.std.proofs.Common.{◌≡◌, ℕ, suc, ◌+◌, ◌*◌, ◌^◌, ◌<◌, ◌≤◌, Bool, true, false, ◌&&◌, eqb, List, [], ◌∷◌, length, Result, Ok, Err, refl, sym, ap, subst, ◌∙◌, cond, drop, arith}
+use Rattle.std.proofs.Common.{◌≡◌, ltb, ℕ, suc, ◌+◌, ◌*◌, ◌^◌, ◌<◌, ◌≤◌, Bool, true, false, ◌&&◌, eqb, List, [], ◌∷◌, length, Result, Ok, Err, Option, Some, None, refl, sym, ap, subst, ◌∙◌, cond, drop, arith}
 use Rattle.std.specs.List.{list_all}
 use Rattle.std.specs.Char.{digit_value}
 use Rattle.std.specs.Str.Parse.{AllDigits, digits_value, digits_value_after, without_leading_plus, ParsesUnsigned}
+use Rattle.std.proofs.lemmas.Bool.{lt-ltb, ltb-true}
 use Rattle.std.proofs.lemmas.Bool.Decides.{nat_tests}
 use Rattle.std.proofs.Math.Nat.{mul-le-mul_right, mul_assoc, pow-succ', pow-le-pow_right}
-use Rattle.lines.specs.Lines.{is_lower_hex_digit}
+use Rattle.lines.specs.Lines.{is_lower_hex_digit, is_digit, count_of}
 
 both : (a b : Bool) → (a && b) ≡ true → (a ≡ true) × (b ≡ true)
 both true b e = (refl, e)
@@ -52,3 +53,40 @@ number_parsed word r some few digits p =
     let positive : 0 < 16 = omega arith in
     let fits : 16 ^ length word ≤ 16 ^ 16 = pow-le-pow_right positive few in
     parsed 64 word r some digits fits p
+
+decimal_small : (c : ℕ) → is_digit c ≡ true → digit_value c < 10
+decimal_small c h = grind (arith, nat_tests)
+
+all_decimal : (ds : List ℕ) → list_all is_digit ds ≡ true → AllDigits 10 ds
+all_decimal [] h = tt
+all_decimal (c ∷ cs) h = let b = both (is_digit c) (list_all is_digit cs) h in (decimal_small c b.0, all_decimal cs b.1)
+
+plain_decimal : (ds : List ℕ) → list_all is_digit ds ≡ true → without_leading_plus ds ≡ ds
+plain_decimal [] h = refl
+plain_decimal (c ∷ cs) h =
+    let digit = (both (is_digit c) (list_all is_digit cs) h).0 in
+    let other : eqb c 43 ≡ false = grind (arith, nat_tests) in
+    ap (λ t. drop (cond t 1 0) (c ∷ cs)) other
+
+-- a count that is read is its value, which is below 2^32
+pub count_read : (word : List ℕ) (n : ℕ) → list_all is_digit word ≡ true → n < 2 ^ 32 → n ≡ digits_value 10 (without_leading_plus word) → (n ≡ digits_value 10 word) × (ltb (digits_value 10 word) (2 ^ 32) ≡ true)
+count_read word n digits small is =
+    let same : n ≡ digits_value 10 word = is ∙ ap (digits_value 10) (plain_decimal word digits) in
+    (same, lt-ltb (digits_value 10 word) (2 ^ 32) (rw (← same) small))
+
+-- a count that is not read has a value from 2^32 on
+count_not_read : {E : Type 0} (word : List ℕ) (e : E) → 0 < length word → list_all is_digit word ≡ true → ParsesUnsigned 32 10 word (Err e) → ltb (digits_value 10 word) (2 ^ 32) ≡ false
+count_not_read word e some digits p =
+    elim (ltb (digits_value 10 word) (2 ^ 32)) as (λ b. ltb (digits_value 10 word) (2 ^ 32) ≡ b → b ≡ false) [
+      | true ↦ λ h.
+          let small : digits_value 10 word < 2 ^ 32 = ltb-true (digits_value 10 word) (2 ^ 32) h in
+          let numeral : (0 < length word) × AllDigits 10 word = (some, all_decimal word digits) in
+          absurd (p (subst (λ w. ((0 < length w) × AllDigits 10 w) × (digits_value 10 w < 2 ^ 32)) (sym (plain_decimal word digits)) (numeral, small)))
+      | false ↦ λ h. refl
+    ] refl
+
+none_of : (a b : Bool) (x : ℕ) → b ≡ false → None ≡ cond (a && b) (Some x) None
+none_of a b x e = rw e (elim a as (λ t. None ≡ cond (t && false) (Some x) None) [ true ↦ refl | false ↦ refl ])
+
+pub count_unread : {E : Type 0} (word : List ℕ) (e : E) → 0 < length word → list_all is_digit word ≡ true → ParsesUnsigned 32 10 word (Err e) → None ≡ count_of word
+count_unread word e some digits p = none_of _ _ (digits_value 10 word) (count_not_read word e some digits p)

@@ -2,5 +2,8 @@
 #![tactic(auto)]
 
 mod line;
+mod send;
+mod words;
 
 pub use line::{Line, read_line};
+pub use send::SendLine;

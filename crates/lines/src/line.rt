@@ -1,9 +1,10 @@
-ghost use Rattle.std.specs.Prelude.{◌≡◌, ◌≤◌, ◌<◌, length, None, IfSome, IfOk, IsTrue};
-ghost use Rattle.std.specs.List.{list_all};
-ghost use Rattle.lines.specs.Lines.{is_lower_hex_digit, is_nothing, fits_tx, number_of, id_of};
+ghost use Rattle.std.specs.Prelude.{◌≡◌, ◌<◌, length, None, IfSome, IfOk, IsTrue};
+ghost use Rattle.lines.specs.Lines.{is_nothing, HasParts};
 
+use crate::send::{SendLine, read_send};
+use crate::words::{read_id, read_number};
 use arrayvec::ArrayVec;
-use base::{OutOfMemory, PartitionId};
+use base::{Kind, OutOfMemory, PartitionId};
 use hex::FromHexError;
 use std::alloc::Global;
 use std::str;
@@ -29,13 +30,17 @@ pub enum Line {
     Tx(PartitionId, Vec<u8>),
     /// `call ID NUM ..`: a call with these registers, of which 1 to 8 are named and the others are 0.
     Call(PartitionId, [u64; 8]),
+    /// `lend ID NUM RECEIVERS RANGES`: a lend by ID with tag NUM. RECEIVERS are 1 to 8 of `ID:PERM` and
+    /// RANGES 1 to 512 of `NUM+COUNT`, both parted by commas.
+    Send(Kind, SendLine),
     /// `maps ID`: what ID reaches.
     Maps(PartitionId),
 }
 
 /// The line that the bytes are, without their line feed; None where they are none. Words are parted by
-/// one blank. ID has four digits and NUM 1 to 16, lower case and hexadecimal; HEX has two digits for
-/// each byte, in either case.
+/// one blank. ID has four digits, NUM 1 to 16 and PERM two, lower case and hexadecimal; HEX has two
+/// digits for each byte, in either case. COUNT is decimal, without a leading zero, and the counts of a
+/// line have a sum below 2^32.
 pub fn read_line(alloc: Global, bytes: &[u8]) -> Result<Option<Line>, OutOfMemory>
     // A line that is too long is none.
     ensures long { 66000 < length bytes.now → IfOk result (λ line. line ≡ None) }
@@ -43,8 +48,8 @@ pub fn read_line(alloc: Global, bytes: &[u8]) -> Result<Option<Line>, OutOfMemor
     // An empty line and a comment say nothing.
     ensures nothing { IsTrue (is_nothing bytes.now) → IfOk result (λ line. IfSome line (λ v. v ≡ Line.Nothing)) }
 
-    // A copy of a TX buffer is no longer than one.
-    ensures tx { IfOk result (λ line. IfSome line fits_tx) }
+    // A copy of a TX buffer is no longer than one, and a send has its total and not too many ranges.
+    ensures parts { IfOk result (λ line. IfSome line HasParts) }
 {
     if bytes.len() > MOST_BYTES {
         return Ok(None);
@@ -62,6 +67,7 @@ pub fn read_line(alloc: Global, bytes: &[u8]) -> Result<Option<Line>, OutOfMemor
         ["tx", id] => Ok(read_id(id).map(|id| Line::Tx(id, Vec::new(alloc)))),
         ["tx", id, hex] => read_tx(alloc, id, hex),
         ["call", id, registers @ ..] => Ok(read_call(id, registers)),
+        ["lend", id, tag, receivers, ranges] => read_lend(alloc, id, tag, receivers, ranges),
         ["maps", id] => Ok(read_id(id).map(Line::Maps)),
         _ => Ok(None),
     }
@@ -77,7 +83,7 @@ fn words_of(text: &str) -> Option<ArrayVec<&str, MOST_WORDS>> {
 }
 
 fn read_tx(alloc: Global, id: &str, hex: &str) -> Result<Option<Line>, OutOfMemory>
-    ensures { IfOk result (λ line. IfSome line fits_tx) }
+    ensures { IfOk result (λ line. IfSome line HasParts) }
 {
     let Some(id) = read_id(id) else {
         return Ok(None);
@@ -92,8 +98,23 @@ fn read_tx(alloc: Global, id: &str, hex: &str) -> Result<Option<Line>, OutOfMemo
     }
 }
 
+fn read_lend(
+    alloc: Global,
+    id: &str,
+    tag: &str,
+    receivers: &str,
+    ranges: &str,
+) -> Result<Option<Line>, OutOfMemory>
+    ensures { IfOk result (λ line. IfSome line HasParts) }
+{
+    match read_send(alloc, id, tag, receivers, ranges)? {
+        Some(send) => Ok(Some(Line::Send(Kind::Lend, send))),
+        None => Ok(None),
+    }
+}
+
 fn read_call(id: &str, words: &[&str]) -> Option<Line>
-    ensures { IfSome result fits_tx }
+    ensures { IfSome result HasParts }
 {
     let id = read_id(id)?;
     if words.is_empty() {
@@ -104,44 +125,4 @@ fn read_call(id: &str, words: &[&str]) -> Option<Line>
         *registers.get_mut(i)? = read_number(word)?;
     }
     Some(Line::Call(id, registers))
-}
-
-/// The identifier that four digits are.
-#[tactic(auto, using(crate::proofs::Digits::parsed))]
-fn read_id(word: &str) -> Option<PartitionId>
-    ensures { result ≡ id_of word.now }
-{
-    if word.len() != 4 || !is_lower_hex(word) {
-        return None;
-    }
-    match u16::from_str_radix(word, 16) {
-        Ok(number) => Some(PartitionId::new(number)),
-        Err(_) => None,
-    }
-}
-
-/// The number that 1 to 16 digits are.
-#[tactic(auto, using(crate::proofs::Digits::number_parsed))]
-fn read_number(word: &str) -> Option<u64>
-    ensures { result ≡ number_of word.now }
-{
-    if word.is_empty() || word.len() > 16 || !is_lower_hex(word) {
-        return None;
-    }
-    match u64::from_str_radix(word, 16) {
-        Ok(number) => Some(number),
-        Err(_) => None,
-    }
-}
-
-fn is_lower_hex(word: &str) -> bool
-    ensures { result ≡ list_all is_lower_hex_digit word.now }
-{
-    word.as_bytes().iter().all(|byte| is_lower_hex_digit(*byte))
-}
-
-fn is_lower_hex_digit(byte: u8) -> bool
-    ensures { result ≡ is_lower_hex_digit byte }
-{
-    matches!(byte, b'0'..=b'9' | b'a'..=b'f')
 }

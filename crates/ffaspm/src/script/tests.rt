@@ -205,3 +205,108 @@ fn reads_the_layout_of_the_version(rt: HostRuntime) -> Result<(), Fail> {
         reply 84000060 00000000 fffffffe 00000000 00000000 00000000 00000000 00000000\n";
     expect_text::<ListPool>(&rt, alloc, &script, None, wanted)
 }
+
+/// A buffer pair for each partition.
+const PAIRS: &str = "call 8001 84000066 90000000 90001000 1\n\
+    call 8002 84000066 b0000000 b0001000 1\n\
+    call 8003 84000066 c0000000 c0001000 1\n";
+
+/// What a script writes after the buffer pairs are there.
+fn expect_after_pairs<M: TableMem + Drop>(
+    rt: &impl Abort,
+    alloc: Global,
+    lines: &str,
+    wanted: &str,
+) -> Result<(), Fail> {
+    let pair = "reply 84000061 00000000 00000000 00000000 00000000 00000000 00000000 00000000\n";
+    let script = format!(in alloc; "{PAIRS}{lines}")?;
+    let wanted = format!(in alloc; "{pair}{pair}{pair}{wanted}")?;
+    expect_text::<M>(rt, alloc, &script, None, &wanted)
+}
+
+/// Pages across two chunks, a whole chunk, ranges that touch, and two receivers.
+#[test]
+fn lends_ranges(rt: HostRuntime) -> Result<(), Fail> {
+    let lines = "lend 8001 0 8002:02 801ff000+2\n\
+        maps 8001\n\
+        lend 8001 0 8002:02,8003:01 80300000+1\n\
+        lend 8001 7 8002:01 80000000+256,80100000+255\n\
+        lend 8002 0 8003:02 a0000000+512\n\
+        maps 8001\n\
+        maps 8002\n";
+    let wanted = "reply 84000061 00000000 00000001 00008001 00000000 00000000 00000000 00000000\n\
+        maps 8001 5\n\
+        0009000000 1 rw- device\n\
+        0080000000 511 rwx normal\n\
+        0080201000 511 rwx normal\n\
+        0090000000 2 rw- normal\n\
+        00d0000000 1 rw- normal\n\
+        reply 84000061 00000000 00000002 00008001 00000000 00000000 00000000 00000000\n\
+        reply 84000061 00000000 00000003 00008001 00000000 00000000 00000000 00000000\n\
+        reply 84000061 00000000 00000001 00008002 00000000 00000000 00000000 00000000\n\
+        maps 8001 5\n\
+        0009000000 1 rw- device\n\
+        0080201000 255 rwx normal\n\
+        0080301000 255 rwx normal\n\
+        0090000000 2 rw- normal\n\
+        00d0000000 1 rw- normal\n\
+        maps 8002 2\n\
+        00b0000000 2 rw- normal\n\
+        00d0000000 1 r-- normal\n";
+    expect_after_pairs::<ListPool>(&rt, rt.alloc(), lines, wanted)
+}
+
+/// An address near 2^64, one page more than a transaction may have, as many pages as it may have, of
+/// which not all are free, and device memory; then a whole chunk.
+#[test]
+fn refuses_lends(rt: HostRuntime) -> Result<(), Fail> {
+    let lines = "lend 8001 0 8002:02 fffffffffffff000+2\n\
+        lend 8001 0 8002:02 80000000+262145\n\
+        lend 8001 0 8002:02 80000000+262144\n\
+        lend 8001 0 8002:02 9000000+1\n\
+        lend 8001 0 8002:02 80000000+2,80001000+1\n\
+        lend 8001 0 8002:02,8002:02 80000000+1\n\
+        lend 8001 0 8002:02 80000000+512\n";
+    let wanted = "reply 84000060 00000000 fffffffe 00000000 00000000 00000000 00000000 00000000\n\
+        reply 84000060 00000000 fffffffe 00000000 00000000 00000000 00000000 00000000\n\
+        reply 84000060 00000000 fffffffa 00000000 00000000 00000000 00000000 00000000\n\
+        reply 84000060 00000000 fffffffa 00000000 00000000 00000000 00000000 00000000\n\
+        reply 84000060 00000000 fffffffe 00000000 00000000 00000000 00000000 00000000\n\
+        reply 84000060 00000000 fffffffe 00000000 00000000 00000000 00000000 00000000\n\
+        reply 84000061 00000000 00000001 00008001 00000000 00000000 00000000 00000000\n";
+    expect_after_pairs::<ListPool>(&rt, rt.alloc(), lines, wanted)
+}
+
+/// Lengths that are not the descriptor's use no number.
+#[test]
+fn refuses_lengths(rt: HostRuntime) -> Result<(), Fail> {
+    let alloc = rt.alloc();
+    let lines = format!(in alloc;
+        "tx 8001 {LEND}\n\
+        call 8001 84000072 2f 2f\n\
+        call 8001 84000072 5f 5f\n\
+        call 8001 84000072 60 5f\n\
+        call 8001 84000072 60 60\n"
+    )?;
+    let wanted = "reply 84000060 00000000 fffffffe 00000000 00000000 00000000 00000000 00000000\n\
+        reply 84000060 00000000 fffffffe 00000000 00000000 00000000 00000000 00000000\n\
+        reply 84000060 00000000 fffffffe 00000000 00000000 00000000 00000000 00000000\n\
+        reply 84000061 00000000 00000001 00008001 00000000 00000000 00000000 00000000\n";
+    expect_after_pairs::<ListPool>(&rt, alloc, &lines, wanted)
+}
+
+/// A lend of each second page, from TX buffers of three pages.
+#[test]
+fn lends_many_ranges(rt: HostRuntime) -> Result<(), Fail> {
+    let alloc = rt.alloc();
+    let mut script = String::new(alloc);
+    writeln!(&mut script, "call 8001 84000066 80000000 80008000 3")?;
+    write!(&mut script, "lend 8001 0 8002:02 80010000+1")?;
+    for i in 1..500u64 {
+        write!(&mut script, ",{:x}+1", 0x8001_0000 + i * 0x2000)?;
+    }
+    writeln!(&mut script)?;
+    let wanted = "reply 84000061 00000000 00000000 00000000 00000000 00000000 00000000 00000000\n\
+        reply 84000061 00000000 00000001 00008001 00000000 00000000 00000000 00000000\n";
+    expect_text::<ListPool>(&rt, alloc, &script, None, wanted)
+}

@@ -1,5 +1,9 @@
 use super::{Line, read_line};
-use base::{OutOfMemory, PartitionId};
+use crate::send::SendLine;
+use arrayvec::ArrayVec;
+use base::{Kind, OutOfMemory, PartitionId};
+use descr::Endpoint;
+use descw::RangeFields;
 use std::alloc::Global;
 use std::process::Abort;
 use std::test::Fail;
@@ -30,6 +34,58 @@ fn reads_lines(rt: HostRuntime) -> Result<(), Fail> {
     let text = "call 80af 1 02 3 4 5 6 0000000000000007 ffffffffffffffff";
     expect_line(&rt, alloc, text, Some(call))?;
     expect_line(&rt, alloc, "maps 80af", Some(Line::Maps(id)))?;
+    Ok(())
+}
+
+/// A lend by 0x8001 with tag 5 of two ranges to these receivers.
+fn lend_line(alloc: Global, receivers: ArrayVec<Endpoint, 8>) -> Result<Line, OutOfMemory> {
+    let ranges = vec![in alloc;
+        RangeFields {
+            address: 0x8000_0000,
+            count: 256
+        },
+        RangeFields {
+            address: u64::MAX,
+            count: 0
+        },
+    ]?;
+    let send = SendLine {
+        sender: PartitionId::new(0x8001),
+        tag: 5,
+        receivers,
+        ranges,
+        total: 256,
+    };
+    Ok(Line::Send(Kind::Lend, send))
+}
+
+#[test]
+fn reads_lends(rt: HostRuntime) -> Result<(), Fail> {
+    let alloc = rt.alloc();
+    let mut receivers = ArrayVec::new();
+    for (id, permissions) in [(0x8002, 2), (0x8003, 0x1f)] {
+        receivers.push(Endpoint {
+            partition: PartitionId::new(id),
+            permissions,
+        });
+    }
+    let text = "lend 8001 5 8002:02,8003:1f 80000000+256,ffffffffffffffff+0";
+    expect_line(&rt, alloc, text, Some(lend_line(alloc, receivers)?))?;
+    for text in [
+        "lend 8001 5 8002:02",
+        "lend 8001 5 8002:2 80000000+1",
+        "lend 8001 5 8002 80000000+1",
+        "lend 8001 5 8002:02, 80000000+1",
+        "lend 8001 5 8002:02 80000000+01",
+        "lend 8001 5 8002:02 80000000+",
+        "lend 8001 5 8002:02 80000000+a",
+        "lend 8001 5 8002:02 80000000+4294967296",
+        "lend 8001 5 8002:02 0+4294967295,0+1",
+        "lend 8001 5 0001:00,0002:00,0003:00,0004:00,0005:00,0006:00,0007:00,0008:00,0009:00 0+1",
+        "lend 8001 5 8002:02 0+1 0+1",
+    ] {
+        expect_line(&rt, alloc, text, None)?;
+    }
     Ok(())
 }
 

@@ -1,0 +1,13 @@
+mod Turns
+mod Tests
+mod Reading
+mod Arrays
+mod Header
+mod Order
+mod Sends
+mod Runs
+mod Responses
+mod Requests
+mod Cuts
+mod Parts
+mod Texts

@@ -1,0 +1,10 @@
+use Rattle.std.proofs.Common.{◌≡◌, ◌++◌, drop}
+use Rattle.base.specs.Texts as texts
+use Rattle.descw.specs.Inside.{AreIdentifiers}
+use Rattle.descw.proofs.text.write_accesses.Given as goal
+
+abbrev pub invariant-loop-endpoint : goal.invariant-loop-endpoint
+invariant-loop-endpoint l = record {
+  text : l.out.items ++ texts.accesses_text l.composite (drop l.endpoint-index l.receivers) ≡ l.initial.out.items ++ texts.accesses_text l.composite l.receivers;
+  fits : AreIdentifiers (drop l.endpoint-index l.receivers) → AreIdentifiers l.receivers;
+}

@@ -1,0 +1,10 @@
+use Rattle.std.proofs.Common.{◌≡◌, ◌++◌, drop}
+use Rattle.base.specs.Texts as texts
+use Rattle.descw.specs.Inside.{AreRuns}
+use Rattle.descw.proofs.text.write_runs.Given as goal
+
+abbrev pub invariant-loop-run : goal.invariant-loop-run
+invariant-loop-run l = record {
+  text : l.out.items ++ texts.runs_text (drop l.run-index l.runs) ≡ l.initial.out.items ++ texts.runs_text l.runs;
+  in_range : AreRuns (drop l.run-index l.runs) → AreRuns l.runs;
+}

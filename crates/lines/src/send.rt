@@ -1,0 +1,112 @@
+//! Lines that send pages.
+
+ghost use Rattle.std.specs.Prelude.{◌≡◌, ◌≤◌, length, sum_by, IfSome, IfOk};
+ghost use Rattle.lines.specs.Lines.{IsWhole};
+
+use crate::words::{read_count, read_id, read_number, read_permissions};
+use arrayvec::ArrayVec;
+use base::{OutOfMemory, PartitionId};
+use descr::Endpoint;
+use descw::RangeFields;
+use std::alloc::Global;
+
+/// The most ranges of a send.
+const MOST_RANGES: usize = 512;
+
+/// What a line says of a send.
+#[derive(Debug, Drop, PartialEq, Eq)]
+pub struct SendLine {
+    /// The partition that sends.
+    pub sender: PartitionId,
+    /// The tag.
+    pub tag: u64,
+    /// The receivers, 1 to 8, in the order of the line.
+    pub receivers: ArrayVec<Endpoint, 8>,
+    /// The ranges, 1 to 512, in the order of the line.
+    pub ranges: Vec<RangeFields>,
+    /// The sum of their counts of pages.
+    pub total: u32,
+}
+
+/// The send that the words `ID NUM RECEIVERS RANGES` say.
+pub(crate) fn read_send(
+    alloc: Global,
+    id: &str,
+    tag: &str,
+    receivers: &str,
+    ranges: &str,
+) -> Result<Option<SendLine>, OutOfMemory>
+    ensures { IfOk result (λ line. IfSome line (λ send. IsWhole send)) }
+{
+    let Some(ranges) = read_ranges(alloc, ranges)? else {
+        return Ok(None);
+    };
+    Ok(send_of(id, tag, receivers, ranges))
+}
+
+fn send_of(id: &str, tag: &str, receivers: &str, ranges: Vec<RangeFields>) -> Option<SendLine>
+    requires { length ranges.items ≤ 512 }
+    ensures { IfSome result (λ send. IsWhole send) }
+{
+    let total = page_count(&ranges)?;
+    Some(SendLine {
+        sender: read_id(id)?,
+        tag: read_number(tag)?,
+        receivers: read_receivers(receivers)?,
+        ranges,
+        total,
+    })
+}
+
+/// The receivers `ID:PERM`, parted by commas, where they are not too many.
+fn read_receivers(text: &str) -> Option<ArrayVec<Endpoint, 8>> {
+    let mut receivers = ArrayVec::new();
+    for word in text.split(',') {
+        receivers.try_push(read_receiver(word)?).ok()?;
+    }
+    Some(receivers)
+}
+
+fn read_receiver(word: &str) -> Option<Endpoint> {
+    let (id, permissions) = word.split_once(':')?;
+    Some(Endpoint {
+        partition: read_id(id)?,
+        permissions: read_permissions(permissions)?,
+    })
+}
+
+/// The ranges `NUM+COUNT`, parted by commas, where they are not too many.
+fn read_ranges(alloc: Global, text: &str) -> Result<Option<Vec<RangeFields>>, OutOfMemory>
+    ensures { IfOk result (λ ranges. IfSome ranges (λ found. length found.items ≤ 512)) }
+{
+    let mut ranges = Vec::new(alloc);
+    for word in text.split(',') {
+        let Some(range) = read_range(word) else {
+            return Ok(None);
+        };
+        if ranges.len() == MOST_RANGES {
+            return Ok(None);
+        }
+        ranges.push(range)?;
+    }
+    Ok(Some(ranges))
+}
+
+fn read_range(word: &str) -> Option<RangeFields> {
+    let (address, count) = word.split_once('+')?;
+    Some(RangeFields {
+        address: read_number(address)?,
+        count: read_count(count)?,
+    })
+}
+
+/// How many pages the ranges have together, where that is below 2^32.
+fn page_count(ranges: &[RangeFields]) -> Option<u32>
+    ensures { IfSome result (λ total. total ≡ sum_by (λ r. r.count) ranges.now) }
+{
+    let mut total = 0u32;
+    for range in ranges {
+        total = total.checked_add(range.count)?;
+    }
+    Some(total)
+}
