@@ -1,12 +1,12 @@
 -- What the rules of a manifest say of its rows.
-use Rattle.std.proofs.Common.{◌≡◌, ◌≢◌, ℕ, ◌+◌, ◌*◌, ◌≤◌, ◌<◌, Bool, true, false, ◌&&◌, ◌||◌, not, cond, eqb, leb, ltb, List, [], ◌∷◌, length, map, get_or, slice_index, Option, Some, None, is_some, find, refl, sym, ap, ◌∙◌, arith, zero, suc, take, eq-eqb}
+use Rattle.std.proofs.Common.{◌≡◌, ℕ, ◌+◌, ◌*◌, ◌≤◌, ◌<◌, Bool, true, false, ◌&&◌, ◌||◌, not, cond, eqb, leb, List, [], ◌∷◌, length, get_or, slice_index, Some, None, find, refl, sym, ap, ◌∙◌, arith, zero, suc, take, eq-eqb}
 use Rattle.std.specs.List.{list_all, list_any}
 use Rattle.std.specs.Option.{option_map, option_and_then}
 use Rattle.std.proofs.lemmas.Bool.{leb-true, eqb-true}
 use Rattle.std.proofs.lemmas.Bool.Decides.{nat_tests}
 use Rattle.std.proofs.lemmas.List.Sums.{passes_at_first}
 use Rattle.base.specs.Pages.{in_run}
-use Rattle.base.specs.Manifest.{PartitionRow, GrantRow, RegionRow, ManifestRows, ids_of, quotas_of, row_of, is_partition, region_at, granted_in, permission_of, grant}
+use Rattle.base.specs.Manifest.{PartitionRow, GrantRow, RegionRow, ManifestRows, ids_of, quotas_of, row_of, is_partition, granted_in, permission_of, grant}
 use Rattle.manifest.specs.Valid.{rise_from, begin_from, names_partitions, has_tables, chunks_granted, is_valid}
 
 both : (a b : Bool) → (a && b) ≡ true → (a ≡ true) × (b ≡ true)

@@ -1,5 +1,5 @@
 -- A request that moves no page leaves what is reached.
-use Rattle.std.proofs.Common.{◌≡◌, false, None, Some, Option, List, refl}
+use Rattle.std.proofs.Common.{◌≡◌, false, None, Some, refl}
 use Rattle.std.specs.Option.{option_map_or}
 use Rattle.base.specs.declared.status.Status.{Status}
 use Rattle.base.specs.declared.transaction.Kind.TheVariants.{Share, Lend, Donate}

@@ -63,12 +63,14 @@ fn lend_line(alloc: Global, receivers: ArrayVec<Endpoint, 8>) -> Result<Line, Ou
 fn reads_lends(rt: HostRuntime) -> Result<(), Fail> {
     let alloc = rt.alloc();
     let mut receivers = ArrayVec::new();
-    for (id, permissions) in [(0x8002, 2), (0x8003, 0x1f)] {
-        receivers.push(Endpoint {
-            partition: PartitionId::new(id),
-            permissions,
-        });
-    }
+    receivers.push(Endpoint {
+        partition: PartitionId::new(0x8002),
+        permissions: 2,
+    });
+    receivers.push(Endpoint {
+        partition: PartitionId::new(0x8003),
+        permissions: 0x1f,
+    });
     let text = "lend 8001 5 8002:02,8003:1f 80000000+256,ffffffffffffffff+0";
     expect_line(&rt, alloc, text, Some(lend_line(alloc, receivers)?))?;
     for text in [
