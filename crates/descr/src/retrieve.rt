@@ -103,7 +103,7 @@ fn is_retrieve(version: Version, bytes: &[u8]) -> bool
 /// bytes are no such descriptor: a part lies outside them or bytes are left over, more borrowers than
 /// one are named, or a field breaks its rule.
 #[tactic(auto, unfolding(base::specs::Retrieve::retrieve_of))]
-pub fn read_retrieve(version: Version, bytes: &[u8]) -> Option<RetrieveDesc>
+pub fn read_retrieve(bytes: &[u8], version: Version) -> Option<RetrieveDesc>
     // What is read is spelled so.
     ensures some { IfSome result (λ v. IsTrue (spec.is_retrieve version bytes.now) × (v ≡ spec.retrieve_of version bytes.now)) }
 

@@ -83,7 +83,7 @@ fn read_memory(version: Version, bytes: &[u8]) -> Option<Ranges<'_>>
 /// What the bytes of a send say, in the layout of this version. `None` means that the bytes are no
 /// such descriptor: a part lies outside them or bytes are left over, a field breaks its rule, two
 /// ranges share a page, or the total is not the sum of the ranges' pages.
-pub fn read_send(version: Version, bytes: &[u8]) -> Option<SendDesc<'_>>
+pub fn read_send(bytes: &[u8], version: Version) -> Option<SendDesc<'_>>
     // What is read is spelled so.
     ensures some { IfSome result (λ v. IsTrue (spec.is_send version bytes.now) × (v ≡ spec.send_of version bytes.now)) }
 

@@ -29,7 +29,7 @@ fn with_flags(low: u8, high: u8) -> [u8; 64] {
 
 /// The request with these flags is read so.
 fn assert_flags(rt: &impl Abort, low: u8, high: u8, kind: Option<Kind>, bypass: bool) {
-    let desc = read_retrieve(Version::V11, &with_flags(low, high)).expect(rt, "a request");
+    let desc = read_retrieve(&with_flags(low, high), Version::V11).expect(rt, "a request");
     assert_eq!(rt; desc.kind, kind);
     assert_eq!(rt; desc.bypass, bypass);
 }
@@ -48,10 +48,10 @@ fn reads_each_layout(rt: HostRuntime) {
             permissions: 2,
         },
     };
-    assert_eq!(rt; read_retrieve(Version::V11, &REQUEST), Some(request));
-    assert_eq!(rt; read_retrieve(Version::V10, &REQUEST_1_0), Some(request));
-    assert!(rt; read_retrieve(Version::V10, &REQUEST).is_none());
-    assert!(rt; read_retrieve(Version::V11, &REQUEST_1_0).is_none());
+    assert_eq!(rt; read_retrieve(&REQUEST, Version::V11), Some(request));
+    assert_eq!(rt; read_retrieve(&REQUEST_1_0, Version::V10), Some(request));
+    assert!(rt; read_retrieve(&REQUEST, Version::V10).is_none());
+    assert!(rt; read_retrieve(&REQUEST_1_0, Version::V11).is_none());
 }
 
 #[test]
@@ -60,7 +60,7 @@ fn reads_flags(rt: HostRuntime) {
     assert_flags(&rt, 0x08, 0x00, Some(Kind::Share), false);
     assert_flags(&rt, 0x18, 0x04, Some(Kind::Donate), true);
     for (low, high) in [(0x01, 0x00), (0x20, 0x00), (0x00, 0x02), (0x00, 0x08)] {
-        assert!(rt; read_retrieve(Version::V11, &with_flags(low, high)).is_none());
+        assert!(rt; read_retrieve(&with_flags(low, high), Version::V11).is_none());
     }
 }
 
@@ -68,7 +68,7 @@ fn reads_flags(rt: HostRuntime) {
 fn refuses_cut_bytes(rt: HostRuntime) {
     for len in 0..64 {
         assert!(rt;
-            read_retrieve(Version::V11, &REQUEST[..len]).is_none(),
+            read_retrieve(&REQUEST[..len], Version::V11).is_none(),
             "{len} bytes"
         );
     }

@@ -68,7 +68,7 @@ fn changed<const N: usize>(
 /// Whether the lend is still read with one byte changed.
 fn reads(rt: &impl Abort, at: usize, byte: u8) -> bool {
     let bytes = changed(rt, LEND, &[(at, byte)]);
-    read_send(Version::V11, &bytes).is_some()
+    read_send(&bytes, Version::V11).is_some()
 }
 
 /// The descriptor names these receivers, in this order.
@@ -101,20 +101,20 @@ fn reads_each_layout(rt: HostRuntime) {
         (Version::V11, LEND.as_slice()),
         (Version::V10, LEND_1_0.as_slice()),
     ] {
-        let desc = read_send(version, bytes).expect(&rt, "a send");
+        let desc = read_send(bytes, version).expect(&rt, "a send");
         assert_eq!(rt; desc.sender.number(), 0x8001);
         assert_eq!(rt; desc.attributes, 0);
         assert_eq!(rt; desc.tag, 0);
         assert_receivers(&rt, &desc, &[(0x8002, 2)]);
         assert_ranges(&rt, &desc, &[(0x80001, 1)]);
     }
-    assert!(rt; read_send(Version::V10, &LEND).is_none());
-    assert!(rt; read_send(Version::V11, &LEND_1_0).is_none());
+    assert!(rt; read_send(&LEND, Version::V10).is_none());
+    assert!(rt; read_send(&LEND_1_0, Version::V11).is_none());
 }
 
 #[test]
 fn reads_many_receivers_and_ranges(rt: HostRuntime) {
-    let desc = read_send(Version::V11, &TWO_OF_EACH).expect(&rt, "a send");
+    let desc = read_send(&TWO_OF_EACH, Version::V11).expect(&rt, "a send");
     assert_eq!(rt; desc.attributes, 0x2f);
     assert_eq!(rt; desc.tag, 0x0807_0605_0403_0201);
     assert_receivers(&rt, &desc, &[(0x8002, 2), (0x8003, 1)]);
@@ -144,7 +144,7 @@ fn refuses_reserved_bytes(rt: HostRuntime) {
 fn refuses_cut_bytes(rt: HostRuntime) {
     for len in 0..96 {
         assert!(rt;
-            read_send(Version::V11, &LEND[..len]).is_none(),
+            read_send(&LEND[..len], Version::V11).is_none(),
             "{len} bytes"
         );
     }
@@ -152,22 +152,22 @@ fn refuses_cut_bytes(rt: HostRuntime) {
 
 #[test]
 fn finds_the_parts(rt: HostRuntime) {
-    let desc = read_send(Version::V11, &WITH_GAP).expect(&rt, "a send");
+    let desc = read_send(&WITH_GAP, Version::V11).expect(&rt, "a send");
     assert_receivers(&rt, &desc, &[(0x8002, 2)]);
     assert_ranges(&rt, &desc, &[(0x80001, 1)]);
     let far = [(32, 0xf0), (33, 0xff), (34, 0xff), (35, 0xff)];
-    assert!(rt; read_send(Version::V11, &changed(&rt, LEND, &far)).is_none());
+    assert!(rt; read_send(&changed(&rt, LEND, &far), Version::V11).is_none());
     let mut longer = [0; 97];
     longer[..96].copy_from_slice(&LEND);
-    assert!(rt; read_send(Version::V11, &longer).is_none());
+    assert!(rt; read_send(&longer, Version::V11).is_none());
 }
 
 #[test]
 fn refuses_shared_pages(rt: HostRuntime) {
     // The second range from page 0x80002 on, and then from page 0x80001 on.
     let touching = changed(&rt, TWO_OF_EACH, &[(113, 0x20), (114, 0x00)]);
-    let desc = read_send(Version::V11, &touching).expect(&rt, "a send");
+    let desc = read_send(&touching, Version::V11).expect(&rt, "a send");
     assert_ranges(&rt, &desc, &[(0x80001, 1), (0x80002, 3)]);
     let sharing = changed(&rt, TWO_OF_EACH, &[(113, 0x10), (114, 0x00)]);
-    assert!(rt; read_send(Version::V11, &sharing).is_none());
+    assert!(rt; read_send(&sharing, Version::V11).is_none());
 }

@@ -149,7 +149,7 @@ fn sends_are_read_back(rt: HostRuntime) {
     };
     for version in [Version::V10, Version::V11] {
         let written = write_send(rt.alloc(), version, &fields).expect(&rt, "memory");
-        let desc = read_send(version, &written).expect(&rt, "a send");
+        let desc = read_send(&written, version).expect(&rt, "a send");
         assert_eq!(rt; desc.sender.number(), 0x8001);
         assert_eq!(rt; desc.attributes, 0x2f);
         assert_parts(&rt, &desc, &receivers, &[(0x80001, 1), (0x80010, 3)]);
@@ -173,7 +173,7 @@ fn requests_are_read_back(rt: HostRuntime) {
     };
     for version in [Version::V10, Version::V11] {
         let written = write_retrieve(rt.alloc(), version, &fields).expect(&rt, "memory");
-        assert_eq!(rt; read_retrieve(version, &written), Some(request));
+        assert_eq!(rt; read_retrieve(&written, version), Some(request));
     }
 }
 
