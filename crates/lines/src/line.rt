@@ -1,4 +1,4 @@
-ghost use Rattle.std.specs.Prelude.{◌≡◌, ◌<◌, length, None, IfSome, IfOk, IsTrue};
+ghost use Rattle.std.specs.Prelude.{◌≡◌, ◌<◌, length, Some, None, IfSome, IfOk, IsTrue};
 ghost use Rattle.lines.specs.Lines.{is_nothing, HasParts};
 
 use crate::send::{SendLine, read_send};
@@ -45,8 +45,8 @@ pub fn read_line(alloc: Global, bytes: &[u8]) -> Result<Option<Line>, OutOfMemor
     // A line that is too long is none.
     ensures long { 66000 < length bytes.now → IfOk result (λ line. line ≡ None) }
 
-    // An empty line and a comment say nothing.
-    ensures nothing { IsTrue (is_nothing bytes.now) → IfOk result (λ line. IfSome line (λ v. v ≡ Line.Nothing)) }
+    // An empty line and a comment are lines that say nothing.
+    ensures nothing { IsTrue (is_nothing bytes.now) → IfOk result (λ line. line ≡ Some Line.Nothing) }
 
     // A copy of a TX buffer is no longer than one, and a send has its total and not too many ranges.
     ensures parts { IfOk result (λ line. IfSome line HasParts) }
