@@ -39,6 +39,7 @@ moves_pages (Retrieve t) = false
 moves_pages Relinquish = false
 moves_pages (Reclaim handle flags) = false
 
+-- the tests of a request, in order
 abbrev pub tests_of : State → CallWords → Request → List Test
 tests_of s c (Version word) = []
 tests_of s c (Features identifier) = (is_feature identifier otherwise NotSupported) ∷ []
@@ -64,7 +65,7 @@ tests s c =
 abbrev pub refusal : State → CallWords → Option Status
 refusal s c = first_refusal (tests s c)
 
--- what a call is answered that passes its tests; a send gives the low and the high half of its handle
+-- what a call is answered that passes its tests, as none does that is not served yet; a send gives the low and the high half of its handle
 abbrev pub granted : State → CallWords → Request → ReplyWords
 granted s c (Version word) = version_reply word
 granted s c (Features identifier) = success 0 0

@@ -171,5 +171,6 @@ with_transaction s t =
       seats = with_seat t.sender seat_with_send s.seats;
     }
 
+-- the same of the transaction that a send opens
 unfoldable pub with_send : State → ℕ → Kind → Send → State
 with_send s p kind v = with_transaction s (opened s p kind v)
