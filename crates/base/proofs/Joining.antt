@@ -8,7 +8,7 @@ use Rattle.std.proofs.lemmas.List.Folds.{list_any-append}
 use Rattle.std.proofs.lemmas.List.Sums.{AllPass-from_list_all, list_all-from_AllPass, sum_by-append}
 use Rattle.std.proofs.lemmas.Map.Keys.{IsDistinct-IsPermutation, IsDistinct-from_apart, apart_from_distinct}
 use Rattle.base.specs.Pages.{PageRun, in_run, covers, are_apart, are_disjoint, rise_above, are_normal}
-use Rattle.base.specs.Send.{pages_in}
+use Rattle.base.specs.Descriptors.Send.{pages_in}
 
 -- the page after the run's last
 abbrev pub end_of : PageRun → ℕ

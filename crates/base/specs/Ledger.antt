@@ -5,7 +5,7 @@ use Rattle.std.specs.Option.{option_map, option_and_then, option_map_or}
 use Rattle.base.specs.declared.transaction.Kind.{Kind}
 use Rattle.base.specs.declared.transaction.Kind.TheVariants.{Share, Lend, Donate}
 use Rattle.base.specs.Pages.{covers}
-use Rattle.base.specs.Permissions.{Answer}
+use Rattle.base.specs.Access.{View}
 use Rattle.base.specs.Manifest.{ManifestRows, region_at, granted_in, grant, is_sharable}
 use Rattle.base.specs.Transactions.{Receiver, Live, Donation}
 
@@ -23,29 +23,29 @@ abbrev pub owner : ManifestRows → List Donation → ℕ → Option ℕ
 owner m ds n = option_map_or (λ d. Some d.taker) (donation_at ds n) (option_map (λ r. r.owner) (region_at m n))
 
 -- the access of that donation, else the owner's grant
-abbrev pub home : ManifestRows → List Donation → ℕ → Answer
+abbrev pub home : ManifestRows → List Donation → ℕ → View
 home m ds n = option_map_or (λ d. Some d.access) (donation_at ds n) (option_and_then (λ r. granted_in r r.owner) (region_at m n))
 
 -- what a partition reaches of a page that no live transaction covers: where a donation covers it the owner has the home and all others nothing, else the manifest's grants decide
-abbrev pub settled_view : ManifestRows → List Donation → ℕ → ℕ → Answer
+abbrev pub settled_view : ManifestRows → List Donation → ℕ → ℕ → View
 settled_view m ds p n = option_map_or (λ d. if d.taker == p then Some d.access else None) (donation_at ds n) (grant m p n)
 
 -- what a partition has retrieved as one of these receivers
-abbrev pub retrieved : List Receiver → ℕ → Answer
+abbrev pub retrieved : List Receiver → ℕ → View
 retrieved receivers p = option_and_then (λ r. r.retrieved) (find (λ r. r.partition == p) receivers)
 
 -- what the sender keeps of its home: all of it under a share, else nothing
-abbrev pub kept : Kind → Answer → Answer
+abbrev pub kept : Kind → View → View
 kept Share home = home
 kept Lend home = None
 kept Donate home = None
 
 -- what a partition reaches of a page that a live transaction covers: the sender what it keeps, a receiver what it has retrieved, all others nothing
-abbrev pub view_under : Live → Answer → ℕ → Answer
+abbrev pub view_under : Live → View → ℕ → View
 view_under t home p = if t.sender == p then kept t.kind home else retrieved t.receivers p
 
 -- what a partition reaches of a page
-abbrev pub view : ManifestRows → List Donation → List Live → ℕ → ℕ → Answer
+abbrev pub view : ManifestRows → List Donation → List Live → ℕ → ℕ → View
 view m ds live p n = option_map_or (λ t. view_under t (home m ds n) p) (live_at live n) (settled_view m ds p n)
 
 -- the partition owns the page

@@ -5,7 +5,7 @@ use Rattle.std.specs.Option.{option_map, option_and_then}
 use Rattle.base.specs.declared.access.Rights.{Rights}
 use Rattle.base.specs.declared.access.MemoryKind.{MemoryKind}
 use Rattle.base.specs.Pages.{PageRun, in_run}
-use Rattle.base.specs.Permissions.{Permission, Answer, is_normal}
+use Rattle.base.specs.Access.{Access, View, is_normal}
 
 -- a partition, and how many table pages it may have, its root apart
 pub record PartitionRow : Type 0 where
@@ -49,15 +49,15 @@ abbrev pub region_at : ManifestRows → ℕ → Option RegionRow
 region_at m n = find (λ r. in_run r.pages n) m.regions
 
 -- the permission that a grant gives for memory of this kind
-abbrev pub permission_of : MemoryKind → GrantRow → Permission
+abbrev pub permission_of : MemoryKind → GrantRow → Access
 permission_of kind g = record { rights = g.rights; exec = g.exec; kind = kind }
 
 -- what a region grants to a partition
-abbrev pub granted_in : RegionRow → ℕ → Answer
+abbrev pub granted_in : RegionRow → ℕ → View
 granted_in r p = option_map (permission_of r.kind) (find (λ g. g.partition == p) r.grants)
 
 -- what the manifest grants to a partition at a page
-abbrev pub grant : ManifestRows → ℕ → ℕ → Answer
+abbrev pub grant : ManifestRows → ℕ → ℕ → View
 grant m p n = option_and_then (λ r. granted_in r p) (region_at m n)
 
 -- the region may be shared, lent and given away: normal memory with exactly one grant

@@ -5,9 +5,9 @@ use Rattle.std.specs.Option.{option_map_or}
 use Rattle.base.specs.declared.partition.Version.{Version}
 use Rattle.base.specs.declared.partition.Version.TheVariants.{V11}
 use Rattle.base.specs.Pages.{PageRun}
-use Rattle.base.specs.Permissions.{Answer}
+use Rattle.base.specs.Access.{View}
 use Rattle.base.specs.Manifest.{ManifestRows, PartitionRow}
-use Rattle.base.specs.Pairs.{Mailbox, first_mailbox, is_buffer}
+use Rattle.base.specs.Buffers.{Mailbox, first_mailbox, is_buffer}
 use Rattle.base.specs.Transactions.{Live, Donation}
 use Rattle.base.specs.Ledger.{view, owner, home, is_owner, is_idle}
 
@@ -46,13 +46,13 @@ with_seat p change [] = []
 with_seat p change (s ∷ seats) = if s.partition == p then change s ∷ seats else s ∷ with_seat p change seats
 
 -- what a partition reaches of a page
-abbrev pub sees : State → ℕ → ℕ → Answer
+abbrev pub sees : State → ℕ → ℕ → View
 sees s p n = view s.manifest s.donations s.live p n
 
 abbrev pub owner_of : State → ℕ → Option ℕ
 owner_of s n = owner s.manifest s.donations n
 
-abbrev pub home_of : State → ℕ → Answer
+abbrev pub home_of : State → ℕ → View
 home_of s n = home s.manifest s.donations n
 
 abbrev pub owns : State → ℕ → ℕ → Bool

@@ -3,13 +3,13 @@ use Rattle.std.specs.Prelude.{ℕ, List}
 use Rattle.base.specs.declared.access.Rights.{Rights}
 use Rattle.base.specs.declared.transaction.Kind.{Kind}
 use Rattle.base.specs.Pages.{PageRun}
-use Rattle.base.specs.Permissions.{Permission, Answer}
+use Rattle.base.specs.Access.{Access, View}
 
 -- a receiver, the most that it may retrieve, and what it has retrieved
 pub record Receiver : Type 0 where
   pub partition : ℕ
   pub cap : Rights
-  pub retrieved : Answer
+  pub retrieved : View
 
 -- a transaction that was sent and has not ended; its ranges stand in the order sent
 pub record Live : Type 0 where
@@ -19,11 +19,11 @@ pub record Live : Type 0 where
   pub tag : ℕ
   pub ranges : List PageRun
   pub receivers : List Receiver
-  pub home : Permission
+  pub home : Access
 
 -- a donation that was retrieved: these pages have a new owner
 pub record Donation : Type 0 where
   pub ranges : List PageRun
   pub giver : ℕ
   pub taker : ℕ
-  pub access : Permission
+  pub access : Access

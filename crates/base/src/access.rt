@@ -29,9 +29,10 @@ pub struct Access {
 }
 
 impl Model for Access {
-    ghost use Rattle.base.specs.Permissions.{Permission, IsLegal};
+    ghost use Rattle.base.specs.Access as access;
+    ghost use Rattle.base.specs.Access.{IsLegal};
 
-    ghost Value = { Permission };
+    ghost Value = { access.Access };
 
     ghost view = { λ a. record { rights = a.rights; exec = a.exec; kind = a.kind } };
 
@@ -41,7 +42,7 @@ impl Model for Access {
 }
 
 impl Access {
-    ghost use Rattle.base.specs.Permissions.{IsLegal};
+    ghost use Rattle.base.specs.Access.{IsLegal};
 
     /// Access to normal memory.
     pub fn normal(rights: Rights, exec: bool) -> Self

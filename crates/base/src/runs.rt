@@ -1,5 +1,5 @@
 ghost use Rattle.base.specs.Pages.{are_disjoint, are_normal, covers};
-ghost use Rattle.base.specs.Send.{pages_in};
+ghost use Rattle.base.specs.Descriptors.Send.{pages_in};
 ghost use Rattle.std.specs.List.Sorted.{IsNonDecreasingBy, IsPermutation};
 ghost use Rattle.std.specs.Prelude.{◌≡◌, true, ℕ, ◌≤◌, length, IfOk};
 

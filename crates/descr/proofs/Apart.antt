@@ -2,8 +2,8 @@
 use Rattle.std.proofs.Common.{◌≡◌, ℕ, true, eqb, List, arith}
 use Rattle.std.proofs.lemmas.Bool.{eqb-true}
 use Rattle.base.specs.declared.partition.Version.TheVariants.{V10, V11}
-use Rattle.base.specs.Send.{u32_at, is_header, is_send}
-use Rattle.base.specs.Retrieve.{is_retrieve_header, is_retrieve}
+use Rattle.base.specs.Descriptors.Send.{u32_at, is_header, is_send}
+use Rattle.base.specs.Descriptors.Retrieve.{is_retrieve_header, is_retrieve}
 use Rattle.descr.specs.Laws.{AreSendsApart, AreRetrievesApart}
 use Rattle.descr.proofs.Tests.{left, right, not_true}
 

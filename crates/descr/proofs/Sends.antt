@@ -2,7 +2,7 @@
 use Rattle.std.proofs.Common.{◌≡◌, ℕ, ◌+◌, Bool, true, false, ◌&&◌, List, refl, ap₂, ◌∙◌}
 use Rattle.base.specs.declared.partition.Version.{Version}
 use Rattle.base.specs.Pages.{PageRun, are_disjoint}
-use Rattle.base.specs.Send.{has_layout, is_header, is_send, are_ranges, range_count, composite_at, ranges_of, ranges_at, is_composite}
+use Rattle.base.specs.Descriptors.Send.{has_layout, is_header, is_send, are_ranges, range_count, composite_at, ranges_of, ranges_at, is_composite}
 use Rattle.descr.specs.Parts.{has_receivers, has_memory, is_composite_of}
 use Rattle.descr.proofs.Tests.{and-false}
 

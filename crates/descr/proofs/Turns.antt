@@ -1,6 +1,6 @@
 -- One more turn of the loops over access descriptors and ranges.
 use Rattle.std.proofs.Common.{◌≡◌, ℕ, zero, suc, ◌+◌, ◌-◌, ◌<◌, Bool, true, List, [], ◌∷◌, ◌++◌, length, slice_index, refl, sym, ap, ◌∙◌, append_assoc, arith}
-use Rattle.base.specs.Send.{Endpoint, u16_at, is_access, are_accesses, is_range, are_ranges, endpoints_at, ranges_at}
+use Rattle.base.specs.Descriptors.Send.{Endpoint, u16_at, is_access, are_accesses, is_range, are_ranges, endpoints_at, ranges_at}
 
 pub length-ranges_at : (count : ℕ) (bytes : List ℕ) (at : ℕ) → length (ranges_at count bytes at) ≡ count
 length-ranges_at zero bytes at = refl

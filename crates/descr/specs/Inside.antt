@@ -1,7 +1,7 @@
 -- The parts of a send's descriptor lie inside the bytes, and are no more than a send has.
 use Rattle.std.specs.Prelude.{ℕ, ◌+◌, ◌*◌, ◌≤◌, List, length}
 use Rattle.base.specs.declared.partition.Version.{Version}
-use Rattle.base.specs.Send.{header_size, array_at, receiver_count, composite_at, range_count}
+use Rattle.base.specs.Descriptors.Send.{header_size, array_at, receiver_count, composite_at, range_count}
 
 pub record IsInside (version : Version) (bytes : List ℕ) : Type 0 where
   pub header : header_size version ≤ length bytes

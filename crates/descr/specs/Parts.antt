@@ -2,7 +2,7 @@
 use Rattle.std.specs.Prelude.{ℕ, ◌+◌, ◌%◌, Bool, ◌&&◌, ◌==◌, nat_le, List}
 use Rattle.base.specs.declared.partition.Version.{Version}
 use Rattle.base.specs.Pages.{PageRun, are_disjoint}
-use Rattle.base.specs.Send.{Endpoint, u32_at, u64_at, pages_in, array_at, receiver_count, composite_at, range_count, are_accesses, endpoints_at, are_ranges, ranges_of, is_composite}
+use Rattle.base.specs.Descriptors.Send.{Endpoint, u32_at, u64_at, pages_in, array_at, receiver_count, composite_at, range_count, are_accesses, endpoints_at, are_ranges, ranges_of, is_composite}
 
 -- the access descriptors keep their rules
 abbrev pub has_receivers : Version → List ℕ → Bool

@@ -1,6 +1,6 @@
 -- Bytes that spell ranges.
 use Rattle.std.specs.Prelude.{ℕ, ◌+◌, ◌*◌, ◌≤◌, List, length, IsTrue}
-use Rattle.base.specs.Send.{are_ranges}
+use Rattle.base.specs.Descriptors.Send.{are_ranges}
 
 -- as many ranges, 512 at most, stand at this offset, inside the bytes, and each keeps its rules
 pub record SpellsRanges (count : ℕ) (bytes : List ℕ) (at : ℕ) : Type 0 where

@@ -2,7 +2,7 @@
 //! access descriptor").
 
 ghost use Rattle.std.specs.Prelude.{◌≡◌, ◌+◌, ◌*◌, ◌≤◌, true, false, length, slice_index, IfSome, IfNone};
-ghost use Rattle.base.specs.Send as spec;
+ghost use Rattle.base.specs.Descriptors.Send as spec;
 
 use crate::layout::PART_SIZE;
 use crate::numbers::{u16_at, u32_at, u64_at};
@@ -22,7 +22,7 @@ pub struct Endpoint {
 }
 
 impl Model for Endpoint {
-    ghost use Rattle.base.specs.Send as spec;
+    ghost use Rattle.base.specs.Descriptors.Send as spec;
 
     ghost Value = { spec.Endpoint };
 
@@ -44,7 +44,7 @@ impl Default for Endpoint {
 }
 
 /// Whether an access descriptor keeps its rules and points at this composite descriptor.
-#[tactic(auto, unfolding(base::specs::Send::is_access))]
+#[tactic(auto, unfolding(base::specs::Descriptors::Send::is_access))]
 pub(crate) fn is_access(bytes: &[u8], composite: u32, at: usize) -> bool
     requires { at + 16 ≤ length bytes.now }
     ensures { result ≡ spec.is_access bytes.now composite at }

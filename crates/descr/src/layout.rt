@@ -2,7 +2,7 @@
 //! 1.0, "Memory transaction descriptor").
 
 ghost use Rattle.std.specs.Prelude.{◌≡◌, ◌^◌, ◌<◌, ◌≤◌, length, IsTrue};
-ghost use Rattle.base.specs.Send as spec;
+ghost use Rattle.base.specs.Descriptors.Send as spec;
 ghost use Rattle.descr.specs.Inside.{IsInside};
 
 use crate::numbers::{u16_at, u32_at, u64_at};
@@ -46,7 +46,7 @@ pub(crate) fn array_at(version: Version, bytes: &[u8]) -> usize
 }
 
 /// Whether the parts of a send stand in order, and end where the bytes do.
-#[tactic(auto, unfolding(base::specs::Send::has_layout))]
+#[tactic(auto, unfolding(base::specs::Descriptors::Send::has_layout))]
 pub(crate) fn has_layout(version: Version, bytes: &[u8]) -> bool
     ensures value { result ≡ spec.has_layout version bytes.now }
     ensures inside { IsTrue result → IsInside version bytes.now }
@@ -107,7 +107,7 @@ pub(crate) fn is_rest_of_header(version: Version, bytes: &[u8]) -> bool
 }
 
 /// Whether the header of a send keeps its rules.
-#[tactic(auto, unfolding(base::specs::Send::is_header))]
+#[tactic(auto, unfolding(base::specs::Descriptors::Send::is_header))]
 pub(crate) fn is_header(version: Version, bytes: &[u8]) -> bool
     requires { spec.header_size version ≤ length bytes.now }
     ensures { result ≡ spec.is_header version bytes.now }

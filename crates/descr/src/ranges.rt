@@ -2,7 +2,7 @@
 //! region descriptor").
 
 ghost use Rattle.std.specs.Prelude.{◌≡◌, ◌+◌, ◌*◌, ◌/◌, ◌≤◌, true, false, length, IfSome, IfNone, IsTrue};
-ghost use Rattle.base.specs.Send as spec;
+ghost use Rattle.base.specs.Descriptors.Send as spec;
 ghost use Rattle.base.specs.Pages as pages;
 ghost use Rattle.std.specs.List.{list_all};
 ghost use Rattle.descr.specs.Parts.{is_composite_of};
@@ -30,7 +30,7 @@ pub struct Ranges<'a> {
 impl<'a> Model for Ranges<'a> {
     ghost use Rattle.std.specs.Prelude.{List};
     ghost use Rattle.base.specs.Pages.{PageRun};
-    ghost use Rattle.base.specs.Send.{ranges_at};
+    ghost use Rattle.base.specs.Descriptors.Send.{ranges_at};
     ghost use Rattle.descr.specs.Spelled.{SpellsRanges};
 
     ghost Value = { List PageRun };
@@ -75,7 +75,7 @@ impl<'a> Iterator for Ranges<'a> {
 }
 
 /// Whether a range keeps its rules.
-#[tactic(auto, unfolding(base::specs::Send::is_range))]
+#[tactic(auto, unfolding(base::specs::Descriptors::Send::is_range))]
 fn is_range(bytes: &[u8], at: usize) -> bool
     requires { at + 16 ≤ length bytes.now }
     ensures { result ≡ spec.is_range bytes.now at }
@@ -89,7 +89,7 @@ fn is_range(bytes: &[u8], at: usize) -> bool
 }
 
 /// The pages of a range.
-#[tactic(auto, unfolding(base::specs::Send::is_range))]
+#[tactic(auto, unfolding(base::specs::Descriptors::Send::is_range))]
 fn range_at(bytes: &[u8], at: usize) -> Run
     requires inside { at + 16 ≤ length bytes.now }
     requires range { IsTrue (spec.is_range bytes.now at) }

@@ -1,7 +1,7 @@
 //! Reads the descriptor of a relinquish.
 
 ghost use Rattle.std.specs.Prelude.{◌≡◌, ◌≤◌, false, length, IfSome, IfNone, IsTrue};
-ghost use Rattle.base.specs.Relinquish as spec;
+ghost use Rattle.base.specs.Descriptors.Relinquish as spec;
 
 use crate::numbers::{u16_at, u32_at, u64_at};
 use base::PartitionId;
@@ -20,7 +20,7 @@ pub struct RelinquishDesc {
 }
 
 impl Model for RelinquishDesc {
-    ghost use Rattle.base.specs.Relinquish.{Relinquish};
+    ghost use Rattle.base.specs.Descriptors.Relinquish.{Relinquish};
 
     ghost Value = { Relinquish };
 
@@ -33,7 +33,7 @@ impl Model for RelinquishDesc {
 const RELINQUISH_SIZE: usize = 18;
 
 /// Whether the bytes begin with the descriptor of a relinquish.
-#[tactic(auto, unfolding(base::specs::Relinquish::is_relinquish))]
+#[tactic(auto, unfolding(base::specs::Descriptors::Relinquish::is_relinquish))]
 fn is_relinquish(bytes: &[u8]) -> bool
     ensures value { result ≡ spec.is_relinquish bytes.now }
     ensures inside { IsTrue result → 18 ≤ length bytes.now }
@@ -43,7 +43,7 @@ fn is_relinquish(bytes: &[u8]) -> bool
 
 /// What the first 18 bytes say. `None` means that there are fewer, a flag is set, or more endpoints
 /// than one are named.
-#[tactic(auto, unfolding(base::specs::Relinquish::relinquish_of))]
+#[tactic(auto, unfolding(base::specs::Descriptors::Relinquish::relinquish_of))]
 pub fn read_relinquish(bytes: &[u8]) -> Option<RelinquishDesc>
     // What is read is spelled so.
     ensures some { IfSome result (λ v. IsTrue (spec.is_relinquish bytes.now) × (v ≡ spec.relinquish_of bytes.now)) }

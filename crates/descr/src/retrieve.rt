@@ -1,8 +1,8 @@
 //! Reads the memory transaction descriptor of a retrieve request.
 
 ghost use Rattle.std.specs.Prelude.{◌≡◌, ◌+◌, ◌≤◌, false, length, IfSome, IfNone, IsTrue};
-ghost use Rattle.base.specs.Send as send;
-ghost use Rattle.base.specs.Retrieve as spec;
+ghost use Rattle.base.specs.Descriptors.Send as send;
+ghost use Rattle.base.specs.Descriptors.Retrieve as spec;
 ghost use Rattle.descr.specs.Inside.{IsRetrieveInside};
 
 use crate::access::{Endpoint, endpoint_at, is_access};
@@ -34,7 +34,7 @@ pub struct RetrieveDesc {
 }
 
 impl Model for RetrieveDesc {
-    ghost use Rattle.base.specs.Retrieve.{Retrieve};
+    ghost use Rattle.base.specs.Descriptors.Retrieve.{Retrieve};
 
     ghost Value = { Retrieve };
 
@@ -56,7 +56,7 @@ fn kind_in(flags: u32) -> Option<Kind>
 }
 
 /// Whether no flag but the kind and bit 10 is set.
-#[tactic(auto, unfolding(base::specs::Retrieve::are_flags))]
+#[tactic(auto, unfolding(base::specs::Descriptors::Retrieve::are_flags))]
 fn are_flags(flags: u32) -> bool
     ensures { result ≡ spec.are_flags flags }
 {
@@ -64,7 +64,7 @@ fn are_flags(flags: u32) -> bool
 }
 
 /// Whether the header and one access descriptor stand in order, and end where the bytes do.
-#[tactic(auto, unfolding(base::specs::Retrieve::has_retrieve_layout))]
+#[tactic(auto, unfolding(base::specs::Descriptors::Retrieve::has_retrieve_layout))]
 fn has_retrieve_layout(version: Version, bytes: &[u8]) -> bool
     ensures value { result ≡ spec.has_retrieve_layout version bytes.now }
     ensures inside { IsTrue result → IsRetrieveInside version bytes.now }
@@ -78,7 +78,7 @@ fn has_retrieve_layout(version: Version, bytes: &[u8]) -> bool
 }
 
 /// Whether the header of a retrieve request keeps its rules.
-#[tactic(auto, unfolding(base::specs::Retrieve::is_retrieve_header))]
+#[tactic(auto, unfolding(base::specs::Descriptors::Retrieve::is_retrieve_header))]
 fn is_retrieve_header(version: Version, bytes: &[u8]) -> bool
     requires { send.header_size version ≤ length bytes.now }
     ensures { result ≡ spec.is_retrieve_header version bytes.now }
@@ -89,7 +89,7 @@ fn is_retrieve_header(version: Version, bytes: &[u8]) -> bool
 }
 
 /// Whether the bytes are those of a retrieve request.
-#[tactic(auto, unfolding(base::specs::Retrieve::is_retrieve))]
+#[tactic(auto, unfolding(base::specs::Descriptors::Retrieve::is_retrieve))]
 fn is_retrieve(version: Version, bytes: &[u8]) -> bool
     ensures value { result ≡ spec.is_retrieve version bytes.now }
     ensures inside { IsTrue result → IsRetrieveInside version bytes.now }
@@ -102,7 +102,7 @@ fn is_retrieve(version: Version, bytes: &[u8]) -> bool
 /// What the bytes of a retrieve request say, in the layout of this version. `None` means that the
 /// bytes are no such descriptor: a part lies outside them or bytes are left over, more borrowers than
 /// one are named, or a field breaks its rule.
-#[tactic(auto, unfolding(base::specs::Retrieve::retrieve_of))]
+#[tactic(auto, unfolding(base::specs::Descriptors::Retrieve::retrieve_of))]
 pub fn read_retrieve(bytes: &[u8], version: Version) -> Option<RetrieveDesc>
     // What is read is spelled so.
     ensures some { IfSome result (λ v. IsTrue (spec.is_retrieve version bytes.now) × (v ≡ spec.retrieve_of version bytes.now)) }

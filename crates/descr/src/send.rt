@@ -4,7 +4,7 @@ ghost use Rattle.std.specs.Prelude.{◌≡◌, ◌≤◌, true, false, length, I
 ghost use Rattle.std.specs.Iterator.{YieldsFirst};
 ghost use Rattle.std.specs.Iterator.Runs.{YieldsInOrder};
 ghost use Rattle.base.specs.Pages.{PageRun};
-ghost use Rattle.base.specs.Send as spec;
+ghost use Rattle.base.specs.Descriptors.Send as spec;
 ghost use Rattle.descr.specs.Inside.{IsInside};
 ghost use Rattle.descr.specs.Parts.{has_receivers, receivers_of, has_memory};
 
@@ -35,7 +35,7 @@ pub struct SendDesc<'a> {
 }
 
 impl<'a> Model for SendDesc<'a> {
-    ghost use Rattle.base.specs.Send.{Send};
+    ghost use Rattle.base.specs.Descriptors.Send.{Send};
 
     ghost Value = { Send };
 

@@ -5,7 +5,7 @@ use Rattle.std.proofs.lemmas.Nat.{le_bytes_2, le_bytes_4, le_bytes_8}
 use Rattle.std.specs.Int.{w16, w32, w64, from_le_bytes}
 use Rattle.byteorder.specs.Endian.{little_number, little_bytes}
 use Rattle.byteorder.specs.Numbers.{little_from-take}
-use Rattle.base.specs.Send.{u16_at, u32_at, u64_at}
+use Rattle.base.specs.Descriptors.Send.{u16_at, u32_at, u64_at}
 
 same_2 : (xs : List ℕ) → little_number 2 xs ≡ from_le_bytes w16 xs
 same_2 xs = omega arith

@@ -3,7 +3,7 @@ use Rattle.std.proofs.Common.{◌≡◌, ℕ, ◌+◌, ◌*◌, ◌/◌, ◌%◌
 use Rattle.std.specs.List.{list_all}
 use Rattle.std.proofs.lemmas.Bool.{le-leb}
 use Rattle.base.specs.Pages.{PageRun, IsRun}
-use Rattle.base.specs.Texts.{range_text, ranges_text, range_of, runs_text}
+use Rattle.base.specs.Descriptors.Encoding.{range_text, ranges_text, range_of, runs_text}
 use Rattle.descw.specs.Fields.{are_range_fields, runs_of}
 use Rattle.descw.specs.Inside.{AreRuns}
 use Rattle.descw.proofs.Tests.{both}

@@ -5,9 +5,9 @@ use Rattle.std.proofs.lemmas.Bool.{eqb-true, leb-true}
 use Rattle.std.proofs.Math.Seq.{drop-length}
 use Rattle.base.specs.declared.partition.Version.{Version}
 use Rattle.base.specs.declared.transaction.Kind.TheVariants.{Share, Lend, Donate}
-use Rattle.base.specs.Send.{u16_at, u32_at, u64_at, header_size, array_at, receiver_count, composite_at, range_count, ranges_of, ranges_at, pages_in, is_rest_of_header, is_access, are_ranges, is_composite}
-use Rattle.base.specs.Response.{kind_bits, kind_named, has_response_layout, is_response_header, is_response, response_of}
-use Rattle.base.specs.Texts.{header_text, access_text, composite_text, runs_text, response_header, response_text}
+use Rattle.base.specs.Descriptors.Send.{u16_at, u32_at, u64_at, header_size, array_at, receiver_count, composite_at, range_count, ranges_of, ranges_at, pages_in, is_rest_of_header, is_access, are_ranges, is_composite}
+use Rattle.base.specs.Descriptors.Response.{kind_bits, kind_named, has_response_layout, is_response_header, is_response, response_of}
+use Rattle.base.specs.Descriptors.Encoding.{header_text, access_text, composite_text, runs_text, response_header, response_text}
 use Rattle.descw.specs.Laws.{HaveResponsesOneText}
 use Rattle.descw.proofs.Tests.{left, right}
 use Rattle.descw.proofs.Order.{regroup}

@@ -2,8 +2,8 @@
 use Rattle.std.proofs.Common.{◌≡◌, ℕ, ◌+◌, ◌^◌, ◌<◌, List, ◌∷◌, ◌++◌, length, drop, get_or, sym, ap, ◌∙◌, append_assoc}
 use Rattle.std.proofs.lemmas.List.{drop_more}
 use Rattle.base.specs.Pages.{PageRun, IsRun}
-use Rattle.base.specs.Send.{Endpoint}
-use Rattle.base.specs.Texts.{RangeFields, access_text, accesses_text, range_text, ranges_text, range_of, runs_text}
+use Rattle.base.specs.Descriptors.Send.{Endpoint}
+use Rattle.base.specs.Descriptors.Encoding.{RangeFields, access_text, accesses_text, range_text, ranges_text, range_of, runs_text}
 use Rattle.descw.specs.Inside.{AreIdentifiers, AreRuns}
 
 -- the item at an index stands before those behind it

@@ -2,11 +2,11 @@
 use Rattle.std.specs.Prelude.{◌+◌, ◌/◌, ◌%◌, ◌^◌, Bool, ◌&&◌, ◌==◌, nat_le, List, length, map}
 use Rattle.std.specs.List.{list_all}
 use Rattle.base.specs.Pages.{PageRun, are_disjoint}
-use Rattle.base.specs.Send.{Send, are_attributes, are_permissions, pages_in}
-use Rattle.base.specs.Retrieve.{Retrieve, are_flags, kind_in}
-use Rattle.base.specs.Relinquish.{Relinquish}
-use Rattle.base.specs.Response.{Response, are_granted}
-use Rattle.base.specs.Texts.{RangeFields, SendFields, RetrieveFields, RelinquishFields}
+use Rattle.base.specs.Descriptors.Send.{Send, are_attributes, are_permissions, pages_in}
+use Rattle.base.specs.Descriptors.Retrieve.{Retrieve, are_flags, kind_in}
+use Rattle.base.specs.Descriptors.Relinquish.{Relinquish}
+use Rattle.base.specs.Descriptors.Response.{Response, are_granted}
+use Rattle.base.specs.Descriptors.Encoding.{RangeFields, SendFields, RetrieveFields, RelinquishFields}
 
 -- ---- the ranges
 

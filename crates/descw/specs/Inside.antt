@@ -1,8 +1,8 @@
 -- Numbers that fit the bytes that they are written to.
 use Rattle.std.specs.Prelude.{◌^◌, ◌<◌, List, [], ◌∷◌}
 use Rattle.base.specs.Pages.{PageRun, IsRun}
-use Rattle.base.specs.Send.{Endpoint}
-use Rattle.base.specs.Texts.{HeaderFields}
+use Rattle.base.specs.Descriptors.Send.{Endpoint}
+use Rattle.base.specs.Descriptors.Encoding.{HeaderFields}
 
 pub record FitsHeader (h : HeaderFields) : Type 0 where
   pub sender : h.sender < 2 ^ 16

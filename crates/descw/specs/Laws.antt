@@ -1,8 +1,8 @@
 -- A response has one text.
 use Rattle.std.specs.Prelude.{◌≡◌, ℕ, ◌<◌, List, All, IsTrue}
 use Rattle.base.specs.declared.partition.Version.{Version}
-use Rattle.base.specs.Response.{is_response, response_of}
-use Rattle.base.specs.Texts.{response_text}
+use Rattle.base.specs.Descriptors.Response.{is_response, response_of}
+use Rattle.base.specs.Descriptors.Encoding.{response_text}
 
 abbrev pub HaveResponsesOneText : Type 0
 HaveResponsesOneText =

@@ -22,7 +22,7 @@ pub struct HeaderFields {
 }
 
 impl Model for HeaderFields {
-    ghost use Rattle.base.specs.Texts as texts;
+    ghost use Rattle.base.specs.Descriptors.Encoding as texts;
 
     ghost Value = { texts.HeaderFields };
 
@@ -41,7 +41,7 @@ pub struct RangeFields {
 }
 
 impl Model for RangeFields {
-    ghost use Rattle.base.specs.Texts as texts;
+    ghost use Rattle.base.specs.Descriptors.Encoding as texts;
 
     ghost Value = { texts.RangeFields };
 
@@ -64,7 +64,7 @@ pub struct SendFields<'a> {
 }
 
 impl<'a> Model for SendFields<'a> {
-    ghost use Rattle.base.specs.Texts as texts;
+    ghost use Rattle.base.specs.Descriptors.Encoding as texts;
 
     ghost Value = { texts.SendFields };
 
@@ -81,7 +81,7 @@ pub struct RetrieveFields {
 }
 
 impl Model for RetrieveFields {
-    ghost use Rattle.base.specs.Texts as texts;
+    ghost use Rattle.base.specs.Descriptors.Encoding as texts;
 
     ghost Value = { texts.RetrieveFields };
 
@@ -102,7 +102,7 @@ pub struct RelinquishFields {
 }
 
 impl Model for RelinquishFields {
-    ghost use Rattle.base.specs.Texts as texts;
+    ghost use Rattle.base.specs.Descriptors.Encoding as texts;
 
     ghost Value = { texts.RelinquishFields };
 
@@ -129,7 +129,7 @@ pub struct ResponseFields<'a> {
 }
 
 impl<'a> Model for ResponseFields<'a> {
-    ghost use Rattle.base.specs.Response as response;
+    ghost use Rattle.base.specs.Descriptors.Response as response;
 
     ghost Value = { response.Response };
 

@@ -4,9 +4,9 @@
 
 ghost use Rattle.std.specs.Prelude.{◌≡◌, ◌^◌, ◌<◌, ◌≤◌, ◌++◌, IfOk};
 ghost use Rattle.byteorder.specs.Endian.{little_bytes};
-ghost use Rattle.base.specs.Send as send;
-ghost use Rattle.base.specs.Response as response;
-ghost use Rattle.base.specs.Texts as texts;
+ghost use Rattle.base.specs.Descriptors.Send as send;
+ghost use Rattle.base.specs.Descriptors.Response as response;
+ghost use Rattle.base.specs.Descriptors.Encoding as texts;
 ghost use Rattle.base.specs.Pages.{IsRun};
 ghost use Rattle.descw.specs.Inside.{FitsHeader, AreIdentifiers, AreRuns};
 

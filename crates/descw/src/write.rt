@@ -1,11 +1,11 @@
 //! Writes whole descriptors.
 
 ghost use Rattle.std.specs.Prelude.{◌≡◌, ◌≤◌, IfOk, IsTrue, length};
-ghost use Rattle.base.specs.Send as send;
-ghost use Rattle.base.specs.Retrieve.{SpellsRetrieve};
-ghost use Rattle.base.specs.Relinquish.{SpellsRelinquish};
-ghost use Rattle.base.specs.Response.{SpellsResponse};
-ghost use Rattle.base.specs.Texts as texts;
+ghost use Rattle.base.specs.Descriptors.Send as send;
+ghost use Rattle.base.specs.Descriptors.Retrieve.{SpellsRetrieve};
+ghost use Rattle.base.specs.Descriptors.Relinquish.{SpellsRelinquish};
+ghost use Rattle.base.specs.Descriptors.Response.{SpellsResponse};
+ghost use Rattle.base.specs.Descriptors.Encoding as texts;
 ghost use Rattle.descw.specs.Fields.{are_send_fields, sent_by, are_retrieve_fields, asked_by, are_relinquish_fields, given_up_by, are_response_fields};
 
 use crate::fields::{HeaderFields, RelinquishFields, ResponseFields, RetrieveFields, SendFields};
@@ -28,7 +28,7 @@ const RELINQUISH_SIZE: usize = 18;
 /// The memory transaction descriptor of a send, in the layout of this version: the header, the access
 /// descriptors of at most 8 receivers, the composite descriptor and its ranges, at most 512. The fields
 /// are written as they are given. `Err` means that memory is wanting.
-#[tactic(auto, unfolding(base::specs::Texts::send_text))]
+#[tactic(auto, unfolding(base::specs::Descriptors::Encoding::send_text))]
 pub fn write_send(
     alloc: Global,
     version: Version,
@@ -58,7 +58,7 @@ pub fn write_send(
 /// The memory transaction descriptor of a retrieve request, in the layout of this version: the header
 /// and one access descriptor. The fields are written as they are given. `Err` means that memory is
 /// wanting.
-#[tactic(auto, unfolding(base::specs::Texts::retrieve_text))]
+#[tactic(auto, unfolding(base::specs::Descriptors::Encoding::retrieve_text))]
 pub fn write_retrieve(
     alloc: Global,
     version: Version,
@@ -80,7 +80,7 @@ pub fn write_retrieve(
 
 /// The 18 bytes of a relinquish of one endpoint. The fields are written as they are given. `Err` means
 /// that memory is wanting.
-#[tactic(auto, unfolding(base::specs::Texts::relinquish_text))]
+#[tactic(auto, unfolding(base::specs::Descriptors::Encoding::relinquish_text))]
 pub fn write_relinquish(alloc: Global, fields: &RelinquishFields) -> Result<Vec<u8>, OutOfMemory>
     // The bytes are the text of the fields.
     ensures text { IfOk result (λ bytes. bytes.items ≡ texts.relinquish_text fields.now) }
@@ -101,7 +101,7 @@ pub fn write_relinquish(alloc: Global, fields: &RelinquishFields) -> Result<Vec<
 /// with the attributes of normal memory, write-back, inner shareable; one access descriptor; the
 /// composite descriptor, with the total of the pages, at most 262,144 (1 GB); and the ranges, at most
 /// 512. `Err` means that memory is wanting.
-#[tactic(auto, unfolding(base::specs::Texts::response_text))]
+#[tactic(auto, unfolding(base::specs::Descriptors::Encoding::response_text))]
 pub fn write_response(
     alloc: Global,
     version: Version,

@@ -2,13 +2,13 @@
 use Rattle.std.specs.Prelude.{◌≡◌, ℕ, ◌&&◌, nat_lt, nat_le, List, Option, Some, None, codes, if◌then◌else◌, ◌^◌, ◌-◌}
 use Rattle.std.specs.List.{AllByRecursion}
 use Rattle.base.specs.Pages.{PageRun}
-use Rattle.base.specs.Permissions.{Permission, is_rw, is_normal}
+use Rattle.base.specs.Access.{Access, is_rw, is_normal}
 use Rattle.base.specs.State.{State, sees}
 
 -- pages that are reached alike
 pub record ReachedRun : Type 0 where
   pub run : PageRun
-  pub access : Permission
+  pub access : Access
 
 -- each run's first page is reached with the run's access
 abbrev pub AreReached : State → ℕ → List ReachedRun → Type 0
@@ -19,10 +19,10 @@ abbrev pub run_between : ℕ → ℕ → Option PageRun
 run_between first end = if nat_lt first end && nat_le end (2 ^ 27) then Some (record { first = first; count = end - first }) else None
 
 -- data and instruction access in three characters
-abbrev pub access_text : Permission → List ℕ
+abbrev pub access_text : Access → List ℕ
 access_text a =
     if is_rw a.rights then (if a.exec then codes "rwx" else codes "rw-")
     else (if a.exec then codes "r-x" else codes "r--")
 
-abbrev pub kind_text : Permission → List ℕ
+abbrev pub kind_text : Access → List ℕ
 kind_text a = if is_normal a.kind then codes "normal" else codes "device"

@@ -2,7 +2,7 @@
 use Rattle.std.proofs.Common.{◌≡◌, ℕ, suc, ◌<◌, List, ◌∷◌, ◌++◌, Option, length, get_or, take, drop, eqb, true, refl, sym, ap, ◌∙◌, drop-cons, eq-eqb}
 use Rattle.std.proofs.lemmas.List.{set_split}
 use Rattle.std.proofs.Math.ListN.{set}
-use Rattle.base.specs.Pairs.{Pair, Mailbox, with_pair}
+use Rattle.base.specs.Buffers.{Pair, Mailbox, with_pair}
 
 -- the mailbox at a place, which is the partition's and the first that is
 pub with_pair_at : (p : ℕ) (pair : Option Pair) (boxes all : List Mailbox) (i : ℕ) (box d : Mailbox) → i < length boxes → box ≡ get_or boxes i d → box.partition ≡ p

@@ -1,5 +1,5 @@
 ghost use Rattle.std.specs.Prelude.{◌≡◌, ◌&&◌, true, false, ◌<◌, IfSome, IfNone};
-ghost use Rattle.base.specs.Pairs as spec;
+ghost use Rattle.base.specs.Buffers as spec;
 
 use base::{Page, Run};
 use std::marker::Model;
@@ -23,7 +23,7 @@ pub struct Pair {
 }
 
 impl Model for Pair {
-    ghost use Rattle.base.specs.Pairs as spec;
+    ghost use Rattle.base.specs.Buffers as spec;
 
     ghost Value = { spec.Pair };
 
@@ -54,7 +54,7 @@ impl Pair {
 
 /// The pair whose areas have so many pages from these addresses in bytes, with RX not held, where
 /// they are a pair's.
-#[tactic(auto, unfolding(base::specs::Pairs::are_areas, base::specs::Pairs::is_pair))]
+#[tactic(auto, unfolding(base::specs::Buffers::are_areas, base::specs::Buffers::is_pair))]
 pub(crate) fn named_pair(tx: u64, rx: u64, pages: u32) -> Option<Pair>
     ensures some { IfSome result (λ pair. (pair ≡ spec.named_pair tx rx pages) × ((spec.are_areas tx rx pages && spec.is_pair (spec.named_pair tx rx pages)) ≡ true)) }
     ensures none { IfNone result ((spec.are_areas tx rx pages && spec.is_pair (spec.named_pair tx rx pages)) ≡ false) }

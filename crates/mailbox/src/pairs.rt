@@ -1,8 +1,8 @@
 ghost use Rattle.std.specs.Prelude.{◌≡◌, ◌≤◌, ◌==◌, None, Some, length, map, true, false, IfOk, IfErr, OnOk, OnErr};
 ghost use Rattle.std.specs.List.{find};
 ghost use Rattle.std.specs.Option.{option_map};
-ghost use Rattle.base.specs.Pairs as spec;
-ghost use Rattle.base.specs.Tests.{first_refusal};
+ghost use Rattle.base.specs.Buffers as spec;
+ghost use Rattle.base.specs.Refusals.{first_refusal};
 
 use crate::pair::{Pair, named_pair};
 use arrayvec::ArrayVec;
@@ -24,7 +24,7 @@ struct Mailbox {
 }
 
 impl Model for Mailbox {
-    ghost use Rattle.base.specs.Pairs as spec;
+    ghost use Rattle.base.specs.Buffers as spec;
 
     ghost Value = { spec.Mailbox };
 
@@ -50,7 +50,7 @@ pub struct Pairs {
 
 impl Model for Pairs {
     ghost use Rattle.std.specs.Prelude.{List};
-    ghost use Rattle.base.specs.Pairs as spec;
+    ghost use Rattle.base.specs.Buffers as spec;
 
     ghost Value = { List spec.Mailbox };
 
@@ -151,7 +151,7 @@ impl Pairs {
     }
 
     /// Whether a pair of partition `p` is registered.
-    #[tactic(auto, unfolding(base::specs::Pairs::has_pair))]
+    #[tactic(auto, unfolding(base::specs::Buffers::has_pair))]
     pub fn has_pair(&self, p: PartitionId) -> bool
         ensures { result ≡ spec.has_pair self.now p }
     {
@@ -159,7 +159,7 @@ impl Pairs {
     }
 
     /// Whether partition `p` holds its RX buffer; a partition without a pair does not.
-    #[tactic(auto, unfolding(base::specs::Pairs::holds_rx))]
+    #[tactic(auto, unfolding(base::specs::Buffers::holds_rx))]
     pub fn holds_rx(&self, p: PartitionId) -> bool
         ensures { result ≡ spec.holds_rx self.now p }
     {

@@ -3,7 +3,7 @@ use Rattle.std.specs.Prelude.{ℕ, ◌+◌, ◌*◌, ◌^◌, Bool, true, not, �
 use Rattle.std.specs.List.{list_all, list_any, find}
 use Rattle.std.specs.Option.{option_map_or}
 use Rattle.base.specs.Pages.{PageRun, are_apart, chunks_in}
-use Rattle.base.specs.Permissions.{is_normal}
+use Rattle.base.specs.Access.{is_normal}
 use Rattle.base.specs.Manifest.{PartitionRow, GrantRow, RegionRow, ManifestRows, is_partition, quotas_of, page_count, granted_in}
 
 -- ---- a region

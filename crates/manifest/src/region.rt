@@ -1,7 +1,7 @@
 ghost use Rattle.std.specs.Prelude.{◌≡◌, ◌==◌, IsTrue, IfSome};
 ghost use Rattle.std.specs.List.{find};
 ghost use Rattle.std.specs.Option.{option_map};
-ghost use Rattle.base.specs.Permissions.{is_normal};
+ghost use Rattle.base.specs.Access.{is_normal};
 ghost use Rattle.base.specs.Manifest.{granted_in};
 ghost use Rattle.manifest.specs.Valid.{is_region, is_executable_only_if};
 

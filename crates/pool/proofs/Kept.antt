@@ -8,7 +8,8 @@ use Rattle.std.proofs.lemmas.List.{get_or-drop, length-drop, length-map}
 use Rattle.std.proofs.lemmas.List.Sums.{count_by_more_yes, count_by_more_no}
 use Rattle.base.specs.Manifest.{PartitionRow, ManifestRows, row_of, quotas_of, page_count}
 use Rattle.manifest.specs.Valid.{is_valid}
-use Rattle.pool.specs.Pool.{Memory, Pages, InShare, IsLowestFree, words_of, taken_of, put, mark, share_start, quota_of, pages_of, count_below, free_of}
+use Rattle.pool.specs.Pool.{Memory, Pages, InShare, IsLowestFree, words_of, taken_of, put, mark, share_start, quota_of, pages_of, free_of}
+use Rattle.base.specs.Counts.{count_below}
 use Rattle.pool.specs.declared.list_pool.ListPool.{ListPool}
 use Rattle.pool.proofs.Words.{words_of-set, taken_of-set}
 use Rattle.pool.proofs.Shares.{quota_of-none, share_at, share_inside}

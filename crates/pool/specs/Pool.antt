@@ -1,5 +1,6 @@
 -- What a table memory holds, and what its calls make of it.
 use Rattle.std.specs.Prelude.{suc, zero, ◌≡◌, ℕ, ◌+◌, ◌-◌, ◌*◌, ◌%◌, ◌^◌, ◌<◌, ◌≤◌, Bool, true, false, ◌==◌, ◌&&◌, if◌then◌else◌, nat_lt, List, [], ◌∷◌, ◌++◌, length, sum, take, replicate, slice_index, slice_index_or, slice_set}
+use Rattle.base.specs.Counts.{count_below}
 use Rattle.base.specs.Pages.{PageRun}
 use Rattle.base.specs.Manifest.{ManifestRows, ids_of, quotas_of, row_of, page_count}
 use Rattle.pool.specs.declared.operation.Op.{Op}
@@ -71,11 +72,6 @@ pub record InShare (quotas : List ℕ) (row page : ℕ) : Type 0 where
   pub partition : row < length quotas
   pub from : share_start quotas row ≤ page
   pub to : page < share_start quotas row + quota_of quotas row
-
--- how many of the first n numbers pass
-unfoldable pub count_below : (ℕ → Bool) → ℕ → ℕ
-count_below passes zero = 0
-count_below passes (suc n) = (if passes n then 1 else 0) + count_below passes n
 
 -- how many pages of a row's share are taken
 abbrev pub used_by : Pages → ℕ → ℕ

@@ -10,9 +10,9 @@ use Rattle.base.specs.Manifest.{RegionRow, region_at}
 use Rattle.base.specs.Transactions.{Live}
 use Rattle.base.specs.Ledger.{live_at}
 use Rattle.base.specs.State.{State, start, owner_of, each_page_in}
-use Rattle.base.specs.Send as descriptor
-use Rattle.base.specs.Send.{is_send, send_of}
-use Rattle.base.specs.Tests.{first_refusal}
+use Rattle.base.specs.Descriptors.Send as descriptor
+use Rattle.base.specs.Descriptors.Send.{is_send, send_of}
+use Rattle.base.specs.Refusals.{first_refusal}
 use Rattle.wire.specs.declared.request.Request.{Request}
 use Rattle.wire.specs.declared.request.Transfer.{Transfer}
 use Rattle.wire.specs.declared.request.Request.TheVariants.{Version, Features, RxRelease, RxtxMap, RxtxUnmap, IdGet, Send, Retrieve, Relinquish, Reclaim}

@@ -6,7 +6,7 @@ use Rattle.base.specs.declared.status.Status.{Status}
 use Rattle.base.specs.declared.status.Status.TheVariants.{NotSupported, Denied}
 use Rattle.base.specs.Manifest.{is_partition}
 use Rattle.base.specs.State.{State}
-use Rattle.base.specs.Tests.{Test, first_refusal}
+use Rattle.base.specs.Refusals.{Test, first_refusal}
 use Rattle.wire.specs.declared.request.Request.{Request}
 use Rattle.wire.specs.Requests.{request_of}
 use Rattle.rules.specs.Calls.{CallWords}

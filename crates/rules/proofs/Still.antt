@@ -3,7 +3,7 @@ use Rattle.std.proofs.Common.{◌≡◌, false, None, Some, refl}
 use Rattle.std.specs.Option.{option_map_or}
 use Rattle.base.specs.declared.status.Status.{Status}
 use Rattle.base.specs.declared.transaction.Kind.TheVariants.{Share, Lend, Donate}
-use Rattle.base.specs.Tests.{first_refusal}
+use Rattle.base.specs.Refusals.{first_refusal}
 use Rattle.base.specs.State.{State}
 use Rattle.wire.specs.declared.request.Request.{Request}
 use Rattle.wire.specs.declared.request.Request.TheVariants.{Version, Features, RxRelease, RxtxMap, RxtxUnmap, IdGet, Send, Retrieve, Relinquish, Reclaim}

@@ -4,13 +4,13 @@ use Rattle.std.specs.Option.{option_map, option_and_then, option_map_or}
 use Rattle.std.proofs.lemmas.Bool.{eqb-true}
 use Rattle.base.specs.declared.transaction.Kind.TheVariants.{Lend}
 use Rattle.base.specs.Pages.{covers}
-use Rattle.base.specs.Permissions.{Permission, Answer, is_reached_with, is_normal}
+use Rattle.base.specs.Access.{Access, View, is_reached_with, is_normal}
 use Rattle.base.specs.Manifest.{GrantRow, RegionRow, region_at, granted_in, permission_of, is_sharable}
 use Rattle.base.specs.Transactions.{Receiver, Live, Donation}
 use Rattle.base.specs.Ledger.{live_at, donation_at, retrieved, view_under, settled_view, is_idle}
-use Rattle.base.specs.Pairs.{is_buffer}
+use Rattle.base.specs.Buffers.{is_buffer}
 use Rattle.base.specs.State.{State, sees, owns, is_free, home_of, each_page_in}
-use Rattle.base.specs.Send.{Send, Endpoint}
+use Rattle.base.specs.Descriptors.Send.{Send, Endpoint}
 use Rattle.rules.specs.Sending.{cap, common_home, may_be_sent, opened, with_transaction, with_send}
 use Rattle.rules.proofs.Pages.{both, each_page_in_at}
 
@@ -35,13 +35,13 @@ none_retrieved f h (e ∷ es) q =
 
 -- ---- a page that may be sent is its owner's alone
 
-pub record MaySend (s : State) (p : ℕ) (home : Permission) (n : ℕ) : Type 0 where
+pub record MaySend (s : State) (p : ℕ) (home : Access) (n : ℕ) : Type 0 where
   pub owns : owns s p n ≡ true
   pub share : option_map_or is_sharable (region_at s.manifest n) false ≡ true
   pub idle : is_some (live_at s.live n) ≡ false
   pub has : is_reached_with home (home_of s n) ≡ true
 
-pub may_send : (s : State) (p : ℕ) (home : Permission) (n : ℕ) → may_be_sent s p home n ≡ true → MaySend s p home n
+pub may_send : (s : State) (p : ℕ) (home : Access) (n : ℕ) → may_be_sent s p home n ≡ true → MaySend s p home n
 unfolding may_be_sent is_free
 may_send s p home n h =
     let x = both (is_free s p n) (is_reached_with home (home_of s n)) h in
@@ -51,7 +51,7 @@ may_send s p home n h =
     record { owns = w.0; share = w.1; idle = elim (is_some (live_at s.live n)) as (λ b. not b ≡ true → b ≡ false) [ true ↦ λ e. absurd cc | false ↦ λ e. refl ] z.1; has = x.1 }
 
 -- what is granted to one partition alone is granted to no other
-only_grant : (kind : _) (gs : List GrantRow) (p q : ℕ) (home : Permission) → eqb (length gs) 1 ≡ true → is_reached_with home (option_map (permission_of kind) (find (λ g. eqb g.partition p) gs)) ≡ true → eqb p q ≡ false
+only_grant : (kind : _) (gs : List GrantRow) (p q : ℕ) (home : Access) → eqb (length gs) 1 ≡ true → is_reached_with home (option_map (permission_of kind) (find (λ g. eqb g.partition p) gs)) ≡ true → eqb p q ≡ false
     → option_map (permission_of kind) (find (λ g. eqb g.partition q) gs) ≡ None
 only_grant kind [] p q home one h ne = refl
 only_grant kind (g ∷ []) p q home one h ne =
@@ -61,7 +61,7 @@ only_grant kind (g ∷ []) p q home one h ne =
 only_grant kind (g ∷ f ∷ gs) p q home one h ne = absurd (omega (arith, eqb-true _ _ one))
 
 -- others reach nothing of it
-settled_none : (g : Option Donation) (r : Option RegionRow) (p q : ℕ) (home : Permission)
+settled_none : (g : Option Donation) (r : Option RegionRow) (p q : ℕ) (home : Access)
     → option_map_or (λ o. eqb o p) (option_map_or (λ (d : Donation). Some d.taker) g (option_map (λ (x : RegionRow). x.owner) r)) false ≡ true
     → option_map_or is_sharable r false ≡ true
     → is_reached_with home (option_map_or (λ (d : Donation). Some d.access) g (option_and_then (λ (x : RegionRow). granted_in x x.owner) r)) ≡ true
@@ -76,7 +76,7 @@ settled_none None (Some r) p q home owns share has ne =
 -- ---- a lend
 
 -- a transaction joins those that are live
-joined : (c : Bool) (l : Option Live) (t : Live) (home settled : Answer) (p q : ℕ) → t.sender ≡ p → t.kind ≡ Lend → retrieved t.receivers q ≡ None
+joined : (c : Bool) (l : Option Live) (t : Live) (home settled : View) (p q : ℕ) → t.sender ≡ p → t.kind ≡ Lend → retrieved t.receivers q ≡ None
     → (c ≡ true → (is_some l ≡ false) × (eqb p q ≡ false → settled ≡ None))
     → option_map_or (λ (u : Live). view_under u home q) (option_map_or Some l (cond c (Some t) None)) settled ≡ cond (eqb p q && c) None (option_map_or (λ (u : Live). view_under u home q) l settled)
 joined true (Some u) t home settled p q sends lends none apart = absurd (let e = (apart refl).0 in cc)

@@ -5,8 +5,8 @@ use Rattle.base.specs.declared.status.Status.{Status}
 use Rattle.base.specs.declared.status.Status.TheVariants.{NotSupported, Denied}
 use Rattle.base.specs.declared.transaction.Kind.TheVariants.{Share, Lend, Donate}
 use Rattle.base.specs.Manifest.{is_partition}
-use Rattle.base.specs.Tests.{Test, ◌otherwise◌, first_refusal}
-use Rattle.base.specs.Pairs.{named_pair, release_tests}
+use Rattle.base.specs.Refusals.{Test, ◌otherwise◌, first_refusal}
+use Rattle.base.specs.Buffers.{named_pair, release_tests}
 use Rattle.base.specs.State.{State, start}
 use Rattle.wire.specs.declared.request.Request.{Request}
 use Rattle.wire.specs.declared.request.Request.TheVariants.{Version, Features, RxRelease, RxtxMap, RxtxUnmap, IdGet, Send, Retrieve, Relinquish, Reclaim}

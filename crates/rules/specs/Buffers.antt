@@ -3,9 +3,9 @@ use Rattle.std.specs.Prelude.{ℕ, Bool, false, ◌&&◌, ◌==◌, List, [], �
 use Rattle.std.specs.Option.{option_map_or}
 use Rattle.base.specs.declared.status.Status.TheVariants.{InvalidParameters, Denied}
 use Rattle.base.specs.Pages.{PageRun}
-use Rattle.base.specs.Permissions.{is_rw}
-use Rattle.base.specs.Tests.{Test, ◌otherwise◌}
-use Rattle.base.specs.Pairs as pairs
+use Rattle.base.specs.Access.{is_rw}
+use Rattle.base.specs.Refusals.{Test, ◌otherwise◌}
+use Rattle.base.specs.Buffers as pairs
 use Rattle.base.specs.State.{State, is_free, home_of, each_page}
 
 -- ---- FFA_RXTX_MAP

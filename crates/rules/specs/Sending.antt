@@ -10,12 +10,12 @@ use Rattle.base.specs.declared.transaction.Kind.TheVariants.{Share, Lend, Donate
 use Rattle.base.specs.declared.partition.Version.{Version}
 use Rattle.base.specs.declared.status.Status.TheVariants.{InvalidParameters, NoMemory, Denied}
 use Rattle.base.specs.Pages.{PageRun}
-use Rattle.base.specs.Permissions.{Permission, is_reached_with}
+use Rattle.base.specs.Access.{Access, is_reached_with}
 use Rattle.base.specs.Manifest.{is_partition}
 use Rattle.base.specs.Transactions.{Live}
-use Rattle.base.specs.Send.{Send, Endpoint, is_send, send_of}
-use Rattle.base.specs.Tests.{Test, ◌otherwise◌}
-use Rattle.base.specs.Pairs.{pair_of, has_pair}
+use Rattle.base.specs.Descriptors.Send.{Send, Endpoint, is_send, send_of}
+use Rattle.base.specs.Refusals.{Test, ◌otherwise◌}
+use Rattle.base.specs.Buffers.{pair_of, has_pair}
 use Rattle.base.specs.State.{State, Seat, version_of, sends_of, with_seat, is_free, owns, home_of, each_page_in}
 use Rattle.wire.specs.declared.request.Transfer.{Transfer}
 use Rattle.rules.specs.Calls.{CallWords}
@@ -90,19 +90,19 @@ first_page [] = 0
 first_page (run ∷ runs) = run.first
 
 -- stands for the home of a page that is not the sender's
-abbrev pub no_home : Permission
+abbrev pub no_home : Access
 no_home = record { rights = Ro; exec = false; kind = Normal }
 
 -- the home of the first page, where the sender owns that
-unfoldable pub common_home : State → ℕ → List PageRun → Permission
+unfoldable pub common_home : State → ℕ → List PageRun → Access
 common_home s p runs = if owns s p (first_page runs) then unwrap_or (home_of s (first_page runs)) no_home else no_home
 
 -- the page is free for the sender, and has this home
-unfoldable pub may_be_sent : State → ℕ → Permission → ℕ → Bool
+unfoldable pub may_be_sent : State → ℕ → Access → ℕ → Bool
 may_be_sent s p home n = is_free s p n && is_reached_with home (home_of s n)
 
 -- the most that a receiver may retrieve: the data access that the send gives it, and of a donation the home's
-abbrev pub cap : Kind → Permission → Endpoint → Rights
+abbrev pub cap : Kind → Access → Endpoint → Rights
 cap Donate home e = home.rights
 cap Lend home e = if e.permissions == 2 then Rw else Ro
 cap Share home e = if e.permissions == 2 then Rw else Ro
@@ -113,7 +113,7 @@ is_within Rw Ro = false
 is_within Rw Rw = true
 
 -- no receiver may retrieve more than the home
-unfoldable pub are_capped : Kind → Permission → List Endpoint → Bool
+unfoldable pub are_capped : Kind → Access → List Endpoint → Bool
 are_capped kind home receivers = list_all (λ e. is_within (cap kind home e) home.rights) receivers
 
 -- ---- the sender's limits

@@ -5,9 +5,9 @@ use Rattle.std.proofs.lemmas.Bool.Decides.{nat_tests}
 use Rattle.base.specs.declared.transaction.Kind.TheVariants.{Lend}
 use Rattle.base.specs.Pages.{PageRun, covers, are_disjoint}
 use Rattle.base.specs.Transactions.{Live}
-use Rattle.base.specs.Permissions.{Answer}
+use Rattle.base.specs.Access.{View}
 use Rattle.base.specs.Manifest.{ManifestRows, is_partition, grant}
-use Rattle.base.specs.Send as descriptor
+use Rattle.base.specs.Descriptors.Send as descriptor
 use Rattle.base.specs.State.{State, start, sees, each_page_in}
 use Rattle.pool.specs.Pool.{Pool, words_of}
 use Rattle.stage2.specs.declared.walked.Walked.{Walked}
@@ -18,7 +18,7 @@ use Rattle.wire.specs.declared.request.Transfer.{Transfer}
 use Rattle.wire.specs.declared.request.Request.{Request}
 use Rattle.wire.specs.declared.request.Request.TheVariants.{Send}
 use Rattle.wire.specs.Requests.{request_of}
-use Rattle.base.specs.Tests.{first_refusal}
+use Rattle.base.specs.Refusals.{first_refusal}
 use Rattle.rules.specs.Calls.{CallWords}
 use Rattle.rules.specs.Sending.{send_tests, sent, common_home, may_be_sent, opened, with_send}
 use Rattle.rules.specs.Answering.{moves_pages, state_after, step, IsReached}
@@ -29,7 +29,7 @@ use Rattle.rules.proofs.Still.{seen_still}
 use Rattle.spm.specs.Machine.{IsConsistent}
 
 -- what is not reached is not mapped
-not_mapped : (n : ℕ) (b : Bool) (a : Answer) → cond b Unmapped (walked n a) ≡ walked n (cond b None a)
+not_mapped : (n : ℕ) (b : Bool) (a : View) → cond b Unmapped (walked n a) ≡ walked n (cond b None a)
 not_mapped n true a = refl
 not_mapped n false a = refl
 

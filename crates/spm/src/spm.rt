@@ -6,7 +6,7 @@ ghost use Rattle.base.specs.State as state;
 ghost use Rattle.pool.specs.Pool.{words_of};
 ghost use Rattle.stage2.specs.Slot.{layout_of};
 ghost use Rattle.stage2.specs.Walk.{translation, walked};
-ghost use Rattle.base.specs.Tests.{first_refusal};
+ghost use Rattle.base.specs.Refusals.{first_refusal};
 ghost use Rattle.wire.specs.Requests.{request_of};
 ghost use Rattle.rules.specs.Answering as rules;
 ghost use Rattle.rules.specs.Sending.{send_tests, sent};

@@ -7,7 +7,7 @@ use Rattle.base.specs.declared.access.Rights.{Rights}
 use Rattle.base.specs.declared.access.Rights.TheVariants.{Ro, Rw}
 use Rattle.base.specs.declared.access.MemoryKind.{MemoryKind}
 use Rattle.base.specs.declared.access.MemoryKind.TheVariants.{Normal, Device}
-use Rattle.base.specs.Permissions.{Permission, IsLegal}
+use Rattle.base.specs.Access.{Access, IsLegal}
 use Rattle.words.specs.Words.{type_bits, leaf_fields, leaf_word_of, table_word_of, page_at, access_at}
 
 -- ---- the masks of the fields, `&`
@@ -30,7 +30,7 @@ pub ruleset masks = (and-address, and-attributes, and-rights, and-execute_never)
 -- ---- the fields of a leaf
 
 -- they leave bits 38:12 to the address, and tell the leaf's type and access
-pub record AreFields (block : Bool) (access : Permission) : Type 0 where
+pub record AreFields (block : Bool) (access : Access) : Type 0 where
   pub apart : leaf_fields block access % 2 ^ 39 < 2 ^ 12
   pub type : leaf_fields block access % 4 ≡ type_bits block
   pub named : access_at (leaf_fields block access) ≡ access
@@ -52,7 +52,7 @@ fields-each false Rw false Normal _ = record { apart = omega arith; type = refl;
 fields-each false Rw false Device _ = record { apart = omega arith; type = refl; named = refl }
 fields-each b r true Device legal = let impossible : Device ≡ Normal = legal refl in cc
 
-pub fields : (b : Bool) (p : Permission) → IsLegal p → AreFields b p
+pub fields : (b : Bool) (p : Access) → IsLegal p → AreFields b p
 fields b p legal = fields-each b p.rights p.exec p.kind legal
 
 -- ---- an address and fields, `|`
@@ -68,7 +68,7 @@ or-address n c in_range apart =
     let upper : bit_or n high ≡ high + n = or_comm n high ∙ or_shifted (c / 2 ^ 39) 27 n in_range in
     ap (λ a. bit_or a c) address ∙ (ap (bit_or (n * 2 ^ 12 + 0)) parts ∙ (joined ∙ (ap (λ a. a * 2 ^ 12 + low) upper ∙ omega arith)))
 
-pub or-leaf : (b : Bool) (n : ℕ) (p : Permission) → n < 2 ^ 27 → IsLegal p → bit_or (n * 2 ^ 12) (leaf_fields b p) ≡ leaf_word_of b n p
+pub or-leaf : (b : Bool) (n : ℕ) (p : Access) → n < 2 ^ 27 → IsLegal p → bit_or (n * 2 ^ 12) (leaf_fields b p) ≡ leaf_word_of b n p
 unfolding leaf_word_of
 or-leaf b n p in_range legal = or-address n (leaf_fields b p) in_range (fields b p legal).apart
 

@@ -3,7 +3,7 @@ use Rattle.std.proofs.Common.{◌≡◌, ℕ, ◌+◌, ◌*◌, ◌/◌, ◌%◌
 use Rattle.std.proofs.lemmas.Bool.{eqb-true, ltb-true, false≢true}
 use Rattle.std.proofs.lemmas.Bool.Decides.{nat_tests}
 use Rattle.std.proofs.lemmas.Grind.{common_steps}
-use Rattle.base.specs.Permissions.{Permission, IsLegal}
+use Rattle.base.specs.Access.{Access, IsLegal}
 use Rattle.words.specs.declared.word.Entry.{Entry}
 use Rattle.words.specs.declared.word.Entry.TheVariants.{Invalid, Table, Leaf, Wrong}
 use Rattle.words.specs.Words.{type_bits, leaf_fields, leaf_word_of, table_word_of, leaf_level, page_at, is_normal_at, is_executable_at, access_at, is_aligned, leaf_at, entry_of, IsTableWord, IsLeafWord, SpellsEntry}
@@ -31,7 +31,7 @@ page_at-sum n c in_range apart = omega arith
 -- ---- the fields of the words that are written
 
 -- bits 1:0 tell a block from a page and a table
-pub type-leaf : (b : Bool) (n : ℕ) (p : Permission) → IsLegal p → leaf_word_of b n p % 4 ≡ type_bits b
+pub type-leaf : (b : Bool) (n : ℕ) (p : Access) → IsLegal p → leaf_word_of b n p % 4 ≡ type_bits b
 unfolding leaf_word_of
 type-leaf b n p legal = omega (arith, (fields b p legal).type)
 
@@ -40,7 +40,7 @@ unfolding table_word_of
 type-table n = omega arith
 
 -- bit 0 is set: they are valid descriptors
-pub odd-leaf : (b : Bool) (n : ℕ) (p : Permission) → IsLegal p → leaf_word_of b n p % 2 ≡ 1
+pub odd-leaf : (b : Bool) (n : ℕ) (p : Access) → IsLegal p → leaf_word_of b n p % 2 ≡ 1
 odd-leaf true n p legal = omega (arith, type-leaf true n p legal)
 odd-leaf false n p legal = omega (arith, type-leaf false n p legal)
 
@@ -48,7 +48,7 @@ pub odd-table : (n : ℕ) → table_word_of n % 2 ≡ 1
 odd-table n = omega (arith, type-table n)
 
 -- the page and the access are the ones that were given
-pub page_at-leaf : (b : Bool) (n : ℕ) (p : Permission) → n < 2 ^ 27 → IsLegal p → page_at (leaf_word_of b n p) ≡ n
+pub page_at-leaf : (b : Bool) (n : ℕ) (p : Access) → n < 2 ^ 27 → IsLegal p → page_at (leaf_word_of b n p) ≡ n
 unfolding leaf_word_of
 page_at-leaf b n p in_range legal = page_at-sum n (leaf_fields b p) in_range (fields b p legal).apart
 
@@ -56,11 +56,11 @@ pub page_at-table : (n : ℕ) → n < 2 ^ 27 → page_at (table_word_of n) ≡ n
 unfolding table_word_of
 page_at-table n in_range = page_at-sum n 3 in_range (omega arith)
 
-pub access_at-leaf : (b : Bool) (n : ℕ) (p : Permission) → n < 2 ^ 27 → IsLegal p → access_at (leaf_word_of b n p) ≡ p
+pub access_at-leaf : (b : Bool) (n : ℕ) (p : Access) → n < 2 ^ 27 → IsLegal p → access_at (leaf_word_of b n p) ≡ p
 unfolding leaf_word_of
 access_at-leaf b n p in_range legal = access_at-sum n (leaf_fields b p) in_range (fields b p legal).apart ∙ (fields b p legal).named
 
-leaf_at-leaf : (b : Bool) (n : ℕ) (p : Permission) → n < 2 ^ 27 → IsLegal p → is_aligned b n ≡ true → leaf_at b (leaf_word_of b n p) ≡ Leaf n p
+leaf_at-leaf : (b : Bool) (n : ℕ) (p : Access) → n < 2 ^ 27 → IsLegal p → is_aligned b n ≡ true → leaf_at b (leaf_word_of b n p) ≡ Leaf n p
 unfolding leaf_at
 leaf_at-leaf b n p in_range legal aligned = simp (page_at-leaf b n p in_range legal, access_at-leaf b n p in_range legal, aligned) (grind (arith, nat_tests))
 
@@ -80,12 +80,12 @@ entry-table level n at_level in_range =
     grind (arith, nat_tests, back)
 
 -- a page at level 3
-pub entry-page : (n : ℕ) (p : Permission) → n < 2 ^ 27 → IsLegal p → entry_of 3 (leaf_word_of false n p) ≡ Leaf n p
+pub entry-page : (n : ℕ) (p : Access) → n < 2 ^ 27 → IsLegal p → entry_of 3 (leaf_word_of false n p) ≡ Leaf n p
 unfolding entry_of
 entry-page n p in_range legal = simp (odd-leaf false n p legal) (leaf_at-leaf false n p in_range legal refl)
 
 -- a block at level 2
-pub entry-block : (n : ℕ) (p : Permission) → n < 2 ^ 27 → IsLegal p → n % 512 ≡ 0 → entry_of 2 (leaf_word_of true n p) ≡ Leaf n p
+pub entry-block : (n : ℕ) (p : Access) → n < 2 ^ 27 → IsLegal p → n % 512 ≡ 0 → entry_of 2 (leaf_word_of true n p) ≡ Leaf n p
 unfolding entry_of
 entry-block n p in_range legal aligned =
     let no_table : (leaf_word_of true n p == table_word_of n) ≡ false = grind (arith, nat_tests, type-leaf true n p legal, type-table n) in
@@ -93,7 +93,7 @@ entry-block n p in_range legal aligned =
     simp (odd-leaf true n p legal, page_at-leaf true n p in_range legal, no_table) (leaf_at-leaf true n p in_range legal at_2_mb)
 
 -- a leaf at its level
-pub entry-leaf : (b : Bool) (n : ℕ) (p : Permission) → n < 2 ^ 27 → IsLegal p → (IsTrue b → n % 512 ≡ 0) → entry_of (leaf_level b) (leaf_word_of b n p) ≡ Leaf n p
+pub entry-leaf : (b : Bool) (n : ℕ) (p : Access) → n < 2 ^ 27 → IsLegal p → (IsTrue b → n % 512 ≡ 0) → entry_of (leaf_level b) (leaf_word_of b n p) ≡ Leaf n p
 entry-leaf true n p in_range legal aligned = entry-block n p in_range legal (aligned refl)
 entry-leaf false n p in_range legal aligned = entry-page n p in_range legal
 
@@ -133,7 +133,7 @@ leaf_at-tells : (level w : ℕ) (b : Bool) → level ≡ leaf_level b → Tells 
 unfolding leaf_at
 leaf_at-tells level w b at_level =
     let n : ℕ = page_at w in
-    let p : Permission = access_at w in
+    let p : Access = access_at w in
     either-entry (Tells level w) (is_aligned b n && (w == leaf_word_of b n p)) (Leaf n p) Wrong
     (λ e. let tests = both_true (is_aligned b n) (w == leaf_word_of b n p) e in
     record {
@@ -165,7 +165,7 @@ word-invalid level w read = subst (Tells level w) read (entry_of-tells level w)
 pub word-table : (level w n : ℕ) → entry_of level w ≡ Table n → IsTableWord level w n
 word-table level w n read = subst (Tells level w) read (entry_of-tells level w)
 
-pub word-leaf : (level w n : ℕ) (p : Permission) → entry_of level w ≡ Leaf n p → IsLeafWord level w n p
+pub word-leaf : (level w n : ℕ) (p : Access) → entry_of level w ≡ Leaf n p → IsLeafWord level w n p
 word-leaf level w n p read = subst (Tells level w) read (entry_of-tells level w)
 
 -- the entry of a word that spells it
@@ -176,7 +176,7 @@ entry-invalid level w even = simp even
 pub entry-table_word : (level w n : ℕ) → IsTableWord level w n → entry_of level w ≡ Table n
 entry-table_word level w n table = ap (entry_of level) table.spelled ∙ entry-table level n table.at_level table.in_range
 
-pub entry-leaf_word : (level w n : ℕ) (p : Permission) → IsLeafWord level w n p → entry_of level w ≡ Leaf n p
+pub entry-leaf_word : (level w n : ℕ) (p : Access) → IsLeafWord level w n p → entry_of level w ≡ Leaf n p
 entry-leaf_word level w n p leaf =
     ap (λ l. entry_of l w) leaf.at_level
     ∙ (ap (entry_of (leaf_level leaf.block)) leaf.spelled ∙ entry-leaf leaf.block n p leaf.in_range leaf.legal leaf.aligned)

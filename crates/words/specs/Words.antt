@@ -4,7 +4,7 @@ use Rattle.base.specs.declared.access.Rights.{Rights}
 use Rattle.base.specs.declared.access.Rights.TheVariants.{Ro, Rw}
 use Rattle.base.specs.declared.access.MemoryKind.{MemoryKind}
 use Rattle.base.specs.declared.access.MemoryKind.TheVariants.{Normal, Device}
-use Rattle.base.specs.Permissions.{Permission, IsLegal}
+use Rattle.base.specs.Access.{Access, IsLegal}
 use Rattle.words.specs.declared.word.Entry.{Entry}
 use Rattle.words.specs.declared.word.Entry.TheVariants.{Invalid, Table, Leaf, Wrong}
 
@@ -40,7 +40,7 @@ execute_never_bits true = 0
 execute_never_bits false = 2 * 2 ^ 53
 
 -- Beside its output address a block or page descriptor has its type, MemAttr, S2AP, SH, AF and XN.
-unfoldable pub leaf_fields : Bool → Permission → ℕ
+unfoldable pub leaf_fields : Bool → Access → ℕ
 leaf_fields block access =
     type_bits block
     + attribute_bits access.kind
@@ -50,7 +50,7 @@ leaf_fields block access =
     + execute_never_bits access.exec
 
 -- A block or page descriptor has its output address and these fields, and all other bits are 0.
-unfoldable pub leaf_word_of : Bool → ℕ → Permission → ℕ
+unfoldable pub leaf_word_of : Bool → ℕ → Access → ℕ
 leaf_word_of block page access = page * 2 ^ 12 + leaf_fields block access
 
 -- A table descriptor has the address of the next-level table and 3 in bits 1:0, and all other bits are 0.
@@ -81,7 +81,7 @@ abbrev pub is_executable_at : ℕ → Bool
 is_executable_at word = word / 2 ^ 53 % 2 ^ 2 == 0
 
 -- The access of a leaf is told by its S2AP, XN and MemAttr, and device memory is never executable.
-unfoldable pub access_at : ℕ → Permission
+unfoldable pub access_at : ℕ → Access
 access_at word = record {
   rights = if is_writable_at word then Rw else Ro;
   exec = is_normal_at word && is_executable_at word;
@@ -118,7 +118,7 @@ pub record IsTableWord (level word page : ℕ) : Type 0 where
   pub spelled : word ≡ table_word_of page
 
 -- At level 2 the word is the descriptor of a block, aligned to 2 MB, or at level 3 of a page, whose address is below 2^39, with a legal access.
-pub record IsLeafWord (level word page : ℕ) (access : Permission) : Type 0 where
+pub record IsLeafWord (level word page : ℕ) (access : Access) : Type 0 where
   pub block : Bool
   pub at_level : level ≡ leaf_level block
   pub in_range : page < 2 ^ 27
@@ -134,4 +134,4 @@ SpellsEntry level word (Leaf page access) = IsLeafWord level word page access
 SpellsEntry level word Wrong =
     (word % 2 ≢ 0)
     × ((page : ℕ) → ¬ IsTableWord level word page)
-    × ((page : ℕ) (access : Permission) → ¬ IsLeafWord level word page access)
+    × ((page : ℕ) (access : Access) → ¬ IsLeafWord level word page access)

@@ -1,5 +1,5 @@
 ghost use Rattle.std.specs.Prelude.{◌≡◌, ◌<◌, ◌≤◌, ◌*◌, ◌%◌, ◌^◌, ℕ, IsTrue};
-ghost use Rattle.base.specs.Permissions.{IsLegal};
+ghost use Rattle.base.specs.Access.{IsLegal};
 ghost use Rattle.words.specs.Words.{leaf_fields, leaf_word_of, table_word_of, leaf_level, page_at, access_at, leaf_at, entry_of, SpellsEntry};
 
 use base::{Access, MemoryKind, Page, Rights};

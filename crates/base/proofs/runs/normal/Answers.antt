@@ -2,7 +2,7 @@ use Rattle.std.proofs.Common.{◌≡◌, ◌∙◌, ℕ, sym, length, IsPermutat
 use Rattle.std.proofs.lemmas.Result.{IfOk-weaker}
 use Rattle.std.proofs.lemmas.List.Sorted.{length_permutation, list_any-IsPermutation, sum_by-IsPermutation}
 use Rattle.base.specs.Pages.{PageRun, in_run, covers}
-use Rattle.base.specs.Send.{pages_in}
+use Rattle.base.specs.Descriptors.Send.{pages_in}
 use Rattle.base.proofs.Joining.{are_disjoint-IsPermutation}
 use Rattle.base.proofs.runs.normal.Goals as goal
 

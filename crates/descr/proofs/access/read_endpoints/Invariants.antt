@@ -1,6 +1,6 @@
 use Rattle.std.proofs.Common.{◌≡◌, ◌-◌, ◌+◌, ◌*◌, ◌++◌}
 use Rattle.arrayvec.specs.ArrayVec.{array_vec_len}
-use Rattle.base.specs.Send as spec
+use Rattle.base.specs.Descriptors.Send as spec
 use Rattle.descr.proofs.access.read_endpoints.Given as goal
 
 abbrev pub invariant-loop-i : goal.invariant-loop-i

@@ -1,5 +1,5 @@
 use Rattle.std.proofs.Common.{◌≡◌, ◌+◌, ◌*◌, ◌^◌, ◌≤◌, length}
-use Rattle.base.specs.Send.{pages_in}
+use Rattle.base.specs.Descriptors.Send.{pages_in}
 use Rattle.descr.proofs.ranges.page_count.Given as goal
 
 abbrev pub invariant-loop-run : goal.invariant-loop-run

@@ -1,5 +1,5 @@
 use Rattle.std.proofs.Common.{◌≡◌, ◌-◌, ◌+◌, ◌*◌}
-use Rattle.base.specs.Send as spec
+use Rattle.base.specs.Descriptors.Send as spec
 use Rattle.descr.proofs.ranges.read_ranges.Given as goal
 
 abbrev pub invariant-loop-i : goal.invariant-loop-i

@@ -1,5 +1,5 @@
 use Rattle.std.proofs.Common.{◌+◌, ◌∙◌, sym, ap, refl}
-use Rattle.base.specs.Send.{u32_at}
+use Rattle.base.specs.Descriptors.Send.{u32_at}
 use Rattle.descr.proofs.Tests.{and-false}
 use Rattle.descr.proofs.Sends.{ranges-same, has_memory-parts}
 use Rattle.descr.proofs.send.read_memory.Goals.{else-are_disjoint-via-then-are_disjoint+else-is_composite, else-are_disjoint-via-else-are_disjoint}

@@ -1,5 +1,5 @@
 use Rattle.std.proofs.Common.{◌∙◌, sym, refl}
-use Rattle.base.specs.Send.{send_of}
+use Rattle.base.specs.Descriptors.Send.{send_of}
 use Rattle.descr.proofs.Sends.{not_send-layout, not_send-header, not_send-receivers, not_send-memory, is_send-true}
 use Rattle.descr.proofs.send.read_send.Goals.{then-not-has_layout-via-then-not-has_layout, then-not-has_layout-via-else-not-has_layout+then-not-is_header}
 use Rattle.descr.proofs.send.read_send.Goals as goal

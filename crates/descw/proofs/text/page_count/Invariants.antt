@@ -1,5 +1,5 @@
 use Rattle.std.proofs.Common.{◌≡◌, ◌+◌, drop}
-use Rattle.base.specs.Send.{pages_in}
+use Rattle.base.specs.Descriptors.Send.{pages_in}
 use Rattle.descw.proofs.text.page_count.Given as goal
 
 abbrev pub invariant-loop-run : goal.invariant-loop-run

@@ -1,5 +1,5 @@
 use Rattle.std.proofs.Common.{◌≡◌, ◌++◌, drop}
-use Rattle.base.specs.Texts as texts
+use Rattle.base.specs.Descriptors.Encoding as texts
 use Rattle.descw.specs.Inside.{AreIdentifiers}
 use Rattle.descw.proofs.text.write_accesses.Given as goal
 

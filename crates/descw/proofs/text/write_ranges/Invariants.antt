@@ -1,5 +1,5 @@
 use Rattle.std.proofs.Common.{◌≡◌, ◌++◌, drop}
-use Rattle.base.specs.Texts as texts
+use Rattle.base.specs.Descriptors.Encoding as texts
 use Rattle.descw.proofs.text.write_ranges.Given as goal
 
 abbrev pub invariant-loop-range : goal.invariant-loop-range

@@ -1,5 +1,5 @@
 use Rattle.std.proofs.Common.{◌∙◌, ap, ◌++◌}
-use Rattle.base.specs.Texts.{range_text}
+use Rattle.base.specs.Descriptors.Encoding.{range_text}
 use Rattle.descw.proofs.Turns.{runs_text-more, runs-more}
 use Rattle.descw.proofs.text.write_runs.Goals as goal
 

@@ -1,5 +1,5 @@
 use Rattle.std.proofs.Common.{◌≡◌, refl, rules}
-use Rattle.base.specs.Texts.{relinquish_text}
+use Rattle.base.specs.Descriptors.Encoding.{relinquish_text}
 use Rattle.descw.proofs.Requests.{relinquish_text-spells}
 use Rattle.descw.proofs.write.write_relinquish.Goals as goal
 

@@ -1,5 +1,5 @@
 use Rattle.std.proofs.Common.{◌≡◌, refl}
-use Rattle.base.specs.Texts.{response_text}
+use Rattle.base.specs.Descriptors.Encoding.{response_text}
 use Rattle.descw.proofs.Responses.{response_text-spells}
 use Rattle.descw.proofs.write.write_response.Goals as goal
 

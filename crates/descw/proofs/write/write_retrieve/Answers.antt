@@ -1,5 +1,5 @@
 use Rattle.std.proofs.Common.{◌≡◌, refl}
-use Rattle.base.specs.Texts.{retrieve_text}
+use Rattle.base.specs.Descriptors.Encoding.{retrieve_text}
 use Rattle.descw.proofs.Requests.{retrieve_text-spells}
 use Rattle.descw.proofs.write.write_retrieve.Goals as goal
 

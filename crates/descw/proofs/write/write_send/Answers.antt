@@ -1,5 +1,5 @@
 use Rattle.std.proofs.Common.{◌≡◌, refl}
-use Rattle.base.specs.Texts.{send_text}
+use Rattle.base.specs.Descriptors.Encoding.{send_text}
 use Rattle.descw.proofs.Sends.{send_text-spells}
 use Rattle.descw.proofs.write.write_send.Goals as goal
 

@@ -1,5 +1,5 @@
 use Rattle.std.proofs.Common.{◌≡◌, map, take}
-use Rattle.base.specs.Pairs as spec
+use Rattle.base.specs.Buffers as spec
 use Rattle.mailbox.proofs.pairs.first_mailboxes.Given as goal
 
 abbrev pub invariant-loop-row : goal.invariant-loop-row

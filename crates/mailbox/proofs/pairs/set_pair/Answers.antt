@@ -1,6 +1,6 @@
 use Rattle.std.proofs.Common.{sym, ap, ◌∙◌, arith}
 use Rattle.std.proofs.lemmas.Bool.{eqb-true}
-use Rattle.base.specs.Pairs.{with_pair}
+use Rattle.base.specs.Buffers.{with_pair}
 use Rattle.mailbox.proofs.Mailboxes.{with_pair_at}
 use Rattle.mailbox.proofs.pairs.set_pair.Goals as goal
 

@@ -1,5 +1,5 @@
 use Rattle.std.proofs.Common.{◌≡◌, ◌++◌, take, drop}
-use Rattle.base.specs.Pairs.{with_pair}
+use Rattle.base.specs.Buffers.{with_pair}
 use Rattle.mailbox.proofs.pairs.set_pair.Given as goal
 
 abbrev pub invariant-loop-mailbox : goal.invariant-loop-mailbox

@@ -1,9 +1,9 @@
 use Rattle.std.proofs.Common.{◌≡◌, ℕ, None, List, true, sym, ap, subst, ◌∙◌}
 use Rattle.base.specs.declared.transaction.Kind.TheVariants.{Lend}
-use Rattle.base.specs.Tests.{first_refusal}
+use Rattle.base.specs.Refusals.{first_refusal}
 use Rattle.base.specs.Manifest.{is_partition}
 use Rattle.base.specs.Pages.{PageRun, are_disjoint, covers}
-use Rattle.base.specs.Send as descriptor
+use Rattle.base.specs.Descriptors.Send as descriptor
 use Rattle.base.specs.State.{State}
 use Rattle.base.specs.Transactions.{Live}
 use Rattle.pool.specs.Pool.{Pool}

@@ -4,8 +4,8 @@ use Rattle.byteorder.specs.Endian.{little_bytes}
 use Rattle.base.specs.declared.partition.Version.{Version}
 use Rattle.base.specs.declared.partition.Version.TheVariants.{V10, V11}
 use Rattle.base.specs.Pages.{PageRun}
-use Rattle.base.specs.Send.{Endpoint, header_size, pages_in}
-use Rattle.base.specs.Response.{Response, kind_bits}
+use Rattle.base.specs.Descriptors.Send.{Endpoint, header_size, pages_in}
+use Rattle.base.specs.Descriptors.Response.{Response, kind_bits}
 
 -- ---- the parts
 

@@ -4,7 +4,7 @@ use Rattle.base.specs.declared.partition.Version.{Version}
 use Rattle.base.specs.declared.transaction.Kind.{Kind}
 use Rattle.base.specs.declared.transaction.Kind.TheVariants.{Share, Lend, Donate}
 use Rattle.base.specs.Pages.{PageRun, are_disjoint}
-use Rattle.base.specs.Send.{Endpoint, u16_at, u32_at, u64_at, header_size, array_at, receiver_count, composite_at, range_count, is_rest_of_header, is_access, are_ranges, ranges_of, is_composite}
+use Rattle.base.specs.Descriptors.Send.{Endpoint, u16_at, u32_at, u64_at, header_size, array_at, receiver_count, composite_at, range_count, is_rest_of_header, is_access, are_ranges, ranges_of, is_composite}
 
 -- the ranges stand in the order in which they were sent
 pub record Response : Type 0 where

@@ -1,6 +1,6 @@
 -- The descriptor of a relinquish: its fields at their offsets, and the rules that they keep (FF-A 1.1, "FFA_MEM_RELINQUISH", "Descriptor to relinquish a memory region").
 use Rattle.std.specs.Prelude.{◌≡◌, ℕ, Bool, ◌&&◌, ◌==◌, nat_le, List, length, IsTrue}
-use Rattle.base.specs.Send.{u16_at, u32_at, u64_at}
+use Rattle.base.specs.Descriptors.Send.{u16_at, u32_at, u64_at}
 
 pub record Relinquish : Type 0 where
   pub handle : ℕ

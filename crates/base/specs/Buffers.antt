@@ -5,7 +5,7 @@ use Rattle.std.specs.Option.{option_map, option_map_or, option_and_then}
 use Rattle.base.specs.declared.status.Status.TheVariants.{InvalidParameters, Busy, Denied}
 use Rattle.base.specs.Pages.{PageRun, in_run, are_apart}
 use Rattle.base.specs.Manifest.{PartitionRow}
-use Rattle.base.specs.Tests.{Test, ◌otherwise◌}
+use Rattle.base.specs.Refusals.{Test, ◌otherwise◌}
 
 -- the TX and the RX buffer of a partition, and whether it holds RX
 pub record Pair : Type 0 where
