@@ -3,6 +3,7 @@ pub mod Pages
 pub mod Access
 pub mod Manifest
 pub mod Need
+pub mod Handles
 pub mod Transactions
 pub mod Ledger
 pub mod Refusals

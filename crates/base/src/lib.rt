@@ -4,15 +4,22 @@
 #![tactic(auto)]
 
 mod access;
+mod attributes;
+mod handle;
+pub mod limits;
 mod page;
 mod partition;
+mod permissions;
 mod runs;
 mod status;
 mod transaction;
 
 pub use access::{Access, MemoryKind, Rights};
+pub use attributes::MemoryAttributes;
+pub use handle::Handle;
 pub use page::{Page, Run};
 pub use partition::{PartitionId, Version};
+pub use permissions::{DataAccess, InstructionAccess, Permissions};
 pub use runs::normal;
 pub use status::{OutOfMemory, Status};
 pub use transaction::Kind;

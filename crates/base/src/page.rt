@@ -60,6 +60,18 @@ impl Model for Run {
     ghost inverse = { λ run. record { first = run.first; count = run.count } };
 }
 
+impl Default for Run {
+    ghost is_default = { λ run. run ≡ record { first = 0; count = 1 } };
+
+    /// The first page alone.
+    fn default() -> Run {
+        Run {
+            first: Page(0),
+            count: 1,
+        }
+    }
+}
+
 impl Run {
     ghost use Rattle.base.specs.Pages.{IsRun};
 

@@ -1,5 +1,6 @@
-mod Apart
+mod Following
 mod Runs
 mod Sends
 mod Tests
+mod TwoLayouts
 mod Turns

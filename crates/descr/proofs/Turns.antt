@@ -1,5 +1,7 @@
 -- One more turn of the loops over access descriptors and ranges.
 use Rattle.std.proofs.Common.{◌≡◌, ℕ, zero, suc, ◌+◌, ◌-◌, ◌<◌, Bool, true, List, [], ◌∷◌, ◌++◌, length, slice_index, refl, sym, ap, ◌∙◌, append_assoc, arith}
+use Rattle.std.proofs.lemmas.Bool.{and_parts, leb-true}
+use Rattle.descr.specs.Order.{AreAllSome}
 use Rattle.base.specs.Descriptors.Send.{Endpoint, u16_at, is_access, are_accesses, is_range, are_ranges, endpoints_at, ranges_at}
 
 pub length-ranges_at : (count : ℕ) (bytes : List ℕ) (at : ℕ) → length (ranges_at count bytes at) ≡ count
@@ -25,3 +27,12 @@ module _ (count i : ℕ) (bytes : List ℕ) (at : ℕ) (lt : i < count) where
   endpoints_at-more es all e is so_far =
       let one : es ++ endpoints_at (count - i) bytes at ≡ es ++ (e ∷ endpoints_at (count - (i + 1)) bytes (at + 16)) = rw (next, is) refl in
       append_assoc es (e ∷ []) (endpoints_at (count - (i + 1)) bytes (at + 16)) ∙ sym one ∙ so_far
+
+-- each of them has a page
+pub some-ranges_at : (count : ℕ) (bytes : List ℕ) (at : ℕ) → are_ranges count bytes at ≡ true → AreAllSome (ranges_at count bytes at)
+unfolding is_range
+some-ranges_at zero bytes at h k d lt = absurd (omega arith)
+some-ranges_at (suc count) bytes at h zero d lt =
+    let one : is_range bytes at ≡ true = (and_parts _ _ h).0 in
+    leb-true _ _ (and_parts _ _ (and_parts _ _ (and_parts _ _ one).0).0).1
+some-ranges_at (suc count) bytes at h (suc k) d lt = some-ranges_at count bytes (at + 16) (and_parts _ _ h).1 k d (omega arith)

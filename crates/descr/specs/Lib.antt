@@ -1,4 +1,5 @@
 pub mod Inside
+pub mod Order
 pub mod Spelled
 pub mod Parts
 pub mod Laws

@@ -7,7 +7,7 @@ ghost use Rattle.base.specs.Descriptors.Send as spec;
 use crate::layout::PART_SIZE;
 use crate::numbers::{u16_at, u32_at, u64_at};
 use arrayvec::ArrayVec;
-use base::PartitionId;
+use base::{PartitionId, Permissions};
 use std::marker::Model;
 
 /// A receiver that an access descriptor names.
@@ -15,10 +15,8 @@ use std::marker::Model;
 pub struct Endpoint {
     /// The partition, from bytes 0 and 1 of the access descriptor.
     pub partition: PartitionId,
-    /// The memory access permissions, byte 2 of the access descriptor: data access in bits 1:0 and
-    /// instruction access in bits 3:2. In each, 0 is not specified; 1 and 2 are read-only and
-    /// read-write, and not executable and executable.
-    pub permissions: u8,
+    /// The memory access permissions, byte 2 of the access descriptor.
+    pub permissions: Permissions,
 }
 
 impl Model for Endpoint {
@@ -38,7 +36,7 @@ impl Default for Endpoint {
     fn default() -> Endpoint {
         Endpoint {
             partition: PartitionId::new(0),
-            permissions: 0,
+            permissions: Permissions::default(),
         }
     }
 }
@@ -49,9 +47,7 @@ pub(crate) fn is_access(bytes: &[u8], composite: u32, at: usize) -> bool
     requires { at + 16 ≤ length bytes.now }
     ensures { result ≡ spec.is_access bytes.now composite at }
 {
-    let permissions = bytes[at + 2];
-    permissions % 4 < 3
-        && permissions / 4 < 3
+    Permissions::new(bytes[at + 2]).are_legal()
         && bytes[at + 3] == 0
         && u32_at(bytes, at + 4) == composite
         && u64_at(bytes, at + 8) == 0
@@ -64,7 +60,7 @@ pub(crate) fn endpoint_at(bytes: &[u8], at: usize) -> Endpoint
 {
     Endpoint {
         partition: PartitionId::new(u16_at(bytes, at)),
-        permissions: bytes[at + 2],
+        permissions: Permissions::new(bytes[at + 2]),
     }
 }
 

@@ -6,7 +6,8 @@ ghost use Rattle.base.specs.Descriptors.Send as spec;
 ghost use Rattle.descr.specs.Inside.{IsInside};
 
 use crate::numbers::{u16_at, u32_at, u64_at};
-use base::Version;
+use base::limits::{MOST_RANGES, MOST_RECEIVERS};
+use base::{MemoryAttributes, Version};
 
 /// The size of a header of FF-A 1.0, in bytes.
 const HEADER_1_0: usize = 32;
@@ -16,12 +17,6 @@ const HEADER_1_1: usize = 48;
 
 /// The size of an access descriptor, of a composite descriptor and of a range, in bytes.
 pub(crate) const PART_SIZE: usize = 16;
-
-/// The most receivers that a send names.
-const MOST_RECEIVERS: usize = 8;
-
-/// The most ranges that a send has.
-const MOST_RANGES: usize = 512;
 
 /// The size of a header in bytes.
 pub(crate) fn header_size(version: Version) -> usize
@@ -82,12 +77,12 @@ pub(crate) fn composite_at(version: Version, bytes: &[u8]) -> u32
     u32_at(bytes, array_at(version, bytes) + 4)
 }
 
-/// Whether the attributes are not specified, or are those of normal memory, write-back, inner
-/// shareable.
-pub(crate) fn are_attributes(attributes: u16) -> bool
-    ensures { result ≡ spec.are_attributes attributes }
+/// The memory region attributes.
+pub(crate) fn attributes_of(bytes: &[u8]) -> MemoryAttributes
+    requires { 4 ≤ length bytes.now }
+    ensures { result ≡ spec.u16_at bytes.now 2 }
 {
-    attributes == 0 || attributes == 0x2f
+    MemoryAttributes::new(u16_at(bytes, 2))
 }
 
 /// Whether the header keeps its rules from byte 24 on.
@@ -112,7 +107,7 @@ pub(crate) fn is_header(version: Version, bytes: &[u8]) -> bool
     requires { spec.header_size version ≤ length bytes.now }
     ensures { result ≡ spec.is_header version bytes.now }
 {
-    are_attributes(u16_at(bytes, 2))
+    attributes_of(bytes).are_legal()
         && u32_at(bytes, 4) == 0
         && u64_at(bytes, 8) == 0
         && is_rest_of_header(version, bytes)

@@ -3,6 +3,7 @@
 #![tactic(auto)]
 
 mod access;
+mod apart;
 mod law;
 mod layout;
 mod numbers;

@@ -3,20 +3,13 @@
 
 ghost use Rattle.std.specs.Prelude.{◌≡◌, ◌+◌, ◌*◌, ◌/◌, ◌≤◌, true, false, length, IfSome, IfNone, IsTrue};
 ghost use Rattle.base.specs.Descriptors.Send as spec;
-ghost use Rattle.base.specs.Pages as pages;
-ghost use Rattle.std.specs.List.{list_all};
 ghost use Rattle.descr.specs.Parts.{is_composite_of};
 
 use crate::layout::PART_SIZE;
 use crate::numbers::{u32_at, u64_at};
+use base::limits::{MOST_PAGES, PAGE_SIZE};
 use base::{Page, Run};
 use std::marker::Model;
-
-/// The most pages that a send has: 1 GB.
-const MOST_PAGES: u64 = 262_144;
-
-/// The size of a page in bytes.
-const PAGE_SIZE: u64 = 4096;
 
 /// The ranges of a send that are still to come, in the order of the descriptor. Each is read from the
 /// borrowed bytes as it comes.
@@ -41,10 +34,13 @@ impl<'a> Model for Ranges<'a> {
 }
 
 impl<'a> Ranges<'a> {
+    ghost use Rattle.descr.specs.Order.{AreAllSome};
+
     /// The same ranges once more.
     pub(crate) fn again(&self) -> Ranges<'a>
         ensures same { result ≡ self.now }
         ensures few { length result ≤ 512 }
+        ensures pages { AreAllSome result }
     {
         Ranges {
             bytes: self.bytes,
@@ -121,38 +117,6 @@ pub(crate) fn read_ranges(bytes: &[u8], first: usize, count: usize) -> Option<Ra
     })
 }
 
-/// Whether the two share no page.
-fn are_apart(run: Run, other: Run) -> bool
-    ensures { result ≡ pages.are_apart run other }
-{
-    run.end() <= other.first().number() || other.end() <= run.first().number()
-}
-
-/// Whether the run shares no page with any of the ranges.
-fn is_apart_from(run: Run, ranges: &Ranges<'_>) -> bool
-    ensures { result ≡ list_all (pages.are_apart run) ranges.now }
-{
-    for other in ranges.again() {
-        if !are_apart(run, other) {
-            return false;
-        }
-    }
-    true
-}
-
-/// Whether no two of the ranges share a page.
-pub(crate) fn are_disjoint(ranges: &Ranges<'_>) -> bool
-    ensures { result ≡ pages.are_disjoint ranges.now }
-{
-    let mut rest = ranges.again();
-    while let Some(run) = rest.next() {
-        if !is_apart_from(run, &rest) {
-            return false;
-        }
-    }
-    true
-}
-
 /// How many pages the ranges have together.
 fn page_count(ranges: &Ranges<'_>) -> u64
     ensures { result ≡ spec.pages_in ranges.now }
@@ -173,5 +137,5 @@ pub(crate) fn is_composite(bytes: &[u8], at: usize, ranges: &Ranges<'_>) -> bool
     at % 16 == 0
         && u64_at(bytes, at + 8) == 0
         && total == u64::from(u32_at(bytes, at))
-        && total <= MOST_PAGES
+        && total <= u64::from(MOST_PAGES)
 }

@@ -4,7 +4,7 @@ ghost use Rattle.std.specs.Prelude.{◌≡◌, ◌≤◌, false, length, IfSome,
 ghost use Rattle.base.specs.Descriptors.Relinquish as spec;
 
 use crate::numbers::{u16_at, u32_at, u64_at};
-use base::PartitionId;
+use base::{Handle, PartitionId};
 use std::marker::Model;
 
 #[cfg(test)]
@@ -14,7 +14,7 @@ mod tests;
 #[derive(Clone, Copy, Debug, PartialEq, Eq)]
 pub struct RelinquishDesc {
     /// The handle of the transaction, from bytes 0 to 7.
-    pub handle: u64,
+    pub handle: Handle,
     /// The one borrower that gives its access up, from bytes 16 and 17.
     pub endpoint: PartitionId,
 }
@@ -55,7 +55,7 @@ pub fn read_relinquish(bytes: &[u8]) -> Option<RelinquishDesc>
         return None;
     }
     Some(RelinquishDesc {
-        handle: u64_at(bytes, 0),
+        handle: Handle::from_bits(u64_at(bytes, 0)),
         endpoint: PartitionId::new(u16_at(bytes, 16)),
     })
 }

@@ -6,9 +6,9 @@ ghost use Rattle.base.specs.Descriptors.Retrieve as spec;
 ghost use Rattle.descr.specs.Inside.{IsRetrieveInside};
 
 use crate::access::{Endpoint, endpoint_at, is_access};
-use crate::layout::{PART_SIZE, are_attributes, array_at, header_size, is_rest_of_header};
+use crate::layout::{PART_SIZE, array_at, attributes_of, header_size, is_rest_of_header};
 use crate::numbers::{u16_at, u32_at, u64_at};
-use base::{Kind, PartitionId, Version};
+use base::{Handle, Kind, MemoryAttributes, PartitionId, Version};
 use std::marker::Model;
 
 #[cfg(test)]
@@ -20,13 +20,13 @@ pub struct RetrieveDesc {
     /// The sender of the transaction, from bytes 0 and 1.
     pub sender: PartitionId,
     /// The memory region attributes, from bytes 2 and 3: 0 or 0x2f.
-    pub attributes: u16,
+    pub attributes: MemoryAttributes,
     /// The kind of transaction that is asked for, from bits 4:3 of the flags. `None` is any.
     pub kind: Option<Kind>,
     /// Whether the check that the request names every borrower is bypassed: bit 10 of the flags.
     pub bypass: bool,
     /// The handle of the transaction, from bytes 8 to 15.
-    pub handle: u64,
+    pub handle: Handle,
     /// The tag, from bytes 16 to 23.
     pub tag: u64,
     /// The one borrower that the request names.
@@ -83,7 +83,7 @@ fn is_retrieve_header(version: Version, bytes: &[u8]) -> bool
     requires { send.header_size version ≤ length bytes.now }
     ensures { result ≡ spec.is_retrieve_header version bytes.now }
 {
-    are_attributes(u16_at(bytes, 2))
+    attributes_of(bytes).are_legal()
         && are_flags(u32_at(bytes, 4))
         && is_rest_of_header(version, bytes)
 }
@@ -116,10 +116,10 @@ pub fn read_retrieve(bytes: &[u8], version: Version) -> Option<RetrieveDesc>
     let flags = u32_at(bytes, 4);
     Some(RetrieveDesc {
         sender: PartitionId::new(u16_at(bytes, 0)),
-        attributes: u16_at(bytes, 2),
+        attributes: attributes_of(bytes),
         kind: kind_in(flags),
         bypass: flags / 1024 % 2 == 1,
-        handle: u64_at(bytes, 8),
+        handle: Handle::from_bits(u64_at(bytes, 8)),
         tag: u64_at(bytes, 16),
         endpoint: endpoint_at(bytes, array_at(version, bytes)),
     })

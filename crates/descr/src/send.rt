@@ -9,11 +9,12 @@ ghost use Rattle.descr.specs.Inside.{IsInside};
 ghost use Rattle.descr.specs.Parts.{has_receivers, receivers_of, has_memory};
 
 use crate::access::{Endpoint, read_endpoints};
-use crate::layout::{PART_SIZE, array_at, composite_at, has_layout, is_header};
+use crate::apart::are_disjoint;
+use crate::layout::{PART_SIZE, array_at, attributes_of, composite_at, has_layout, is_header};
 use crate::numbers::{u16_at, u32_at, u64_at};
-use crate::ranges::{Ranges, are_disjoint, is_composite, read_ranges};
+use crate::ranges::{Ranges, is_composite, read_ranges};
 use arrayvec::ArrayVec;
-use base::{PartitionId, Version};
+use base::{MemoryAttributes, PartitionId, Version};
 use std::marker::Model;
 
 #[cfg(test)]
@@ -26,7 +27,7 @@ pub struct SendDesc<'a> {
     /// The sender, from bytes 0 and 1.
     pub sender: PartitionId,
     /// The memory region attributes, from bytes 2 and 3: 0 or 0x2f.
-    pub attributes: u16,
+    pub attributes: MemoryAttributes,
     /// The tag, from bytes 16 to 23.
     pub tag: u64,
     /// The receivers, 1 to 8, in the order of the access descriptors.
@@ -73,7 +74,7 @@ fn read_memory(version: Version, bytes: &[u8]) -> Option<Ranges<'_>>
     let composite = composite_at(version, bytes) as usize;
     let count = u32_at(bytes, composite + 4) as usize;
     let ranges = read_ranges(bytes, composite + PART_SIZE, count)?;
-    if are_disjoint(&ranges) && is_composite(bytes, composite, &ranges) {
+    if is_composite(bytes, composite, &ranges) && are_disjoint(&ranges) {
         Some(ranges)
     } else {
         None
@@ -97,7 +98,7 @@ pub fn read_send(bytes: &[u8], version: Version) -> Option<SendDesc<'_>>
     let ranges = read_memory(version, bytes)?;
     Some(SendDesc {
         sender: PartitionId::new(u16_at(bytes, 0)),
-        attributes: u16_at(bytes, 2),
+        attributes: attributes_of(bytes),
         tag: u64_at(bytes, 16),
         receivers,
         ranges,

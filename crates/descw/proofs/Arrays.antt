@@ -3,7 +3,8 @@ use Rattle.std.proofs.Common.{◌≡◌, ℕ, ◌+◌, ◌*◌, ◌/◌, ◌%◌
 use Rattle.std.specs.List.{list_all}
 use Rattle.std.proofs.lemmas.Bool.{leb-true}
 use Rattle.byteorder.specs.Numbers.{little_number-reads_back}
-use Rattle.base.specs.Descriptors.Send.{Endpoint, u16_at, u32_at, u64_at, are_permissions, are_accesses, endpoints_at, is_range, are_ranges, ranges_at}
+use Rattle.base.specs.Descriptors.Send.{Endpoint, u16_at, u32_at, u64_at, are_accesses, endpoints_at, is_range, are_ranges, ranges_at}
+use Rattle.base.specs.Descriptors.Permissions.{are_permissions}
 use Rattle.base.specs.Descriptors.Encoding.{RangeFields, access_text, accesses_text, range_text, ranges_text}
 use Rattle.descw.specs.Fields.{are_range_fields, runs_of}
 use Rattle.descw.specs.Inside.{AreIdentifiers}

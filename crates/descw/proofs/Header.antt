@@ -4,7 +4,8 @@ use Rattle.std.proofs.lemmas.Bool.Decides.{nat_tests}
 use Rattle.byteorder.specs.Numbers.{little_number-reads_back}
 use Rattle.base.specs.declared.partition.Version.{Version}
 use Rattle.base.specs.declared.partition.Version.TheVariants.{V10, V11}
-use Rattle.base.specs.Descriptors.Send.{u16_at, u32_at, u64_at, header_size, are_attributes, array_at, receiver_count, is_rest_of_header}
+use Rattle.base.specs.Descriptors.Send.{u16_at, u32_at, u64_at, header_size, array_at, receiver_count, is_rest_of_header}
+use Rattle.base.specs.Descriptors.Permissions.{are_attributes}
 use Rattle.base.specs.Descriptors.Encoding.{HeaderFields, header_text}
 
 module _ (version : Version) (h : HeaderFields) (count : ℕ) (rest : List ℕ) where

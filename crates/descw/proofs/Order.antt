@@ -6,7 +6,8 @@ use Rattle.std.proofs.lemmas.List.{append-nil}
 use Rattle.byteorder.specs.Numbers.{little_number-reads_back}
 use Rattle.base.specs.declared.partition.Version.{Version}
 use Rattle.base.specs.declared.partition.Version.TheVariants.{V10, V11}
-use Rattle.base.specs.Descriptors.Send.{Endpoint, u16_at, u32_at, u64_at, header_size, array_at, receiver_count, composite_at, range_count, ranges_of, ranges_at, pages_in, are_permissions, is_access, are_accesses, endpoints_at, are_ranges, has_layout, is_rest_of_header, is_composite}
+use Rattle.base.specs.Descriptors.Send.{Endpoint, u16_at, u32_at, u64_at, header_size, array_at, receiver_count, composite_at, range_count, ranges_of, ranges_at, pages_in, is_access, are_accesses, endpoints_at, are_ranges, has_layout, is_rest_of_header, is_composite}
+use Rattle.base.specs.Descriptors.Permissions.{are_permissions}
 use Rattle.base.specs.Descriptors.Encoding.{HeaderFields, RangeFields, header_text, accesses_text, composite_text, ranges_text}
 use Rattle.descw.specs.Fields.{are_range_fields, runs_of}
 use Rattle.descw.specs.Inside.{AreIdentifiers}

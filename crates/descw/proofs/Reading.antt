@@ -3,7 +3,8 @@ use Rattle.std.proofs.Common.{◌≡◌, ℕ, ◌+◌, ◌^◌, ◌<◌, true, L
 use Rattle.std.proofs.lemmas.List.{drop-drop, get_or-drop}
 use Rattle.byteorder.specs.Endian.{little_number}
 use Rattle.byteorder.specs.Numbers.{little_number-reads_back}
-use Rattle.base.specs.Descriptors.Send.{Endpoint, u16_at, u32_at, u64_at, are_permissions, is_access}
+use Rattle.base.specs.Descriptors.Send.{Endpoint, u16_at, u32_at, u64_at, is_access}
+use Rattle.base.specs.Descriptors.Permissions.{are_permissions}
 use Rattle.base.specs.Descriptors.Encoding.{access_text}
 use Rattle.descw.proofs.Tests.{both}
 

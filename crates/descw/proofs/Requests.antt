@@ -3,7 +3,8 @@ use Rattle.std.proofs.Common.{◌≡◌, ℕ, ◌+◌, ◌*◌, ◌/◌, ◌%◌
 use Rattle.std.proofs.lemmas.Bool.{eqb-true, le-leb}
 use Rattle.byteorder.specs.Numbers.{little_number-reads_back}
 use Rattle.base.specs.declared.partition.Version.{Version}
-use Rattle.base.specs.Descriptors.Send.{u16_at, u32_at, u64_at, header_size, array_at, receiver_count, are_attributes, are_permissions, is_rest_of_header}
+use Rattle.base.specs.Descriptors.Send.{u16_at, u32_at, u64_at, header_size, array_at, receiver_count, is_rest_of_header}
+use Rattle.base.specs.Descriptors.Permissions.{are_attributes, are_permissions}
 use Rattle.base.specs.Descriptors.Retrieve.{are_flags, has_retrieve_layout, is_retrieve_header, is_retrieve, retrieve_of, SpellsRetrieve}
 use Rattle.base.specs.Descriptors.Relinquish.{is_relinquish, relinquish_of, SpellsRelinquish}
 use Rattle.base.specs.Descriptors.Encoding.{RetrieveFields, RelinquishFields, header_text, access_text, retrieve_text, relinquish_text}

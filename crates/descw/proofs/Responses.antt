@@ -8,7 +8,8 @@ use Rattle.base.specs.declared.partition.Version.{Version}
 use Rattle.base.specs.declared.transaction.Kind.{Kind}
 use Rattle.base.specs.declared.transaction.Kind.TheVariants.{Share, Lend, Donate}
 use Rattle.base.specs.Pages.{are_disjoint}
-use Rattle.base.specs.Descriptors.Send.{header_size, u16_at, u32_at, array_at, receiver_count, composite_at, range_count, are_permissions, pages_in, ranges_of}
+use Rattle.base.specs.Descriptors.Send.{header_size, u16_at, u32_at, array_at, receiver_count, composite_at, range_count, pages_in, ranges_of}
+use Rattle.base.specs.Descriptors.Permissions.{are_permissions}
 use Rattle.base.specs.Descriptors.Response.{Response, kind_bits, kind_named, has_response_layout, is_response_header, are_granted, is_response, response_of, SpellsResponse}
 use Rattle.base.specs.Descriptors.Encoding.{range_of, response_header, header_text, accesses_text, composite_text, response_text}
 use Rattle.descw.specs.Fields.{are_range_fields, are_response_fields}

@@ -4,7 +4,8 @@ use Rattle.std.specs.List.{list_all}
 use Rattle.std.proofs.lemmas.Bool.{leb-true, eqb-true}
 use Rattle.base.specs.declared.partition.Version.{Version}
 use Rattle.base.specs.Pages.{are_disjoint}
-use Rattle.base.specs.Descriptors.Send.{Endpoint, are_attributes, are_permissions, pages_in, is_header, is_send, send_of, SpellsSend}
+use Rattle.base.specs.Descriptors.Send.{Endpoint, pages_in, is_header, is_send, send_of, SpellsSend}
+use Rattle.base.specs.Descriptors.Permissions.{are_attributes, are_permissions}
 use Rattle.base.specs.Descriptors.Encoding.{HeaderFields, RangeFields, SendFields, header_text, send_text}
 use Rattle.descw.specs.Fields.{are_range_fields, runs_of, are_send_fields, sent_by}
 use Rattle.descw.specs.Inside.{FitsHeader, AreIdentifiers}

@@ -2,7 +2,8 @@
 use Rattle.std.specs.Prelude.{◌+◌, ◌/◌, ◌%◌, ◌^◌, Bool, ◌&&◌, ◌==◌, nat_le, List, length, map}
 use Rattle.std.specs.List.{list_all}
 use Rattle.base.specs.Pages.{PageRun, are_disjoint}
-use Rattle.base.specs.Descriptors.Send.{Send, are_attributes, are_permissions, pages_in}
+use Rattle.base.specs.Descriptors.Send.{Send, pages_in}
+use Rattle.base.specs.Descriptors.Permissions.{are_attributes, are_permissions}
 use Rattle.base.specs.Descriptors.Retrieve.{Retrieve, are_flags, kind_in}
 use Rattle.base.specs.Descriptors.Relinquish.{Relinquish}
 use Rattle.base.specs.Descriptors.Response.{Response, are_granted}

@@ -1,6 +1,6 @@
 //! The fields of the descriptors, as their writers take them.
 
-use base::{Kind, PartitionId, Run};
+use base::{Handle, Kind, MemoryAttributes, PartitionId, Run};
 use descr::Endpoint;
 use std::marker::Model;
 
@@ -10,13 +10,12 @@ use std::marker::Model;
 pub struct HeaderFields {
     /// The sender of the transaction, bytes 0 and 1.
     pub sender: PartitionId,
-    /// The memory region attributes, bytes 2 and 3: 0 is not specified, 0x2f normal memory, write-back,
-    /// inner shareable. In 1.0 byte 3 is reserved.
-    pub attributes: u16,
+    /// The memory region attributes, bytes 2 and 3. In 1.0 byte 3 is reserved.
+    pub attributes: MemoryAttributes,
     /// The flags, bytes 4 to 7.
     pub flags: u32,
     /// The handle of the transaction, bytes 8 to 15.
-    pub handle: u64,
+    pub handle: Handle,
     /// The tag, bytes 16 to 23.
     pub tag: u64,
 }
@@ -94,7 +93,7 @@ impl Model for RetrieveFields {
 #[derive(Clone, Copy, Debug, PartialEq, Eq)]
 pub struct RelinquishFields {
     /// The handle of the transaction, bytes 0 to 7.
-    pub handle: u64,
+    pub handle: Handle,
     /// The flags, bytes 8 to 11.
     pub flags: u32,
     /// The one borrower that gives its access up, bytes 16 and 17.
@@ -119,7 +118,7 @@ pub struct ResponseFields<'a> {
     /// The kind of the transaction, in bits 4:3 of the flags.
     pub kind: Kind,
     /// The handle of the transaction, bytes 8 to 15.
-    pub handle: u64,
+    pub handle: Handle,
     /// The tag, bytes 16 to 23.
     pub tag: u64,
     /// The borrower, with the permissions that it is granted.

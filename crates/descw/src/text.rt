@@ -11,6 +11,7 @@ ghost use Rattle.base.specs.Pages.{IsRun};
 ghost use Rattle.descw.specs.Inside.{FitsHeader, AreIdentifiers, AreRuns};
 
 use crate::fields::{HeaderFields, RangeFields};
+use base::limits::PAGE_SIZE;
 use base::{Kind, Run, Version};
 use descr::Endpoint;
 use std::alloc::AllocError;
@@ -23,9 +24,6 @@ const HEADER_1_1: u32 = 48;
 
 /// The size of an access descriptor, of a composite descriptor and of a range, in bytes.
 pub(crate) const PART_SIZE: u32 = 16;
-
-/// The size of a page in bytes.
-const PAGE_SIZE: u64 = 4096;
 
 /// The size of a header in bytes.
 pub(crate) fn header_size(version: Version) -> u32
@@ -91,9 +89,9 @@ pub(crate) fn write_header(
     ensures fits { IfOk result (λ _. FitsHeader header) }
 {
     write_u16(out, header.sender.number())?;
-    write_u16(out, header.attributes)?;
+    write_u16(out, header.attributes.bits())?;
     write_u32(out, header.flags)?;
-    write_u64(out, header.handle)?;
+    write_u64(out, header.handle.bits())?;
     write_u64(out, header.tag)?;
     write_header_end(out, version, count)
 }
@@ -109,7 +107,7 @@ pub(crate) fn write_access(
     ensures fits { IfOk result (λ _. endpoint.partition < 2 ^ 16) }
 {
     write_u16(out, endpoint.partition.number())?;
-    out.extend_from_slice(&[endpoint.permissions, 0])?;
+    out.extend_from_slice(&[endpoint.permissions.byte(), 0])?;
     write_u32(out, composite)?;
     write_u64(out, 0)
 }

@@ -13,14 +13,11 @@ use crate::text::{
     PART_SIZE, header_size, kind_bits, page_count, write_access, write_accesses, write_composite,
     write_header, write_ranges, write_runs, write_u16, write_u32, write_u64,
 };
-use base::{OutOfMemory, Version};
+use base::{MemoryAttributes, OutOfMemory, Version};
 use std::alloc::Global;
 
 #[cfg(test)]
 mod tests;
-
-/// The attributes of normal memory, write-back, inner shareable.
-const NORMAL_MEMORY: u16 = 0x2f;
 
 /// The size of a relinquish of one endpoint, in bytes.
 const RELINQUISH_SIZE: usize = 18;
@@ -90,7 +87,7 @@ pub fn write_relinquish(alloc: Global, fields: &RelinquishFields) -> Result<Vec<
         IsTrue (are_relinquish_fields fields.now) → SpellsRelinquish bytes.items (given_up_by fields.now)) }
 {
     let mut out = Vec::with_capacity(alloc, RELINQUISH_SIZE)?;
-    write_u64(&mut out, fields.handle)?;
+    write_u64(&mut out, fields.handle.bits())?;
     write_u32(&mut out, fields.flags)?;
     write_u32(&mut out, 1)?;
     write_u16(&mut out, fields.endpoint.number())?;
@@ -118,7 +115,7 @@ pub fn write_response(
 {
     let header = HeaderFields {
         sender: fields.sender,
-        attributes: NORMAL_MEMORY,
+        attributes: MemoryAttributes::normal_write_back(),
         flags: kind_bits(fields.kind),
         handle: fields.handle,
         tag: fields.tag,

@@ -5,13 +5,11 @@ ghost use Rattle.lines.specs.Lines.{IsWhole};
 
 use crate::words::{read_count, read_id, read_number, read_permissions};
 use arrayvec::ArrayVec;
+use base::limits::MOST_RANGES;
 use base::{OutOfMemory, PartitionId};
 use descr::Endpoint;
 use descw::RangeFields;
 use std::alloc::Global;
-
-/// The most ranges of a send.
-const MOST_RANGES: usize = 512;
 
 /// What a line says of a send.
 #[derive(Debug, Drop, PartialEq, Eq)]

@@ -4,7 +4,7 @@ ghost use Rattle.std.specs.Prelude.{◌≡◌, ◌^◌};
 ghost use Rattle.std.specs.List.{list_all};
 ghost use Rattle.lines.specs.Lines.{is_lower_hex_digit, is_digit, number_of, id_of, permissions_of, count_of};
 
-use base::PartitionId;
+use base::{PartitionId, Permissions};
 
 /// The identifier that four digits are.
 #[tactic(auto, using(crate::proofs::Digits::parsed))]
@@ -36,14 +36,14 @@ pub(crate) fn read_number(word: &str) -> Option<u64>
 
 /// The permissions that two digits are.
 #[tactic(auto, using(crate::proofs::Digits::parsed))]
-pub(crate) fn read_permissions(word: &str) -> Option<u8>
+pub(crate) fn read_permissions(word: &str) -> Option<Permissions>
     ensures { result ≡ permissions_of word.now }
 {
     if word.len() != 2 || !is_lower_hex(word) {
         return None;
     }
     match u8::from_str_radix(word, 16) {
-        Ok(number) => Some(number),
+        Ok(byte) => Some(Permissions::new(byte)),
         Err(_) => None,
     }
 }

@@ -1,14 +1,9 @@
 ghost use Rattle.std.specs.Prelude.{◌≡◌, ◌&&◌, true, false, ◌<◌, IfSome, IfNone};
 ghost use Rattle.base.specs.Buffers as spec;
 
+use base::limits::{MOST_BUFFER_PAGES, PAGE_SIZE};
 use base::{Page, Run};
 use std::marker::Model;
-
-/// The size of a page in bytes.
-const PAGE_SIZE: u64 = 4096;
-
-/// The most pages that one buffer has.
-const MOST_PAGES: u32 = 8;
 
 /// The TX and the RX buffer of a partition, and whether the partition holds RX (FF-A 1.1, "RX/TX
 /// buffers").
@@ -59,7 +54,7 @@ pub(crate) fn named_pair(tx: u64, rx: u64, pages: u32) -> Option<Pair>
     ensures some { IfSome result (λ pair. (pair ≡ spec.named_pair tx rx pages) × ((spec.are_areas tx rx pages && spec.is_pair (spec.named_pair tx rx pages)) ≡ true)) }
     ensures none { IfNone result ((spec.are_areas tx rx pages && spec.is_pair (spec.named_pair tx rx pages)) ≡ false) }
 {
-    if pages < 1 || pages > MOST_PAGES || tx % PAGE_SIZE != 0 || rx % PAGE_SIZE != 0 {
+    if pages < 1 || pages > MOST_BUFFER_PAGES || tx % PAGE_SIZE != 0 || rx % PAGE_SIZE != 0 {
         return None;
     }
     let tx = area(tx, pages)?;

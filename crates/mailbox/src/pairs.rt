@@ -6,15 +6,13 @@ ghost use Rattle.base.specs.Refusals.{first_refusal};
 
 use crate::pair::{Pair, named_pair};
 use arrayvec::ArrayVec;
+use base::limits::MOST_PARTITIONS;
 use base::{Page, PartitionId, Status};
 use manifest::{Manifest, Partition};
 use std::marker::Model;
 
 #[cfg(test)]
 mod tests;
-
-/// The most partitions that a manifest has.
-const MOST_PARTITIONS: usize = 64;
 
 /// A partition, and its pair where one is registered.
 #[derive(Clone, Copy, Debug, PartialEq, Eq)]

@@ -17,21 +17,25 @@ code NoMemory = 0xfffffffd
 code Busy = 0xfffffffc
 code Denied = 0xfffffffa
 
+-- four words, and 0 in the other registers; RX is not filled
+abbrev pub of_words : ℕ → ℕ → ℕ → ℕ → ReplyWords
+of_words w0 w1 w2 w3 = record { regs = w0 ∷ w1 ∷ w2 ∷ w3 ∷ 0 ∷ 0 ∷ 0 ∷ 0 ∷ []; rx = None }
+
 -- FFA_ERROR
 abbrev pub error : Status → ReplyWords
-error status = record { regs = 0x84000060 ∷ 0 ∷ code status ∷ 0 ∷ 0 ∷ 0 ∷ 0 ∷ 0 ∷ []; rx = None }
+error status = of_words 0x84000060 0 (code status) 0
 
 -- FFA_SUCCESS
 abbrev pub success : ℕ → ℕ → ReplyWords
-success w2 w3 = record { regs = 0x84000061 ∷ 0 ∷ w2 ∷ w3 ∷ 0 ∷ 0 ∷ 0 ∷ 0 ∷ []; rx = None }
+success w2 w3 = of_words 0x84000061 0 w2 w3
 
 -- FFA_MEM_RETRIEVE_RESP, with the length of the response, whole and in this part
 abbrev pub response : ℕ → ReplyWords
-response length = record { regs = 0x84000075 ∷ length ∷ length ∷ 0 ∷ 0 ∷ 0 ∷ 0 ∷ 0 ∷ []; rx = None }
+response length = of_words 0x84000075 length length 0
 
 -- what FFA_VERSION answers stands in register 0
 abbrev pub version : ℕ → ReplyWords
-version word = record { regs = word ∷ 0 ∷ 0 ∷ 0 ∷ 0 ∷ 0 ∷ 0 ∷ 0 ∷ []; rx = None }
+version word = of_words word 0 0 0
 
 -- the bytes of a buffer that was filled
 abbrev pub filled : Option (Vec ℕ) → Option (List ℕ)

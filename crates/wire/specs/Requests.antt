@@ -1,6 +1,7 @@
 -- What the registers of a call ask for (FF-A 1.1, "Interface overview").
 use Rattle.std.specs.Prelude.{ℕ, ◌+◌, ◌*◌, ◌%◌, ◌^◌, Bool, nat_le, List, slice_index, Option, if◌then◌else◌}
 use Rattle.std.specs.Option.{option_map}
+use Rattle.base.specs.Handles.{of_halves}
 use Rattle.wire.specs.declared.function.Function.{Function}
 use Rattle.wire.specs.declared.function.Function.TheVariants as function
 use Rattle.wire.specs.declared.request.Transfer.{Transfer}
@@ -24,10 +25,6 @@ argument regs i = if is_wide (word regs 0) then slice_index regs i else word reg
 abbrev pub transfer_of : List ℕ → Transfer
 transfer_of regs = record { total = word regs 1; fragment = word regs 2; address = argument regs 3; pages = word regs 4 }
 
--- its low half in w1, its high half in w2
-abbrev pub handle : List ℕ → ℕ
-handle regs = word regs 1 + 2 ^ 32 * word regs 2
-
 abbrev pub request_for : Function → List ℕ → Request
 request_for function.Version regs = Version (word regs 1)
 request_for function.Features regs = Features (word regs 1)
@@ -38,7 +35,7 @@ request_for function.IdGet regs = IdGet
 request_for (function.Send kind) regs = Send kind (transfer_of regs)
 request_for function.RetrieveReq regs = Retrieve (transfer_of regs)
 request_for function.Relinquish regs = Relinquish
-request_for function.Reclaim regs = Reclaim (handle regs) (word regs 3)
+request_for function.Reclaim regs = Reclaim (of_halves (word regs 1) (word regs 2)) (word regs 3)
 
 -- nothing where register 0 names none of the calls
 abbrev pub request_of : List ℕ → Option Request

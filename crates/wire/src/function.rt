@@ -1,6 +1,12 @@
 ghost use Rattle.std.specs.Prelude.{◌≡◌};
 ghost use Rattle.wire.specs.Functions as spec;
 
+use crate::identifiers::{
+    FFA_ERROR, FFA_FEATURES, FFA_ID_GET, FFA_MEM_DONATE, FFA_MEM_DONATE_64, FFA_MEM_LEND,
+    FFA_MEM_LEND_64, FFA_MEM_RECLAIM, FFA_MEM_RELINQUISH, FFA_MEM_RETRIEVE_REQ,
+    FFA_MEM_RETRIEVE_REQ_64, FFA_MEM_RETRIEVE_RESP, FFA_MEM_SHARE, FFA_MEM_SHARE_64,
+    FFA_RX_RELEASE, FFA_RXTX_MAP, FFA_RXTX_MAP_64, FFA_RXTX_UNMAP, FFA_SUCCESS, FFA_VERSION,
+};
 use base::Kind;
 
 /// What a function identifier names (FF-A 1.1, "Function identifiers").
@@ -34,18 +40,18 @@ pub fn function_of(identifier: u32) -> Option<Function>
     ensures { result ≡ spec.function_of identifier }
 {
     match identifier {
-        0x8400_0063 => Some(Function::Version),
-        0x8400_0064 => Some(Function::Features),
-        0x8400_0065 => Some(Function::RxRelease),
-        0x8400_0066 | 0xc400_0066 => Some(Function::RxtxMap),
-        0x8400_0067 => Some(Function::RxtxUnmap),
-        0x8400_0069 => Some(Function::IdGet),
-        0x8400_0071 | 0xc400_0071 => Some(Function::Send(Kind::Donate)),
-        0x8400_0072 | 0xc400_0072 => Some(Function::Send(Kind::Lend)),
-        0x8400_0073 | 0xc400_0073 => Some(Function::Send(Kind::Share)),
-        0x8400_0074 | 0xc400_0074 => Some(Function::RetrieveReq),
-        0x8400_0076 => Some(Function::Relinquish),
-        0x8400_0077 => Some(Function::Reclaim),
+        FFA_VERSION => Some(Function::Version),
+        FFA_FEATURES => Some(Function::Features),
+        FFA_RX_RELEASE => Some(Function::RxRelease),
+        FFA_RXTX_MAP | FFA_RXTX_MAP_64 => Some(Function::RxtxMap),
+        FFA_RXTX_UNMAP => Some(Function::RxtxUnmap),
+        FFA_ID_GET => Some(Function::IdGet),
+        FFA_MEM_DONATE | FFA_MEM_DONATE_64 => Some(Function::Send(Kind::Donate)),
+        FFA_MEM_LEND | FFA_MEM_LEND_64 => Some(Function::Send(Kind::Lend)),
+        FFA_MEM_SHARE | FFA_MEM_SHARE_64 => Some(Function::Send(Kind::Share)),
+        FFA_MEM_RETRIEVE_REQ | FFA_MEM_RETRIEVE_REQ_64 => Some(Function::RetrieveReq),
+        FFA_MEM_RELINQUISH => Some(Function::Relinquish),
+        FFA_MEM_RECLAIM => Some(Function::Reclaim),
         _ => None,
     }
 }
@@ -57,7 +63,7 @@ pub fn is_feature(identifier: u32) -> bool
     ensures { result ≡ spec.is_feature identifier }
 {
     function_of(identifier).is_some()
-        || identifier == 0x8400_0060
-        || identifier == 0x8400_0061
-        || identifier == 0x8400_0075
+        || identifier == FFA_ERROR
+        || identifier == FFA_SUCCESS
+        || identifier == FFA_MEM_RETRIEVE_RESP
 }

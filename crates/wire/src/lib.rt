@@ -2,6 +2,7 @@
 #![tactic(auto)]
 
 mod function;
+pub mod identifiers;
 mod reply;
 mod request;
 

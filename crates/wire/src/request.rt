@@ -2,7 +2,7 @@ ghost use Rattle.std.specs.Prelude.{◌≡◌, ◌<◌, Some, None, IfOk, IfErr}
 ghost use Rattle.wire.specs.Requests as spec;
 
 use crate::function::{Function, function_of};
-use base::{Kind, Status};
+use base::{Handle, Kind, Status};
 
 /// How a call hands over a descriptor (FF-A 1.1, "Transmission of transaction descriptor in dynamically
 /// allocated buffers"): lengths in bytes, and another buffer than TX.
@@ -27,8 +27,9 @@ pub enum Request {
     Features(u32),
     /// FFA_RX_RELEASE.
     RxRelease,
-    /// FFA_RXTX_MAP, with the addresses of TX and RX in registers 1 and 2, and the pages of each in w3.
-    RxtxMap(u64, u64, u32),
+    /// FFA_RXTX_MAP, with the addresses of TX and RX in bytes, registers 1 and 2, and the pages of each,
+    /// w3.
+    RxtxMap { tx: u64, rx: u64, pages: u32 },
     /// FFA_RXTX_UNMAP, with w1.
     RxtxUnmap(u32),
     /// FFA_ID_GET.
@@ -40,7 +41,7 @@ pub enum Request {
     /// FFA_MEM_RELINQUISH.
     Relinquish,
     /// FFA_MEM_RECLAIM, with the handle in w1 and w2, and the flags in w3.
-    Reclaim(u64, u32),
+    Reclaim { handle: Handle, flags: u32 },
 }
 
 /// The call that registers 0 to 7 make. NOT_SUPPORTED where register 0 names none, and no other status.
@@ -92,21 +93,19 @@ fn request_for(function: Function, regs: &[u64; 8]) -> Request
         Function::Version => Request::Version(word(regs, 1)),
         Function::Features => Request::Features(word(regs, 1)),
         Function::RxRelease => Request::RxRelease,
-        Function::RxtxMap => {
-            Request::RxtxMap(argument(regs, 1), argument(regs, 2), word(regs, 3))
-        }
+        Function::RxtxMap => Request::RxtxMap {
+            tx: argument(regs, 1),
+            rx: argument(regs, 2),
+            pages: word(regs, 3),
+        },
         Function::RxtxUnmap => Request::RxtxUnmap(word(regs, 1)),
         Function::IdGet => Request::IdGet,
         Function::Send(kind) => Request::Send(kind, transfer_of(regs)),
         Function::RetrieveReq => Request::Retrieve(transfer_of(regs)),
         Function::Relinquish => Request::Relinquish,
-        Function::Reclaim => Request::Reclaim(handle(regs), word(regs, 3)),
+        Function::Reclaim => Request::Reclaim {
+            handle: Handle::from_halves(word(regs, 1), word(regs, 2)),
+            flags: word(regs, 3),
+        },
     }
-}
-
-/// A handle, with its low half in w1 and its high half in w2.
-fn handle(regs: &[u64; 8]) -> u64
-    ensures { result ≡ spec.handle regs.now }
-{
-    u64::from(word(regs, 1)) + 0x1_0000_0000 * u64::from(word(regs, 2))
 }

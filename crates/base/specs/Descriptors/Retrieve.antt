@@ -3,7 +3,8 @@ use Rattle.std.specs.Prelude.{◌≡◌, ℕ, ◌+◌, ◌*◌, ◌/◌, ◌%◌
 use Rattle.base.specs.declared.partition.Version.{Version}
 use Rattle.base.specs.declared.transaction.Kind.{Kind}
 use Rattle.base.specs.declared.transaction.Kind.TheVariants.{Share, Lend, Donate}
-use Rattle.base.specs.Descriptors.Send.{Endpoint, u16_at, u32_at, u64_at, header_size, array_at, receiver_count, are_attributes, is_rest_of_header, is_access}
+use Rattle.base.specs.Descriptors.Send.{Endpoint, u16_at, u32_at, u64_at, header_size, array_at, receiver_count, is_rest_of_header, is_access}
+use Rattle.base.specs.Descriptors.Permissions.{are_attributes}
 
 -- the kind that the request asks for, or any; whether the check that all borrowers are named is bypassed
 pub record Retrieve : Type 0 where

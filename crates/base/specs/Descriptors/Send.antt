@@ -4,6 +4,7 @@ use Rattle.byteorder.specs.Endian.{little_number}
 use Rattle.base.specs.declared.partition.Version.{Version}
 use Rattle.base.specs.declared.partition.Version.TheVariants.{V10, V11}
 use Rattle.base.specs.Pages.{PageRun, are_disjoint}
+use Rattle.base.specs.Descriptors.Permissions.{are_permissions, are_attributes}
 
 -- the little-endian numbers at an offset
 unfoldable pub u16_at : List ℕ → ℕ → ℕ
@@ -59,10 +60,6 @@ has_layout version bytes =
 
 -- ---- the header
 
--- attributes 0 are not specified; 0x2f is normal memory, write-back, inner shareable
-abbrev pub are_attributes : ℕ → Bool
-are_attributes a = (a == 0) || (a == 0x2f)
-
 -- from byte 24 on: in 1.0 a reserved word; in 1.1 the size of an access descriptor and, behind the array's offset, reserved words
 abbrev pub is_rest_of_header : Version → List ℕ → Bool
 is_rest_of_header V10 bytes = u32_at bytes 24 == 0
@@ -78,10 +75,6 @@ is_header version bytes =
     && is_rest_of_header version bytes
 
 -- ---- the access descriptors
-
--- data access in bits 1:0 and instruction access in bits 3:2 are 0, 1 or 2, and no other bit is set
-abbrev pub are_permissions : ℕ → Bool
-are_permissions permissions = nat_lt (permissions % 4) 3 && nat_lt (permissions / 4) 3
 
 -- an access descriptor that points at this composite descriptor
 unfoldable pub is_access : List ℕ → ℕ → ℕ → Bool

@@ -10,7 +10,7 @@ const RELINQUISH: [u8; 20] = [
 fn reads_the_first_bytes(rt: HostRuntime) {
     for len in 18..21 {
         let desc = read_relinquish(&RELINQUISH[..len]).expect(&rt, "a relinquish");
-        assert_eq!(rt; desc.handle, 0x0807_0605_0403_0201);
+        assert_eq!(rt; desc.handle.bits(), 0x0807_0605_0403_0201);
         assert_eq!(rt; desc.endpoint.number(), 0x8002);
     }
 }

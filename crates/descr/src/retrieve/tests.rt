@@ -1,6 +1,6 @@
 use super::{RetrieveDesc, read_retrieve};
 use crate::access::Endpoint;
-use base::{Kind, PartitionId, Version};
+use base::{Handle, Kind, MemoryAttributes, PartitionId, Permissions, Version};
 use std::process::Abort;
 
 /// 0x8002 asks for what 0x8001 lent under handle 0x0807060504030201, read-write, in the layout of
@@ -38,14 +38,14 @@ fn assert_flags(rt: &impl Abort, low: u8, high: u8, kind: Option<Kind>, bypass: 
 fn reads_each_layout(rt: HostRuntime) {
     let request = RetrieveDesc {
         sender: PartitionId::new(0x8001),
-        attributes: 0x2f,
+        attributes: MemoryAttributes::normal_write_back(),
         kind: Some(Kind::Lend),
         bypass: false,
-        handle: 0x0807_0605_0403_0201,
+        handle: Handle::from_bits(0x0807_0605_0403_0201),
         tag: 0x1817_1615_1413_1211,
         endpoint: Endpoint {
             partition: PartitionId::new(0x8002),
-            permissions: 2,
+            permissions: Permissions::new(2),
         },
     };
     assert_eq!(rt; read_retrieve(&REQUEST, Version::V11), Some(request));

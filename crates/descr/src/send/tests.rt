@@ -1,6 +1,6 @@
 use super::{SendDesc, read_send};
 use crate::access::Endpoint;
-use base::{PartitionId, Version};
+use base::{MemoryAttributes, PartitionId, Permissions, Version};
 use std::process::Abort;
 
 /// 0x8001 lends page 0x80001 to 0x8002, read-write, in the layout of FF-A 1.1.
@@ -77,7 +77,7 @@ fn assert_receivers(rt: &impl Abort, desc: &SendDesc<'_>, receivers: &[(u16, u8)
     for (i, (partition, permissions)) in receivers.iter().enumerate() {
         let endpoint = Endpoint {
             partition: PartitionId::new(*partition),
-            permissions: *permissions,
+            permissions: Permissions::new(*permissions),
         };
         assert!(rt; i < desc.receivers.len());
         assert_eq!(rt; desc.receivers[i], endpoint);
@@ -103,7 +103,7 @@ fn reads_each_layout(rt: HostRuntime) {
     ] {
         let desc = read_send(bytes, version).expect(&rt, "a send");
         assert_eq!(rt; desc.sender.number(), 0x8001);
-        assert_eq!(rt; desc.attributes, 0);
+        assert_eq!(rt; desc.attributes, MemoryAttributes::not_specified());
         assert_eq!(rt; desc.tag, 0);
         assert_receivers(&rt, &desc, &[(0x8002, 2)]);
         assert_ranges(&rt, &desc, &[(0x80001, 1)]);
@@ -115,7 +115,7 @@ fn reads_each_layout(rt: HostRuntime) {
 #[test]
 fn reads_many_receivers_and_ranges(rt: HostRuntime) {
     let desc = read_send(&TWO_OF_EACH, Version::V11).expect(&rt, "a send");
-    assert_eq!(rt; desc.attributes, 0x2f);
+    assert_eq!(rt; desc.attributes, MemoryAttributes::normal_write_back());
     assert_eq!(rt; desc.tag, 0x0807_0605_0403_0201);
     assert_receivers(&rt, &desc, &[(0x8002, 2), (0x8003, 1)]);
     assert_ranges(&rt, &desc, &[(0x80001, 1), (0x80010, 3)]);

@@ -2,7 +2,7 @@ use super::{write_relinquish, write_response, write_retrieve, write_send};
 use crate::fields::{
     HeaderFields, RangeFields, RelinquishFields, ResponseFields, RetrieveFields, SendFields,
 };
-use base::{Kind, Page, PartitionId, Run, Version};
+use base::{Handle, Kind, MemoryAttributes, Page, PartitionId, Permissions, Run, Version};
 use descr::{Endpoint, RetrieveDesc, SendDesc, read_relinquish, read_retrieve, read_send};
 use std::process::Abort;
 
@@ -54,7 +54,7 @@ const RESPONSE_1_0: [u8; 80] = [
 fn endpoint(partition: u16, permissions: u8) -> Endpoint {
     Endpoint {
         partition: PartitionId::new(partition),
-        permissions,
+        permissions: Permissions::new(permissions),
     }
 }
 
@@ -62,9 +62,9 @@ fn endpoint(partition: u16, permissions: u8) -> Endpoint {
 fn header(attributes: u16, flags: u32, handle: u64) -> HeaderFields {
     HeaderFields {
         sender: PartitionId::new(0x8001),
-        attributes,
+        attributes: MemoryAttributes::new(attributes),
         flags,
-        handle,
+        handle: Handle::from_bits(handle),
         tag: 0,
     }
 }
@@ -115,7 +115,7 @@ fn writes_a_response(rt: HostRuntime) {
     let fields = ResponseFields {
         sender: PartitionId::new(0x8001),
         kind: Kind::Lend,
-        handle: 0x0000_8001_0000_0001,
+        handle: Handle::new(PartitionId::new(0x8001), 1),
         tag: 0,
         endpoint: endpoint(0x8002, 6),
         ranges: &[Run::new(Page::new(0x80001), 1)],
@@ -151,7 +151,7 @@ fn sends_are_read_back(rt: HostRuntime) {
         let written = write_send(rt.alloc(), version, &fields).expect(&rt, "memory");
         let desc = read_send(&written, version).expect(&rt, "a send");
         assert_eq!(rt; desc.sender.number(), 0x8001);
-        assert_eq!(rt; desc.attributes, 0x2f);
+        assert_eq!(rt; desc.attributes, MemoryAttributes::normal_write_back());
         assert_parts(&rt, &desc, &receivers, &[(0x80001, 1), (0x80010, 3)]);
     }
 }
@@ -164,10 +164,10 @@ fn requests_are_read_back(rt: HostRuntime) {
     };
     let request = RetrieveDesc {
         sender: PartitionId::new(0x8001),
-        attributes: 0x2f,
+        attributes: MemoryAttributes::normal_write_back(),
         kind: Some(Kind::Lend),
         bypass: true,
-        handle: 0x0807_0605_0403_0201,
+        handle: Handle::from_bits(0x0807_0605_0403_0201),
         tag: 0,
         endpoint: endpoint(0x8002, 2),
     };
@@ -180,13 +180,13 @@ fn requests_are_read_back(rt: HostRuntime) {
 #[test]
 fn relinquishes_are_read_back(rt: HostRuntime) {
     let fields = RelinquishFields {
-        handle: 0x0807_0605_0403_0201,
+        handle: Handle::from_bits(0x0807_0605_0403_0201),
         flags: 0,
         endpoint: PartitionId::new(0x8002),
     };
     let written = write_relinquish(rt.alloc(), &fields).expect(&rt, "memory");
     assert_eq!(rt; written.len(), 18);
     let desc = read_relinquish(&written).expect(&rt, "a relinquish");
-    assert_eq!(rt; desc.handle, 0x0807_0605_0403_0201);
+    assert_eq!(rt; desc.handle.bits(), 0x0807_0605_0403_0201);
     assert_eq!(rt; desc.endpoint.number(), 0x8002);
 }

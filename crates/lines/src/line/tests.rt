@@ -1,7 +1,7 @@
 use super::{Line, read_line};
 use crate::send::SendLine;
 use arrayvec::ArrayVec;
-use base::{Kind, OutOfMemory, PartitionId};
+use base::{Kind, OutOfMemory, PartitionId, Permissions};
 use descr::Endpoint;
 use descw::RangeFields;
 use std::alloc::Global;
@@ -65,11 +65,11 @@ fn reads_lends(rt: HostRuntime) -> Result<(), Fail> {
     let mut receivers = ArrayVec::new();
     receivers.push(Endpoint {
         partition: PartitionId::new(0x8002),
-        permissions: 2,
+        permissions: Permissions::new(2),
     });
     receivers.push(Endpoint {
         partition: PartitionId::new(0x8003),
-        permissions: 0x1f,
+        permissions: Permissions::new(0x1f),
     });
     let text = "lend 8001 5 8002:02,8003:1f 80000000+256,ffffffffffffffff+0";
     expect_line(&rt, alloc, text, Some(lend_line(alloc, receivers)?))?;

@@ -1,4 +1,4 @@
-use Rattle.descr.proofs.Apart.{retrieves_apart}
+use Rattle.descr.proofs.TwoLayouts.{retrieves_apart}
 use Rattle.descr.proofs.law.retrieve_layouts_are_apart.Goals as goal
 
 pub returns : goal.returns
