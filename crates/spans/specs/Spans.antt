@@ -1,0 +1,39 @@
+-- Maps from pages to numbers as intervals.
+use Rattle.std.specs.Prelude.{◌≡◌, ℕ, ◌+◌, ◌*◌, Bool, true, ◌&&◌, nat_le, nat_lt, List, [], ◌∷◌, Option, Some, None, slice_index_or, if◌then◌else◌}
+use Rattle.base.specs.Pages.{PageRun, in_run}
+
+-- the pages of a run, and the number that each of them has
+pub record Span : Type 0 where
+  pub run : PageRun
+  pub value : ℕ
+
+-- the intervals, and for how many more of them there is room
+pub record SpansView : Type 0 where
+  pub spans : List Span
+  pub room : ℕ
+
+-- the number of a page
+abbrev pub value_at : List Span → ℕ → Option ℕ
+value_at [] n = None
+value_at (s ∷ ss) n = if in_run s.run n then Some s.value else value_at ss n
+
+abbrev pub end_of : PageRun → ℕ
+end_of run = run.first + run.count
+
+-- each has a page and begins where the one before it ends, or later, and the first at this page or later
+abbrev pub ascend : ℕ → List Span → Bool
+ascend end [] = true
+ascend end (s ∷ ss) = (nat_le end s.run.first && nat_lt 0 s.run.count) && ascend (end_of s.run) ss
+
+-- where the last of them ends; without one, this page
+abbrev pub end_from : ℕ → List Span → ℕ
+end_from end [] = end
+end_from end (s ∷ ss) = end_from (end_of s.run) ss
+
+-- the interval at a place
+abbrev pub IsSpanAt : List Span → ℕ → PageRun → ℕ → Type 0
+IsSpanAt ss i run value = (d : Span) → slice_index_or ss i d ≡ record { run = run; value = value }
+
+-- an edit splits an interval at two places, and puts one in between
+abbrev pub room_for : ℕ → ℕ
+room_for calls = calls * 3

@@ -1,0 +1,132 @@
+//! Looks pages up, by halving.
+
+ghost use Rattle.std.specs.Prelude.{◌≡◌, ℕ, ◌+◌, ◌-◌, ◌*◌, ◌^◌, ◌<◌, ◌≤◌, length};
+ghost use Rattle.spans.specs.Spans.{value_at};
+ghost use Rattle.spans.specs.Search.{IsFound, IsFirstOf};
+
+use crate::probes::Probes;
+use crate::spans::Spans;
+use base::{Page, Run};
+use std::marker::Brand;
+use std::sync::ledger::{Blank, Ledger};
+
+/// The number of a page, if it has one, and the first page behind it from which the answer may differ.
+#[derive(Clone, Copy, Debug, PartialEq, Eq)]
+pub struct Segment {
+    /// The number that the pages have.
+    pub value: Option<u64>,
+    /// The number of the page after the last of them.
+    pub end: u32,
+}
+
+/// Where a page is.
+enum Place {
+    /// In this interval, whose pages have this number.
+    Inside(Run, u64),
+    /// In none: behind those before this place, and before all others.
+    Before(usize),
+}
+
+impl Spans {
+    /// The interval of a page, or the place of those behind it.
+    fn place_of<L: Ledger>(&self, page: Page, probes: &mut Probes<L>) -> Place
+        ensures place { IsFound self.now.spans page result }
+        ensures cost { 2 ^ (probes.new - probes.old) ≤ 2 * length self.now.spans + 1 }
+        ensures counts { probes.old ≤ probes.new }
+    {
+        let mut low = 0;
+        let mut high = self.len();
+        while low < high {
+            let middle = low + (high - low) / 2;
+            let (run, value) = self.look(middle, probes);
+            if page.number() < run.first().number() {
+                high = middle;
+            } else if run.end() <= page.number() {
+                low = middle + 1;
+            } else {
+                return Place::Inside(run, value);
+            }
+        }
+        Place::Before(low)
+    }
+
+    /// The number of a page. It looks at no more intervals than their count has binary digits.
+    pub fn find<L: Ledger>(&self, page: Page, probes: &mut Probes<L>) -> Option<u64>
+        ensures value { result ≡ value_at self.now.spans page }
+        ensures cost { 2 ^ (probes.new - probes.old) ≤ 2 * length self.now.spans + 1 }
+        ensures counts { probes.old ≤ probes.new }
+    {
+        match self.place_of(page, probes) {
+            Place::Inside(_, value) => Some(value),
+            Place::Before(_) => None,
+        }
+    }
+
+    /// The number of a page, with no count of the looks.
+    pub fn get(&self, page: Page) -> Option<u64>
+        ensures { result ≡ value_at self.now.spans page }
+    {
+        self.get_from::<Brand>(page, Blank::new(1))
+    }
+
+    fn get_from<L: Ledger>(&self, page: Page, blank: Blank) -> Option<u64>
+        requires name { blank.name ≡ L.name }
+        requires parts { blank.parts ≡ L.parts }
+        requires some { 0 < L.parts }
+        ensures { result ≡ value_at self.now.spans page }
+    {
+        let mut probes = Probes::<L>::new(blank);
+        self.find(page, &mut probes)
+    }
+
+    /// The number of a page, and how far the pages behind it have the same.
+    pub fn segment_at(&self, page: Page) -> Segment
+        ensures behind { page < result.end }
+        ensures in_range { result.end ≤ 2 ^ 27 }
+        ensures value { (n : ℕ) → page ≤ n → n < result.end → value_at self.now.spans n ≡ result.value }
+    {
+        self.segment_from::<Brand>(page, Blank::new(1))
+    }
+
+    fn segment_from<L: Ledger>(&self, page: Page, blank: Blank) -> Segment
+        requires name { blank.name ≡ L.name }
+        requires parts { blank.parts ≡ L.parts }
+        requires some { 0 < L.parts }
+        ensures behind { page < result.end }
+        ensures in_range { result.end ≤ 2 ^ 27 }
+        ensures value { (n : ℕ) → page ≤ n → n < result.end → value_at self.now.spans n ≡ result.value }
+    {
+        let mut probes = Probes::<L>::new(blank);
+        self.find_segment(page, &mut probes)
+    }
+
+    /// The same, with a count of the looks: one more than `find` makes, at most.
+    fn find_segment<L: Ledger>(&self, page: Page, probes: &mut Probes<L>) -> Segment
+        ensures behind { page < result.end }
+        ensures in_range { result.end ≤ 2 ^ 27 }
+        ensures value { (n : ℕ) → page ≤ n → n < result.end → value_at self.now.spans n ≡ result.value }
+    {
+        match self.place_of(page, probes) {
+            Place::Inside(run, value) => Segment {
+                value: Some(value),
+                end: run.end(),
+            },
+            Place::Before(place) => Segment {
+                value: None,
+                end: self.first_of(place, probes),
+            },
+        }
+    }
+
+    /// Where the interval at a place begins; without one, the number of pages.
+    fn first_of<L: Ledger>(&self, place: usize, probes: &mut Probes<L>) -> u32
+        ensures { IsFirstOf self.now.spans place result }
+    {
+        if place < self.len() {
+            let (run, _) = self.look(place, probes);
+            run.first().number()
+        } else {
+            Page::COUNT
+        }
+    }
+}

@@ -1,0 +1,10 @@
+//! Maps from pages to numbers, kept as intervals and searched by halving.
+#![tactic(auto)]
+
+mod find;
+mod probes;
+mod spans;
+
+pub use find::Segment;
+pub use probes::Probes;
+pub use spans::Spans;

@@ -1,0 +1,115 @@
+ghost use Rattle.std.specs.Prelude.{◌≡◌, ◌+◌, ◌<◌, ◌≤◌, ◌↔◌, [], Some, None, true, length, if◌then◌else◌, IsTrue, OnOk};
+ghost use Rattle.base.specs.Pages.{in_run};
+ghost use Rattle.spans.specs.Spans as spec;
+
+use crate::probes::Probes;
+use base::{OutOfMemory, Page, Run};
+use std::alloc::Global;
+use std::marker::Model;
+use std::sync::ledger::Ledger;
+
+mod edit;
+
+/// The pages of a run, and the number that each of them has.
+#[derive(Clone, Copy)]
+struct Span {
+    run: Run,
+    value: u64,
+}
+
+impl Model for Span {
+    ghost use Rattle.spans.specs.Spans as spec;
+
+    ghost Value = { spec.Span };
+
+    ghost view = { λ s. record { run = s.run; value = s.value } };
+
+    ghost inverse = { λ s. record { run = s.run; value = s.value } };
+}
+
+/// A map from pages to numbers: intervals of pages in ascending order, no two of which share a page.
+#[derive(Drop)]
+pub struct Spans {
+    spans: Vec<Span>,
+}
+
+impl Model for Spans {
+    ghost use Rattle.std.specs.Prelude.{◌-◌, IsTrue, vec_len, vec_capacity};
+    ghost use Rattle.spans.specs.Spans.{SpansView, ascend};
+
+    ghost Value = { SpansView };
+
+    ghost view = { λ s. record { spans = s.spans.items; room = vec_capacity s.spans - vec_len s.spans } };
+
+    ghost invariant = { λ s. IsTrue (ascend 0 s.spans.items) };
+}
+
+impl Spans {
+    /// No page has a number. This takes no memory.
+    pub fn new(alloc: Global) -> Self
+        ensures { result.spans ≡ [] }
+    {
+        Spans {
+            spans: Vec::new(alloc),
+        }
+    }
+
+    /// Makes room for this many calls of `put` or `cut`. A refusal changes no number.
+    pub fn ready(&mut self, calls: usize) -> Result<(), OutOfMemory>
+        ensures spans { self.new.spans ≡ self.old.spans }
+        ensures room { OnOk result (spec.room_for calls ≤ self.new.room) }
+        ensures kept { self.old.room ≤ self.new.room }
+    {
+        let Some(spans) = calls.checked_mul(3) else {
+            return Err(OutOfMemory);
+        };
+        self.spans.reserve(spans)?;
+        Ok(())
+    }
+
+    /// Gives all pages of a run this number; other pages keep theirs. This takes no memory.
+    pub fn put(&mut self, run: Run, value: u64)
+        requires { spec.room_for 1 ≤ self.old.room }
+        ensures at { (n : _) → spec.value_at self.new.spans n
+            ≡ (if in_run run n then Some value else spec.value_at self.old.spans n) }
+        ensures room { self.old.room ≤ self.new.room + spec.room_for 1 }
+    {
+        edit::put(&mut self.spans, Span { run, value });
+    }
+
+    /// Takes the numbers of all pages of a run away; other pages keep theirs. This takes no memory.
+    pub fn cut(&mut self, run: Run)
+        requires { spec.room_for 1 ≤ self.old.room }
+        ensures at { (n : _) → spec.value_at self.new.spans n
+            ≡ (if in_run run n then None else spec.value_at self.old.spans n) }
+        ensures room { self.old.room ≤ self.new.room + spec.room_for 1 }
+    {
+        edit::cut(&mut self.spans, run);
+    }
+
+    /// How many intervals there are.
+    pub fn len(&self) -> usize
+        ensures same { result ≡ length self.now.spans }
+        ensures ascending { spec.ascend 0 self.now.spans ≡ true }
+    {
+        self.spans.len()
+    }
+
+    /// Whether no page has a number.
+    pub fn is_empty(&self) -> bool
+        ensures { IsTrue result ↔ (self.now.spans ≡ []) }
+    {
+        self.spans.is_empty()
+    }
+
+    /// The interval at a place, counted from 0, and the number of its pages. Counts one look.
+    pub fn look<L: Ledger>(&self, i: usize, probes: &mut Probes<L>) -> (Run, u64)
+        requires { i < length self.now.spans }
+        ensures span { spec.IsSpanAt self.now.spans i result.0 result.1 }
+        ensures count { probes.new ≡ probes.old + 1 }
+    {
+        probes.count();
+        let span = self.spans[i];
+        (span.run, span.value)
+    }
+}
