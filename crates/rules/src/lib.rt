@@ -4,4 +4,4 @@
 
 mod law;
 
-pub use law::pages_have_one_owner;
+pub use law::{edits_the_view, pages_have_one_owner};

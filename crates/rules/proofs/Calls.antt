@@ -1,0 +1,2 @@
+-- What is known of a call that passes its tests.
+pub mod Send

@@ -1,0 +1,4 @@
+-- The laws, a file each, and in it a case for each call.
+pub mod ManifestStays
+pub mod EditsTheView
+pub mod OneOwner
