@@ -2,3 +2,5 @@
 pub mod ManifestStays
 pub mod EditsTheView
 pub mod OneOwner
+pub mod Handles
+pub mod BuffersApart

@@ -1,3 +1,5 @@
 -- What holds of every rule, and of every state that calls reach.
 pub mod EditsTheView
 pub mod OneOwner
+pub mod Handles
+pub mod BuffersApart

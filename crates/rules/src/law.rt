@@ -1,4 +1,6 @@
 ghost use Rattle.rules.specs.Laws.OneOwner.{IsOwnedOnce};
+ghost use Rattle.rules.specs.Laws.Handles.{AreHandlesUsedOnce};
+ghost use Rattle.rules.specs.Laws.BuffersApart.{AreBuffersApart};
 ghost use Rattle.rules.specs.Laws.EditsTheView.{Passes, EditsTheView};
 ghost use Rattle.rules.specs.Call.{CallWords};
 ghost use Rattle.rules.specs.Run.{IsReached};
@@ -15,4 +17,16 @@ pub fn pages_have_one_owner()
 /// before, with the one edit that the call's rule names.
 pub fn edits_the_view()
     ensures { (s : State) → (c : CallWords) → (r : Request) → Passes s c r → EditsTheView s c r }
+{}
+
+/// In every state that some list of calls reaches, no two live transactions have one handle, and no
+/// handle is above the count of its sender's accepted sends.
+pub fn handles_are_used_once()
+    ensures { (s : State) → IsReached s → AreHandlesUsedOnce s }
+{}
+
+/// In every state that some list of calls reaches, no page of a live transaction lies in a registered
+/// buffer.
+pub fn buffers_are_apart()
+    ensures { (s : State) → IsReached s → AreBuffersApart s }
 {}
