@@ -139,7 +139,7 @@ keeps s c (RxtxMap tx rx count) r is k h = record { rows = h.rows; counts = h.co
 keeps s c (RxtxUnmap word) r is k h = record { rows = h.rows; counts = h.counts; counted = h.counted; distinct = h.distinct }
 keeps s c IdGet r is k h = h
 keeps s c (Send Lend t) r is k h = send s c Lend t k.known (send_passes s c Lend t k.passed) h
-keeps s c (Send Share t) r is k h = h
+keeps s c (Send Share t) r is k h = send s c Share t k.known (send_passes s c Share t k.passed) h
 keeps s c (Send Donate t) r is k h = h
 keeps s c (Retrieve t) r is k h = h
 keeps s c Relinquish r is k h = h

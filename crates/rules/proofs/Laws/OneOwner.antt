@@ -67,7 +67,7 @@ keeps s c (RxtxMap tx rx count) r is k o = record { owners = o.owners; senders =
 keeps s c (RxtxUnmap word) r is k o = record { owners = o.owners; senders = o.senders; apart = o.apart }
 keeps s c IdGet r is k o = o
 keeps s c (Send Lend t) r is k o = send s c Lend t (send_passes s c Lend t k.passed) o
-keeps s c (Send Share t) r is k o = o
+keeps s c (Send Share t) r is k o = send s c Share t (send_passes s c Share t k.passed) o
 keeps s c (Send Donate t) r is k o = o
 keeps s c (Retrieve t) r is k o = o
 keeps s c Relinquish r is k o = o
