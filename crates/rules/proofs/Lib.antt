@@ -1,6 +1,6 @@
-pub mod Steps
+pub mod Passing
+pub mod FreePages
+pub mod Calls
+pub mod ViewLemmas
+pub mod Laws
 pub mod Reached
-pub mod Pages
-pub mod Viewing
-pub mod Owning
-pub mod Still

@@ -1,60 +1,87 @@
--- A step leads from a reached state to a reached state.
-use Rattle.std.proofs.Common.{◌≡◌, true, List, [], ◌∷◌, ◌++◌, Some, None, refl, ap, ◌∙◌}
+-- A property that boot has and each rule keeps holds in every state that calls reach.
+use Rattle.std.proofs.Common.{◌≡◌, Bool, true, false, List, [], ◌∷◌, ◌++◌, Option, Some, None, cond, refl, ap, ◌∙◌, subst, sym}
+use Rattle.std.specs.List.{AllByRecursion}
+use Rattle.std.specs.Option.{option_map_or}
+use Rattle.std.specs.Prelude.{IsTrue}
+use Rattle.base.specs.declared.status.Status.{Status}
+use Rattle.base.specs.declared.status.Status.TheVariants.{NotSupported, Denied}
 use Rattle.base.specs.Manifest.{ManifestRows, is_partition}
-use Rattle.base.specs.State.{State, start}
 use Rattle.base.specs.Refusals.{first_refusal}
+use Rattle.base.specs.State.{State, start}
+use Rattle.manifest.specs.Valid.{is_valid}
 use Rattle.wire.specs.declared.request.Request.{Request}
-use Rattle.wire.specs.declared.request.Request.TheVariants.{Version, Features, RxRelease, RxtxMap, RxtxUnmap, IdGet, Send, Retrieve, Relinquish, Reclaim}
 use Rattle.wire.specs.Requests.{request_of}
-use Rattle.rules.specs.Calls.{CallWords}
-use Rattle.rules.specs.Versions.{with_version}
-use Rattle.rules.specs.Buffers.{with_pair, with_rx_released}
-use Rattle.rules.specs.Sending.{with_transaction, with_send}
-use Rattle.rules.specs.Answering.{tests_of, changed, answer_to, state_after, answer, step, state_from, IsReached}
-use Rattle.rules.proofs.Steps.{step_cases}
+use Rattle.rules.specs.Call.{CallWords, IsCall}
+use Rattle.rules.specs.Rule.{Rule, refused, reply_of, next_of}
+use Rattle.rules.specs.Run.{rule_of, rule, refusal, answer, step, state_from, IsReached}
+use Rattle.rules.specs.Laws.EditsTheView.{Passes}
+use Rattle.rules.proofs.Laws.ManifestStays.{manifest_stays}
+
+-- ---- one step
+
+granted_cases : (P : State → Type 0) (s : State) (r : Rule) → P s → (first_refusal r.tests ≡ None → P r.next) → P (next_of s r)
+granted_cases P s r same change =
+    elim (first_refusal r.tests) as (λ o. first_refusal r.tests ≡ o → P (option_map_or (λ (status : Status). s) o r.next)) [
+      | None ↦ change
+      | Some status ↦ λ e. same
+    ] refl
+
+cases : (P : State → Type 0) (s : State) (known : Bool) (o : Option Request) (rules : Request → Rule) → P s → ((r : Request) → known ≡ true → o ≡ Some r → first_refusal (rules r).tests ≡ None → P (rules r).next)
+    → P (next_of s (cond known (option_map_or rules o (refused NotSupported s)) (refused Denied s)))
+cases P s false o rules same change = same
+cases P s true None rules same change = same
+cases P s true (Some r) rules same change = granted_cases P s (rules r) same (change r refl refl)
+
+-- a step either leaves the state or is that of a request that passes its tests
+pub step_cases : (P : State → Type 0) (s : State) (c : CallWords) → P s → ((r : Request) → Passes s c r → P (rule_of s c r).next) → P (step s c)
+unfolding step rule
+step_cases P s c same change =
+    cases P s (is_partition s.manifest c.caller) (request_of c.regs) (rule_of s c) same (λ r known named passed. change r (record { known = known; named = named; passed = passed }))
+
+-- the rule of a known caller's request
+pub rule_is : (s : State) (c : CallWords) (r : Request) → is_partition s.manifest c.caller ≡ true → request_of c.regs ≡ Some r → rule s c ≡ rule_of s c r
+unfolding rule
+rule_is s c r known named = rw (known, named) refl
+
+-- the step of a request that passes its tests
+pub step_is : (s : State) (c : CallWords) (r : Request) → Passes s c r → step s c ≡ (rule_of s c r).next
+unfolding step
+step_is s c r k = rw (rule_is s c r k.known k.named, k.passed) refl
+
+-- ---- runs
 
 state_from-append : (s : State) (cs : List CallWords) (c : CallWords) → state_from s (cs ++ c ∷ []) ≡ step (state_from s cs) c
 state_from-append s [] c = refl
 state_from-append s (d ∷ cs) c = state_from-append (step s d) cs c
 
-changed_keeps : (s : State) (c : CallWords) (r : Request) → (changed s c r).manifest ≡ s.manifest
-unfolding with_version with_pair with_rx_released with_transaction with_send
-changed_keeps s c (Version word) = refl
-changed_keeps s c (Features identifier) = refl
-changed_keeps s c RxRelease = refl
-changed_keeps s c (RxtxMap tx rx count) = refl
-changed_keeps s c (RxtxUnmap word) = refl
-changed_keeps s c IdGet = refl
-changed_keeps s c (Send kind t) = refl
-changed_keeps s c (Retrieve t) = refl
-changed_keeps s c Relinquish = refl
-changed_keeps s c (Reclaim handle flags) = refl
+pub all_push : {X : Type 0} (P : X → Type 0) (xs : List X) (x : X) → AllByRecursion P xs → P x → AllByRecursion P (xs ++ x ∷ [])
+all_push P [] x h p = (p, tt)
+all_push P (y ∷ ys) x h p = (h.0, all_push P ys x h.1 p)
 
--- no call changes the manifest
 pub step_keeps : (s : State) (c : CallWords) → (step s c).manifest ≡ s.manifest
-step_keeps s c = step_cases (λ t. t.manifest ≡ s.manifest) s c refl (λ f is passed. changed_keeps s c f)
+step_keeps s c = step_cases (λ t. t.manifest ≡ s.manifest) s c refl (λ r k. manifest_stays s c r)
 
-pub IsReached-start : (m : ManifestRows) → IsReached (start m)
-IsReached-start m = record { calls = []; leads = refl }
+pub IsReached-start : (m : ManifestRows) → IsTrue (is_valid m) → IsReached (start m)
+IsReached-start m valid = record { valid = valid; calls = []; are_calls = tt; leads = refl }
 
-pub IsReached-step : (s : State) (c : CallWords) → IsReached s → IsReached (step s c)
-IsReached-step s c r =
+pub IsReached-step : (s : State) (c : CallWords) → IsCall c → IsReached s → IsReached (step s c)
+IsReached-step s c is r =
     let calls = r.calls ++ c ∷ [] in
     record {
+      valid = subst (λ (m : ManifestRows). IsTrue (is_valid m)) (sym (step_keeps s c)) r.valid;
       calls = calls;
+      are_calls = all_push IsCall r.calls c r.are_calls is;
       leads = ap (λ (m : ManifestRows). state_from (start m) calls) (step_keeps s c) ∙ state_from-append (start s.manifest) r.calls c ∙ ap (λ (t : State). step t c) r.leads;
     }
 
--- the step of a call that passes its tests
-pub accepted : (s : State) (c : CallWords) (r : Request) → is_partition s.manifest c.caller ≡ true → request_of c.regs ≡ Some r → first_refusal (tests_of s c r) ≡ None → step s c ≡ changed s c r
-unfolding step
-accepted s c r known named passed = rw (known, named, passed) refl
+-- each request of a call that passes its tests keeps it
+abbrev pub Keeps : (State → Type 0) → Type 0
+Keeps P = (s : State) (c : CallWords) (r : Request) → IsReached s → IsCall c → Passes s c r → P s → P (rule_of s c r).next
 
--- the reply to a known caller's request, and the step
-pub answered : (s : State) (c : CallWords) (r : Request) → is_partition s.manifest c.caller ≡ true → request_of c.regs ≡ Some r → answer s c ≡ answer_to s c r
-unfolding answer
-answered s c r known named = rw (known, named) refl
+from : (P : State → Type 0) → Keeps P → (s : State) (calls : List CallWords) → AllByRecursion IsCall calls → IsReached s → P s → P (state_from s calls)
+from P keeps s [] are r p = p
+from P keeps s (c ∷ calls) are r p = from P keeps (step s c) calls are.1 (IsReached-step s c are.0 r) (step_cases P s c p (λ q k. keeps s c q r are.0 k p))
 
-pub stepped : (s : State) (c : CallWords) (r : Request) → is_partition s.manifest c.caller ≡ true → request_of c.regs ≡ Some r → step s c ≡ state_after s c r
-unfolding step
-stepped s c r known named = rw (known, named) refl
+pub all_reached : (P : State → Type 0) → ((m : ManifestRows) → IsTrue (is_valid m) → P (start m)) → Keeps P → (s : State) → IsReached s → P s
+all_reached P first keeps s r =
+    subst P r.leads (from P keeps (start s.manifest) r.calls r.are_calls (IsReached-start s.manifest r.valid) (first s.manifest r.valid))

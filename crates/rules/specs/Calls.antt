@@ -1,8 +1,9 @@
--- A call as numbers (FF-A 1.1, "Interface overview").
-use Rattle.std.specs.Prelude.{ℕ, List}
-
--- who calls, registers 0 to 7, and one copy of the caller's TX buffer
-pub record CallWords : Type 0 where
-  pub caller : ℕ
-  pub regs : List ℕ
-  pub tx : List ℕ
+-- The rules of the calls (FF-A 1.1, "Setup and discovery interfaces", "Memory management interfaces").
+pub mod Version
+pub mod Features
+pub mod IdGet
+pub mod Buffers
+pub mod Send
+pub mod Retrieve
+pub mod Relinquish
+pub mod Reclaim

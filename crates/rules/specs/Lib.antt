@@ -1,6 +1,5 @@
+pub mod Call
+pub mod Rule
 pub mod Calls
-pub mod Buffers
-pub mod Versions
-pub mod Sending
-pub mod Answering
+pub mod Run
 pub mod Laws

@@ -4,4 +4,4 @@
 
 mod law;
 
-pub use law::pages_have_one_owner;
+pub use law::{buffers_are_apart, edits_the_view, handles_are_used_once, pages_have_one_owner};

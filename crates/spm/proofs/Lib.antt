@@ -1,3 +1,3 @@
-mod Seats
-mod Turns
-mod Kept
+mod Rows
+mod LoopLemmas
+mod ConsistencyLemmas

@@ -1,31 +1,32 @@
 //! The manager: the state, and the translation tables that agree with it.
 
-ghost use Rattle.std.specs.Prelude.{◌≡◌, ◌-◌, ◌%◌, ◌/◌, ◌^◌, ◌<◌, Some, None, IfOk, OnOk, OnErr, IsSome, true, false};
+ghost use Rattle.std.specs.Prelude.{◌≡◌, Some, None, [], IfOk, OnOk, OnErr, IsSome, true};
 ghost use Rattle.base.specs.Manifest as rows;
 ghost use Rattle.base.specs.State as state;
-ghost use Rattle.pool.specs.Pool.{words_of};
+ghost use Rattle.base.specs.Refusals.{first_refusal};
+ghost use Rattle.pool.specs.Pool.{words_of, emptied};
 ghost use Rattle.stage2.specs.Slot.{layout_of};
 ghost use Rattle.stage2.specs.Walk.{translation, walked};
-ghost use Rattle.base.specs.Refusals.{first_refusal};
 ghost use Rattle.wire.specs.Requests.{request_of};
-ghost use Rattle.rules.specs.Answering as rules;
-ghost use Rattle.rules.specs.Sending.{send_tests, sent};
-ghost use Rattle.rules.specs.Laws.{IsOwnedOnce};
-ghost use Rattle.spm.specs.Machine.{WalksAgree, MayWantMemory, unchanged};
+ghost use Rattle.rules.specs.Rule.{reply_of, next_of};
+ghost use Rattle.rules.specs.Run as rules;
+ghost use Rattle.rules.specs.Laws.OneOwner.{IsOwnedOnce};
+ghost use Rattle.spm.specs.Granted.{is_send_request};
+ghost use Rattle.spm.specs.Machine.{WalksAgree, MayNeedMemory, unchanged};
 
 use crate::call::Call;
-use crate::checks::check_send;
+use crate::calls::check;
+use crate::change::Stop;
+use crate::commit::commit;
 use crate::ledger::Ledger;
-use crate::setup::set_up;
 use crate::state::State;
-use base::{Access, Kind, OutOfMemory, Page, PartitionId, Status, Version, normal};
-use descr::SendDesc;
+use base::{Access, OutOfMemory, Page, PartitionId, Status, Version};
 use manifest::Manifest;
 use pool::TableMem;
 use stage2::Tables;
 use std::alloc::Global;
 use std::marker::Model;
-use wire::{Reply, Request, Transfer, decode};
+use wire::{Reply, Request, decode};
 
 #[cfg(test)]
 mod tests;
@@ -52,7 +53,9 @@ impl<M: TableMem + Drop> Spm<M> {
     /// The manager before any call: each partition reaches what the manifest grants it.
     pub fn boot(alloc: Global, manifest: Manifest) -> Result<Self, OutOfMemory>
         ensures state { IfOk result (λ m. m.state ≡ state.start manifest) }
+        ensures operations { IfOk result (λ m. m.pool.operations ≡ []) }
         ensures agrees { IfOk result (λ m. WalksAgree m.state m.pool) }
+        ensures reached { IfOk result (λ m. rules.IsReached m.state) }
     {
         let tables = Tables::boot(alloc, &manifest)?;
         let state = State::new(alloc, manifest)?;
@@ -72,13 +75,13 @@ impl<M: TableMem + Drop> Spm<M> {
         ensures same { result ≡ state.owner_of self.now.state page }
         ensures once { IsOwnedOnce self.now.state }
     {
-        self.state.owner(page)
+        self.state.ledger.owner(&self.state.manifest, page)
     }
 
     /// The version of FF-A that a partition speaks: 1.1 at boot and for one that has no row, and else
     /// the one that it named last by FFA_VERSION.
     pub fn version(&self, p: PartitionId) -> Version
-        ensures { result ≡ state.version_of self.now.state.seats p }
+        ensures { result ≡ state.version_of self.now.state.partitions p }
     {
         self.state.version(p)
     }
@@ -87,7 +90,7 @@ impl<M: TableMem + Drop> Spm<M> {
     pub fn manifest(&self) -> &Manifest
         ensures { result.now ≡ self.now.state.manifest }
     {
-        self.state.manifest()
+        &self.state.manifest
     }
 
     /// The translation tables. What they give agrees with the state, and some list of calls leads to
@@ -109,12 +112,12 @@ impl<M: TableMem + Drop> Spm<M> {
         ensures reached { rules.IsReached self.now.state }
         ensures once { IsOwnedOnce self.now.state }
     {
-        self.state.ledger()
+        &self.state.ledger
     }
 
     /// Answers a call. A refused call, and one for which memory is wanting, leaves the state and the
     /// tables as they were; the list of operations of the tables is then empty.
-    #[tactic(auto, unfolding(rules::specs::Answering::answer, rules::specs::Answering::step))]
+    #[tactic(auto, unfolding(rules::specs::Run::answer, rules::specs::Run::step, rules::specs::Run::refusal, rules::specs::Run::rule))]
     pub fn handle(&mut self, call: &Call) -> Result<Reply, OutOfMemory>
         // The reply is the definition's.
         ensures reply { IfOk result (λ reply. reply ≡ rules.answer self.old.state call.now) }
@@ -125,11 +128,14 @@ impl<M: TableMem + Drop> Spm<M> {
         // A refusal changes nothing.
         ensures refused { IsSome (rules.refusal self.old.state call.now) → self.new ≡ unchanged self.old }
 
+        // A call whose rule edits no view leaves all tables as they were.
+        ensures moves_no_page { (rules.rule self.old.state call.now).edit ≡ None → self.new.pool ≡ emptied self.old.pool }
+
         // Want of memory changes nothing,
         ensures err { OnErr result (self.new ≡ unchanged self.old) }
 
-        // and only a call that passes its tests meets it.
-        ensures wants { OnErr result (MayWantMemory self.old.state call.now) }
+        // and only a send that passes its tests meets it.
+        ensures only_sends_need_memory { OnErr result (MayNeedMemory self.old.state call.now) }
         ensures agrees { WalksAgree self.new.state self.new.pool }
         ensures reached { rules.IsReached self.new.state }
     {
@@ -138,72 +144,30 @@ impl<M: TableMem + Drop> Spm<M> {
             return Ok(Reply::error(Status::Denied));
         }
         match decode(call.regs) {
-            Ok(Request::Send(Kind::Lend, transfer)) => self.lend(call, transfer),
-            Ok(request) => Ok(self.set_up(call, request)),
+            Ok(request) => self.serve(call, request),
             Err(status) => Ok(Reply::error(status)),
         }
     }
 
-    /// A request that moves no page.
-    fn set_up(&mut self, call: &Call, request: Request) -> Reply
+    /// Answers what a partition asks for.
+    fn serve(&mut self, call: &Call, request: Request) -> Result<Reply, OutOfMemory>
         requires known { rows.is_partition self.old.state.manifest call.now.caller ≡ true }
-        requires named { request_of call.now.regs ≡ Some request }
-        requires still { rules.moves_pages request ≡ false }
-        ensures reply { result ≡ rules.answer self.old.state call.now }
-        ensures state { self.new.state ≡ rules.step self.old.state call.now }
-        ensures pool { self.new.pool ≡ self.old.pool }
-        ensures agrees { WalksAgree self.new.state self.new.pool }
-        ensures reached { rules.IsReached self.new.state }
-    {
-        set_up(&mut self.state, call, request)
-    }
-
-    /// FFA_MEM_LEND.
-    #[tactic(auto, unfolding(rules::specs::Answering::answer, rules::specs::Answering::step))]
-    fn lend(&mut self, call: &Call, transfer: Transfer) -> Result<Reply, OutOfMemory>
-        requires known { rows.is_partition self.old.state.manifest call.now.caller ≡ true }
-        requires named { request_of call.now.regs ≡ Some (Request.Send Kind.Lend transfer) }
-        ensures reply { IfOk result (λ reply. reply ≡ rules.answer self.old.state call.now) }
-        ensures state { OnOk result (self.new.state ≡ rules.step self.old.state call.now) }
-        ensures refused { IsSome (rules.refusal self.old.state call.now) → self.new ≡ self.old }
+        requires request_decoded { request_of call.now.regs ≡ Some request }
+        ensures reply { IfOk result (λ reply. reply ≡ reply_of (rules.rule_of self.old.state call.now request)) }
+        ensures state { OnOk result (self.new.state ≡ next_of self.old.state (rules.rule_of self.old.state call.now request)) }
+        ensures refused { IsSome (first_refusal (rules.rule_of self.old.state call.now request).tests) → self.new ≡ self.old }
+        ensures moves_no_page { (rules.rule_of self.old.state call.now request).edit ≡ None → self.new.pool ≡ self.old.pool }
         ensures err { OnErr result (self.new ≡ self.old) }
-        ensures wants { OnErr result (MayWantMemory self.old.state call.now) }
+        ensures passed { OnErr result (first_refusal (rules.rule_of self.old.state call.now request).tests ≡ None) }
+        ensures memory { OnErr result (is_send_request request ≡ true) }
         ensures agrees { WalksAgree self.new.state self.new.pool }
         ensures reached { rules.IsReached self.new.state }
     {
-        match check_send(&self.state, call, Kind::Lend, transfer) {
-            Ok(desc) => self.open_lend(call, transfer, &desc),
-            Err(status) => Ok(Reply::error(status)),
+        match check(&self.state, call, request) {
+            Ok(change) => commit(&mut self.state, &mut self.tables, call.partition(), change),
+            Err(Stop::Refused(status)) => Ok(Reply::error(status)),
+            Err(Stop::NoMemory(error)) => Err(error),
         }
-    }
-
-    /// A lend that has passed its tests: takes the memory that it needs, and then edits the tables.
-    #[tactic(auto, unfolding(rules::specs::Answering::answer, rules::specs::Answering::step))]
-    fn open_lend(
-        &mut self,
-        call: &Call,
-        transfer: Transfer,
-        desc: &SendDesc<'_>,
-    ) -> Result<Reply, OutOfMemory>
-        requires known { rows.is_partition self.old.state.manifest call.now.caller ≡ true }
-        requires named { request_of call.now.regs ≡ Some (Request.Send Kind.Lend transfer) }
-        requires passed { first_refusal (send_tests self.old.state call.now Kind.Lend transfer) ≡ None }
-        requires spelled { desc.now ≡ sent self.old.state call.now transfer }
-        requires room { state.sends_of self.old.state.seats call.now.caller < 2 ^ 32 - 1 }
-        ensures reply { IfOk result (λ reply. reply ≡ rules.answer self.old.state call.now) }
-        ensures state { OnOk result (self.new.state ≡ rules.step self.old.state call.now) }
-        ensures err { OnErr result (self.new ≡ self.old) }
-        ensures agrees { WalksAgree self.new.state self.new.pool }
-        ensures reached { rules.IsReached self.new.state }
-    {
-        let p = call.partition();
-        let transaction = self.state.transaction(p, Kind::Lend, desc)?;
-        let handle = transaction.handle;
-        let runs = normal(self.state.alloc(), &transaction.ranges)?;
-        self.tables.ready(&runs)?;
-        self.state.open(transaction)?;
-        self.tables.unmap(p, &runs);
-        Ok(Reply::success(low_half(handle), high_half(handle)))
     }
 }
 
@@ -216,6 +180,7 @@ pub fn run_calls<M: TableMem + Drop>(
     ensures replies { IfOk result (λ run. run.1.items ≡ rules.replies_from (state.start manifest) calls.now) }
     ensures state { IfOk result (λ run. run.0.state ≡ rules.state_from (state.start manifest) calls.now) }
     ensures agrees { IfOk result (λ run. WalksAgree run.0.state run.0.pool) }
+    ensures reached { IfOk result (λ run. rules.IsReached run.0.state) }
 {
     let mut spm = Spm::boot(alloc, manifest)?;
     let mut replies = Vec::new(alloc);
@@ -224,16 +189,4 @@ pub fn run_calls<M: TableMem + Drop>(
         replies.push(reply)?;
     }
     Ok((spm, replies))
-}
-
-fn low_half(number: u64) -> u32
-    ensures { result ≡ number % 2 ^ 32 }
-{
-    (number % 0x1_0000_0000) as u32
-}
-
-fn high_half(number: u64) -> u32
-    ensures { result ≡ number / 2 ^ 32 }
-{
-    (number >> 32) as u32
 }

@@ -1,4 +1,4 @@
-use Rattle.rules.proofs.Owning.{owned_once}
+use Rattle.rules.proofs.Laws.OneOwner.{owned_once}
 use Rattle.rules.proofs.law.pages_have_one_owner.Goals as goal
 
 pub returns : goal.returns

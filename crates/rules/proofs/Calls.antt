@@ -1,0 +1,3 @@
+-- What is known of a call that passes its tests.
+pub mod Buffers
+pub mod Send

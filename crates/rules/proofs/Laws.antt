@@ -1,0 +1,6 @@
+-- The laws, a file each, and in it a case for each call.
+pub mod ManifestStays
+pub mod EditsTheView
+pub mod OneOwner
+pub mod Handles
+pub mod BuffersApart

@@ -1,0 +1,67 @@
+-- The law that no page of a live transaction lies in a registered buffer.
+use Rattle.std.proofs.Common.{◌≡◌, ℕ, Bool, true, false, ◌⊎◌, inl, inr, Some, None, is_some, refl, sym, ap, ◌∙◌}
+use Rattle.base.specs.declared.transaction.Kind.{Kind}
+use Rattle.base.specs.declared.transaction.Kind.TheVariants.{Share, Lend, Donate}
+use Rattle.base.specs.Access.{Access}
+use Rattle.base.specs.Buffers as pairs
+use Rattle.base.specs.Descriptors.Send as descriptor
+use Rattle.base.specs.Pages.{covers}
+use Rattle.base.specs.Transactions.{Live}
+use Rattle.base.specs.Ledger.{live_at}
+use Rattle.base.specs.State.{State}
+use Rattle.wire.specs.declared.request.Request.{Request}
+use Rattle.wire.specs.declared.request.Transfer.{Transfer}
+use Rattle.wire.specs.declared.request.Request.TheVariants.{Version, Features, RxRelease, RxtxMap, RxtxUnmap, IdGet, Send, Retrieve, Relinquish, Reclaim}
+use Rattle.rules.specs.Call.{CallWords}
+use Rattle.rules.specs.Calls.Version.{naming, with_version}
+use Rattle.rules.specs.Calls.Buffers.{with_pair, with_rx_released}
+use Rattle.rules.specs.Calls.Send.{opened, with_transaction, sent, send_rule, counting, has_room, next_handle}
+use Rattle.rules.specs.Run.{rule_of, IsReached}
+use Rattle.rules.specs.Laws.EditsTheView.{Passes}
+use Rattle.rules.proofs.Calls.Send.{SendPasses, send_passes, next_is}
+use Rattle.rules.proofs.Reached.{all_push, Keeps, all_reached}
+use Rattle.rules.specs.Laws.BuffersApart.{AreBuffersApart}
+use Rattle.rules.proofs.Calls.Buffers.{map_passes, mapped_page, buffer_after, buffer_after_rx}
+use Rattle.rules.proofs.FreePages.{HasFreeHome, common_at}
+use Rattle.rules.proofs.ViewLemmas.{live_at-other}
+
+opened_kept : (s : State) (p : ℕ) (k : Kind) (v : descriptor.Send) (home : Access) → ((n : ℕ) → covers v.ranges n ≡ true → HasFreeHome s p n home) → AreBuffersApart s → AreBuffersApart (with_transaction s (opened s p k v home))
+unfolding with_transaction
+opened_kept s p k v home free a =
+    let t = opened s p k v home in
+    record {
+      apart = λ n b. elim (covers v.ranges n) as (λ c. covers v.ranges n ≡ c → is_some (live_at (with_transaction s t).live n) ≡ false) [
+        | true ↦ λ c. absurd (let no = (free n c).free.unregistered in cc)
+        | false ↦ λ c. ap is_some (live_at-other s.live t n c) ∙ a.apart n b
+      ] refl;
+    }
+
+send : (s : State) (c : CallWords) (k : Kind) (t : Transfer) → SendPasses s c k t → AreBuffersApart s → AreBuffersApart (send_rule s c k t).next
+send s c k t passes a =
+    let v = sent s c t in
+    rw (next_is s c k t passes) (opened_kept s c.caller k v passes.home (common_at s c.caller v.ranges passes.home passes.common) a)
+
+keeps : Keeps AreBuffersApart
+unfolding with_version with_pair with_rx_released
+keeps s c (Version word) r is k a = record { apart = a.apart }
+keeps s c (Features identifier) r is k a = a
+keeps s c RxRelease r is k a = record { apart = λ n b. a.apart n (buffer_after_rx c.caller false s.mailboxes n b) }
+keeps s c (RxtxMap tx rx count) r is k a =
+    record {
+      apart = λ n b. elim (buffer_after c.caller (Some (pairs.named_pair tx rx count)) s.mailboxes n b) [
+        | inl x ↦ (mapped_page s c.caller tx rx count n (map_passes s c.caller tx rx count k.passed) x).idle
+        | inr y ↦ a.apart n y
+      ];
+    }
+keeps s c (RxtxUnmap word) r is k a =
+    record { apart = λ n b. elim (buffer_after c.caller None s.mailboxes n b) [ inl x ↦ absurd cc | inr y ↦ a.apart n y ] }
+keeps s c IdGet r is k a = a
+keeps s c (Send Lend t) r is k a = send s c Lend t (send_passes s c Lend t k.passed) a
+keeps s c (Send Share t) r is k a = send s c Share t (send_passes s c Share t k.passed) a
+keeps s c (Send Donate t) r is k a = a
+keeps s c (Retrieve t) r is k a = a
+keeps s c Relinquish r is k a = a
+keeps s c (Reclaim handle flags) r is k a = a
+
+pub buffers_apart : (s : State) → IsReached s → AreBuffersApart s
+buffers_apart = all_reached AreBuffersApart (λ m valid. record { apart = λ n b. refl }) keeps

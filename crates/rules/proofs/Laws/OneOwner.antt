@@ -1,0 +1,81 @@
+-- The law that each page of a live transaction is its sender's, and no other transaction's.
+use Rattle.std.proofs.Common.{◌≡◌, ℕ, Bool, true, false, List, [], ◌∷◌, ◌++◌, Option, Some, None, is_some, cond, eqb, refl, ap, subst}
+use Rattle.std.specs.List.{AllByRecursion}
+use Rattle.std.specs.Option.{option_map_or, option_map}
+use Rattle.std.proofs.lemmas.Bool.{eqb-true}
+use Rattle.base.specs.declared.access.Rights.{Rights}
+use Rattle.base.specs.declared.transaction.Kind.{Kind}
+use Rattle.base.specs.declared.transaction.Kind.TheVariants.{Share, Lend, Donate}
+use Rattle.base.specs.Pages.{covers}
+use Rattle.base.specs.Access.{Access}
+use Rattle.base.specs.Manifest.{RegionRow, region_at}
+use Rattle.base.specs.Transactions.{Live}
+use Rattle.base.specs.Ledger.{live_at}
+use Rattle.base.specs.State.{State, owner_of}
+use Rattle.base.specs.Descriptors.Send as descriptor
+use Rattle.wire.specs.declared.request.Request.{Request}
+use Rattle.wire.specs.declared.request.Transfer.{Transfer}
+use Rattle.wire.specs.declared.request.Request.TheVariants.{Version, Features, RxRelease, RxtxMap, RxtxUnmap, IdGet, Send, Retrieve, Relinquish, Reclaim}
+use Rattle.rules.specs.Call.{CallWords}
+use Rattle.rules.specs.Calls.Version.{with_version}
+use Rattle.rules.specs.Calls.Buffers.{with_pair, with_rx_released}
+use Rattle.rules.specs.Calls.Send.{opened, with_transaction, sent, send_rule}
+use Rattle.rules.specs.Run.{rule_of, IsReached}
+use Rattle.rules.specs.Laws.EditsTheView.{Passes}
+use Rattle.rules.specs.Laws.OneOwner.{IsOwnSend, AreApart, AreAllApart, IsOwnedOnce}
+use Rattle.rules.proofs.Calls.Send.{SendPasses, send_passes, next_is}
+use Rattle.rules.proofs.FreePages.{HasFreeHome, common_at}
+use Rattle.rules.proofs.Reached.{all_push, Keeps, all_reached}
+
+apart_push : (ts : List Live) (t : Live) → AreAllApart ts → AllByRecursion (λ u. AreApart u t) ts → AreAllApart (ts ++ t ∷ [])
+apart_push [] t h p = (tt, tt)
+apart_push (u ∷ ts) t h p = (all_push (AreApart u) ts t h.0 p.0, apart_push ts t h.1 p.1)
+
+-- where a transaction has no page of those that are live, it is apart from each
+apart_from_all : (ts : List Live) (t : Live) → ((n : ℕ) → covers t.ranges n ≡ true → is_some (live_at ts n) ≡ false) → AllByRecursion (λ u. AreApart u t) ts
+apart_from_all [] t h = tt
+apart_from_all (u ∷ ts) t h = (
+  λ n cu. elim (covers t.ranges n) as (λ b. covers t.ranges n ≡ b → b ≡ false) [ true ↦ λ e. let live = h n e in let here : is_some (cond true (Some u) (live_at ts n)) ≡ false = subst (λ (b : Bool). is_some (cond b (Some u) (live_at ts n)) ≡ false) cu live in absurd cc | false ↦ λ e. refl ] refl,
+  apart_from_all ts t (λ n ct. elim (covers u.ranges n) as (λ b. is_some (cond b (Some u) (live_at ts n)) ≡ false → is_some (live_at ts n) ≡ false) [ true ↦ λ e. absurd cc | false ↦ λ e. e ] (h n ct)),
+)
+
+owner_from_test : (o : Option ℕ) (p : ℕ) → option_map_or (λ x. eqb x p) o false ≡ true → o ≡ Some p
+owner_from_test None p e = absurd cc
+owner_from_test (Some x) p e = ap (λ (y : ℕ). Some y) (eqb-true x p e)
+
+opened_kept : (s : State) (p : ℕ) (k : Kind) (v : descriptor.Send) (home : Access) → ((n : ℕ) → covers v.ranges n ≡ true → HasFreeHome s p n home) → IsOwnedOnce s → IsOwnedOnce (with_transaction s (opened s p k v home))
+unfolding with_transaction
+opened_kept s p k v home free o =
+    let t = opened s p k v home in
+    record {
+      owners = o.owners;
+      senders = all_push (IsOwnSend s) s.live t o.senders (λ n c. owner_from_test (owner_of s n) p (free n c).free.owned);
+      apart = apart_push s.live t o.apart (apart_from_all s.live t (λ n c. (free n c).free.idle));
+    }
+
+send : (s : State) (c : CallWords) (k : Kind) (t : Transfer) → SendPasses s c k t → IsOwnedOnce s → IsOwnedOnce (send_rule s c k t).next
+send s c k t passes o =
+    let v = sent s c t in
+    rw (next_is s c k t passes) (opened_kept s c.caller k v passes.home (common_at s c.caller v.ranges passes.home passes.common) o)
+
+keeps : Keeps IsOwnedOnce
+unfolding with_version with_pair with_rx_released
+keeps s c (Version word) r is k o = record { owners = o.owners; senders = o.senders; apart = o.apart }
+keeps s c (Features identifier) r is k o = o
+keeps s c RxRelease r is k o = record { owners = o.owners; senders = o.senders; apart = o.apart }
+keeps s c (RxtxMap tx rx count) r is k o = record { owners = o.owners; senders = o.senders; apart = o.apart }
+keeps s c (RxtxUnmap word) r is k o = record { owners = o.owners; senders = o.senders; apart = o.apart }
+keeps s c IdGet r is k o = o
+keeps s c (Send Lend t) r is k o = send s c Lend t (send_passes s c Lend t k.passed) o
+keeps s c (Send Share t) r is k o = send s c Share t (send_passes s c Share t k.passed) o
+keeps s c (Send Donate t) r is k o = o
+keeps s c (Retrieve t) r is k o = o
+keeps s c Relinquish r is k o = o
+keeps s c (Reclaim handle flags) r is k o = o
+
+some_owner : (r : Option RegionRow) → is_some (option_map (λ (x : RegionRow). x.owner) r) ≡ is_some r
+some_owner None = refl
+some_owner (Some r) = refl
+
+pub owned_once : (s : State) → IsReached s → IsOwnedOnce s
+owned_once = all_reached IsOwnedOnce (λ m valid. record { owners = λ n. some_owner (region_at m n); senders = tt; apart = tt }) keeps

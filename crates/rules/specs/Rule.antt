@@ -1,0 +1,44 @@
+-- The rule of a call: its tests in order, and what it changes and is answered where they pass.
+use Rattle.std.specs.Prelude.{ℕ, false, ◌&&◌, ◌==◌, List, [], ◌∷◌, Option, Some, None, if◌then◌else◌}
+use Rattle.std.specs.Option.{option_map_or}
+use Rattle.base.specs.declared.status.Status.{Status}
+use Rattle.base.specs.declared.status.Status.TheVariants.{NotSupported}
+use Rattle.base.specs.Pages.{PageRun, covers}
+use Rattle.base.specs.Access.{View}
+use Rattle.base.specs.Refusals.{Test, ◌otherwise◌, first_refusal}
+use Rattle.base.specs.State.{State}
+use Rattle.wire.specs.Replies.{ReplyWords, error}
+
+-- whose view changes, of which pages, and to what
+pub record Edit : Type 0 where
+  pub who : ℕ
+  pub runs : List PageRun
+  pub to : View
+
+-- The reply has the bytes of RX with it. What a call clears will be a list of runs here, and whether the tables of an edit fit the quota will be the last of the tests.
+pub record Rule : Type 0 where
+  pub tests : List Test
+  pub edit : Option Edit
+  pub next : State
+  pub reply : ReplyWords
+
+-- every call is refused with this status
+abbrev pub refused : Status → State → Rule
+refused status s = record { tests = (false otherwise status) ∷ []; edit = None; next = s; reply = error status }
+
+-- the call is not served
+abbrev pub not_served : State → Rule
+not_served s = refused NotSupported s
+
+-- the status of the first test that fails, else the rule's reply
+abbrev pub reply_of : Rule → ReplyWords
+reply_of rule = option_map_or error (first_refusal rule.tests) rule.reply
+
+-- the state after it; a refused call changes nothing
+abbrev pub next_of : State → Rule → State
+next_of s rule = option_map_or (λ status. s) (first_refusal rule.tests) rule.next
+
+-- these views with the edit made
+abbrev pub with_edit : Option Edit → (ℕ → ℕ → View) → ℕ → ℕ → View
+with_edit None view p n = view p n
+with_edit (Some edit) view p n = if (p == edit.who) && covers edit.runs n then edit.to else view p n

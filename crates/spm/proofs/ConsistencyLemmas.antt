@@ -1,0 +1,100 @@
+-- The tables and the state go on together.
+use Rattle.std.proofs.Common.{◌≡◌, ◌^◌, ◌<◌, ℕ, Bool, ◌&&◌, true, false, List, Option, Some, None, Result, Ok, Err, cond, eqb, refl, sym, ap, subst, ◌∙◌}
+use Rattle.std.specs.Prelude.{IsTrue, OnOk, OnErr}
+use Rattle.base.specs.Pages.{covers}
+use Rattle.base.specs.Access.{View}
+use Rattle.base.specs.Manifest.{ManifestRows, is_partition, grant}
+use Rattle.base.specs.Refusals.{first_refusal}
+use Rattle.base.specs.State.{State, start, sees}
+use Rattle.manifest.specs.Valid.{is_valid}
+use Rattle.pool.specs.Pool.{Pool, words_of}
+use Rattle.stage2.specs.Slot.{Layout, layout_of}
+use Rattle.stage2.specs.Walk.{translation, walked, Agrees}
+use Rattle.stage2.specs.declared.walked.Walked.{Walked}
+use Rattle.wire.specs.declared.request.Request.{Request}
+use Rattle.wire.specs.declared.request.Request.TheVariants.{Version, Features, RxRelease, RxtxMap, RxtxUnmap, IdGet, Send, Retrieve, Relinquish, Reclaim}
+use Rattle.wire.specs.Requests.{request_of}
+use Rattle.rules.specs.Call.{CallWords, IsCall}
+use Rattle.rules.specs.Rule.{Edit, Rule, with_edit}
+use Rattle.rules.specs.Run.{rule_of, refusal, step, IsReached}
+use Rattle.rules.specs.Laws.EditsTheView.{Passes}
+use Rattle.rules.proofs.Reached.{IsReached-start, IsReached-step, step_is, rule_is}
+use Rattle.rules.proofs.Laws.EditsTheView.{edits_the_view}
+use Rattle.rules.proofs.Laws.ManifestStays.{manifest_stays}
+use Rattle.spm.specs.Granted.{IsSameEdit, AreSameEdits, is_send_request}
+use Rattle.spm.specs.Machine.{IsConsistent, IsEditedBy, edited, MayNeedMemory}
+
+-- before any call each partition reaches what the manifest grants it
+pub boot_kept : (m : ManifestRows) (s : State) (layout : Layout) (pool : Pool) → IsTrue (is_valid m) → s ≡ start m → layout ≡ layout_of m → Agrees layout (words_of pool.memory.words) (grant m) → IsConsistent s layout pool
+boot_kept m s layout pool valid is placed agrees =
+    subst (λ (t : State). IsConsistent t layout pool) (sym is) (record {
+      layout_of_manifest = placed;
+      agrees = record { walks = λ p n small. ap (λ l. translation l (words_of pool.memory.words) p n) (sym placed) ∙ agrees p n small };
+      reached = IsReached-start m valid;
+    })
+
+chosen : (n : ℕ) (b : Bool) (x y : View) → cond b (walked n x) (walked n y) ≡ walked n (cond b x y)
+chosen n true x y = refl
+chosen n false x y = refl
+
+-- what a page is translated to after an edit is what is reached of it after the edit
+edited_view : (a b : Option Edit) (view : ℕ → ℕ → View) (p n : ℕ) → AreSameEdits a b → edited b p n (walked n (view p n)) ≡ walked n (with_edit a view p n)
+edited_view None None view p n same = refl
+edited_view None (Some b) view p n same = absurd same
+edited_view (Some a) None view p n same = absurd same
+edited_view (Some a) (Some b) view p n same =
+    let test : (eqb p b.who && covers b.runs n) ≡ (eqb p a.who && covers a.runs n) = rw (same.who, same.pages n) refl in
+    rw (test, same.to) (chosen n (eqb p a.who && covers a.runs n) a.to (view p n))
+
+-- the change of a request that passes its tests
+pub change_kept : (s : State) (c : CallWords) (r : Request) (layout : Layout) (old new : Pool) (edit : Option Edit) (t : State)
+    → IsCall c → Passes s c r → AreSameEdits (rule_of s c r).edit edit → IsEditedBy edit layout old new → t ≡ (rule_of s c r).next → IsConsistent s layout old → IsConsistent t layout new
+change_kept s c r layout old new edit t is k same by next kept =
+    let rule = rule_of s c r in
+    let now : layout ≡ layout_of t.manifest = kept.layout_of_manifest ∙ ap layout_of (sym (manifest_stays s c r) ∙ ap (λ (u : State). u.manifest) (sym next)) in
+    record {
+      layout_of_manifest = now;
+      agrees = record {
+        walks = λ p n small.
+            ap (λ l. translation l (words_of new.memory.words) p n) (sym now)
+            ∙ by.walks p n small
+            ∙ ap (edited edit p n) (ap (λ l. translation l (words_of old.memory.words) p n) kept.layout_of_manifest ∙ kept.agrees.walks p n small)
+            ∙ edited_view rule.edit edit (sees s) p n same
+            ∙ ap (walked n) (sym ((edits_the_view s c r k).views p n))
+            ∙ ap (λ (u : State). walked n (sees u p n)) (sym next);
+      };
+      reached = subst IsReached (step_is s c r k ∙ sym next) (IsReached-step s c is kept.reached);
+    }
+
+-- tables that no edit changes
+pub not_edited : (layout : Layout) (old new : Pool) → new ≡ old → IsEditedBy None layout old new
+not_edited layout old new same = record { walks = λ p n small. ap (λ (pool : Pool). translation layout (words_of pool.memory.words) p n) same }
+
+-- a request that may need memory is a send
+pub may_need : (s : State) (c : CallWords) (r : Request) → is_partition s.manifest c.caller ≡ true → request_of c.regs ≡ Some r → first_refusal (rule_of s c r).tests ≡ None → is_send_request r ≡ true → MayNeedMemory s c
+unfolding refusal
+may_need s c (Send kind t) known named passed e = record { kind = kind; transfer = t; sends = named; passes = ap (λ (rule : Rule). first_refusal rule.tests) (rule_is s c (Send kind t) known named) ∙ passed }
+may_need s c (Version word) known named passed e = absurd cc
+may_need s c (Features identifier) known named passed e = absurd cc
+may_need s c RxRelease known named passed e = absurd cc
+may_need s c (RxtxMap tx rx count) known named passed e = absurd cc
+may_need s c (RxtxUnmap word) known named passed e = absurd cc
+may_need s c IdGet known named passed e = absurd cc
+may_need s c (Retrieve t) known named passed e = absurd cc
+may_need s c Relinquish known named passed e = absurd cc
+may_need s c (Reclaim handle flags) known named passed e = absurd cc
+
+-- the commit of such a change: where memory is wanting, nothing changes
+pub commit_kept : {A B : Type 0} (result : Result A B) (s t : State) (c : CallWords) (r : Request) (layout after : Layout) (old new : Pool) (edit : Option Edit) (next : State)
+    → IsCall c → Passes s c r → AreSameEdits (rule_of s c r).edit edit → next ≡ (rule_of s c r).next
+    → OnOk result (t ≡ next) → OnOk result (IsEditedBy edit layout old new) → after ≡ layout → OnErr result (t ≡ s) → OnErr result (new ≡ old)
+    → IsConsistent s layout old → IsConsistent t after new
+commit_kept (Ok a) s t c r layout after old new edit next is k same next_is changed by placed err_state err_pool kept =
+    subst (λ (l : Layout). IsConsistent t l new) (sym placed) (change_kept s c r layout old new edit t is k same by (changed ∙ next_is) kept)
+commit_kept (Err b) s t c r layout after old new edit next is k same next_is changed by placed err_state err_pool kept =
+    subst (λ (l : Layout). IsConsistent t l new) (sym placed) (subst (λ (u : State). IsConsistent u layout new) (sym err_state) (subst (λ (w : Pool). IsConsistent s layout w) (sym err_pool) kept))
+
+-- what two facts of an error give
+pub both_err : {A B P Q R : Type 0} (result : Result A B) → (P → Q → R) → OnErr result P → OnErr result Q → OnErr result R
+both_err (Ok a) f p q = tt
+both_err (Err b) f p q = f p q

@@ -1,0 +1,102 @@
+-- What is known of the change of a call that passes its tests, and of one that does not.
+use Rattle.std.specs.Prelude.{◌≡◌, ℕ, ◌-◌, ◌<◌, ◌^◌, Bool, true, false, ◌||◌, Option, Some, None, is_some, length}
+use Rattle.base.specs.declared.status.Status.{Status}
+use Rattle.base.specs.Buffers as pairs
+use Rattle.base.specs.Pages.{covers, are_normal}
+use Rattle.base.specs.Refusals.{first_refusal}
+use Rattle.base.specs.State.{State, sends_of}
+use Rattle.wire.specs.declared.request.Request.{Request}
+use Rattle.wire.specs.declared.request.Request.TheVariants.{Version, Features, RxRelease, RxtxMap, RxtxUnmap, IdGet, Send, Retrieve, Relinquish, Reclaim}
+use Rattle.rules.specs.Rule.{Edit, Rule}
+use Rattle.rules.specs.Calls.Version.{with_version}
+use Rattle.rules.specs.Calls.Buffers.{with_pair, with_rx_released}
+use Rattle.rules.specs.Calls.Send.{with_transaction}
+use Rattle.spm.specs.declared.change.Update.{Update}
+use Rattle.spm.specs.declared.change.Update.TheVariants.{Nothing, SetVersion, MapBuffers, UnmapBuffers, ReleaseRx, Open}
+use Rattle.spm.specs.declared.change.Change.{Change}
+use Rattle.spm.specs.declared.change.Stop.{Stop}
+use Rattle.spm.specs.declared.change.Stop.TheVariants.{Refused, NoMemory}
+
+-- ---- the state
+
+-- the state after an update by a partition
+abbrev pub updated : State → ℕ → Update → State
+updated s p Nothing = s
+updated s p (SetVersion word) = with_version s p word
+updated s p (MapBuffers pair) = with_pair s p (Some pair)
+updated s p UnmapBuffers = with_pair s p None
+updated s p ReleaseRx = with_rx_released s p
+updated s p (Open t) = with_transaction s t
+
+-- the update can be made
+abbrev pub CanUpdate : State → ℕ → Update → Type 0
+CanUpdate s p Nothing = Unit {0}
+CanUpdate s p (SetVersion word) = Unit {0}
+CanUpdate s p (MapBuffers pair) = Unit {0}
+CanUpdate s p UnmapBuffers = first_refusal (pairs.unmap_tests s.mailboxes p) ≡ None
+CanUpdate s p ReleaseRx = first_refusal (pairs.release_tests s.mailboxes p) ≡ None
+CanUpdate s p (Open t) = sends_of s.partitions t.sender < 2 ^ 32 - 1
+
+abbrev pub opens : Update → Bool
+opens Nothing = false
+opens (SetVersion word) = false
+opens (MapBuffers pair) = false
+opens UnmapBuffers = false
+opens ReleaseRx = false
+opens (Open t) = true
+
+-- ---- the tables
+
+-- the runs of an edit are maximal, and not too many
+pub record IsOrderly (edit : Edit) : Type 0 where
+  pub normal : are_normal edit.runs ≡ true
+  pub few : length edit.runs < 2 ^ 32
+
+abbrev pub AreOrderly : Option Edit → Type 0
+AreOrderly None = Unit {0}
+AreOrderly (Some edit) = IsOrderly edit
+
+-- the same view of the same pages changes alike
+pub record IsSameEdit (a b : Edit) : Type 0 where
+  pub who : b.who ≡ a.who
+  pub pages : (n : ℕ) → covers b.runs n ≡ covers a.runs n
+  pub to : b.to ≡ a.to
+
+abbrev pub AreSameEdits : Option Edit → Option Edit → Type 0
+AreSameEdits None None = Unit {0}
+AreSameEdits None (Some b) = ⊥
+AreSameEdits (Some a) None = ⊥
+AreSameEdits (Some a) (Some b) = IsSameEdit a b
+
+-- ---- the change
+
+-- making the change takes memory
+abbrev pub takes_memory : Change → Bool
+takes_memory change = is_some change.edit || opens change.update
+
+abbrev pub is_send_request : Request → Bool
+is_send_request (Version word) = false
+is_send_request (Features identifier) = false
+is_send_request RxRelease = false
+is_send_request (RxtxMap tx rx count) = false
+is_send_request (RxtxUnmap word) = false
+is_send_request IdGet = false
+is_send_request (Send kind transfer) = true
+is_send_request (Retrieve transfer) = false
+is_send_request Relinquish = false
+is_send_request (Reclaim handle flags) = false
+
+-- the tests of a partition's request pass, and the change is its rule's
+pub record IsGranted (s : State) (p : ℕ) (rule : Rule) (memory : Bool) (change : Change) : Type 0 where
+  pub passed : first_refusal rule.tests ≡ None
+  pub edit : AreSameEdits rule.edit change.edit
+  pub orderly : AreOrderly change.edit
+  pub next : updated s p change.update ≡ rule.next
+  pub can : CanUpdate s p change.update
+  pub reply : change.reply ≡ rule.reply
+  pub memory_taken : takes_memory change ≡ true → memory ≡ true
+
+-- the request is refused by its rule, or passes its tests and lacks memory
+abbrev pub IsStopped : Rule → Bool → Stop → Type 0
+IsStopped rule memory (Refused status) = first_refusal rule.tests ≡ Some status
+IsStopped rule memory (NoMemory error) = (first_refusal rule.tests ≡ None) × (memory ≡ true)

@@ -1,0 +1,37 @@
+//! The calls, a file each: the tests in order, and what the call changes.
+
+ghost use Rattle.std.specs.Prelude.{IfOk, IfErr};
+ghost use Rattle.rules.specs.Run.{rule_of};
+ghost use Rattle.spm.specs.Granted.{IsGranted, IsStopped, is_send_request};
+
+pub(crate) mod buffers;
+pub(crate) mod features;
+pub(crate) mod id_get;
+pub(crate) mod send;
+pub(crate) mod version;
+
+use crate::call::Call;
+use crate::change::{Change, Stop};
+use crate::state::State;
+use base::{Kind, Status};
+use wire::Request;
+
+/// Tests what a partition asks for, and says what it changes. It changes nothing itself.
+pub(crate) fn check(state: &State, call: &Call, request: Request) -> Result<Change, Stop>
+    ensures granted { IfOk result (λ change. IsGranted state.now call.now.caller (rule_of state.now call.now request) (is_send_request request) change) }
+    ensures stopped { IfErr result (λ stop. IsStopped (rule_of state.now call.now request) (is_send_request request) stop) }
+{
+    match request {
+        Request::Version(word) => Ok(version::version(word)),
+        Request::Features(identifier) => features::features(identifier),
+        Request::RxRelease => buffers::release_rx(state, call),
+        Request::RxtxMap(tx, rx, pages) => buffers::map(state, call, tx, rx, pages),
+        Request::RxtxUnmap(word) => buffers::unmap(state, call, word),
+        Request::IdGet => Ok(id_get::id_get(call)),
+        Request::Send(Kind::Lend, transfer) => send::send(state, call, Kind::Lend, transfer),
+        Request::Send(Kind::Share, transfer) => send::send(state, call, Kind::Share, transfer),
+        Request::Send(..) | Request::Retrieve(_) | Request::Relinquish | Request::Reclaim(..) => {
+            Err(Stop::Refused(Status::NotSupported))
+        }
+    }
+}

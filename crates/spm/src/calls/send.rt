@@ -1,0 +1,384 @@
+//! FFA_MEM_DONATE, FFA_MEM_LEND and FFA_MEM_SHARE.
+
+ghost use Rattle.std.specs.Prelude.{◌≡◌, ◌+◌, ◌-◌, ◌*◌, ◌/◌, ◌%◌, ◌<◌, ◌≤◌, ◌^◌, ◌==◌, not, map, length, true, None, Some, IfOk, IfErr, OnOk, OnErr, IsTrue, if◌then◌else◌};
+ghost use Rattle.std.specs.List.{list_all};
+ghost use Rattle.base.specs.Pages.{are_disjoint};
+ghost use Rattle.base.specs.State as spec;
+ghost use Rattle.base.specs.Refusals.{first_refusal};
+ghost use Rattle.rules.specs.Calls.Send as rules;
+ghost use Rattle.spm.specs.Granted.{IsGranted, IsStopped, AreSameEdits, AreOrderly};
+ghost use Rattle.spm.specs.Checked.{IsChecked};
+
+use crate::call::Call;
+use crate::change::{Change, Edit, Stop, Update};
+use crate::ledger::{Live, Receiver};
+use crate::partitions::{PartitionState, put, state_of};
+use crate::state::State;
+use base::{Access, Kind, OutOfMemory, PartitionId, Rights, Run, Status, normal};
+use descr::{Endpoint, SendDesc, read_send};
+use std::alloc::Global;
+use wire::{Reply, Transfer};
+
+/// The memory attributes of normal memory, write-back, inner shareable (FF-A 1.1, "Memory region
+/// attributes").
+const NORMAL_WRITE_BACK: u16 = 0x2f;
+
+/// The most live transactions of a sender.
+const MOST_LIVE: usize = 32;
+
+/// What the tests of a send found: what its descriptor says, and the home of its pages.
+#[derive(Drop)]
+pub(crate) struct Checked<'a> {
+    pub(crate) desc: SendDesc<'a>,
+    pub(crate) home: Access,
+}
+
+/// The caller sends the memory that its descriptor in TX names.
+pub(crate) fn send(
+    state: &State,
+    call: &Call,
+    kind: Kind,
+    transfer: Transfer,
+) -> Result<Change, Stop>
+    ensures granted { IfOk result (λ change. IsGranted state.now call.now.caller (rules.send_rule state.now call.now kind transfer) true change) }
+    ensures stopped { IfErr result (λ stop. IsStopped (rules.send_rule state.now call.now kind transfer) true stop) }
+{
+    match check(state, call, kind, transfer) {
+        Ok(checked) => match change(state, call, kind, transfer, &checked) {
+            Ok(change) => Ok(change),
+            Err(error) => Err(Stop::NoMemory(error)),
+        },
+        Err(status) => Err(Stop::Refused(status)),
+    }
+}
+
+// ---- the tests
+
+/// The tests of a send, in order.
+fn check<'a>(
+    state: &State,
+    call: &'a Call,
+    kind: Kind,
+    transfer: Transfer,
+) -> Result<Checked<'a>, Status>
+    ensures refused { IfErr result (λ status. first_refusal (rules.send_tests state.now call.now kind transfer) ≡ Some status) }
+    ensures passed { IfOk result (λ checked. IsChecked state.now call.now kind transfer checked.desc checked.home) }
+{
+    let p = call.partition();
+    if !state.pairs.has_pair(p) || !names_tx(transfer) || !has_lengths(state, call, transfer) {
+        return Err(Status::InvalidParameters);
+    }
+    let bytes = &call.tx[..transfer.total as usize];
+    let Some(desc) = read_send(bytes, state.version(p)) else {
+        return Err(Status::InvalidParameters);
+    };
+    if !are_parties(state, p, &desc) || !suits(kind, &desc) {
+        return Err(Status::InvalidParameters);
+    }
+    let Some(home) = state.common_home(p, &desc) else {
+        return Err(Status::Denied);
+    };
+    if !are_capped(kind, home, &desc.receivers) {
+        return Err(Status::Denied);
+    }
+    if !has_room(state, p) {
+        return Err(Status::NoMemory);
+    }
+    Ok(Checked { desc, home })
+}
+
+/// Whether registers 3 and 4 name no other buffer.
+#[tactic(auto, unfolding(rules::specs::Calls::Send::names_tx))]
+fn names_tx(transfer: Transfer) -> bool
+    ensures { result ≡ rules.names_tx transfer }
+{
+    transfer.address == 0 && transfer.pages == 0
+}
+
+/// Whether the lengths that the call gives agree, and its bytes and the TX buffer are as long.
+#[tactic(auto, unfolding(rules::specs::Calls::Send::has_lengths))]
+fn has_lengths(state: &State, call: &Call, transfer: Transfer) -> bool
+    ensures value { result ≡ rules.has_lengths state.now call.now transfer }
+    ensures inside { IsTrue result → length (rules.bytes_of call.now transfer) ≡ transfer.total }
+{
+    transfer.total == transfer.fragment
+        && u64::from(transfer.total) <= tx_size(state, call.partition())
+        && transfer.total as usize <= call.tx.len()
+}
+
+/// The size of a partition's TX buffer, in bytes.
+fn tx_size(state: &State, p: PartitionId) -> u64
+    ensures { result ≡ rules.tx_size state.now p }
+{
+    match state.pairs.pair_of(p) {
+        Some(pair) => 4096 * u64::from(pair.tx.count()),
+        None => 0,
+    }
+}
+
+/// Whether a send names its sender and its receivers rightly.
+#[tactic(auto, unfolding(rules::specs::Calls::Send::are_parties))]
+fn are_parties(state: &State, p: PartitionId, desc: &SendDesc<'_>) -> bool
+    ensures { result ≡ rules.are_parties state.now p desc.now }
+{
+    desc.sender == p && are_receivers(state, p, &desc.receivers) && are_distinct(&desc.receivers)
+}
+
+fn are_receivers(state: &State, p: PartitionId, endpoints: &[Endpoint]) -> bool
+    ensures { result ≡ list_all (rules.is_receiver state.now p) endpoints.now }
+{
+    for endpoint in endpoints {
+        if endpoint.partition == p || !state.is_partition(endpoint.partition) {
+            return false;
+        }
+    }
+    true
+}
+
+/// Whether no partition stands twice among the receivers.
+fn are_distinct(endpoints: &[Endpoint]) -> bool
+    ensures { result ≡ rules.are_distinct endpoints.now }
+{
+    match endpoints {
+        [] => true,
+        [endpoint, rest @ ..] => is_apart_from(endpoint, rest) && are_distinct(rest),
+    }
+}
+
+fn is_apart_from(endpoint: &Endpoint, others: &[Endpoint]) -> bool
+    ensures { result ≡ list_all (λ f. not (f.partition == endpoint.now.partition)) others.now }
+{
+    others
+        .iter()
+        .all(|other| other.partition != endpoint.partition)
+}
+
+/// Whether the receivers' count, their permissions and the attributes suit the kind of the send.
+#[tactic(auto, unfolding(rules::specs::Calls::Send::suits))]
+fn suits(kind: Kind, desc: &SendDesc<'_>) -> bool
+    ensures { result ≡ rules.suits kind desc.now }
+{
+    let receivers = &desc.receivers;
+    match kind {
+        Kind::Donate => receivers.len() == 1 && give_nothing(receivers) && desc.attributes == 0,
+        Kind::Lend => give_data(receivers) && desc.attributes == lend_attributes(receivers),
+        Kind::Share => give_data(receivers) && desc.attributes == NORMAL_WRITE_BACK,
+    }
+}
+
+/// Whether neither data access nor instruction access is specified.
+fn give_nothing(receivers: &[Endpoint]) -> bool
+    ensures { result ≡ list_all rules.gives_nothing receivers.now }
+{
+    receivers.iter().all(|endpoint| endpoint.permissions == 0)
+}
+
+/// Whether data access is read-only or read-write, and instruction access is not specified.
+fn give_data(receivers: &[Endpoint]) -> bool
+    ensures { result ≡ list_all rules.gives_data receivers.now }
+{
+    receivers.iter().all(|endpoint| endpoint.permissions == 1 || endpoint.permissions == 2)
+}
+
+/// The memory attributes that a lend specifies.
+fn lend_attributes(receivers: &[Endpoint]) -> u16
+    ensures { result ≡ (if length receivers.now == 1 then 0 else rules.write_back) }
+{
+    if receivers.len() == 1 {
+        0
+    } else {
+        NORMAL_WRITE_BACK
+    }
+}
+
+/// The most that a receiver may retrieve.
+fn cap_of(kind: Kind, home: Access, endpoint: &Endpoint) -> Rights
+    ensures { result ≡ rules.cap kind home endpoint.now }
+{
+    match kind {
+        Kind::Donate => home.rights(),
+        Kind::Lend | Kind::Share => {
+            if endpoint.permissions == 2 {
+                Rights::Rw
+            } else {
+                Rights::Ro
+            }
+        }
+    }
+}
+
+fn is_within(cap: Rights, home: Rights) -> bool
+    ensures { result ≡ rules.is_within cap home }
+{
+    matches!(cap, Rights::Ro) || matches!(home, Rights::Rw)
+}
+
+/// Whether no receiver may retrieve more than the home.
+#[tactic(auto, unfolding(rules::specs::Calls::Send::are_capped))]
+fn are_capped(kind: Kind, home: Access, endpoints: &[Endpoint]) -> bool
+    ensures { result ≡ rules.are_capped kind (Some home) endpoints.now }
+{
+    endpoints.iter().all(|endpoint| is_within(cap_of(kind, home, endpoint), home.rights()))
+}
+
+/// Whether a partition may have one more live transaction and one more handle.
+#[tactic(auto, unfolding(rules::specs::Calls::Send::has_room))]
+fn has_room(state: &State, p: PartitionId) -> bool
+    ensures value { result ≡ rules.has_room state.now p }
+    ensures room { result ≡ true → spec.sends_of state.now.partitions p < 2 ^ 32 - 1 }
+{
+    state.ledger.live_of(p) < MOST_LIVE && sends(state, p) < u32::MAX
+}
+
+fn sends(state: &State, p: PartitionId) -> u32
+    ensures { result ≡ spec.sends_of state.now.partitions p }
+{
+    match state_of(&state.partitions, p) {
+        Some(row) => row.sends,
+        None => 0,
+    }
+}
+
+// ---- the change
+
+/// What a send changes that has passed its tests.
+fn change(
+    state: &State,
+    call: &Call,
+    kind: Kind,
+    transfer: Transfer,
+    checked: &Checked<'_>,
+) -> Result<Change, OutOfMemory>
+    requires { IsChecked state.now call.now kind transfer checked.now.desc checked.now.home }
+    ensures { IfOk result (λ change. IsGranted state.now call.now.caller (rules.send_rule state.now call.now kind transfer) true change) }
+{
+    let p = call.partition();
+    let transaction = transaction(state, p, kind, checked)?;
+    let handle = transaction.handle;
+    let edit = sender_edit(state.alloc, kind, p, &transaction.ranges)?;
+    Ok(Change {
+        edit,
+        update: Update::Open(transaction),
+        reply: Reply::success(low_half(handle), high_half(handle)),
+    })
+}
+
+/// The transaction that a send opens.
+fn transaction(
+    state: &State,
+    p: PartitionId,
+    kind: Kind,
+    checked: &Checked<'_>,
+) -> Result<Live, OutOfMemory>
+    requires { spec.sends_of state.now.partitions p < 2 ^ 32 - 1 }
+    ensures opened { IfOk result (λ t. t ≡ rules.opened state.now p kind checked.now.desc checked.now.home) }
+    ensures at_most_512 { IfOk result (λ t. length t.ranges ≤ 512) }
+{
+    let handle = next_handle(state, p);
+    let ranges = checked.desc.ranges().collect(state.alloc)?;
+    let receivers = receivers_of(state.alloc, kind, checked.home, &checked.desc.receivers)?;
+    Ok(Live {
+        handle,
+        kind,
+        sender: p,
+        tag: checked.desc.tag,
+        ranges,
+        receivers,
+        home: checked.home,
+    })
+}
+
+/// The handle of a partition's next accepted send.
+fn next_handle(state: &State, p: PartitionId) -> u64
+    requires { spec.sends_of state.now.partitions p < 2 ^ 32 - 1 }
+    ensures { result ≡ rules.next_handle state.now p }
+{
+    u64::from(p.number()) * 0x1_0000_0000 + u64::from(sends(state, p) + 1)
+}
+
+/// The receivers of a transaction that nobody has retrieved.
+fn receivers_of(
+    alloc: Global,
+    kind: Kind,
+    home: Access,
+    endpoints: &[Endpoint],
+) -> Result<Vec<Receiver>, OutOfMemory>
+    ensures { IfOk result (λ receivers. receivers.items ≡ map (rules.receiver kind home) endpoints.now) }
+{
+    let receivers = endpoints
+        .iter()
+        .map(|endpoint| Receiver {
+            partition: endpoint.partition,
+            cap: cap_of(kind, home, endpoint),
+            retrieved: None,
+        })
+        .collect(alloc)?;
+    Ok(receivers)
+}
+
+/// What the sender reaches no more: all of what it lends or gives away, and nothing of a share.
+fn sender_edit(
+    alloc: Global,
+    kind: Kind,
+    p: PartitionId,
+    ranges: &[Run],
+) -> Result<Option<Edit>, OutOfMemory>
+    requires apart { are_disjoint ranges.now ≡ true }
+    requires at_most_512 { length ranges.now ≤ 512 }
+    ensures same { IfOk result (λ edit. AreSameEdits (rules.sender_edit kind p ranges.now) edit) }
+    ensures orderly { IfOk result (λ edit. AreOrderly edit) }
+{
+    match kind {
+        Kind::Share => Ok(None),
+        Kind::Lend | Kind::Donate => {
+            let runs = normal(alloc, ranges)?;
+            Ok(Some(Edit { who: p, runs }))
+        }
+    }
+}
+
+fn low_half(number: u64) -> u32
+    ensures { result ≡ number % 2 ^ 32 }
+{
+    (number % 0x1_0000_0000) as u32
+}
+
+fn high_half(number: u64) -> u32
+    ensures { result ≡ number / 2 ^ 32 }
+{
+    (number >> 32) as u32
+}
+
+/// Opens a transaction, and counts the send.
+#[tactic(auto, unfolding(rules::specs::Calls::Send::with_transaction))]
+pub(crate) fn open(state: &mut State, transaction: Live) -> Result<(), OutOfMemory>
+    requires { spec.sends_of state.old.partitions transaction.sender < 2 ^ 32 - 1 }
+    ensures ok { OnOk result (state.new ≡ rules.with_transaction state.old transaction) }
+    ensures err { OnErr result (state.new ≡ state.old) }
+{
+    let p = transaction.sender;
+    state.ledger.open(transaction)?;
+    count_send(&mut state.partitions, p);
+    Ok(())
+}
+
+/// Counts one more accepted send of a partition.
+fn count_send(partitions: &mut [PartitionState], p: PartitionId)
+    requires { spec.sends_of partitions.old p < 2 ^ 32 - 1 }
+    ensures { partitions.new ≡ spec.with_partition p rules.counting partitions.old }
+{
+    if let Some(row) = state_of(partitions, p) {
+        put(partitions, p, counted(row));
+    }
+}
+
+fn counted(row: PartitionState) -> PartitionState
+    requires { row.sends < 2 ^ 32 - 1 }
+    ensures { result ≡ rules.counting row }
+{
+    PartitionState {
+        partition: row.partition,
+        version: row.version,
+        sends: row.sends + 1,
+    }
+}
