@@ -1,2 +1,3 @@
+pub mod Boundaries
 pub mod Valid
 pub mod Common

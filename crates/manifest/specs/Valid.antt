@@ -1,9 +1,9 @@
 -- The rules of a manifest.
 use Rattle.std.specs.Prelude.{ℕ, ◌+◌, ◌*◌, ◌^◌, Bool, true, not, ◌&&◌, ◌||◌, ◌==◌, nat_le, List, [], ◌∷◌, length, sum_by, if◌then◌else◌, is_some}
 use Rattle.std.specs.List.{list_all, list_any, find}
-use Rattle.std.specs.Option.{option_map_or}
-use Rattle.base.specs.Pages.{PageRun, are_apart, chunks_in}
-use Rattle.base.specs.Access.{is_normal}
+use Rattle.std.specs.Option.{option_map_or, option_and_then}
+use Rattle.base.specs.Pages.{PageRun, in_run, are_apart, chunks_in}
+use Rattle.base.specs.Access.{View, is_normal}
 use Rattle.base.specs.Manifest.{PartitionRow, GrantRow, RegionRow, ManifestRows, is_partition, quotas_of, page_count, granted_in}
 
 -- ---- a region
@@ -16,15 +16,24 @@ are_distinct (g ∷ gs) = list_all (λ h. not (h.partition == g.partition)) gs &
 abbrev pub is_executable_only_if : Bool → GrantRow → Bool
 is_executable_only_if normal g = normal || not g.exec
 
--- 1 to 64 grants, the owner's among them, none of them doubled, and executable in normal memory alone
+-- some pages, which end within input addresses of 39 bits
+abbrev pub is_run : PageRun → Bool
+is_run run = nat_le 1 run.count && nat_le (run.first + run.count) (2 ^ 27)
+
+-- some pages, 1 to 64 grants, the owner's among them, none of them doubled, and executable in normal memory alone
 abbrev pub is_region : RegionRow → Bool
 is_region r =
-    nat_le 1 (length r.grants) && nat_le (length r.grants) 64
+    is_run r.pages
+    && (nat_le 1 (length r.grants) && nat_le (length r.grants) 64)
     && list_any (λ g. g.partition == r.owner) r.grants
     && are_distinct r.grants
     && list_all (is_executable_only_if (is_normal r.kind)) r.grants
 
 -- ---- the manifest
+
+-- what regions grant to a partition at a page
+abbrev pub granted_by : List RegionRow → ℕ → ℕ → View
+granted_by regions p n = option_and_then (λ r. granted_in r p) (find (λ r. in_run r.pages n) regions)
 
 -- how many table pages a partition may have; none for one that has no row
 abbrev pub quota_of : ManifestRows → ℕ → ℕ

@@ -2,7 +2,9 @@
 #![tactic(auto)]
 
 mod common;
+mod lookup;
 mod manifest;
+mod need;
 mod region;
 
 pub use common::common_manifest;
