@@ -4,3 +4,4 @@ pub mod Counting
 pub mod Regions
 pub mod Needs
 pub mod Facts
+mod Legal

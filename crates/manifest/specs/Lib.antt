@@ -1,3 +1,5 @@
 pub mod Boundaries
 pub mod Valid
+pub mod Faults
+pub mod Numbers
 pub mod Common

@@ -2,11 +2,17 @@
 #![tactic(auto)]
 
 mod common;
+mod draft;
+mod fault;
 mod lookup;
 mod manifest;
 mod need;
 mod region;
 
 pub use common::common_manifest;
+pub use fault::{ManifestFault, Place};
 pub use manifest::{Manifest, Partition};
 pub use region::{Grant, Region};
+
+#[cfg(test)]
+mod tests;
