@@ -5,3 +5,4 @@ pub mod Regions
 pub mod Needs
 pub mod Facts
 mod Legal
+mod Rows

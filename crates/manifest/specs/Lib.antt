@@ -2,4 +2,5 @@ pub mod Boundaries
 pub mod Valid
 pub mod Faults
 pub mod Numbers
+pub mod Document
 pub mod Common

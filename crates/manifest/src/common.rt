@@ -10,7 +10,7 @@ use base::{MemoryKind, OutOfMemory, PartitionId, Rights};
 use std::alloc::Global;
 
 /// A partition of 16 table pages.
-fn partition(number: u32, id: u16) -> PartitionDraft
+fn partition(number: usize, id: u16) -> PartitionDraft
     ensures { result ≡ rows.partition_row id }
 {
     let id = PartitionId::new(id);

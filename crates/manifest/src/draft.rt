@@ -19,7 +19,7 @@ use std::marker::Model;
 /// A partition, and its number in the document.
 #[derive(Drop)]
 pub(crate) struct PartitionDraft {
-    pub(crate) number: u32,
+    pub(crate) number: usize,
     pub(crate) partition: Partition,
 }
 
@@ -35,7 +35,7 @@ impl Model for PartitionDraft {
 /// no page.
 #[derive(Drop)]
 pub(crate) struct RegionDraft {
-    pub(crate) number: u32,
+    pub(crate) number: usize,
     pub(crate) first: u32,
     pub(crate) count: u32,
     pub(crate) kind: MemoryKind,
@@ -66,6 +66,29 @@ impl Model for Draft {
     ghost Value = { ManifestRows };
 
     ghost view = { λ d. record { pool = d.pool; partitions = d.partitions.items; regions = d.regions.items } };
+}
+
+impl Draft {
+    ghost use Rattle.manifest.specs.Document.{IsInOrder};
+
+    /// The rows, partitions in ascending order of identifier and regions in ascending order of
+    /// address.
+    pub(crate) fn in_order(self) -> Draft
+        ensures { IsInOrder self result }
+    {
+        let Draft {
+            pool,
+            mut partitions,
+            mut regions,
+        } = self;
+        partitions.sort_unstable_by_key(|row| row.partition.id.number());
+        regions.sort_unstable_by_key(|region| region.first);
+        Draft {
+            pool,
+            partitions,
+            regions,
+        }
+    }
 }
 
 impl PartitionDraft {

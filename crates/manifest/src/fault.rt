@@ -14,11 +14,11 @@ pub enum Place {
     /// The document as a whole.
     Document,
     /// A partition.
-    Partition(u32),
+    Partition(usize),
     /// A region.
-    Region(u32),
+    Region(usize),
     /// A grant of a region.
-    Grant { region: u32, grant: u32 },
+    Grant { region: usize, grant: usize },
 }
 
 /// The first rule that a manifest breaks, and where.

@@ -2,16 +2,19 @@
 #![tactic(auto)]
 
 mod common;
+mod document;
 mod draft;
 mod fault;
 mod lookup;
 mod manifest;
 mod need;
+mod reader;
 mod region;
 
 pub use common::common_manifest;
 pub use fault::{ManifestFault, Place};
 pub use manifest::{Manifest, Partition};
+pub use reader::read;
 pub use region::{Grant, Region};
 
 #[cfg(test)]
