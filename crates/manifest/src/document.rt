@@ -7,7 +7,7 @@ ghost use Rattle.manifest.specs.Document as document;
 ghost use Rattle.manifest.specs.Numbers.{Tests};
 
 use crate::draft::{Draft, PartitionDraft, RegionDraft};
-use crate::fault::{ManifestFault, Place};
+use crate::fault::{Key, ManifestFault, Place, Table};
 use crate::manifest::Partition;
 use crate::region::Grant;
 use base::{MemoryKind, PartitionId, Rights};
@@ -132,6 +132,54 @@ fn text_at<'a>(value: &'a Value, key: &str) -> Option<&'a str>
     }
 }
 
+/// The keys of a document.
+const DOCUMENT_KEYS: [Key; 3] = [Key::Pool, Key::Partition, Key::Region];
+
+/// The keys of a partition.
+const PARTITION_KEYS: [Key; 2] = [Key::Id, Key::Quota];
+
+/// The keys of a region.
+const REGION_KEYS: [Key; 5] = [Key::Base, Key::Pages, Key::Kind, Key::Owner, Key::Grants];
+
+/// The keys of a grant.
+const GRANT_KEYS: [Key; 3] = [Key::Id, Key::Data, Key::Exec];
+
+/// The first key that a table lacks; the table as a whole where a key stands there that is unknown.
+fn missing_key(value: &Value, table: Table, keys: &[Key]) -> Place {
+    for key in keys {
+        if !has_key(value, key.name()) {
+            return table.at(*key);
+        }
+    }
+    table.whole()
+}
+
+/// Whether a table has a value of the key's kind at the key.
+fn has_value(value: &Value, key: Key) -> bool {
+    match key {
+        Key::Pool | Key::Id | Key::Quota | Key::Base | Key::Pages | Key::Owner => {
+            integer_at(value, key.name()).is_some()
+        }
+        Key::Partition | Key::Region | Key::Grants => array_at(value, key.name()).is_some(),
+        Key::Kind => text_at(value, "kind").and_then(kind_of).is_some(),
+        Key::Data => text_at(value, "data").and_then(rights_of).is_some(),
+        Key::Exec => bool_at(value, "exec").is_some(),
+    }
+}
+
+/// The first key of a table whose value is of another kind; the table as a whole where it is none.
+fn wrong_value(value: &Value, table: Table, keys: &[Key]) -> Place {
+    if !value.is_table() {
+        return table.whole();
+    }
+    for key in keys {
+        if !has_value(value, *key) {
+            return table.at(*key);
+        }
+    }
+    table.whole()
+}
+
 /// Whether a partition has its keys, and no others.
 fn has_partition_keys(value: &Value) -> bool
     ensures { result ≡ document.has_partition_keys (view value.now) }
@@ -177,7 +225,7 @@ fn check_partition_tables(values: &[Value]) -> Result<(), ManifestFault>
 {
     for (i, value) in values.iter().enumerate() {
         if value.is_table() && !has_partition_keys(value) {
-            return Err(ManifestFault::Key(Place::Partition(i + 1)));
+            return Err(ManifestFault::Key(missing_key(value, Table::Partition(i + 1), &PARTITION_KEYS)));
         }
     }
     Ok(())
@@ -190,7 +238,8 @@ fn check_grant_tables(values: &[Value], region: usize) -> Result<(), ManifestFau
     for (i, value) in values.iter().enumerate() {
         if value.is_table() && !has_grant_keys(value) {
             let grant = i + 1;
-            return Err(ManifestFault::Key(Place::Grant { region, grant }));
+            let table = Table::Grant { region, grant };
+            return Err(ManifestFault::Key(missing_key(value, table, &GRANT_KEYS)));
         }
     }
     Ok(())
@@ -201,7 +250,7 @@ fn check_region_keys(value: &Value, region: usize) -> Result<(), ManifestFault>
     ensures { Tests (document.has_all_region_keys (view value.now)) 2 result }
 {
     if !has_region_keys(value) {
-        return Err(ManifestFault::Key(Place::Region(region)));
+        return Err(ManifestFault::Key(missing_key(value, Table::Region(region), &REGION_KEYS)));
     }
     match array_at(value, "grants") {
         Some(grants) => check_grant_tables(grants, region),
@@ -246,7 +295,7 @@ pub(crate) fn check_keys(value: &Value) -> Result<(), ManifestFault>
     ensures { Tests (document.keys_are_right (view value.now)) 2 result }
 {
     if !has_document_keys(value) {
-        return Err(ManifestFault::Key(Place::Document));
+        return Err(ManifestFault::Key(missing_key(value, Table::Document, &DOCUMENT_KEYS)));
     }
     check_partitions(value)?;
     check_regions(value)
@@ -287,7 +336,7 @@ fn partition_rows(alloc: Global, values: &[Value]) -> Result<Vec<PartitionDraft>
     for (i, value) in values.iter().enumerate() {
         match partition_of(value, i + 1) {
             Some(row) => rows.push(row)?,
-            None => return Err(ManifestFault::Value(Place::Partition(i + 1))),
+            None => return Err(ManifestFault::Value(wrong_value(value, Table::Partition(i + 1), &PARTITION_KEYS))),
         }
     }
     Ok(rows)
@@ -303,7 +352,8 @@ fn grant_rows(alloc: Global, values: &[Value], region: usize) -> Result<Vec<Gran
             Some(row) => rows.push(row)?,
             None => {
                 let grant = i + 1;
-                return Err(ManifestFault::Value(Place::Grant { region, grant }));
+                let table = Table::Grant { region, grant };
+                return Err(ManifestFault::Value(wrong_value(value, table, &GRANT_KEYS)));
             }
         }
     }
@@ -316,7 +366,7 @@ fn grants_of(alloc: Global, value: &Value, region: usize) -> Result<Vec<Grant>, 
 {
     match array_at(value, "grants") {
         Some(grants) => grant_rows(alloc, grants, region),
-        None => Err(ManifestFault::Value(Place::Region(region))),
+        None => Err(ManifestFault::Value(Table::Region(region).at(Key::Grants))),
     }
 }
 
@@ -345,7 +395,7 @@ fn region_of(alloc: Global, value: &Value, number: usize) -> Result<RegionDraft,
     let grants = grants_of(alloc, value, number)?;
     match region_with(value, number, grants) {
         Some(region) => Ok(region),
-        None => Err(ManifestFault::Value(Place::Region(number))),
+        None => Err(ManifestFault::Value(wrong_value(value, Table::Region(number), &REGION_KEYS))),
     }
 }
 
@@ -367,7 +417,7 @@ fn partitions_of(alloc: Global, value: &Value) -> Result<Vec<PartitionDraft>, Ma
 {
     match array_at(value, "partition") {
         Some(partitions) => partition_rows(alloc, partitions),
-        None => Err(ManifestFault::Value(Place::Document)),
+        None => Err(ManifestFault::Value(Table::Document.at(Key::Partition))),
     }
 }
 
@@ -377,7 +427,7 @@ fn regions_of(alloc: Global, value: &Value) -> Result<Vec<RegionDraft>, Manifest
 {
     match array_at(value, "region") {
         Some(regions) => region_rows(alloc, regions),
-        None => Err(ManifestFault::Value(Place::Document)),
+        None => Err(ManifestFault::Value(Table::Document.at(Key::Region))),
     }
 }
 
@@ -387,7 +437,7 @@ fn pool_of(value: &Value) -> Result<u32, ManifestFault>
 {
     match integer_at(value, "pool") {
         Some(pool) => Ok(page_of(pool)),
-        None => Err(ManifestFault::Value(Place::Document)),
+        None => Err(ManifestFault::Value(Table::Document.at(Key::Pool))),
     }
 }
 

@@ -8,7 +8,7 @@ ghost use Rattle.base.specs.Manifest.{quotas_of, page_count};
 ghost use Rattle.manifest.specs.Valid as rules;
 ghost use Rattle.manifest.specs.Numbers.{Tests};
 
-use crate::fault::{ManifestFault, Place};
+use crate::fault::{Key, ManifestFault, Place, Table};
 use crate::manifest::Partition;
 use crate::need::need;
 use crate::region::{Grant, Region};
@@ -92,9 +92,19 @@ impl Draft {
 }
 
 impl PartitionDraft {
-    /// Its place in the document.
-    fn place(&self) -> Place {
-        Place::Partition(self.number)
+    /// A key of it in the document.
+    fn at(&self, key: Key) -> Place {
+        Table::Partition(self.number).at(key)
+    }
+
+    /// The key whose number is outside its limits, if one is.
+    fn key_outside_limits(&self) -> Key {
+        let id = self.partition.id.number();
+        if 0x8001 <= id && id <= 0xfffe {
+            Key::Quota
+        } else {
+            Key::Id
+        }
     }
 
     /// Whether its identifier and its quota are within their limits.
@@ -108,9 +118,44 @@ impl PartitionDraft {
 }
 
 impl RegionDraft {
-    /// Its place in the document.
-    fn place(&self) -> Place {
-        Place::Region(self.number)
+    /// A key of it in the document.
+    fn at(&self, key: Key) -> Place {
+        Table::Region(self.number).at(key)
+    }
+
+    /// The grant at an index among its grants.
+    fn at_grant(&self, index: Option<usize>) -> Place {
+        let region = self.number;
+        match index {
+            Some(index) => {
+                let grant = index.saturating_add(1);
+                Table::Grant { region, grant }.whole()
+            }
+            None => Table::Region(region).whole(),
+        }
+    }
+
+    /// The key whose value is outside its limits, if one is.
+    fn key_outside_limits(&self) -> Key {
+        if self.first >= Page::COUNT {
+            Key::Base
+        } else if self.count < 1 || self.end() > Page::COUNT as u64 {
+            Key::Pages
+        } else {
+            Key::Grants
+        }
+    }
+
+    /// Where it names no partition.
+    fn unknown_name(&self, partitions: &[PartitionDraft]) -> Place {
+        if !has_partition(partitions, self.owner) {
+            return self.at(Key::Owner);
+        }
+        self.at_grant(
+            self.grants
+                .iter()
+                .position(|grant| !has_partition(partitions, grant.partition)),
+        )
     }
 
     /// The number after its last page's.
@@ -175,6 +220,16 @@ fn are_distinct(grants: &[Grant]) -> bool
     }
 }
 
+/// The index of a grant whose partition stands in one before it.
+fn second_grant(grants: &[Grant]) -> Option<usize> {
+    for (i, grant) in grants.iter().enumerate() {
+        if !grants_nothing_to(&grants[..i], grant.partition) {
+            return Some(i);
+        }
+    }
+    None
+}
+
 /// Whether one of the partitions has the identifier.
 fn has_partition(partitions: &[PartitionDraft], id: PartitionId) -> bool
     ensures { result ≡ list_any (λ row. row.id == id) partitions.now }
@@ -204,7 +259,7 @@ fn check_partitions(partitions: &[PartitionDraft]) -> Result<(), ManifestFault>
 {
     for row in partitions {
         if !row.is_within_limits() {
-            return Err(ManifestFault::Limit(row.place()));
+            return Err(ManifestFault::Limit(row.at(row.key_outside_limits())));
         }
     }
     Ok(())
@@ -216,7 +271,7 @@ fn check_regions(regions: &[RegionDraft]) -> Result<(), ManifestFault>
 {
     for region in regions {
         if !region.is_within_limits() {
-            return Err(ManifestFault::Limit(region.place()));
+            return Err(ManifestFault::Limit(region.at(region.key_outside_limits())));
         }
     }
     Ok(())
@@ -243,7 +298,12 @@ fn check_counts(draft: &Draft) -> Result<(), ManifestFault>
     if (1 <= partitions && partitions <= 64) && (1 <= regions && regions <= 64) {
         Ok(())
     } else {
-        Err(ManifestFault::Limit(Place::Document))
+        let key = if 1 <= partitions && partitions <= 64 {
+            Key::Region
+        } else {
+            Key::Partition
+        };
+        Err(ManifestFault::Limit(Table::Document.at(key)))
     }
 }
 
@@ -255,7 +315,7 @@ fn check_pool(draft: &Draft) -> Result<(), ManifestFault>
     if draft.pool as u64 + table_pages(&draft.partitions) <= Page::COUNT as u64 {
         Ok(())
     } else {
-        Err(ManifestFault::Limit(Place::Document))
+        Err(ManifestFault::Limit(Table::Document.at(Key::Pool)))
     }
 }
 
@@ -277,7 +337,7 @@ fn check_rise(partitions: &[PartitionDraft]) -> Result<(), ManifestFault>
     for row in partitions {
         let id = row.partition.id.number() as u32;
         if id < least {
-            return Err(ManifestFault::Identifier(row.place()));
+            return Err(ManifestFault::Identifier(row.at(Key::Id)));
         }
         least = id + 1;
     }
@@ -290,7 +350,7 @@ fn check_names(draft: &Draft) -> Result<(), ManifestFault>
 {
     for region in &draft.regions {
         if !names_partitions(&draft.partitions, region) {
-            return Err(ManifestFault::Identifier(region.place()));
+            return Err(ManifestFault::Identifier(region.unknown_name(&draft.partitions)));
         }
     }
     Ok(())
@@ -311,7 +371,7 @@ fn check_order(regions: &[RegionDraft]) -> Result<(), ManifestFault>
     let mut end = 0;
     for region in regions {
         if (region.first as u64) < end {
-            return Err(ManifestFault::Overlap(region.place()));
+            return Err(ManifestFault::Overlap(region.at(Key::Base)));
         }
         end = region.end();
     }
@@ -327,7 +387,7 @@ fn check_pool_apart(draft: &Draft) -> Result<(), ManifestFault>
     let end = pool + table_pages(&draft.partitions);
     for region in &draft.regions {
         if !(end <= region.first as u64 || region.end() <= pool) {
-            return Err(ManifestFault::Overlap(region.place()));
+            return Err(ManifestFault::Overlap(region.at(Key::Base)));
         }
     }
     Ok(())
@@ -348,7 +408,7 @@ pub(crate) fn check_owners(regions: &[RegionDraft]) -> Result<(), ManifestFault>
 {
     for region in regions {
         if !region.grants_owner() {
-            return Err(ManifestFault::OwnerWithoutGrant(region.place()));
+            return Err(ManifestFault::OwnerWithoutGrant(region.at(Key::Owner)));
         }
     }
     Ok(())
@@ -360,7 +420,7 @@ pub(crate) fn check_grants(regions: &[RegionDraft]) -> Result<(), ManifestFault>
 {
     for region in regions {
         if !are_distinct(&region.grants) {
-            return Err(ManifestFault::SecondGrant(region.place()));
+            return Err(ManifestFault::SecondGrant(region.at_grant(second_grant(&region.grants))));
         }
     }
     Ok(())
@@ -372,7 +432,8 @@ pub(crate) fn check_executable(regions: &[RegionDraft]) -> Result<(), ManifestFa
 {
     for region in regions {
         if !region.executes_normal() {
-            return Err(ManifestFault::ExecutableDevice(region.place()));
+            let executable = region.grants.iter().position(|grant| grant.exec);
+            return Err(ManifestFault::ExecutableDevice(region.at_grant(executable)));
         }
     }
     Ok(())
@@ -388,7 +449,7 @@ pub(crate) fn check_quotas(
 {
     for row in partitions {
         if row.partition.quota < need(regions, row.partition.id) {
-            return Err(ManifestFault::Quota(row.place()));
+            return Err(ManifestFault::Quota(row.at(Key::Quota)));
         }
     }
     Ok(())

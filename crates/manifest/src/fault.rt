@@ -6,11 +6,30 @@ ghost use Rattle.manifest.specs.declared.fault.ManifestFault.TheVariants.{OutOfM
 
 use base::OutOfMemory;
 use std::alloc::{AllocError, AllocFailed};
+use std::error::Error;
+use std::fmt;
 
-/// Where in a document a rule is broken. Partitions, regions and the grants of a region are counted
-/// from 1, in the order of the document.
+/// A key of a manifest.
 #[derive(Clone, Copy, Debug, PartialEq, Eq)]
-pub enum Place {
+pub enum Key {
+    Pool,
+    Partition,
+    Region,
+    Id,
+    Quota,
+    Base,
+    Pages,
+    Kind,
+    Owner,
+    Grants,
+    Data,
+    Exec,
+}
+
+/// A table of a manifest. Partitions, regions and the grants of a region are counted from 1, in the
+/// order of the document.
+#[derive(Clone, Copy, Debug, PartialEq, Eq)]
+pub enum Table {
     /// The document as a whole.
     Document,
     /// A partition.
@@ -19,6 +38,75 @@ pub enum Place {
     Region(usize),
     /// A grant of a region.
     Grant { region: usize, grant: usize },
+}
+
+/// Where a rule is broken: in which table, and at which key of it, if it is one.
+#[derive(Clone, Copy, Debug, PartialEq, Eq)]
+pub struct Place {
+    pub table: Table,
+    pub key: Option<Key>,
+}
+
+impl Key {
+    /// The key as it stands in a document.
+    pub fn name(self) -> &'static str {
+        match self {
+            Key::Pool => "pool",
+            Key::Partition => "partition",
+            Key::Region => "region",
+            Key::Id => "id",
+            Key::Quota => "quota",
+            Key::Base => "base",
+            Key::Pages => "pages",
+            Key::Kind => "kind",
+            Key::Owner => "owner",
+            Key::Grants => "grants",
+            Key::Data => "data",
+            Key::Exec => "exec",
+        }
+    }
+}
+
+impl Table {
+    /// The table as a whole.
+    pub(crate) fn whole(self) -> Place {
+        Place {
+            table: self,
+            key: None,
+        }
+    }
+
+    /// A key of the table.
+    pub(crate) fn at(self, key: Key) -> Place {
+        Place {
+            table: self,
+            key: Some(key),
+        }
+    }
+}
+
+impl fmt::Display for Table {
+    fn fmt<W: fmt::Write>(&self, f: &mut fmt::Formatter<W>) -> fmt::Result {
+        match self {
+            Table::Document => write!(f, "document"),
+            Table::Partition(number) => write!(f, "partition {number}"),
+            Table::Region(number) => write!(f, "region {number}"),
+            Table::Grant { region, grant } => write!(f, "region {region}, grant {grant}"),
+        }
+    }
+}
+
+impl fmt::Display for Place {
+    fn fmt<W: fmt::Write>(&self, f: &mut fmt::Formatter<W>) -> fmt::Result {
+        let table = self.table;
+        match self.key {
+            Some(key) => {
+                let name = key.name();
+                write!(f, "{table}, {name}")
+            }
+            None => write!(f, "{table}"),
+        }
+    }
 }
 
 /// The first rule that a manifest breaks, and where.
@@ -68,6 +156,37 @@ impl ManifestFault {
         }
     }
 }
+
+/// The place and the rule: `region 5, grant 1: only normal memory is executable`.
+impl fmt::Display for ManifestFault {
+    fn fmt<W: fmt::Write>(&self, f: &mut fmt::Formatter<W>) -> fmt::Result {
+        match self {
+            ManifestFault::NotToml => write!(f, "document: no TOML"),
+            ManifestFault::Key(place) => write!(f, "{place}: an unknown or a missing key"),
+            ManifestFault::Value(place) => write!(f, "{place}: a value of another kind"),
+            ManifestFault::Limit(place) => write!(f, "{place}: outside its limits"),
+            ManifestFault::Identifier(place) => {
+                write!(f, "{place}: an identifier that stands twice or names no partition")
+            }
+            ManifestFault::Overlap(place) => {
+                write!(f, "{place}: a page of another region or of the pool")
+            }
+            ManifestFault::OwnerWithoutGrant(place) => write!(f, "{place}: the owner has no grant"),
+            ManifestFault::SecondGrant(place) => {
+                write!(f, "{place}: a second grant of one partition")
+            }
+            ManifestFault::ExecutableDevice(place) => {
+                write!(f, "{place}: only normal memory is executable")
+            }
+            ManifestFault::Quota(place) => {
+                write!(f, "{place}: fewer table pages than the grants need")
+            }
+            ManifestFault::OutOfMemory => write!(f, "out of memory"),
+        }
+    }
+}
+
+impl Error for ManifestFault {}
 
 impl From<OutOfMemory> for ManifestFault {
     ghost from_gives = { λ _ fault. fault ≡ NoMemory };

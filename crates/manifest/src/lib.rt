@@ -12,7 +12,7 @@ mod reader;
 mod region;
 
 pub use common::common_manifest;
-pub use fault::{ManifestFault, Place};
+pub use fault::{Key, ManifestFault, Place, Table};
 pub use manifest::{Manifest, Partition};
 pub use reader::read;
 pub use region::{Grant, Region};
