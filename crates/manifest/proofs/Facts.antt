@@ -2,12 +2,14 @@
 use Rattle.std.proofs.Common.{◌≡◌, ℕ, ◌+◌, ◌*◌, ◌≤◌, ◌<◌, Bool, true, false, ◌&&◌, ◌||◌, not, cond, eqb, leb, List, [], ◌∷◌, length, get_or, slice_index, Some, None, find, refl, sym, ap, ◌∙◌, arith, zero, suc, take, eq-eqb}
 use Rattle.std.specs.List.{list_all, list_any}
 use Rattle.std.specs.Option.{option_map, option_and_then}
+use Rattle.std.proofs.lemmas.List.{length-map}
 use Rattle.std.proofs.lemmas.Bool.{leb-true, eqb-true}
 use Rattle.std.proofs.lemmas.Bool.Decides.{nat_tests}
 use Rattle.std.proofs.lemmas.List.Sums.{passes_at_first}
 use Rattle.base.specs.Pages.{in_run}
 use Rattle.base.specs.Manifest.{PartitionRow, GrantRow, RegionRow, ManifestRows, ids_of, quotas_of, row_of, is_partition, granted_in, permission_of, grant}
-use Rattle.manifest.specs.Valid.{rise_from, begin_from, names_partitions, has_tables, chunks_granted, is_valid}
+use Rattle.base.specs.Need.{need}
+use Rattle.manifest.specs.Valid.{granted_by, rise_from, begin_from, names_partitions, fits_quota, is_partition_row, is_region_row, is_valid}
 
 both : (a b : Bool) → (a && b) ≡ true → (a ≡ true) × (b ≡ true)
 both true b e = (refl, e)
@@ -16,19 +18,26 @@ both false b e = absurd (cc)
 -- the rules that the tables rest on
 pub record Facts (m : ManifestRows) : Type 0 where
   pub rise : rise_from 0 m.partitions ≡ true
-  pub names : list_all (names_partitions m) m.regions ≡ true
+  pub names : list_all (names_partitions m.partitions) m.regions ≡ true
   pub begin : begin_from 0 m.regions ≡ true
-  pub tables : list_all (has_tables m) m.partitions ≡ true
+  pub rows : list_all is_partition_row m.partitions ≡ true
+  pub regions : list_all is_region_row m.regions ≡ true
+  pub fits : list_all (fits_quota m.regions) m.partitions ≡ true
 
 pub facts : (m : ManifestRows) → is_valid m ≡ true → Facts m
 facts m e =
-    let a = both _ _ e in
-    let b = both _ _ a.0 in
-    let c = both _ _ b.0 in
-    let d = both _ _ c.0 in
-    let f = both _ _ d.0 in
-    let g = both _ _ f.0 in
-    record { tables = a.1; begin = d.1; names = f.1; rise = g.1 }
+    let fits = both _ _ e in
+    let executes = both _ _ fits.0 in
+    let once = both _ _ executes.0 in
+    let owners = both _ _ once.0 in
+    let pages = both _ _ owners.0 in
+    let overlaps = both _ _ pages.1 in
+    let known = both _ _ pages.0 in
+    let named = both _ _ known.1 in
+    let pool = both _ _ known.0 in
+    let regions = both _ _ pool.0 in
+    let rows = both _ _ regions.0 in
+    record { rise = named.0; names = named.1; begin = overlaps.0; rows = rows.1; regions = regions.1; fits = fits.1 }
 
 -- ---- rows
 
@@ -75,10 +84,10 @@ none_granted known (g ∷ gs) p all unknown =
       | false ↦ λ e. none_granted known gs p b.1 unknown
     ] refl
 
-stranger_in : (m : ManifestRows) (rs : List RegionRow) (p n : ℕ) → list_all (names_partitions m) rs ≡ true → is_partition m p ≡ false → option_and_then (λ r. granted_in r p) (find (λ r. in_run r.pages n) rs) ≡ None
+stranger_in : (m : ManifestRows) (rs : List RegionRow) (p n : ℕ) → list_all (names_partitions m.partitions) rs ≡ true → is_partition m p ≡ false → option_and_then (λ r. granted_in r p) (find (λ r. in_run r.pages n) rs) ≡ None
 stranger_in m [] p n names unknown = refl
 stranger_in m (r ∷ rs) p n names unknown =
-    let b = both (names_partitions m r) (list_all (names_partitions m) rs) names in
+    let b = both (names_partitions m.partitions r) (list_all (names_partitions m.partitions) rs) names in
     elim (in_run r.pages n) as (λ k. option_and_then (λ r. granted_in r p) (cond k (Some r) (find (λ s. in_run s.pages n) rs)) ≡ None) [
       | true ↦ ap (option_map (permission_of r.kind)) (none_granted (is_partition m) r.grants p (both (is_partition m r.owner) _ b.0).1 unknown)
       | false ↦ stranger_in m rs p n b.1 unknown
@@ -88,14 +97,22 @@ stranger_in m (r ∷ rs) p n names unknown =
 pub stranger : (m : ManifestRows) (p n : ℕ) → Facts m → length (ids_of m.partitions) ≤ row_of (ids_of m.partitions) p → grant m p n ≡ None
 stranger m p n h le = stranger_in m m.regions p n h.names (not_partition m.partitions p le)
 
--- a row has as many tables as its chunks can take
-tables_in : (m : ManifestRows) (rows : List PartitionRow) (i : ℕ) → list_all (has_tables m) rows ≡ true → i < length rows → 2 * chunks_granted m.regions (get_or (ids_of rows) i 0) ≤ slice_index (quotas_of rows) i
-tables_in m [] i e lt = absurd (omega arith)
-tables_in m (row ∷ rows) zero e lt = leb-true _ _ (both (has_tables m row) _ e).0
-tables_in m (row ∷ rows) (suc i) e lt = tables_in m rows i (both (has_tables m row) _ e).1 (omega arith)
+fits_in : (regions : List RegionRow) (rows : List PartitionRow) (i : ℕ) → list_all (fits_quota regions) rows ≡ true → i < length rows → need (granted_by regions (get_or (ids_of rows) i 0)) ≤ slice_index (quotas_of rows) i
+fits_in regions [] i e lt = absurd (omega arith)
+fits_in regions (row ∷ rows) zero e lt = leb-true _ _ (both (fits_quota regions row) _ e).0
+fits_in regions (row ∷ rows) (suc i) e lt = fits_in regions rows i (both (fits_quota regions row) _ e).1 (omega arith)
 
-pub has_tables_at : (m : ManifestRows) (i : ℕ) → Facts m → i < length m.partitions → 2 * chunks_granted m.regions (get_or (ids_of m.partitions) i 0) ≤ slice_index (quotas_of m.partitions) i
-has_tables_at m i h lt = tables_in m m.partitions i h.tables lt
+-- the quota of a row is no less than the tables that its grants need
+pub fits_at : (m : ManifestRows) (i : ℕ) → Facts m → i < length m.partitions → need (grant m (get_or (ids_of m.partitions) i 0)) ≤ slice_index (quotas_of m.partitions) i
+fits_at m i h lt = fits_in m.regions m.partitions i h.fits lt
+
+-- the quota of a partition with a row is no less than the tables that its grants need
+pub fits_of : (m : ManifestRows) (p : ℕ) → Facts m → row_of (ids_of m.partitions) p < length (ids_of m.partitions) → need (grant m p) ≤ slice_index (quotas_of m.partitions) (row_of (ids_of m.partitions) p)
+fits_of m p h below =
+    let ids = ids_of m.partitions in
+    let id : get_or (ids_of m.partitions) (row_of (ids_of m.partitions) p) 0 ≡ p = id-row_of (ids_of m.partitions) p below in
+    let long : length (ids_of m.partitions) ≡ length m.partitions = length-map m.partitions (λ (row : PartitionRow). row.id) in
+    rw id at (fits_at m (row_of (ids_of m.partitions) p) h (omega arith))
 
 -- ---- regions
 

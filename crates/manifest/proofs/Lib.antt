@@ -1,1 +1,8 @@
+mod Alike
+pub mod Tables
+pub mod Counting
+pub mod Regions
+pub mod Needs
 pub mod Facts
+mod Legal
+mod Rows

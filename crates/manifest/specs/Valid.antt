@@ -1,12 +1,25 @@
--- The rules of a manifest.
-use Rattle.std.specs.Prelude.{ℕ, ◌+◌, ◌*◌, ◌^◌, Bool, true, not, ◌&&◌, ◌||◌, ◌==◌, nat_le, List, [], ◌∷◌, length, sum_by, if◌then◌else◌, is_some}
+-- The rules of a manifest, in the order of its faults from limits (4) to quotas (10).
+use Rattle.std.specs.Prelude.{ℕ, ◌+◌, ◌^◌, Bool, true, not, ◌&&◌, ◌||◌, ◌==◌, nat_le, List, [], ◌∷◌, length, if◌then◌else◌}
 use Rattle.std.specs.List.{list_all, list_any, find}
-use Rattle.std.specs.Option.{option_map_or}
-use Rattle.base.specs.Pages.{PageRun, are_apart, chunks_in}
-use Rattle.base.specs.Access.{is_normal}
+use Rattle.std.specs.Option.{option_map_or, option_and_then}
+use Rattle.base.specs.Pages.{PageRun, in_run, are_apart}
+use Rattle.base.specs.Access.{View, is_normal}
+use Rattle.base.specs.Need.{need}
 use Rattle.base.specs.Manifest.{PartitionRow, GrantRow, RegionRow, ManifestRows, is_partition, quotas_of, page_count, granted_in}
 
 -- ---- a region
+
+-- some pages, which end within input addresses of 39 bits
+abbrev pub is_run : PageRun → Bool
+is_run run = nat_le 1 run.count && nat_le (run.first + run.count) (2 ^ 27)
+
+-- some pages, and 1 to 64 grants
+abbrev pub is_region_row : RegionRow → Bool
+is_region_row r = is_run r.pages && (nat_le 1 (length r.grants) && nat_le (length r.grants) 64)
+
+-- the owner is among the grants
+abbrev pub grants_owner : RegionRow → Bool
+grants_owner r = list_any (λ g. g.partition == r.owner) r.grants
 
 -- no partition stands in two of the grants
 abbrev pub are_distinct : List GrantRow → Bool
@@ -16,15 +29,19 @@ are_distinct (g ∷ gs) = list_all (λ h. not (h.partition == g.partition)) gs &
 abbrev pub is_executable_only_if : Bool → GrantRow → Bool
 is_executable_only_if normal g = normal || not g.exec
 
--- 1 to 64 grants, the owner's among them, none of them doubled, and executable in normal memory alone
+-- only normal memory is executable
+abbrev pub executes_normal : RegionRow → Bool
+executes_normal r = list_all (is_executable_only_if (is_normal r.kind)) r.grants
+
+-- a region's own rules
 abbrev pub is_region : RegionRow → Bool
-is_region r =
-    nat_le 1 (length r.grants) && nat_le (length r.grants) 64
-    && list_any (λ g. g.partition == r.owner) r.grants
-    && are_distinct r.grants
-    && list_all (is_executable_only_if (is_normal r.kind)) r.grants
+is_region r = is_region_row r && grants_owner r && are_distinct r.grants && executes_normal r
 
 -- ---- the manifest
+
+-- what regions grant to a partition at a page
+abbrev pub granted_by : List RegionRow → ℕ → ℕ → View
+granted_by regions p n = option_and_then (λ r. granted_in r p) (find (λ r. in_run r.pages n) regions)
 
 -- how many table pages a partition may have; none for one that has no row
 abbrev pub quota_of : ManifestRows → ℕ → ℕ
@@ -44,28 +61,56 @@ begin_from least [] = true
 begin_from least (r ∷ rs) = nat_le least r.pages.first && begin_from (r.pages.first + r.pages.count) rs
 
 -- the owner and the partitions of the grants have rows
-abbrev pub names_partitions : ManifestRows → RegionRow → Bool
-names_partitions m r = is_partition m r.owner && list_all (λ g. is_partition m g.partition) r.grants
+abbrev pub names_partitions : List PartitionRow → RegionRow → Bool
+names_partitions rows r =
+    list_any (λ row. row.id == r.owner) rows && list_all (λ g. list_any (λ row. row.id == g.partition) rows) r.grants
 
 abbrev pub pool_pages : ManifestRows → PageRun
 pool_pages m = record { first = m.pool; count = page_count (quotas_of m.partitions) }
 
--- how many chunks the grants of a partition touch, each region's counted by itself
-abbrev pub chunks_granted : List RegionRow → ℕ → ℕ
-chunks_granted rs p = sum_by (λ r. if is_some (granted_in r p) then chunks_in r.pages else 0) rs
+-- the quota is no less than the tables that the grants need
+abbrev pub fits_quota : List RegionRow → PartitionRow → Bool
+fits_quota regions row = nat_le (need (granted_by regions row.id)) row.quota
 
--- a chunk takes two tables at most
-abbrev pub has_tables : ManifestRows → PartitionRow → Bool
-has_tables m row = nat_le (2 * chunks_granted m.regions row.id) row.quota
-
-abbrev pub is_valid : ManifestRows → Bool
-is_valid m =
+-- fault 4: 1 to 64 partitions and regions, the limits of each, and the pool's end
+abbrev pub is_within_limits : ManifestRows → Bool
+is_within_limits m =
     (nat_le 1 (length m.partitions) && nat_le (length m.partitions) 64)
     && (nat_le 1 (length m.regions) && nat_le (length m.regions) 64)
     && list_all is_partition_row m.partitions
-    && rise_from 0 m.partitions
-    && list_all (names_partitions m) m.regions
-    && begin_from 0 m.regions
+    && list_all is_region_row m.regions
     && nat_le (m.pool + page_count (quotas_of m.partitions)) (2 ^ 27)
-    && list_all (λ r. are_apart (pool_pages m) r.pages) m.regions
-    && list_all (has_tables m) m.partitions
+
+-- fault 5: each identifier stands once, and owners and grants name partitions
+abbrev pub names_partitions_once : ManifestRows → Bool
+names_partitions_once m = rise_from 0 m.partitions && list_all (names_partitions m.partitions) m.regions
+
+-- fault 6: no two regions share a page, nor a region and the pool
+abbrev pub shares_no_page : ManifestRows → Bool
+shares_no_page m = begin_from 0 m.regions && list_all (λ r. are_apart (pool_pages m) r.pages) m.regions
+
+-- fault 7: each owner has a grant
+abbrev pub grants_owners : ManifestRows → Bool
+grants_owners m = list_all grants_owner m.regions
+
+-- fault 8: no partition has two grants in one region
+abbrev pub grants_once : ManifestRows → Bool
+grants_once m = list_all (λ r. are_distinct r.grants) m.regions
+
+-- fault 9: no device region is executable
+abbrev pub executes_normal_only : ManifestRows → Bool
+executes_normal_only m = list_all executes_normal m.regions
+
+-- fault 10: each quota is at least the need
+abbrev pub fits_quotas : ManifestRows → Bool
+fits_quotas m = list_all (fits_quota m.regions) m.partitions
+
+abbrev pub is_valid : ManifestRows → Bool
+is_valid m =
+    is_within_limits m
+    && names_partitions_once m
+    && shares_no_page m
+    && grants_owners m
+    && grants_once m
+    && executes_normal_only m
+    && fits_quotas m

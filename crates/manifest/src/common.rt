@@ -1,20 +1,22 @@
-//! The manifest that stands until one can be read.
+//! A manifest for tests of the crates above.
 
-ghost use Rattle.std.specs.Prelude.{◌≡◌, ◌+◌, ◌<◌, ◌≤◌, ◌^◌, false, IfOk};
+ghost use Rattle.std.specs.Prelude.{◌≡◌, false, IfOk};
 ghost use Rattle.manifest.specs.Common as rows;
 
+use crate::draft::{Draft, PartitionDraft, RegionDraft};
 use crate::manifest::{Manifest, Partition};
-use crate::region::{Grant, Region};
-use base::{MemoryKind, OutOfMemory, Page, PartitionId, Rights, Run};
+use crate::region::Grant;
+use base::{MemoryKind, OutOfMemory, PartitionId, Rights};
 use std::alloc::Global;
 
 /// A partition of 16 table pages.
-fn partition(id: u16) -> Partition
+fn partition(number: usize, id: u16) -> PartitionDraft
     ensures { result ≡ rows.partition_row id }
 {
-    Partition {
-        id: PartitionId::new(id),
-        quota: 16,
+    let id = PartitionId::new(id);
+    PartitionDraft {
+        number,
+        partition: Partition { id, quota: 16 },
     }
 }
 
@@ -36,9 +38,7 @@ fn private_region(
     count: u32,
     owner: u16,
     exec: bool,
-) -> Result<Region, OutOfMemory>
-    requires some { 0 < count }
-    requires in_range { first + count ≤ 2 ^ 27 }
+) -> Result<RegionDraft, OutOfMemory>
     ensures { IfOk result (λ r. r ≡ rows.private_row first count owner exec) }
 {
     let owner = PartitionId::new(owner);
@@ -47,36 +47,50 @@ fn private_region(
         rights: Rights::Rw,
         exec,
     };
-    let grants = vec![in alloc; grant]?;
-    let pages = Run::new(Page::new(first), count);
-    Ok(Region::new(pages, MemoryKind::Normal, owner, grants))
+    Ok(RegionDraft {
+        number: 0,
+        first,
+        count,
+        kind: MemoryKind::Normal,
+        owner,
+        grants: vec![in alloc; grant]?,
+    })
 }
 
 /// A page of device memory.
-fn device_region(alloc: Global) -> Result<Region, OutOfMemory>
+fn device_region(alloc: Global) -> Result<RegionDraft, OutOfMemory>
     ensures { IfOk result (λ r. r ≡ rows.device_row) }
 {
-    let grants = vec![in alloc; data_grant(0x8001, Rights::Rw)]?;
-    let pages = Run::new(Page::new(0x9000), 1);
-    let owner = PartitionId::new(0x8001);
-    Ok(Region::new(pages, MemoryKind::Device, owner, grants))
+    Ok(RegionDraft {
+        number: 0,
+        first: 0x9000,
+        count: 1,
+        kind: MemoryKind::Device,
+        owner: PartitionId::new(0x8001),
+        grants: vec![in alloc; data_grant(0x8001, Rights::Rw)]?,
+    })
 }
 
 /// A page that its owner writes and another partition reads.
-fn shared_region(alloc: Global) -> Result<Region, OutOfMemory>
+fn shared_region(alloc: Global) -> Result<RegionDraft, OutOfMemory>
     ensures { IfOk result (λ r. r ≡ rows.shared_row) }
 {
     let grants = vec![in alloc;
         data_grant(0x8001, Rights::Rw),
         data_grant(0x8002, Rights::Ro),
     ]?;
-    let pages = Run::new(Page::new(0xd_0000), 1);
-    let owner = PartitionId::new(0x8001);
-    Ok(Region::new(pages, MemoryKind::Normal, owner, grants))
+    Ok(RegionDraft {
+        number: 0,
+        first: 0xd_0000,
+        count: 1,
+        kind: MemoryKind::Normal,
+        owner: PartitionId::new(0x8001),
+        grants,
+    })
 }
 
 /// The seven regions, in ascending order of address.
-fn regions(alloc: Global) -> Result<Vec<Region>, OutOfMemory>
+fn regions(alloc: Global) -> Result<Vec<RegionDraft>, OutOfMemory>
     ensures { IfOk result (λ regions. regions.items ≡ rows.common_rows.regions) }
 {
     let regions = vec![in alloc;
@@ -93,10 +107,20 @@ fn regions(alloc: Global) -> Result<Vec<Region>, OutOfMemory>
 
 /// The common manifest: partitions 0x8001, 0x8002 and 0x8003 of 16 table pages each, their private
 /// memory, a device of 0x8001, and a page of 0x8001 that 0x8002 may read.
+///
+/// Its rows break no rule (shown by a test), so want of memory is the one error that comes.
 pub fn common_manifest(alloc: Global) -> Result<Manifest, OutOfMemory>
     ensures { IfOk result (λ m. m ≡ rows.common_rows) }
 {
-    let partitions = vec![in alloc; partition(0x8001), partition(0x8002), partition(0x8003)]?;
-    let regions = regions(alloc)?;
-    Ok(Manifest::new(Page::new(0x4_0000), partitions, regions))
+    let partitions = vec![in alloc;
+        partition(1, 0x8001),
+        partition(2, 0x8002),
+        partition(3, 0x8003),
+    ]?;
+    let draft = Draft {
+        pool: 0x4_0000,
+        partitions,
+        regions: regions(alloc)?,
+    };
+    Manifest::new(alloc, &draft).map_err(|_| OutOfMemory)
 }

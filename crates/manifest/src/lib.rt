@@ -2,9 +2,20 @@
 #![tactic(auto)]
 
 mod common;
+mod document;
+mod draft;
+mod fault;
+mod lookup;
 mod manifest;
+mod need;
+mod reader;
 mod region;
 
 pub use common::common_manifest;
+pub use fault::{Key, ManifestFault, Place, Table};
 pub use manifest::{Manifest, Partition};
+pub use reader::read;
 pub use region::{Grant, Region};
+
+#[cfg(test)]
+mod tests;

@@ -1,11 +1,21 @@
-ghost use Rattle.std.specs.Prelude.{◌≡◌, ◌+◌, ◌≤◌, ◌^◌, ◌==◌, IsTrue};
+ghost use Rattle.std.specs.Prelude.{◌≡◌, ◌+◌, ◌≤◌, ◌^◌, ◌==◌, IsTrue, MatchResult};
 ghost use Rattle.std.specs.List.{find};
 ghost use Rattle.std.specs.Option.{option_map};
 ghost use Rattle.base.specs.Manifest as rows;
 ghost use Rattle.manifest.specs.Valid.{is_valid, quota_of};
+ghost use Rattle.manifest.specs.Faults.{fault_of};
+ghost use Rattle.manifest.specs.Numbers.{AppliesTo};
+ghost use Rattle.base.specs.Need as tables;
 
+use crate::draft::{
+    Draft, check_executable, check_grants, check_identifiers, check_limits, check_overlaps,
+    check_owners, check_quotas, to_partitions, to_regions,
+};
+use crate::fault::ManifestFault;
 use crate::region::Region;
+use crate::{lookup, need};
 use base::{Access, Page, PartitionId};
+use std::alloc::Global;
 use std::marker::Model;
 
 /// A partition, and how many table pages it may have, its root apart.
@@ -47,16 +57,24 @@ impl Model for Manifest {
 }
 
 impl Manifest {
-    /// A manifest of these rows.
-    pub(crate) fn new(pool: Page, partitions: Vec<Partition>, regions: Vec<Region>) -> Self
-        requires { IsTrue (is_valid (record { pool = pool; partitions = partitions.items; regions = regions.items })) }
-        ensures { result ≡ record { pool = pool; partitions = partitions.items; regions = regions.items } }
+    /// The manifest of these rows, or the first rule that they break.
+    pub(crate) fn new(alloc: Global, draft: &Draft) -> Result<Self, ManifestFault>
+        ensures { MatchResult result (λ m. (m ≡ draft.now) × (fault_of draft.now ≡ None)) (AppliesTo draft.now) }
     {
-        Manifest {
-            pool,
+        check_limits(draft)?;
+        check_identifiers(draft)?;
+        check_overlaps(draft)?;
+        check_owners(&draft.regions)?;
+        check_grants(&draft.regions)?;
+        check_executable(&draft.regions)?;
+        let regions = to_regions(alloc, &draft.regions)?;
+        check_quotas(&draft.partitions, &regions)?;
+        let partitions = to_partitions(alloc, &draft.partitions)?;
+        Ok(Manifest {
+            pool: Page::new(draft.pool),
             partitions,
             regions,
-        }
+        })
     }
 
     /// The first page of the table pool.
@@ -93,6 +111,15 @@ impl Manifest {
         }
     }
 
+    /// How many table pages the partition's grants need, its root apart: a level 3 table for each
+    /// chunk of 512 pages that are not all granted alike, and a level 2 table for each gigabyte of
+    /// which a page is granted (Arm ARM, VMSAv8-64, 4 KB granule).
+    pub fn need(&self, p: PartitionId) -> u32
+        ensures { result ≡ tables.need (rows.grant self.now p) }
+    {
+        need::need(&self.regions, p)
+    }
+
     /// How many pages the table pool has: a root for each partition, and their quotas.
     pub fn table_pages(&self) -> u32
         ensures same { result ≡ rows.page_count (rows.quotas_of self.now.partitions) }
@@ -112,16 +139,14 @@ impl Manifest {
     pub fn region_at(&self, page: Page) -> Option<&Region>
         ensures { option_map (λ r. r.now) result ≡ rows.region_at self.now page }
     {
-        self.regions
-            .iter()
-            .find(|region| region.pages().contains(page))
+        lookup::region_at(&self.regions, page)
     }
 
     /// What the manifest grants to a partition at a page.
     pub fn grant(&self, p: PartitionId, page: Page) -> Option<Access>
         ensures { result ≡ rows.grant self.now p page }
     {
-        self.region_at(page)?.access(p)
+        lookup::grant_at(&self.regions, p, page)
     }
 
     /// The partition that owns a page; None outside all regions.

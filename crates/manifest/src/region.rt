@@ -64,7 +64,8 @@ impl Region {
 
     /// Its pages.
     pub fn pages(&self) -> Run
-        ensures { result ≡ self.now.pages }
+        ensures same { result ≡ self.now.pages }
+        ensures legal { IsTrue (is_region self.now) }
     {
         self.pages
     }

@@ -1,0 +1,26 @@
+//! Look-ups by page in regions that stand in ascending order of address.
+
+ghost use Rattle.std.specs.Prelude.{◌≡◌, true};
+ghost use Rattle.std.specs.List.{find};
+ghost use Rattle.std.specs.Option.{option_map};
+ghost use Rattle.base.specs.Pages.{in_run};
+ghost use Rattle.manifest.specs.Valid.{begin_from, granted_by};
+
+use crate::region::Region;
+use base::{Access, Page, PartitionId};
+
+/// The region of a page, if one covers it.
+pub(crate) fn region_at(regions: &[Region], page: Page) -> Option<&Region>
+    requires { begin_from 0 regions.now ≡ true }
+    ensures { option_map (λ r. r.now) result ≡ find (λ r. in_run r.pages page) regions.now }
+{
+    regions.iter().find(|region| region.pages().contains(page))
+}
+
+/// What the regions grant to a partition at a page.
+pub(crate) fn grant_at(regions: &[Region], p: PartitionId, page: Page) -> Option<Access>
+    requires { begin_from 0 regions.now ≡ true }
+    ensures { result ≡ granted_by regions.now p page }
+{
+    region_at(regions, page)?.access(p)
+}
