@@ -4,3 +4,10 @@ pub mod Sound
 pub mod Change
 pub mod Parts
 pub mod Boot
+pub mod Orderly
+pub mod Chunks
+pub mod Gigabytes
+pub mod History
+pub mod Engine
+pub mod Moments
+pub mod Steps
