@@ -3,7 +3,6 @@ pub mod Walk
 pub mod Sound
 pub mod Change
 pub mod Parts
-pub mod Boot
 pub mod Orderly
 pub mod Chunks
 pub mod Gigabytes

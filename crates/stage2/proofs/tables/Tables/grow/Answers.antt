@@ -8,7 +8,7 @@ use Rattle.stage2.specs.Sound.{TablesView}
 use Rattle.stage2.specs.Engine.{view_of}
 use Rattle.stage2.proofs.Rows.{row-found}
 use Rattle.stage2.proofs.Engines.{has-row}
-use Rattle.stage2.proofs.engine.Engine.grow.Goals as goal
+use Rattle.stage2.proofs.tables.Tables.grow.Goals as goal
 
 pub returns-in-Some : goal.returns-in-Some
 returns-in-Some g c =
