@@ -44,13 +44,14 @@ has-row ids p below none = grind (arith, nat_tests, none)
 
 -- ---- tables that map nothing
 
-pub canonical_zero : (layout : Layout) (m : Pages) → ((page index : ℕ) → m.words page index ≡ 0) → layout.ids ≡ m.ids → layout.pages ≡ page_count m.quotas → length layout.ids ≡ length m.quotas → layout.base + layout.pages ≤ 2 ^ 27
+pub canonical_zero : (layout : Layout) (m : Pages) → ((page index : ℕ) → m.words page index ≡ 0) → layout.ids ≡ m.ids → layout.quotas ≡ m.quotas → layout.pages ≡ page_count m.quotas → length layout.ids ≡ length m.quotas → layout.base + layout.pages ≤ 2 ^ 27
     → ((row : ℕ) → row < length m.quotas → m.taken row ≡ true) → ((row q : ℕ) → InShare m.quotas row q → m.taken q ≡ false) → ((row : ℕ) → used_by m row ≡ 0) → IsCanonical layout m
-canonical_zero layout m zeros ids pages rows fits roots free none =
+canonical_zero layout m zeros ids quotas pages rows fits roots free none =
     let s = sound_zero layout m zeros ids pages rows fits roots in
     record {
       orderly = record {
         ids = s.ids;
+        quotas = quotas;
         pages = s.pages;
         rows = s.rows;
         fits = s.fits;

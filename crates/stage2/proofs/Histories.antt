@@ -5,7 +5,7 @@ use Rattle.std.proofs.lemmas.Bool.Decides.{nat_tests}
 use Rattle.base.specs.Pages.{PageRun}
 use Rattle.base.specs.Access.{View}
 use Rattle.pool.specs.declared.operation.Op.{Op}
-use Rattle.pool.specs.declared.operation.Op.TheVariants.{Set, Invalidate}
+use Rattle.pool.specs.declared.operation.Op.TheVariants.{Set, Invalidate, Clear}
 use Rattle.pool.specs.Pool.{Words, Pool, words_of, put, after_set, after_invalidate}
 use Rattle.stage2.specs.Chunks.{IsWordFor}
 use Rattle.stage2.specs.Moments.{words_after}
@@ -15,6 +15,7 @@ after-append : (b a : List Op) (w : Words) → words_after (b ++ a) w ≡ words_
 after-append [] a w = refl
 after-append (Set page index word ∷ b) a w = ap (put page index word) (after-append b a w)
 after-append (Invalidate p run ∷ b) a w = after-append b a w
+after-append (Clear run ∷ b) a w = after-append b a w
 
 counted-append : (b a : List Op) (n : ℕ) → counted (b ++ a) n ≡ counted b (counted a n)
 counted-append [] a n = refl
@@ -52,6 +53,7 @@ sets-wider : (k c i b : ℕ) (plan : ℕ → Option View) (ops : List Op) → i 
 sets-wider k c i b plan [] le s = tt
 sets-wider k c i b plan (Set q x w ∷ ops) le s = let lt = s.1 in (s.0, omega arith, s.2, s.3)
 sets-wider k c i b plan (Invalidate p r ∷ ops) le s = absurd s
+sets-wider k c i b plan (Clear r ∷ ops) le s = absurd s
 
 -- ---- a table is filled
 
@@ -70,6 +72,7 @@ sets-over k c i b plan answer (Set q x word ∷ ops) so le e h below = elim (cas
   | inr f ↦ let none : None ≡ Some h.2.0 = rw f at h.2.1 in absurd (cc)
 ]
 sets-over k c i b plan answer (Invalidate p r ∷ ops) so le e h below = absurd h
+sets-over k c i b plan answer (Clear r ∷ ops) so le e h below = absurd h
 
 -- one page more
 pub filled-step : (k c i : ℕ) (plan : ℕ → Option View) (answer : View) (a b e : Pool) → plan (512 * c + i) ≡ Some answer → Filled k c i plan a b → Filled k c (i + 1) (λ n. cond (eqb n (512 * c + i)) (Some answer) None) b e → Filled k c (i + 1) plan a e

@@ -108,6 +108,7 @@ module _ (layout : Layout) (row c j : ℕ) (answer : ℕ → View) (old new : Pa
   orderly : IsOrderly layout new
   orderly = record {
     ids = h.orderly.ids ∙ sym h.ids;
+    quotas = h.orderly.quotas ∙ sym h.quotas;
     pages = rw h.quotas h.orderly.pages;
     rows = rw h.quotas h.orderly.rows;
     fits = h.orderly.fits;

@@ -6,7 +6,7 @@ use Rattle.base.specs.Pages.{PageRun, covers}
 use Rattle.base.specs.Access.{View}
 use Rattle.pool.specs.Pool.{Pool, Words, words_of, put}
 use Rattle.pool.specs.declared.operation.Op.{Op}
-use Rattle.pool.specs.declared.operation.Op.TheVariants.{Set, Invalidate}
+use Rattle.pool.specs.declared.operation.Op.TheVariants.{Set, Invalidate, Clear}
 use Rattle.stage2.specs.declared.walked.Walked.{Walked}
 use Rattle.stage2.specs.declared.walked.Walked.TheVariants.{None as Unmapped}
 use Rattle.stage2.specs.Slot.{Layout, slot}
@@ -96,6 +96,7 @@ sets-level_3 layout words row c k b plan [] s h = h
 sets-level_3 layout words row c k b plan (Set q i word ∷ ops) s h =
     subst (λ x. IsLevel3Write layout (put x i word (words_after ops words)) row c k) (sym s.0) (level_3-put layout (words_after ops words) row c k i word (sets-level_3 layout words row c k i plan ops s.3 h))
 sets-level_3 layout words row c k b plan (Invalidate p run ∷ ops) s h = absurd s
+sets-level_3 layout words row c k b plan (Clear run ∷ ops) s h = absurd s
 
 -- a word that is not reached yet
 sets-above : (words : Words) (k c b : ℕ) (plan : ℕ → Option View) (ops : List Op) (x : ℕ) → AreSets k c plan b ops → b ≤ x → words_after ops words k x ≡ words k x
@@ -107,6 +108,7 @@ sets-above words k c b plan (Set q i word ∷ ops) x s le =
     apart : (i b x : ℕ) → i < b → b ≤ x → x ≡ i → ⊥
     apart i b x lt le e = omega arith
 sets-above words k c b plan (Invalidate p run ∷ ops) x s le = absurd s
+sets-above words k c b plan (Clear run ∷ ops) x s le = absurd s
 
 -- a plan that gives these answers, and no others
 abbrev pub PlansOnly : ℕ → (ℕ → Option View) → (ℕ → Bool) → View → Type 0
@@ -127,6 +129,7 @@ sets-made e words past k c b plan which access (Set q i word ∷ ops) s le only 
     let done = make-word e (words_after ops words) (ops ++ past) c k i word table small invalid (subst (λ (a : Walked). MayGive e e.row (512 * c + i) a) (sym gives) one.1) before in
     subst (λ x. IsInStep e nothing (put x i word (words_after ops words)) (Set x i word ∷ (ops ++ past))) (sym s.0) done
 sets-made e words past k c b plan which access (Invalidate p run ∷ ops) s le only h each o = absurd s
+sets-made e words past k c b plan which access (Clear run ∷ ops) s le only h each o = absurd s
 
 sets-cleared : (e : Edit) (due : ℕ → Bool) (words : Words) (past : List Op) (k c b : ℕ) (plan : ℕ → Option View) (which : ℕ → Bool) (ops : List Op) → AreSets k c plan b ops → b ≤ 512 → PlansOnly c plan which None → IsLevel3Write e.layout words e.row c k
     → ((i : ℕ) → i < 512 → which (512 * c + i) ≡ true → (due (512 * c + i) ≡ true) × MayGive e e.row (512 * c + i) Unmapped) → IsInStep e due words past → IsInStep e due (words_after ops words) (ops ++ past)
@@ -141,6 +144,7 @@ sets-cleared e due words past k c b plan which (Set q i word ∷ ops) s le only 
     let done = clear-word e due (words_after ops words) (ops ++ past) c k i word table small (s.2.2.zero is.0) one.0 one.1 before in
     subst (λ x. IsInStep e due (put x i word (words_after ops words)) (Set x i word ∷ (ops ++ past))) (sym s.0) done
 sets-cleared e due words past k c b plan which (Invalidate p run ∷ ops) s le only h each o = absurd s
+sets-cleared e due words past k c b plan which (Clear run ∷ ops) s le only h each o = absurd s
 
 -- ---- of a pool
 

@@ -99,6 +99,7 @@ module _ (layout : Layout) (row g word : ℕ) (old new : Pages) (h : IsRooted la
   pub rooted : IsOrderly layout new
   rooted = record {
     ids = h.orderly.ids ∙ sym h.ids;
+    quotas = h.orderly.quotas ∙ sym h.quotas;
     pages = rw h.quotas h.orderly.pages;
     rows = rw h.quotas h.orderly.rows;
     fits = h.orderly.fits;

@@ -76,6 +76,7 @@ module _ (layout : Layout) (old new : Pool) (before after : ℕ → ℕ → View
     gives = at_each (GivesOnly (edit_of layout old row which answer)) (GivesOldOrNew layout (words_of old.memory.words) before after) (λ past h q n a u. gives_one q n a u.1 (h (row_of layout.ids q) n u.0 u.1 a u.2)) new.operations o.orderly.gives;
     keeps = at_each (GivesOnly (edit_of layout old row which answer)) (KeepsAnswers layout (words_of old.memory.words) before after) (λ past h q n a same u. keeps_one q n a u.1 same (h (row_of layout.ids q) n u.0 u.1 a u.2)) new.operations o.orderly.gives;
     breaks = o.orderly.breaks;
+    clears = o.orderly.clears;
     fresh = fresh_one;
     linked = λ q n inside small w u. stands-weaker layout (words_of new.memory.words) (eqb q row && false) q n w (o.orderly.stands q n inside small w u);
   }

@@ -6,7 +6,7 @@ use Rattle.base.specs.Access.{View}
 use Rattle.base.specs.Manifest.{row_of}
 use Rattle.pool.specs.Pool.{Pool, Words, words_of, put}
 use Rattle.pool.specs.declared.operation.Op.{Op}
-use Rattle.pool.specs.declared.operation.Op.TheVariants.{Set, Invalidate}
+use Rattle.pool.specs.declared.operation.Op.TheVariants.{Set, Invalidate, Clear}
 use Rattle.stage2.specs.declared.walked.Walked.{Walked}
 use Rattle.stage2.specs.declared.walked.Walked.TheVariants.{None as Unmapped}
 use Rattle.stage2.specs.Slot.{Layout, slot}
@@ -46,6 +46,7 @@ unheld-sets layout words k c b plan (Set q i word ∷ ops) s h =
     let P : ℕ → Type 0 = λ x. IsUnheld layout (put x i word (words_after ops words)) k in
     subst P (sym s.0) (unheld-put layout (words_after ops words) k i word (unheld-sets layout words k c i plan ops s.3 h))
 unheld-sets layout words k c b plan (Invalidate p run ∷ ops) s h = absurd s
+unheld-sets layout words k c b plan (Clear run ∷ ops) s h = absurd s
 
 sets-unheld : (e : Edit) (due : ℕ → Bool) (words : Words) (past : List Op) (k c b : ℕ) (plan : ℕ → Option View) (ops : List Op) → AreSets k c plan b ops → IsUnheld e.layout words k → IsInStep e due words past
     → IsInStep e due (words_after ops words) (ops ++ past)
@@ -53,6 +54,7 @@ sets-unheld e due words past k c b plan [] s h o = o
 sets-unheld e due words past k c b plan (Set q i word ∷ ops) s h o =
     orderly-unheld e due (words_after ops words) (ops ++ past) q i word (subst (λ x. IsUnheld e.layout (words_after ops words) x) (sym s.0) (unheld-sets e.layout words k c i plan ops s.3 h)) (sets-unheld e due words past k c i plan ops s.3 h o)
 sets-unheld e due words past k c b plan (Invalidate p run ∷ ops) s h o = absurd s
+sets-unheld e due words past k c b plan (Clear run ∷ ops) s h o = absurd s
 
 pub filled-unheld : (e : Edit) (due : ℕ → Bool) (layout : Layout) (k c b : ℕ) (plan : ℕ → Option View) (old new : Pool) → Filled k c b plan old new → e.layout ≡ layout → IsUnheld layout (words_of old.memory.words) k → IsInStepIn e due old → IsInStepIn e due new
 filled-unheld e due layout k c b plan old new f same h o =

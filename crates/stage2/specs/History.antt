@@ -2,7 +2,7 @@
 use Rattle.std.specs.Prelude.{◌≡◌, ℕ, ◌+◌, ◌*◌, ◌%◌, ◌^◌, ◌<◌, ◌==◌, if◌then◌else◌, List, [], ◌∷◌, ◌++◌, Option, Some}
 use Rattle.base.specs.Access.{View}
 use Rattle.pool.specs.declared.operation.Op.{Op}
-use Rattle.pool.specs.declared.operation.Op.TheVariants.{Set, Invalidate}
+use Rattle.pool.specs.declared.operation.Op.TheVariants.{Set, Invalidate, Clear}
 use Rattle.pool.specs.Pool.{Pool, words_of}
 use Rattle.stage2.specs.Chunks.{IsWordFor}
 use Rattle.stage2.specs.Moments.{words_after}
@@ -31,6 +31,7 @@ abbrev pub AreSets : ℕ → ℕ → (ℕ → Option View) → ℕ → List Op �
 AreSets k c plan b [] = Unit {0}
 AreSets k c plan b (Set q i word ∷ ops) = (q ≡ k) × (i < b) × ((answer : View) × (plan (512 * c + i) ≡ Some answer) × IsWordFor (512 * c + i) answer word) × AreSets k c plan i ops
 AreSets k c plan b (Invalidate p run ∷ ops) = ⊥
+AreSets k c plan b (Clear run ∷ ops) = ⊥
 
 -- the operations that fill a table, or write some of its words
 pub record Filled (k c b : ℕ) (plan : ℕ → Option View) (old new : Pool) : Type 0 where

@@ -1,12 +1,12 @@
 -- What walks see that are under way while operations are made (Arm ARM: a walk reads one descriptor after another, and a descriptor is
 -- broken, and invalidated, before it is made).
 use Rattle.std.specs.Prelude.{◌≡◌, ◌≢◌, ℕ, ◌+◌, ◌/◌, ◌%◌, ◌^◌, ◌<◌, Bool, true, false, ◌&&◌, ◌||◌, not, ◌==◌, List, [], ◌∷◌, ◌⊎◌, Some, None, if◌then◌else◌, length}
-use Rattle.base.specs.Pages.{in_run}
+use Rattle.base.specs.Pages.{PageRun, in_run}
 use Rattle.base.specs.Access.{View}
 use Rattle.base.specs.Manifest.{row_of}
 use Rattle.pool.specs.Pool.{Pool, Words, words_of, put}
 use Rattle.pool.specs.declared.operation.Op.{Op}
-use Rattle.pool.specs.declared.operation.Op.TheVariants.{Set, Invalidate}
+use Rattle.pool.specs.declared.operation.Op.TheVariants.{Set, Invalidate, Clear}
 use Rattle.stage2.specs.declared.walked.Walked.{Walked}
 use Rattle.stage2.specs.declared.walked.Walked.TheVariants.{None as Unmapped, Leaf as Mapped, Wrong}
 use Rattle.stage2.specs.Slot.{Layout, Slot, Empty, Next, Maps, Bad, slot}
@@ -19,11 +19,13 @@ abbrev pub words_after : List Op → Words → Words
 words_after [] entry = entry
 words_after (Set page index word ∷ past) entry = put page index word (words_after past entry)
 words_after (Invalidate who run ∷ past) entry = words_after past entry
+words_after (Clear run ∷ past) entry = words_after past entry
 
 -- the operation invalidates page n of a row
 abbrev pub invalidates : Layout → Op → ℕ → ℕ → Bool
 invalidates layout (Set page index word) row n = false
 invalidates layout (Invalidate who run) row n = (row_of layout.ids who == row) && in_run run n
+invalidates layout (Clear run) row n = false
 
 -- it holds after each of the operations, and before them
 abbrev pub AtEachMoment : (List Op → Type 0) → List Op → Type 0
@@ -99,6 +101,20 @@ AllBreakFirst layout entry [] = Unit {0}
 AllBreakFirst layout entry (Set page index word ∷ past) =
     ((a : Place) → IsPlace layout a → table_at layout (words_after past entry) a ≡ Some page → BreaksFirst layout entry past page index word) × AllBreakFirst layout entry past
 AllBreakFirst layout entry (Invalidate who run ∷ past) = AllBreakFirst layout entry past
+AllBreakFirst layout entry (Clear run ∷ past) = AllBreakFirst layout entry past
+
+-- ---- clears
+
+-- no walk reaches a page of the run, and nothing is cached for one
+abbrev pub AreUnreached : Layout → Words → List Op → PageRun → Type 0
+AreUnreached layout entry past run = (row n : ℕ) (a : Walked) → row < length layout.ids → n < 2 ^ 27 → in_run run n ≡ true → UnderWay layout entry row n past (Ends a) → a ≡ Unmapped
+
+-- pages are cleared while no partition reaches them
+abbrev pub AllClearUnreached : Layout → Words → List Op → Type 0
+AllClearUnreached layout entry [] = Unit {0}
+AllClearUnreached layout entry (Set page index word ∷ past) = AllClearUnreached layout entry past
+AllClearUnreached layout entry (Invalidate who run ∷ past) = AllClearUnreached layout entry past
+AllClearUnreached layout entry (Clear run ∷ past) = AreUnreached layout entry past run × AllClearUnreached layout entry past
 
 -- ---- a call
 
@@ -131,6 +147,7 @@ pub record IsInStep (e : Edit) (due : ℕ → Bool) (words : Words) (past : List
   pub exact : words ≡ words_after past e.entry
   pub gives : AtEachMoment (GivesOnly e) past
   pub breaks : AllBreakFirst e.layout e.entry past
+  pub clears : AllClearUnreached e.layout e.entry past
   pub stands : (q n : ℕ) → q < length e.layout.ids → n < 2 ^ 27 → (w : Walker) → UnderWay e.layout e.entry q n past w → Stands e.layout words ((q == e.row) && due n) q n w
 
 -- one operation more
@@ -200,6 +217,8 @@ pub record Moments (layout : Layout) (old new : Pool) (before after : ℕ → �
   pub gives : AtEachMoment (GivesOldOrNew layout (words_of old.memory.words) before after) new.operations
   pub keeps : AtEachMoment (KeepsAnswers layout (words_of old.memory.words) before after) new.operations
   pub breaks : AllBreakFirst layout (words_of old.memory.words) new.operations
+  -- pages are cleared while no partition reaches them
+  pub clears : AllClearUnreached layout (words_of old.memory.words) new.operations
   -- in the end what is cached is new, and the tables that walks under way are to read hang still
   pub fresh : (p n : ℕ) (a : Walked) → MayAnswer layout (words_of old.memory.words) new.operations p n a → (a ≡ Unmapped) ⊎ (a ≡ walked n (after p n))
   pub linked : (row n : ℕ) → row < length layout.ids → n < 2 ^ 27 → (w : Walker) → UnderWay layout (words_of old.memory.words) row n new.operations w → Stands layout (words_of new.memory.words) true row n w

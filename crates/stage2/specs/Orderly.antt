@@ -41,6 +41,7 @@ Hangs layout words q = (a : Place) × IsPlace layout a × (table_at layout words
 -- exactly where its answers are not all equal.
 pub record IsOrderly (layout : Layout) (m : Pages) : Type 0 where
   pub ids : layout.ids ≡ m.ids
+  pub quotas : layout.quotas ≡ m.quotas
   pub pages : layout.pages ≡ page_count m.quotas
   pub rows : length layout.ids ≡ length m.quotas
   pub fits : layout.base + layout.pages ≤ 2 ^ 27
