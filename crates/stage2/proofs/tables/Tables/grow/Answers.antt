@@ -5,9 +5,9 @@ use Rattle.base.specs.Need.{grow}
 use Rattle.stage2.specs.Orderly.{answers}
 use Rattle.stage2.specs.Chunks.{edited}
 use Rattle.stage2.specs.Sound.{TablesView}
-use Rattle.stage2.specs.Engine.{view_of}
+use Rattle.stage2.specs.Tables.{view_of}
 use Rattle.stage2.proofs.Rows.{row-found}
-use Rattle.stage2.proofs.Engines.{has-row}
+use Rattle.stage2.proofs.TablesLemmas.{found-none}
 use Rattle.stage2.proofs.tables.Tables.grow.Goals as goal
 
 pub returns-in-Some : goal.returns-in-Some
@@ -22,4 +22,5 @@ returns-in-Some g c =
 pub returns-in-None : goal.returns-in-None
 returns-in-None g c =
     let none = ap (λ (x : TablesView). position (λ id. eqb id c.args.p) x.layout.ids) (sym c.self.view_is) ∙ sym c.row.ensures ∙ c.in-None.is in
-    absurd (has-row c.args.self.now.layout.ids c.args.p c.requires.row none)
+    let root = found-none c.args.self.now.layout.ids c.args.p none in
+    absurd (cc c.requires.root)
