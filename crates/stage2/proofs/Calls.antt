@@ -23,7 +23,7 @@ use Rattle.stage2.proofs.Seen.{both-true, edit_of, orderly-begun, moments-of}
 -- ---- chunks that are not mixed
 
 -- a page of a chunk whose answers are all equal
-equal-first : (view : ℕ → View) (c n : ℕ) → is_mixed view c ≡ false → n / 512 ≡ c → view n ≡ view (512 * c)
+pub equal-first : (view : ℕ → View) (c n : ℕ) → is_mixed view c ≡ false → n / 512 ≡ c → view n ≡ view (512 * c)
 unfolding is_mixed
 equal-first view c n unmixed at =
     let place : 512 * c + n % 512 ≡ n = omega (arith, at) in

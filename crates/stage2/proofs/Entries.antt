@@ -1,17 +1,16 @@
 -- The words of tables that hang are those of their entries.
-use Rattle.std.proofs.Common.{◌≡◌, ℕ, ◌+◌, ◌*◌, ◌/◌, ◌%◌, ◌<◌, Bool, true, false, Option, Some, None, length, refl, arith, ap, ap₂, sym, subst, ◌∙◌, ◌-◌, ◌&&◌, leb, ltb, inl, inr}
+use Rattle.std.proofs.Common.{◌≡◌, ℕ, ◌+◌, ◌*◌, ◌/◌, ◌%◌, ◌<◌, Bool, true, false, Some, length, refl, arith, ap, ap₂, sym, ◌∙◌, ◌-◌, ◌&&◌, leb, ltb, inl, inr}
 use Rattle.std.proofs.lemmas.Bool.{cases_Bool}
-use Rattle.base.specs.Access.{Access, View}
+use Rattle.base.specs.Access.{Access}
 use Rattle.words.specs.declared.word.Entry.{Entry}
 use Rattle.words.specs.declared.word.Entry.TheVariants.{Invalid, Table, Leaf, Wrong as WrongWord}
-use Rattle.words.specs.Words.{entry_of, leaf_word_of, leaf_level, table_word_of}
+use Rattle.words.specs.Words.{entry_of, leaf_word_of, leaf_level}
 use Rattle.words.proofs.RoundTrip.{word-leaf}
 use Rattle.pool.specs.Pool.{Pages}
-use Rattle.stage2.specs.declared.walked.Walked.TheVariants.{None as Unmapped, Leaf as Mapped, Wrong}
+use Rattle.stage2.specs.declared.walked.Walked.TheVariants.{Leaf as Mapped, Wrong}
 use Rattle.stage2.specs.Slot.{Layout, Slot, Empty, Next, Maps, Bad, slot, slot_from}
-use Rattle.stage2.specs.Walk.{index_2, index_3, at_1, at_2, at_3, walk, Place, Root, Gigabyte, Chunk, next_page, table_at, IsPlace}
-use Rattle.stage2.specs.Sound.{IsTidy}
-use Rattle.stage2.specs.Orderly.{IsOrderly, answers, answer_of}
+use Rattle.stage2.specs.Walk.{index_3, at_1, at_2, at_3, walk, Place, Root, Gigabyte, Chunk, next_page, table_at, IsPlace}
+use Rattle.stage2.specs.Orderly.{IsOrderly, answer_of}
 use Rattle.stage2.specs.Entries.{leaf_for, entry_for_table, word_at}
 use Rattle.stage2.proofs.Edits.{table_at-root, table_at-chunk_in, walk-gigabyte, walk-chunk}
 use Rattle.stage2.proofs.InStep.{walk-inside, gigabyte-now}

@@ -115,7 +115,7 @@ pub is-none : (a : View) → is_some a ≡ false → a ≡ None
 is-none None e = refl
 is-none (Some x) e = absurd (cc)
 
-not-reached : (v : ℕ → View) (g i : ℕ) → is_reached v g ≡ false → i < 262144 → v (262144 * g + i) ≡ None
+pub not-reached : (v : ℕ → View) (g i : ℕ) → is_reached v g ≡ false → i < 262144 → v (262144 * g + i) ≡ None
 unfolding is_reached
 not-reached v g i e below = is-none (v (262144 * g + i)) (any_below-none (λ i. is_some (v (262144 * g + i))) 262144 i e below)
 

@@ -97,6 +97,13 @@ alike-same None (Some b) e = absurd (cc)
 alike-same (Some a) None e = absurd (cc)
 alike-same (Some a) (Some b) e = ap Some (permission-same a b e)
 
+bool-self : (b : Bool) → is_same_bool b b ≡ true
+bool-self true = refl
+bool-self false = refl
+
+pub alike-self : (x : View) (a : Access) → x ≡ Some a → is_alike x (Some a) ≡ true
+alike-self x a e = rw (e, bool-self (is_rw a.rights), bool-self a.exec, bool-self (is_normal a.kind)) refl
+
 -- ---- the one answer of a chunk
 
 pub alike-none : (answer : ℕ → View) (c : ℕ) → AreAlike answer c 0

@@ -1,10 +1,9 @@
 -- What clauses say of the tables: canonical tables, and an edit of a partition that has a root or has none.
-use Rattle.std.proofs.Common.{◌≡◌, ℕ, ◌+◌, ◌-◌, ◌*◌, ◌/◌, ◌%◌, ◌^◌, ◌<◌, ◌≤◌, Bool, true, false, not, ◌&&◌, cond, eqb, ltb, List, [], length, position, Option, Some, None, is_some, refl, sym, ap, ap₂, subst, ◌∙◌, arith, inl, inr}
+use Rattle.std.proofs.Common.{◌≡◌, ℕ, ◌+◌, ◌-◌, ◌*◌, ◌/◌, ◌%◌, ◌^◌, ◌<◌, ◌≤◌, Bool, true, false, not, ◌&&◌, cond, eqb, ltb, List, length, position, Some, None, is_some, refl, sym, ap, ap₂, subst, ◌∙◌, arith, inl, inr}
 use Rattle.std.specs.Option.{option_map}
 use Rattle.std.proofs.lemmas.Bool.{cases_Bool, ltb-true, eqb-true}
 use Rattle.std.proofs.lemmas.Bool.Decides.{nat_tests}
 use Rattle.base.specs.Access.{Access, View}
-use Rattle.base.specs.Counts.{count_below}
 use Rattle.base.specs.Manifest.{row_of}
 use Rattle.base.specs.Need.{is_mixed, is_reached, need, grow}
 use Rattle.base.specs.Pages.{PageRun, in_run, covers}
@@ -16,12 +15,13 @@ use Rattle.stage2.specs.declared.walked.Walked.{Walked}
 use Rattle.stage2.specs.declared.walked.Walked.TheVariants.{None as Unmapped}
 use Rattle.stage2.specs.Chunks.{edited}
 use Rattle.stage2.specs.Gigabytes.{EditsRow, FitsRow, row_operations}
-use Rattle.stage2.specs.Moments.{Moments, StaysInStep}
+use Rattle.stage2.specs.Moments.{StaysInStep}
 use Rattle.stage2.specs.Orderly.{IsOrderly, IsCanonical, answers, answer_of}
+use Rattle.stage2.specs.Parts.{operations_for}
 use Rattle.stage2.specs.Slot.{Layout}
 use Rattle.stage2.specs.Steps.{AreFree, disturbed, with_pages}
 use Rattle.stage2.specs.Tables.{TablesView, walk_in, view_of, has_root, AreCanonical, Fits, edit_operations, ReachSo, ShowsMoments, EditsInStep, ClearsInStep}
-use Rattle.stage2.specs.Walk.{walk, walk_across, walked, translation, Agrees}
+use Rattle.stage2.specs.Walk.{walk, walk_across, walked}
 use Rattle.stage2.proofs.Calls.{moments-edited}
 use Rattle.stage2.proofs.Clearing.{counted-op, stays-none}
 use Rattle.stage2.proofs.Engines.{edited-walks}
@@ -29,7 +29,8 @@ use Rattle.stage2.proofs.Entries.{entries}
 use Rattle.stage2.proofs.InStep.{orderly-clearing}
 use Rattle.stage2.proofs.Needs.{mixed-none, reached-none, reached-some}
 use Rattle.stage2.proofs.Rowing.{used-need}
-use Rattle.stage2.proofs.Rows.{IsRow, row-found}
+use Rattle.stage2.proofs.RunChunks.{row-operations}
+use Rattle.stage2.proofs.Rows.{IsRow}
 use Rattle.stage2.proofs.Seen.{moments-none}
 
 pub are-canonical : (t : TablesView) → IsCanonical t.layout (pages_of t.pool.memory) → ((q i : ℕ) → taken_of t.pool.memory.taken q ≡ false → words_of t.pool.memory.words q i ≡ 0) → AreCanonical t
@@ -159,7 +160,7 @@ edited-rooted layout old new room left p row runs access is canonical edits stay
       moments = λ begun before starts free. moments-edited layout old new before p row runs access is starts begun free stays walks;
       in_step = subst (λ r. AreFree (λ n. true) runs access (answers layout (words_of old.memory.words) r)
       → StaysInStep layout r (disturbed runs (answers layout (words_of old.memory.words) r) (edited runs access (answers layout (words_of old.memory.words) r))) (λ n. walked n (edited runs access (answers layout (words_of old.memory.words) r) n)) old new) is.is stays;
-      room = let root : has_root (view layout old room) p ≡ true = below-root layout.ids p row is in rw root enough;
+      room = let root : has_root (view layout old room) p ≡ true = below-root layout.ids p row is in let most = row-operations runs in let all : room ≤ left + operations_for runs = omega (arith, most, enough) in rw root all;
     }
   where
     below-root : (ids : List ℕ) (p row : ℕ) → IsRow ids p row → ltb (row_of ids p) (length ids) ≡ true
@@ -235,4 +236,6 @@ room-row t p row runs is ready =
     let at = is.is in
     let inside = is.inside in
     let root : has_root t p ≡ true = grind (arith, nat_tests) in
-    rw root at ready
+    let all : operations_for runs ≤ t.room = rw root at ready in
+    let most = row-operations runs in
+    omega (arith, all, most)

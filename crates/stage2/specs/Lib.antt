@@ -7,6 +7,7 @@ pub mod Orderly
 pub mod Chunks
 pub mod Gigabytes
 pub mod History
+pub mod Boot
 pub mod Entries
 pub mod Tables
 pub mod Moments

@@ -9,7 +9,7 @@ use Rattle.stage2.specs.declared.walked.Walked.{Walked}
 use Rattle.stage2.specs.declared.walked.Walked.TheVariants.{None as Unmapped}
 use Rattle.stage2.specs.Chunks.{edited}
 use Rattle.stage2.specs.Entries.{word_at}
-use Rattle.stage2.specs.Gigabytes.{row_operations}
+use Rattle.stage2.specs.Parts.{operations_for}
 use Rattle.stage2.specs.Moments.{Edit, IsInStepIn, nothing, StaysInStep, Moments}
 use Rattle.stage2.specs.Orderly.{answer_of, IsCanonical}
 use Rattle.stage2.specs.Steps.{AreFree, disturbed, with_pages}
@@ -57,7 +57,7 @@ Fits p runs access t = need (view_of t p) + grow (view_of t p) (edited runs acce
 
 -- the operations that it makes at most
 abbrev pub edit_operations : ℕ → List PageRun → TablesView → ℕ
-edit_operations p runs t = if has_root t p then row_operations runs else 0
+edit_operations p runs t = if has_root t p then operations_for runs else 0
 
 -- the pages of the runs are reached so; each other walk, of all pages of all partitions, gives what it gave
 abbrev pub ReachSo : ℕ → List PageRun → View → TablesView → TablesView → Type 0

@@ -108,7 +108,7 @@ fn is_same(a: Access, b: Access) -> bool
 }
 
 /// Whether two pages are reached alike.
-fn is_alike(a: &Option<Access>, b: &Option<Access>) -> bool
+pub(crate) fn is_alike(a: &Option<Access>, b: &Option<Access>) -> bool
     ensures { result ≡ needs.is_alike a.now b.now }
 {
     match (a, b) {

@@ -1,5 +1,4 @@
-use Rattle.std.proofs.Common.{◌≡◌, ℕ, ◌≤◌, false, List, Some, None, eqb, refl, sym, ap, subst, ◌∙◌, position, length}
-use Rattle.pool.specs.Pool.{Pool, pages_of}
+use Rattle.std.proofs.Common.{◌≡◌, ◌≤◌, false, Some, eqb, sym, ap, subst, ◌∙◌, position, length}
 use Rattle.stage2.specs.Tables.{TablesView, has_root, AreCanonical, Fits, edit_operations}
 use Rattle.stage2.proofs.Rows.{row-found}
 use Rattle.stage2.proofs.TablesLemmas.{view, are-canonical, IsEdited, edited-rooted, edited-rootless, found-none, fits-row, room-row, rootless-map}

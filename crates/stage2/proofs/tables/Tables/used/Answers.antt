@@ -1,8 +1,8 @@
-use Rattle.std.proofs.Common.{◌≡◌, ℕ, ◌-◌, ◌≤◌, Some, None, eqb, position, sym, ap, subst, ◌∙◌}
+use Rattle.std.proofs.Common.{◌-◌, eqb, position, sym, ap, ◌∙◌}
 use Rattle.std.specs.Option.{option_map}
 use Rattle.base.specs.Need.{need}
-use Rattle.pool.specs.Pool.{pages_of, quota_of, free_of}
-use Rattle.stage2.specs.Tables.{TablesView, view_of, has_root}
+use Rattle.pool.specs.Pool.{pages_of, quota_of}
+use Rattle.stage2.specs.Tables.{TablesView, view_of}
 use Rattle.stage2.proofs.TablesLemmas.{IsQuota, quota-found, quota-none, used-found, free-found, rootless-need}
 use Rattle.stage2.proofs.tables.Tables.used.Given.{Over}
 use Rattle.stage2.proofs.tables.Tables.used.Goals as goal
