@@ -2,3 +2,4 @@ pub mod Words
 pub mod Count
 pub mod Shares
 mod Kept
+pub mod Applying

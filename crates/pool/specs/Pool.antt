@@ -4,7 +4,7 @@ use Rattle.base.specs.Counts.{count_below}
 use Rattle.base.specs.Pages.{PageRun}
 use Rattle.base.specs.Manifest.{ManifestRows, ids_of, quotas_of, row_of, page_count}
 use Rattle.pool.specs.declared.operation.Op.{Op}
-use Rattle.pool.specs.declared.operation.Op.TheVariants.{Set, Invalidate}
+use Rattle.pool.specs.declared.operation.Op.TheVariants.{Set, Invalidate, Clear}
 
 -- the partitions' identifiers and quotas, the words of all pages, page by page and 512 to a page, and which pages are taken
 pub record Memory : Type 0 where
@@ -118,6 +118,9 @@ after_set page index word pool = logged (Set page index word) (with_word page in
 abbrev pub after_invalidate : ℕ → PageRun → Pool → Pool
 after_invalidate p run pool = logged (Invalidate p run) pool.memory pool
 
+abbrev pub after_clear : PageRun → Pool → Pool
+after_clear run pool = logged (Clear run) pool.memory pool
+
 abbrev pub after_take : ℕ → Pool → Pool
 after_take page pool = record pool { memory = with_taken page true pool.memory }
 
@@ -126,6 +129,28 @@ after_give page pool = record pool { memory = with_taken page false pool.memory 
 
 abbrev pub emptied : Pool → Pool
 emptied pool = record pool { operations = [] }
+
+-- ---- a copy of the words
+
+-- how many pages it has, and the words of all of them, page by page and 512 to a page
+pub record ImageWords : Type 0 where
+  pub pages : ℕ
+  pub words : List ℕ
+
+abbrev pub image_of : Memory → ImageWords
+image_of m = record { pages = page_count m.quotas; words = m.words }
+
+-- the operation writes no word outside the copy
+abbrev pub IsInImage : Op → ImageWords → Type 0
+IsInImage (Set page index word) image = (page < image.pages) × (index < 512)
+IsInImage (Invalidate who run) image = Unit {0}
+IsInImage (Clear run) image = Unit {0}
+
+-- a write changes its word; an invalidation and a clear change none
+abbrev pub applied : Op → Words → Words
+applied (Set page index word) words = put page index word words
+applied (Invalidate who run) words = words
+applied (Clear run) words = words
 
 -- the lists are as long as the quotas say, and have a row for each
 pub record IsWhole (m : Memory) : Type 0 where

@@ -4,6 +4,7 @@ ghost use Rattle.base.specs.Manifest as rows;
 ghost use Rattle.pool.specs.Pool.{words_of, taken_of};
 ghost use Rattle.pool.specs.Pool as shares;
 
+use crate::image::Image;
 use crate::operation::Op;
 use crate::table_mem::TableMem;
 use base::{OutOfMemory, PartitionId, Run};
@@ -141,6 +142,11 @@ impl TableMem for ListPool {
         self.made = self.made.wrapping_add(1);
     }
 
+    fn clear(&mut self, run: Run) {
+        self.operations.push_reserved(Op::Clear { run });
+        self.made = self.made.wrapping_add(1);
+    }
+
     fn take_page(&mut self, p: PartitionId) -> u32 {
         let row = row_of(&self.ids, p).unwrap();
         let mut page = share_start(&self.quotas, row);
@@ -181,5 +187,9 @@ impl TableMem for ListPool {
 
     fn made(&self) -> u64 {
         self.made
+    }
+
+    fn image(&self, alloc: Global) -> Result<Image, OutOfMemory> {
+        Image::copy(alloc, self.taken.len(), &self.words)
     }
 }

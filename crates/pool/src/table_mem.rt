@@ -1,7 +1,8 @@
 ghost use Rattle.std.specs.Prelude.{◌≡◌, ℕ, ◌+◌, ◌<◌, ◌≤◌, length, reverse, IfOk, OnOk, true, false};
 ghost use Rattle.base.specs.Manifest.{ManifestRows, page_count};
-ghost use Rattle.pool.specs.Pool.{Pool, IsWhole, InShare, IsLowestFree, pages_of, words_of, taken_of, new_pool, after_set, after_invalidate, after_take, after_give, emptied, free_of, row_in};
+ghost use Rattle.pool.specs.Pool.{Pool, IsWhole, InShare, IsLowestFree, pages_of, words_of, taken_of, new_pool, after_set, after_invalidate, after_clear, after_take, after_give, emptied, free_of, row_in, image_of};
 
+use crate::image::Image;
 use crate::operation::Op;
 use base::{OutOfMemory, PartitionId, Run};
 use manifest::Manifest;
@@ -12,7 +13,7 @@ use std::alloc::Global;
 /// shares in the same order, each as many pages as its partition's quota.
 ///
 /// A page of a share is free or taken, and a free page holds zeros alone. `set_word` changes one
-/// word, and nothing else changes any. Each `set_word` and `invalidate` is recorded as an `Op`.
+/// word, and nothing else changes any. Each `set_word`, `invalidate` and `clear` is recorded as an `Op`.
 pub trait TableMem {
     /// What the pages hold, which are taken, and what was done.
     ghost state: { Self → Pool };
@@ -45,6 +46,12 @@ pub trait TableMem {
     fn invalidate(&mut self, p: PartitionId, run: Run)
         requires ready { 0 < room self.old }
         ensures state { state self.new ≡ after_invalidate p run (state self.old) }
+        ensures room { room self.new + 1 ≡ room self.old };
+
+    /// Records that the contents of these pages are cleared. No word changes.
+    fn clear(&mut self, run: Run)
+        requires ready { 0 < room self.old }
+        ensures state { state self.new ≡ after_clear run (state self.old) }
         ensures room { room self.new + 1 ≡ room self.old };
 
     /// Takes the free page of a partition's share with the lowest number, and answers that number.
@@ -83,6 +90,10 @@ pub trait TableMem {
     /// How many operations were made since the memory was, modulo 2^64.
     fn made(&self) -> u64
         ensures { result ≡ (state self.now).made };
+
+    /// A copy of all words.
+    fn image(&self, alloc: Global) -> Result<Image, OutOfMemory>
+        ensures { IfOk result (λ image. image ≡ image_of (state self.now).memory) };
 
     /// The lists are as long as the quotas say, and have a row for each quota.
     ghost whole: { (m : Self) → IsWhole (state m).memory };

@@ -3,4 +3,12 @@ pub mod Walk
 pub mod Sound
 pub mod Change
 pub mod Parts
+pub mod Orderly
+pub mod Chunks
+pub mod Gigabytes
+pub mod History
 pub mod Boot
+pub mod Entries
+pub mod Tables
+pub mod Moments
+pub mod Steps

@@ -1,0 +1,118 @@
+-- Operations, one after another.
+use Rattle.std.proofs.Common.{◌≡◌, ◌≢◌, ℕ, ◌+◌, ◌*◌, ◌/◌, ◌%◌, ◌^◌, ◌≤◌, true, false, cond, eqb, None, inl, inr, List, [], ◌∷◌, ◌++◌, refl, ap, sym, ◌∙◌, arith, append_assoc, Option, Some}
+use Rattle.std.proofs.lemmas.Bool.{cases_Bool, eqb-true}
+use Rattle.std.proofs.lemmas.Bool.Decides.{nat_tests}
+use Rattle.base.specs.Pages.{PageRun}
+use Rattle.base.specs.Access.{View}
+use Rattle.pool.specs.declared.operation.Op.{Op}
+use Rattle.pool.specs.declared.operation.Op.TheVariants.{Set, Invalidate, Clear}
+use Rattle.pool.specs.Pool.{Words, Pool, words_of, put, after_set, after_invalidate}
+use Rattle.stage2.specs.Chunks.{IsWordFor}
+use Rattle.stage2.specs.Moments.{words_after}
+use Rattle.stage2.specs.History.{counted, Made, AreSets, Filled, broken, replaced}
+
+after-append : (b a : List Op) (w : Words) → words_after (b ++ a) w ≡ words_after b (words_after a w)
+after-append [] a w = refl
+after-append (Set page index word ∷ b) a w = ap (put page index word) (after-append b a w)
+after-append (Invalidate p run ∷ b) a w = after-append b a w
+after-append (Clear run ∷ b) a w = after-append b a w
+
+counted-append : (b a : List Op) (n : ℕ) → counted (b ++ a) n ≡ counted b (counted a n)
+counted-append [] a n = refl
+counted-append (op ∷ b) a n = ap (λ x. (x + 1) % 2 ^ 64) (counted-append b a n)
+
+pub made-none : (s : Pool) → Made [] s s
+made-none s = record { operations = refl; count = refl; words = refl }
+
+-- nothing but marks has changed
+pub made-marks : (x y : Pool) → y.operations ≡ x.operations → y.made ≡ x.made → y.memory.words ≡ x.memory.words → Made [] x y
+made-marks x y a b c = record { operations = a; count = b; words = ap words_of c }
+
+pub made-set : (x y : Pool) (page index word : ℕ) → y ≡ after_set page index word x → words_of y.memory.words ≡ put page index word (words_of x.memory.words) → Made (Set page index word ∷ []) x y
+made-set x y page index word e words = record {
+  operations = ap (λ (s : Pool). s.operations) e;
+  count = ap (λ (s : Pool). s.made) e;
+  words = words;
+}
+
+pub made-invalidate : (x y : Pool) (p : ℕ) (run : PageRun) → y ≡ after_invalidate p run x → Made (Invalidate p run ∷ []) x y
+made-invalidate x y p run e = record {
+  operations = ap (λ (s : Pool). s.operations) e;
+  count = ap (λ (s : Pool). s.made) e;
+  words = ap (λ (s : Pool). words_of s.memory.words) e;
+}
+
+pub made-more : (a b : List Op) (x y z : Pool) → Made a x y → Made b y z → Made (b ++ a) x z
+made-more a b x y z so here = record {
+  operations = here.operations ∙ ap (λ l. b ++ l) so.operations ∙ sym (append_assoc b a x.operations);
+  count = here.count ∙ ap (counted b) so.count ∙ sym (counted-append b a x.made);
+  words = here.words ∙ ap (words_after b) so.words ∙ sym (after-append b a (words_of x.memory.words));
+}
+
+sets-wider : (k c i b : ℕ) (plan : ℕ → Option View) (ops : List Op) → i ≤ b → AreSets k c plan i ops → AreSets k c plan b ops
+sets-wider k c i b plan [] le s = tt
+sets-wider k c i b plan (Set q x w ∷ ops) le s = let lt = s.1 in (s.0, omega arith, s.2, s.3)
+sets-wider k c i b plan (Invalidate p r ∷ ops) le s = absurd s
+sets-wider k c i b plan (Clear r ∷ ops) le s = absurd s
+
+-- ---- a table is filled
+
+pub filled-none : (k c b : ℕ) (plan : ℕ → Option View) (s : Pool) → Filled k c b plan s s
+filled-none k c b plan s = record { ops = []; made = made-none s; sets = tt }
+
+-- the writes of one word, after those of lower ones
+sets-over : (k c i b : ℕ) (plan : ℕ → Option View) (answer : View) (ops so : List Op) → i ≤ b → plan (512 * c + i) ≡ Some answer → AreSets k c (λ n. cond (eqb n (512 * c + i)) (Some answer) None) b ops → AreSets k c plan i so
+    → AreSets k c plan b (ops ++ so)
+sets-over k c i b plan answer [] so le e h below = sets-wider k c i b plan so le below
+sets-over k c i b plan answer (Set q x word ∷ ops) so le e h below = elim (cases_Bool (eqb (512 * c + x) (512 * c + i))) [
+  | inl t ↦
+      let here : 512 * c + x ≡ 512 * c + i = eqb-true _ _ t in
+      let same : Some answer ≡ Some h.2.0 = rw t at h.2.1 in
+      (h.0, h.1, (h.2.0, ap plan here ∙ e ∙ same, h.2.2), sets-over k c i x plan answer ops so (omega (arith, here)) e h.3 below)
+  | inr f ↦ let none : None ≡ Some h.2.0 = rw f at h.2.1 in absurd (cc)
+]
+sets-over k c i b plan answer (Invalidate p r ∷ ops) so le e h below = absurd h
+sets-over k c i b plan answer (Clear r ∷ ops) so le e h below = absurd h
+
+-- one page more
+pub filled-step : (k c i : ℕ) (plan : ℕ → Option View) (answer : View) (a b e : Pool) → plan (512 * c + i) ≡ Some answer → Filled k c i plan a b → Filled k c (i + 1) (λ n. cond (eqb n (512 * c + i)) (Some answer) None) b e → Filled k c (i + 1) plan a e
+filled-step k c i plan answer a b e some so here = record {
+  ops = here.ops ++ so.ops;
+  made = made-more so.ops here.ops a b e so.made here.made;
+  sets = sets-over k c i (i + 1) plan answer here.ops so.ops (omega arith) some here.sets so.sets;
+}
+
+pub filled-wider : (k c i b : ℕ) (plan : ℕ → Option View) (a e : Pool) → i ≤ b → Filled k c i plan a e → Filled k c b plan a e
+filled-wider k c i b plan a e le h = record { ops = h.ops; made = h.made; sets = sets-wider k c i b plan h.ops le h.sets }
+
+-- one word
+pub filled-one : (k page word : ℕ) (answer : View) (a b : Pool) → IsWordFor page answer word → Made (Set k (page % 512) word ∷ []) a b → Filled k (page / 512) (page % 512 + 1) (λ n. cond (eqb n page) (Some answer) None) a b
+filled-one k page word answer a b is made = record {
+  ops = Set k (page % 512) word ∷ [];
+  made = made;
+  sets = (refl, omega arith, (answer, here, rw place is), tt);
+}
+  where
+    place : 512 * (page / 512) + page % 512 ≡ page
+    place = omega arith
+
+    here : cond (eqb (512 * (page / 512) + page % 512) page) (Some answer) None ≡ Some answer
+    here = let yes_it : eqb (512 * (page / 512) + page % 512) page ≡ true = grind (arith, nat_tests, place) in rw yes_it refl
+
+-- ---- break before make
+
+pub broken-there : (p j c was : ℕ) (s : Pool) → was ≡ 0 → Made (broken p j c was) s s
+broken-there p j c was s e = let t : eqb was 0 ≡ true = grind (arith, nat_tests) in rw t (made-none s)
+
+pub broken-valid : (p j c was : ℕ) (x y z : Pool) → was ≢ 0 → Made (Set j (c % 512) 0 ∷ []) x y → z ≡ after_invalidate p (record { first = 512 * c; count = 512 }) y → Made (broken p j c was) x z
+broken-valid p j c was x y z differs made e =
+    let f : eqb was 0 ≡ false = grind (arith, nat_tests, differs) in
+    rw f (made-more (Set j (c % 512) 0 ∷ []) (Invalidate p (record { first = 512 * c; count = 512 }) ∷ []) x y z made (made-invalidate y z p (record { first = 512 * c; count = 512 }) e))
+
+pub replaced-zero : (p j c was word : ℕ) (x y : Pool) → word ≡ 0 → Made (broken p j c was) x y → Made (replaced p j c was word) x y
+replaced-zero p j c was word x y e made = let t : eqb word 0 ≡ true = grind (arith, nat_tests) in rw t made
+
+pub replaced-word : (p j c was word : ℕ) (x y z : Pool) → word ≢ 0 → Made (broken p j c was) x y → Made (Set j (c % 512) word ∷ []) y z → Made (replaced p j c was word) x z
+replaced-word p j c was word x y z differs made one =
+    let f : eqb word 0 ≡ false = grind (arith, nat_tests, differs) in
+    rw f (made-more (broken p j c was) (Set j (c % 512) word ∷ []) x y z made one)

@@ -1,0 +1,162 @@
+-- What a chunk and a gigabyte need depends on their pages alone.
+use Rattle.std.proofs.Common.{◌≡◌, ℕ, zero, suc, ◌+◌, ◌*◌, ◌%◌, ◌<◌, Bool, true, false, not, ◌&&◌, ◌||◌, Some, None, is_some, refl, ap, ap₂, sym, ◌∙◌, arith, add-one, inl, inr}
+use Rattle.std.proofs.lemmas.Bool.{cases_eq, cases_Bool}
+use Rattle.base.specs.declared.access.Rights.{Rights}
+use Rattle.base.specs.declared.access.Rights.TheVariants.{Ro, Rw}
+use Rattle.base.specs.declared.access.MemoryKind.{MemoryKind}
+use Rattle.base.specs.declared.access.MemoryKind.TheVariants.{Normal, Device}
+use Rattle.base.specs.Access.{View, Access, is_same, is_same_bool, is_rw, is_normal}
+use Rattle.base.specs.Need.{is_alike, is_mixed, is_reached}
+use Rattle.base.specs.Counts.{any_below}
+use Rattle.stage2.specs.Chunks.{IsOutcome, AreAlike}
+
+pub any_below-same : (f g : ℕ → Bool) (n : ℕ) → ((k : ℕ) → k < n → g k ≡ f k) → any_below g n ≡ any_below f n
+unfolding any_below
+any_below-same f g zero same = refl
+any_below-same f g (suc n) same = ap₂ (λ a b. a || b) (same n (omega arith)) (any_below-same f g n (λ k below. same k (omega arith)))
+
+pub mixed-same : (v w : ℕ → View) (c : ℕ) → ((i : ℕ) → i < 512 → w (512 * c + i) ≡ v (512 * c + i)) → is_mixed w c ≡ is_mixed v c
+unfolding is_mixed
+mixed-same v w c same =
+    let first : w (512 * c) ≡ v (512 * c) = ap w (zeroth c) ∙ same 0 (omega arith) ∙ ap v (sym (zeroth c)) in
+    any_below-same (λ i. not (is_alike (v (512 * c + i)) (v (512 * c)))) (λ i. not (is_alike (w (512 * c + i)) (w (512 * c)))) 512
+    (λ i below. ap₂ (λ a b. not (is_alike a b)) (same i below) first)
+  where
+    zeroth : (c : ℕ) → 512 * c ≡ 512 * c + 0
+    zeroth c = omega arith
+
+pub reached-same : (v w : ℕ → View) (g : ℕ) → ((i : ℕ) → i < 262144 → w (262144 * g + i) ≡ v (262144 * g + i)) → is_reached w g ≡ is_reached v g
+unfolding is_reached
+reached-same v w g same = any_below-same (λ i. is_some (v (262144 * g + i))) (λ i. is_some (w (262144 * g + i))) 262144 (λ i below. ap (λ a. is_some a) (same i below))
+
+pub any_below-some : (f : ℕ → Bool) (n k : ℕ) → k < n → f k ≡ true → any_below f n ≡ true
+unfolding any_below
+any_below-some f zero k below is_true = absurd (omega arith)
+any_below-some f (suc n) k below is_true = elim (cases_eq k n) [
+  | inl is ↦ let here : f n ≡ true = rw (← is) is_true in rw here refl
+  | inr is_other ↦ let rest = any_below-some f n k (omega arith) is_true in rw rest (or-true (f n))
+]
+  where
+    or-true : (b : Bool) → (b || true) ≡ true
+    or-true true = refl
+    or-true false = refl
+
+pub any_below-none : (f : ℕ → Bool) (n k : ℕ) → any_below f n ≡ false → k < n → f k ≡ false
+any_below-none f n k none below = elim (cases_Bool (f k)) [
+  | inl t ↦ let found = any_below-some f n k below t in absurd (cc)
+  | inr f ↦ f
+]
+
+pub any_below-more : (f : ℕ → Bool) (n : ℕ) → any_below f n ≡ false → f n ≡ false → any_below f (n + 1) ≡ false
+unfolding any_below
+any_below-more f n before here = rw add-one (rw (here, before) refl)
+
+pub any_below-zero : (f : ℕ → Bool) → any_below f 0 ≡ false
+unfolding any_below
+any_below-zero f = refl
+
+rights-same : (a b : Rights) → is_same_bool (is_rw a) (is_rw b) ≡ true → a ≡ b
+rights-same Ro Ro e = refl
+rights-same Ro Rw e = absurd (cc)
+rights-same Rw Ro e = absurd (cc)
+rights-same Rw Rw e = refl
+
+bool-same : (a b : Bool) → is_same_bool a b ≡ true → a ≡ b
+bool-same true true e = refl
+bool-same true false e = absurd (cc)
+bool-same false true e = absurd (cc)
+bool-same false false e = refl
+
+kind-same : (a b : MemoryKind) → is_same_bool (is_normal a) (is_normal b) ≡ true → a ≡ b
+kind-same Normal Normal e = refl
+kind-same Normal Device e = absurd (cc)
+kind-same Device Normal e = absurd (cc)
+kind-same Device Device e = refl
+
+and-left : (a b : Bool) → (a && b) ≡ true → a ≡ true
+and-left true b e = refl
+and-left false b e = absurd (cc)
+
+and-right : (a b : Bool) → (a && b) ≡ true → b ≡ true
+and-right true b e = e
+and-right false b e = absurd (cc)
+
+permission-same : (a b : Access) → is_same a b ≡ true → a ≡ b
+permission-same a b e =
+    let first = is_same_bool (is_rw a.rights) (is_rw b.rights) in
+    let second = is_same_bool a.exec b.exec in
+    let third = is_same_bool (is_normal a.kind) (is_normal b.kind) in
+    let r = rights-same a.rights b.rights (and-left first second (and-left (first && second) third e)) in
+    let x = bool-same a.exec b.exec (and-right first second (and-left (first && second) third e)) in
+    let k = kind-same a.kind b.kind (and-right (first && second) third e) in
+    ap₂ (λ (u : Rights × Bool) (v : MemoryKind). record { rights = u.0; exec = u.1; kind = v }) (ap₂ (λ (u : Rights) (v : Bool). (u, v)) r x) k
+
+pub alike-same : (a b : View) → is_alike a b ≡ true → a ≡ b
+alike-same None None e = refl
+alike-same None (Some b) e = absurd (cc)
+alike-same (Some a) None e = absurd (cc)
+alike-same (Some a) (Some b) e = ap Some (permission-same a b e)
+
+bool-self : (b : Bool) → is_same_bool b b ≡ true
+bool-self true = refl
+bool-self false = refl
+
+pub alike-self : (x : View) (a : Access) → x ≡ Some a → is_alike x (Some a) ≡ true
+alike-self x a e = rw (e, bool-self (is_rw a.rights), bool-self a.exec, bool-self (is_normal a.kind)) refl
+
+-- ---- the one answer of a chunk
+
+pub alike-none : (answer : ℕ → View) (c : ℕ) → AreAlike answer c 0
+alike-none answer c = record { alike = any_below-zero (λ i. not (is_alike (answer (512 * c + i)) (answer (512 * c)))) }
+
+pub alike-more : (answer : ℕ → View) (c i : ℕ) → AreAlike answer c i → is_alike (answer (512 * c + i)) (answer (512 * c)) ≡ true → AreAlike answer c (i + 1)
+alike-more answer c i so here = record { alike = any_below-more (λ i. not (is_alike (answer (512 * c + i)) (answer (512 * c)))) i so.alike (ap not here) }
+
+pub outcome-mixed : (answer : ℕ → View) (c i : ℕ) → i < 512 → is_alike (answer (512 * c + i)) (answer (512 * c)) ≡ false → IsOutcome c answer None
+unfolding is_mixed
+outcome-mixed answer c i small differs = record {
+  same = λ one e. absurd (cc);
+  mixed = sym (any_below-some (λ i. not (is_alike (answer (512 * c + i)) (answer (512 * c)))) 512 i small (ap not differs));
+}
+
+not-false : (b : Bool) → not b ≡ false → b ≡ true
+not-false true e = refl
+not-false false e = absurd (cc)
+
+pub outcome-one : (answer : ℕ → View) (c : ℕ) → AreAlike answer c 512 → IsOutcome c answer (Some (answer (512 * c)))
+unfolding is_mixed
+outcome-one answer c so = record {
+  same = λ one e n at.
+      let is : answer (512 * c) ≡ one = cc in
+      let place : 512 * c + n % 512 ≡ n = omega (arith, at) in
+      let b = any_below-none (λ i. not (is_alike (answer (512 * c + i)) (answer (512 * c)))) 512 (n % 512) so.alike (omega arith) in
+      ap answer (sym place) ∙ alike-same (answer (512 * c + n % 512)) (answer (512 * c)) (not-false (is_alike (answer (512 * c + n % 512)) (answer (512 * c))) b) ∙ is;
+  mixed = sym so.alike;
+}
+
+-- ---- nothing is reached
+
+pub any_below-no : (f : ℕ → Bool) (n : ℕ) → ((k : ℕ) → k < n → f k ≡ false) → any_below f n ≡ false
+unfolding any_below
+any_below-no f zero none = refl
+any_below-no f (suc n) none =
+    let here = none n (omega arith) in
+    let rest = any_below-no f n (λ k below. none k (omega arith)) in
+    rw (here, rest) refl
+
+pub mixed-none : (v : ℕ → View) (c : ℕ) → ((i : ℕ) → i < 512 → v (512 * c + i) ≡ None) → is_mixed v c ≡ false
+unfolding is_mixed
+mixed-none v c none =
+    let first : v (512 * c) ≡ None = ap v (zeroth c) ∙ none 0 (omega arith) in
+    any_below-no (λ i. not (is_alike (v (512 * c + i)) (v (512 * c)))) 512 (λ i below. ap₂ (λ a b. not (is_alike a b)) (none i below) first)
+  where
+    zeroth : (c : ℕ) → 512 * c ≡ 512 * c + 0
+    zeroth c = omega arith
+
+pub reached-none : (v : ℕ → View) (g : ℕ) → ((i : ℕ) → i < 262144 → v (262144 * g + i) ≡ None) → is_reached v g ≡ false
+unfolding is_reached
+reached-none v g none = any_below-no (λ i. is_some (v (262144 * g + i))) 262144 (λ i below. ap (λ a. is_some a) (none i below))
+
+pub reached-some : (v : ℕ → View) (g i : ℕ) → i < 262144 → is_some (v (262144 * g + i)) ≡ true → is_reached v g ≡ true
+unfolding is_reached
+reached-some v g i below some = any_below-some (λ i. is_some (v (262144 * g + i))) 262144 i below some

@@ -1,0 +1,68 @@
+use Rattle.std.proofs.Common.{◌≡◌, ℕ, ◌+◌, ◌≤◌, arith}
+use Rattle.pool.specs.Pool.{pages_of}
+use Rattle.base.specs.Access.{View}
+use Rattle.stage2.specs.Orderly.{answers}
+use Rattle.stage2.specs.Chunks.{edited}
+use Rattle.stage2.proofs.Crossing.{cross-edit, cross-free, cross-skip, cross-all}
+use Rattle.stage2.specs.Gigabytes.{sum_below, gigabyte_operations}
+use Rattle.stage2.proofs.Underway.{sum_below-more, sum_below-up}
+use Rattle.stage2.proofs.Rowing.{past-fits, past-skip, past-edit}
+use Rattle.stage2.proofs.row.edit_row.Goals as goal
+use Rattle.stage2.proofs.row.edit_row.Goals.{then-touches, else-touches}
+
+pub edit_gigabyte-requires-clause-free : goal.edit_gigabyte-requires-clause-free
+edit_gigabyte-requires-clause-free g c =
+    past-fits c.args.layout.now c.args.row c.args.runs.now c.args.access.now (pages_of (g.M.TableMem.state c.args.memory.now).memory) c.requires.partition
+    c.loop-gigabyte.gigabyte c.loop-gigabyte-test.true (pages_of (g.M.TableMem.state c.loop-gigabyte.memory).memory) c.loop-gigabyte.invariant.past c.requires.canonical c.requires.free
+
+pub edit_gigabyte-requires-clause-room : goal.edit_gigabyte-requires-clause-room
+edit_gigabyte-requires-clause-room g c =
+    let f : ℕ → ℕ = gigabyte_operations c.args.runs.now in
+    let more = sum_below-more f c.loop-gigabyte.gigabyte in
+    let up = sum_below-up f (c.loop-gigabyte.gigabyte + 1) 512 (omega (arith, c.loop-gigabyte-test.true)) in
+    let room : g.M.TableMem.room c.args.memory.now ≤ g.M.TableMem.room c.loop-gigabyte.memory + sum_below f c.loop-gigabyte.gigabyte = c.loop-gigabyte.invariant.room in
+    let all : sum_below f 512 ≤ g.M.TableMem.room c.args.memory.now = c.requires.room in
+    enough (g.M.TableMem.room c.args.memory.now) (g.M.TableMem.room c.loop-gigabyte.memory) (f c.loop-gigabyte.gigabyte) (sum_below f c.loop-gigabyte.gigabyte) (sum_below f (c.loop-gigabyte.gigabyte + 1)) (sum_below f 512) more up room all
+  where
+    enough : (r0 r one before next all : ℕ) → next ≡ one + before → next ≤ all → r0 ≤ r + before → all ≤ r0 → one ≤ r
+    enough r0 r one before next all a b c d = omega arith
+
+pub loop-gigabyte-preserved : goal.loop-gigabyte-preserved
+loop-gigabyte-preserved g c =
+    let f : ℕ → ℕ = gigabyte_operations c.args.runs.now in
+    let more = sum_below-more f c.loop-gigabyte.gigabyte in
+    let up = sum_below-up f c.loop-gigabyte.gigabyte (c.loop-gigabyte.gigabyte + 1) (omega arith) in
+    let old = pages_of (g.M.TableMem.state c.args.memory.now).memory in
+    let mid = pages_of (g.M.TableMem.state c.loop-gigabyte.memory).memory in
+    let i = c.loop-gigabyte.gigabyte in
+    let r0 = g.M.TableMem.room c.args.memory.now in
+    let r1 = g.M.TableMem.room c.loop-gigabyte.memory in
+    elim c.if-touches.branch [
+      | then-touches w ↦ rw w.memory-is (record {
+        past = past-edit c.args.layout.now c.args.row c.args.runs.now c.args.access.now old c.requires.partition i c.loop-gigabyte-test.true mid c.loop-gigabyte.invariant.past
+            (pages_of (g.M.TableMem.state w.edit_gigabyte.new.memory).memory) w.edit_gigabyte.ensures.edits;
+        in_step = λ free. cross-edit c.args.layout.now c.args.row c.args.runs.now c.args.access.now old c.requires.partition i c.loop-gigabyte-test.true mid c.loop-gigabyte.invariant.past
+            (g.M.TableMem.state c.args.memory.now) (g.M.TableMem.state c.loop-gigabyte.memory) (g.M.TableMem.state w.edit_gigabyte.new.memory) (c.loop-gigabyte.invariant.in_step free)
+            (w.edit_gigabyte.ensures.in_step (cross-free c.args.layout.now c.args.row c.args.runs.now c.args.access.now old c.requires.partition i c.loop-gigabyte-test.true mid c.loop-gigabyte.invariant.past free));
+        room = less r0 r1 (g.M.TableMem.room w.edit_gigabyte.new.memory) (f i) (sum_below f i) (sum_below f (i + 1)) more c.loop-gigabyte.invariant.room w.edit_gigabyte.ensures.room;
+      })
+      | else-touches w ↦ rw w.memory-is (record {
+        past = past-skip c.args.layout.now c.args.row c.args.runs.now c.args.access.now old c.requires.partition i c.loop-gigabyte-test.true mid c.loop-gigabyte.invariant.past
+            (c.touches.ensures.no w.if-touches.false);
+        in_step = λ free. cross-skip c.args.layout.now c.args.row i c.args.runs.now (answers c.args.layout.now old.words c.args.row) (edited c.args.runs.now c.args.access.now (answers c.args.layout.now old.words c.args.row))
+            (g.M.TableMem.state c.args.memory.now) (g.M.TableMem.state c.loop-gigabyte.memory) (c.loop-gigabyte.invariant.in_step free);
+        room = same r0 r1 (sum_below f i) (sum_below f (i + 1)) up c.loop-gigabyte.invariant.room;
+      })
+    ]
+  where
+    less : (r0 r r2 one before next : ℕ) → next ≡ one + before → r0 ≤ r + before → r ≤ r2 + one → r0 ≤ r2 + next
+    less r0 r r2 one before next a b c = omega arith
+
+    same : (r0 r before next : ℕ) → before ≤ next → r0 ≤ r + before → r0 ≤ r + next
+    same r0 r before next a b = omega arith
+
+pub returns-clause-in_step : goal.returns-clause-in_step
+returns-clause-in_step g c = λ free.
+    let v : ℕ → View = answers c.args.layout.now (pages_of (g.M.TableMem.state c.args.memory.now).memory).words c.args.row in
+    cross-all c.args.layout.now c.args.row c.loop-gigabyte.gigabyte c.args.runs.now v (edited c.args.runs.now c.args.access.now v) (g.M.TableMem.state c.args.memory.now) (g.M.TableMem.state c.loop-gigabyte.memory)
+    (omega (arith, c.loop-gigabyte-test.false, c.loop-gigabyte.auto.gigabyte-end)) (c.loop-gigabyte.invariant.in_step free)

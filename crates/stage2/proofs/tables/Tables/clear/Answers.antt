@@ -1,0 +1,15 @@
+use Rattle.std.proofs.Common.{sym, subst}
+use Rattle.pool.specs.Pool.{Pool, pages_of}
+use Rattle.stage2.specs.Orderly.{IsCanonical}
+use Rattle.stage2.specs.Tables.{TablesView, ClearsInStep}
+use Rattle.stage2.proofs.TablesLemmas.{view, are-canonical, cleared-in_step}
+use Rattle.stage2.proofs.tables.Tables.clear.Goals as goal
+
+pub returns-clause-canonical : goal.returns-clause-canonical
+returns-clause-canonical g c = are-canonical (view c.self.inside.layout (g.M.TableMem.state c.clear.new.self) (g.M.TableMem.room c.clear.new.self)) (subst (λ (x : Pool). IsCanonical c.self.inside.layout (pages_of x.memory)) (sym c.clear.ensures.state) c.self.invariant) (g.met.M.TableMem.free_is_zero c.clear.new.self)
+
+pub returns-clause-in_step : goal.returns-clause-in_step
+returns-clause-in_step g c =
+    let old : TablesView = view c.self.inside.layout (g.M.TableMem.state c.self.inside.memory) (g.M.TableMem.room c.self.inside.memory) in
+    let new : TablesView = view c.self.inside.layout (g.M.TableMem.state c.clear.new.self) (g.M.TableMem.room c.clear.new.self) in
+    subst (λ (t : TablesView). ClearsInStep c.args.run t new) c.self.view_is (cleared-in_step old c.args.run (g.M.TableMem.state c.clear.new.self) (g.M.TableMem.room c.clear.new.self) c.clear.ensures.state)

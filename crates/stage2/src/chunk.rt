@@ -1,0 +1,395 @@
+//! The edit of one chunk: its level 2 word, and its level 3 table.
+
+ghost use Rattle.std.specs.Prelude.{◌≡◌, ℕ, ◌==◌, ◌&&◌, ◌^◌, is_some, ◌+◌, ◌*◌, ◌/◌, ◌%◌, ◌<◌, ◌≤◌, length, true, Some, None, if◌then◌else◌};
+ghost use Rattle.base.specs.Pages.{covers};
+ghost use Rattle.base.specs.Manifest.{page_count, row_of};
+ghost use Rattle.base.specs.Access as permissions;
+ghost use Rattle.pool.specs.Pool.{pages_of, taken_of};
+ghost use Rattle.pool.specs.Pool.{words_of, with_put};
+ghost use Rattle.stage2.specs.Slot as slots;
+ghost use Rattle.stage2.specs.declared.walked.Slot.TheVariants.{Next};
+ghost use Rattle.base.specs.Need as needs;
+ghost use Rattle.base.specs.Access.{View};
+ghost use Rattle.pool.specs.Pool.{used_by, quota_of};
+ghost use Rattle.stage2.specs.Walk.{next_page};
+ghost use Rattle.stage2.specs.Chunks.{edited, answers_at, answers_in, planned, below, Writes, IsOutcome, block_answer, IsEntryFor, IsSite, IsGrowing, Redoes_in};
+ghost use Rattle.stage2.specs.Parts.{part_count};
+ghost use Rattle.stage2.specs.Moments.{StaysInStep, Clears};
+ghost use Rattle.stage2.specs.Steps.{IsSeated, AreFree, disturbs};
+ghost use Rattle.stage2.specs.Walk.{walked};
+ghost use Rattle.stage2.specs.History.{Made, Filled, broken, replaced};
+
+use crate::edit::{put_word, word_of};
+use crate::layout::Layout;
+use crate::read::read_slot;
+use crate::unmap::invalidate_parts;
+use crate::walked::Slot;
+use base::{Access, MemoryKind, Page, PartitionId, Rights, Run};
+use pool::TableMem;
+use words::{leaf_word, table_word};
+
+/// Whether a page is in one of the runs.
+fn is_covered(runs: &[Run], page: Page) -> bool
+    ensures { result ≡ covers runs.now page }
+{
+    runs.iter().any(|run| run.contains(page))
+}
+
+/// What is planned for a page: pages of the runs get one answer, and the others another one, or stay.
+fn plan(
+    runs: &[Run],
+    access: &Option<Access>,
+    others: &Option<Option<Access>>,
+    page: Page,
+) -> Option<Option<Access>>
+    ensures { result ≡ planned runs.now access.now others.now page }
+{
+    if is_covered(runs, page) {
+        Some(*access)
+    } else {
+        *others
+    }
+}
+
+/// Writes the level 3 word of a page into a table, if it is not there.
+fn write_page<M: TableMem>(memory: &mut M, third: u32, page: Page, answer: &Option<Access>)
+    requires page_in { third < page_count (M.state memory.old).memory.quotas }
+    requires taken { taken_of (M.state memory.old).memory.taken third ≡ true }
+    requires room { 0 < M.room memory.old }
+    ensures writes { Writes third (page / 512) (λ n. if n == page then Some answer.now else None) (pages_of (M.state memory.old).memory) (pages_of (M.state memory.new).memory) }
+    ensures filled { Filled third (page / 512) (page % 512 + 1) (λ n. if n == page then Some answer.now else None) (M.state memory.old) (M.state memory.new) }
+    ensures room { M.room memory.old ≤ M.room memory.new + 1 }
+{
+    let index = page.number() % 512;
+    let word = word_of(page, answer);
+    if memory.word(third, index) != word {
+        put_word(memory, third, index, word);
+    }
+}
+
+/// Writes the words that are planned for the pages of a chunk, upward, into a table.
+fn write_table<M: TableMem>(
+    memory: &mut M,
+    third: u32,
+    chunk: u32,
+    runs: &[Run],
+    access: &Option<Access>,
+    others: &Option<Option<Access>>,
+)
+    requires page_in { third < page_count (M.state memory.old).memory.quotas }
+    requires taken { taken_of (M.state memory.old).memory.taken third ≡ true }
+    requires chunk { chunk < 262144 }
+    requires room { 512 ≤ M.room memory.old }
+    ensures writes { Writes third chunk (planned runs.now access.now others.now) (pages_of (M.state memory.old).memory) (pages_of (M.state memory.new).memory) }
+    ensures filled { Filled third chunk 512 (planned runs.now access.now others.now) (M.state memory.old) (M.state memory.new) }
+    ensures room { M.room memory.old ≤ M.room memory.new + 512 }
+{
+    for index in 0..512 {
+        let page = Page::new(512 * chunk + index);
+        if let Some(answer) = plan(runs, access, others, page) {
+            write_page(memory, third, page, &answer);
+        }
+    }
+}
+
+/// Whether two accesses are the same.
+fn is_same(a: Access, b: Access) -> bool
+    ensures { result ≡ permissions.is_same a b }
+{
+    let both_write = match (a.rights(), b.rights()) {
+        (Rights::Rw, Rights::Rw) | (Rights::Ro, Rights::Ro) => true,
+        _ => false,
+    };
+    let both_normal = match (a.kind(), b.kind()) {
+        (MemoryKind::Normal, MemoryKind::Normal) | (MemoryKind::Device, MemoryKind::Device) => true,
+        _ => false,
+    };
+    both_write && a.is_executable() == b.is_executable() && both_normal
+}
+
+/// Whether two pages are reached alike.
+pub(crate) fn is_alike(a: &Option<Access>, b: &Option<Access>) -> bool
+    ensures { result ≡ needs.is_alike a.now b.now }
+{
+    match (a, b) {
+        (Some(a), Some(b)) => is_same(*a, *b),
+        (None, None) => true,
+        _ => false,
+    }
+}
+
+/// What a page of a chunk answers after the edit, by the chunk's level 2 word before it.
+fn page_after<M: TableMem>(
+    memory: &M,
+    layout: &Layout,
+    entry: &Slot,
+    page: Page,
+    runs: &[Run],
+    access: &Option<Access>,
+) -> Option<Access>
+    requires pages { layout.now.pages ≡ page_count (M.state memory.now).memory.quotas }
+    requires table { (k : ℕ) → entry.now ≡ Next k → k < layout.now.pages }
+    ensures { result ≡ edited runs.now access.now (answers_at layout.now (words_of (M.state memory.now).memory.words) entry.now) page }
+{
+    if is_covered(runs, page) {
+        return *access;
+    }
+    match entry {
+        Slot::Maps(_, access) => Some(*access),
+        Slot::Next(third) => match read_slot(memory, layout, 3, *third, page.number() % 512) {
+            Slot::Maps(_, access) => Some(access),
+            _ => None,
+        },
+        _ => None,
+    }
+}
+
+/// The one answer that all pages of a chunk have after the edit; none where they are not all alike.
+pub(crate) fn outcome<M: TableMem>(
+    memory: &M,
+    layout: &Layout,
+    entry: &Slot,
+    chunk: u32,
+    runs: &[Run],
+    access: &Option<Access>,
+) -> Option<Option<Access>>
+    requires pages { layout.now.pages ≡ page_count (M.state memory.now).memory.quotas }
+    requires table { (k : ℕ) → entry.now ≡ Next k → k < layout.now.pages }
+    requires chunk { chunk < 262144 }
+    ensures { IsOutcome chunk (edited runs.now access.now (answers_at layout.now (words_of (M.state memory.now).memory.words) entry.now)) result }
+{
+    let first = page_after(memory, layout, entry, Page::new(512 * chunk), runs, access);
+    for index in 0..512 {
+        let next = page_after(
+            memory,
+            layout,
+            entry,
+            Page::new(512 * chunk + index),
+            runs,
+            access,
+        );
+        if !is_alike(&next, &first) {
+            return None;
+        }
+    }
+    Some(first)
+}
+
+/// Makes the level 2 word of a chunk invalid, and invalidates the chunk, if the word is valid.
+fn break_entry<M: TableMem>(memory: &mut M, p: PartitionId, second: u32, chunk: u32)
+    requires page_in { second < page_count (M.state memory.old).memory.quotas }
+    requires taken { taken_of (M.state memory.old).memory.taken second ≡ true }
+    requires chunk { chunk < 262144 }
+    requires room { 2 ≤ M.room memory.old }
+    ensures pages { pages_of (M.state memory.new).memory ≡ with_put second (chunk % 512) 0 (pages_of (M.state memory.old).memory) }
+    ensures history { Made (broken p second chunk (words_of (M.state memory.old).memory.words second (chunk % 512))) (M.state memory.old) (M.state memory.new) }
+    ensures room { M.room memory.old ≤ M.room memory.new + 2 }
+{
+    if memory.word(second, chunk % 512) != 0 {
+        put_word(memory, second, chunk % 512, 0);
+        memory.invalidate(p, Run::new(Page::new(512 * chunk), 512));
+    }
+}
+
+/// Writes the level 2 word of a chunk. A valid word is made invalid before, and the chunk invalidated.
+fn replace_entry<M: TableMem>(memory: &mut M, p: PartitionId, second: u32, chunk: u32, word: u64)
+    requires page_in { second < page_count (M.state memory.old).memory.quotas }
+    requires taken { taken_of (M.state memory.old).memory.taken second ≡ true }
+    requires chunk { chunk < 262144 }
+    requires room { 3 ≤ M.room memory.old }
+    ensures pages { pages_of (M.state memory.new).memory ≡ with_put second (chunk % 512) word (pages_of (M.state memory.old).memory) }
+    ensures history { Made (replaced p second chunk (words_of (M.state memory.old).memory.words second (chunk % 512)) word) (M.state memory.old) (M.state memory.new) }
+    ensures room { M.room memory.old ≤ M.room memory.new + 3 }
+{
+    break_entry(memory, p, second, chunk);
+    if word != 0 {
+        put_word(memory, second, chunk % 512, word);
+    }
+}
+
+/// The level 2 word of a chunk whose pages all have this answer: a block, or an invalid word.
+#[tactic(auto, unfolding(words::specs::Words::entry_of))]
+fn block_word(chunk: u32, answer: &Option<Access>) -> u64
+    requires { chunk < 262144 }
+    ensures { IsEntryFor chunk answer.now result }
+{
+    match answer {
+        Some(access) => leaf_word(Page::new(512 * chunk), *access, true),
+        None => 0,
+    }
+}
+
+/// Makes a chunk that has no table one block, or invalid.
+fn set_block<M: TableMem>(
+    memory: &mut M,
+    layout: &Layout,
+    p: PartitionId,
+    row: u32,
+    second: u32,
+    chunk: u32,
+    answer: &Option<Access>,
+)
+    requires site { IsSite layout.now row chunk second (pages_of (M.state memory.old).memory) }
+    requires row { row_of layout.now.ids p ≡ row }
+    requires none { next_page (slots.slot layout.now 2 (words_of (M.state memory.old).memory.words second (chunk % 512))) ≡ None }
+    requires room { 3 ≤ M.room memory.old }
+    ensures redoes { (view : ℕ → View) → IsOutcome chunk view (Some answer.now) → Redoes_in layout.now row chunk second view (pages_of (M.state memory.old).memory) (pages_of (M.state memory.new).memory) }
+    ensures in_step { (view : ℕ → View) → IsOutcome chunk view (Some answer.now) → IsSeated layout.now row (chunk / 512) second (pages_of (M.state memory.old).memory)
+        → StaysInStep layout.now row (λ n. n / 512 == chunk) (λ n. walked n (view n)) (M.state memory.old) (M.state memory.new) }
+    ensures room { M.room memory.old ≤ M.room memory.new + 3 }
+{
+    let _layout = layout;
+    let _row = row;
+    replace_entry(memory, p, second, chunk, block_word(chunk, answer));
+}
+
+/// Makes a chunk that has a table one block, or invalid, and gives the table back.
+fn drop_table<M: TableMem>(
+    memory: &mut M,
+    layout: &Layout,
+    p: PartitionId,
+    row: u32,
+    second: u32,
+    chunk: u32,
+    third: u32,
+    answer: &Option<Access>,
+)
+    requires site { IsSite layout.now row chunk second (pages_of (M.state memory.old).memory) }
+    requires row { row_of layout.now.ids p ≡ row }
+    requires table { slots.slot layout.now 2 (words_of (M.state memory.old).memory.words second (chunk % 512)) ≡ Next third }
+    requires room { 515 ≤ M.room memory.old }
+    ensures redoes { (view : ℕ → View) → IsOutcome chunk view (Some answer.now) → Redoes_in layout.now row chunk second view (pages_of (M.state memory.old).memory) (pages_of (M.state memory.new).memory) }
+    ensures in_step { (view : ℕ → View) → IsOutcome chunk view (Some answer.now) → IsSeated layout.now row (chunk / 512) second (pages_of (M.state memory.old).memory)
+        → StaysInStep layout.now row (λ n. n / 512 == chunk) (λ n. walked n (view n)) (M.state memory.old) (M.state memory.new) }
+    ensures room { M.room memory.old ≤ M.room memory.new + 515 }
+{
+    let _layout = layout;
+    let _row = row;
+    replace_entry(memory, p, second, chunk, block_word(chunk, answer));
+    write_table(memory, third, chunk, &[], &None, &Some(None));
+    memory.give_page(p, third);
+}
+
+/// Edits the pages of a chunk whose table stays.
+fn rewrite_table<M: TableMem>(
+    memory: &mut M,
+    layout: &Layout,
+    row: u32,
+    second: u32,
+    chunk: u32,
+    third: u32,
+    runs: &[Run],
+    access: &Option<Access>,
+)
+    requires site { IsSite layout.now row chunk second (pages_of (M.state memory.old).memory) }
+    requires table { slots.slot layout.now 2 (words_of (M.state memory.old).memory.words second (chunk % 512)) ≡ Next third }
+    requires room { 512 ≤ M.room memory.old }
+    ensures redoes { let view = edited runs.now access.now (answers_in layout.now row chunk second (pages_of (M.state memory.old).memory)) in
+        IsOutcome chunk view None → Redoes_in layout.now row chunk second view (pages_of (M.state memory.old).memory) (pages_of (M.state memory.new).memory) }
+    ensures makes { IsSeated layout.now row (chunk / 512) second (pages_of (M.state memory.old).memory) → AreFree (λ n. n / 512 == chunk) runs.now access.now (answers_in layout.now row chunk second (pages_of (M.state memory.old).memory)) → is_some access.now ≡ true
+        → StaysInStep layout.now row (λ n. covers runs.now n && (n / 512 == chunk)) (λ n. walked n access.now) (M.state memory.old) (M.state memory.new) }
+    ensures clears { access.now ≡ None → IsSeated layout.now row (chunk / 512) second (pages_of (M.state memory.old).memory)
+        → Clears layout.now row (λ n. covers runs.now n && (n / 512 == chunk)) (M.state memory.old) (M.state memory.new) }
+    ensures room { M.room memory.old ≤ M.room memory.new + 512 }
+{
+    let _layout = layout;
+    let _row = row;
+    let _second = second;
+    write_table(memory, third, chunk, runs, access, &None);
+}
+
+/// Hangs a table in a chunk that has none, whose pages have this answer before the edit.
+fn hang_table<M: TableMem>(
+    memory: &mut M,
+    layout: &Layout,
+    p: PartitionId,
+    row: u32,
+    second: u32,
+    chunk: u32,
+    before: &Option<Access>,
+    runs: &[Run],
+    access: &Option<Access>,
+)
+    requires site { IsSite layout.now row chunk second (pages_of (M.state memory.old).memory) }
+    requires row { row_of layout.now.ids p ≡ row }
+    requires none { next_page (slots.slot layout.now 2 (words_of (M.state memory.old).memory.words second (chunk % 512))) ≡ None }
+    requires before { (n : ℕ) → n / 512 ≡ chunk → answers_in layout.now row chunk second (pages_of (M.state memory.old).memory) n ≡ before.now }
+    requires free { let m = pages_of (M.state memory.old).memory in used_by m row < quota_of m.quotas row }
+    requires room { 515 ≤ M.room memory.old }
+    ensures redoes { let view = edited runs.now access.now (answers_in layout.now row chunk second (pages_of (M.state memory.old).memory)) in
+        IsOutcome chunk view None → Redoes_in layout.now row chunk second view (pages_of (M.state memory.old).memory) (pages_of (M.state memory.new).memory) }
+    ensures in_step { let view = edited runs.now access.now (answers_in layout.now row chunk second (pages_of (M.state memory.old).memory)) in
+        IsOutcome chunk view None → IsSeated layout.now row (chunk / 512) second (pages_of (M.state memory.old).memory)
+        → StaysInStep layout.now row (λ n. n / 512 == chunk) (λ n. walked n (view n)) (M.state memory.old) (M.state memory.new) }
+    ensures room { M.room memory.old ≤ M.room memory.new + 515 }
+{
+    let _row = row;
+    let third = memory.take_page(p);
+    write_table(memory, third, chunk, runs, access, &Some(*before));
+    replace_entry(memory, p, second, chunk, table_word(layout.address(third)));
+}
+
+/// The table that a word points at.
+pub(crate) fn table_of(entry: &Slot) -> Option<u32>
+    ensures { result ≡ next_page entry.now }
+{
+    match entry {
+        Slot::Next(table) => Some(*table),
+        _ => None,
+    }
+}
+
+/// What all pages of a chunk answer that has no table.
+fn block_of(entry: &Slot) -> Option<Access>
+    ensures { result ≡ block_answer entry.now }
+{
+    match entry {
+        Slot::Maps(_, access) => Some(*access),
+        _ => None,
+    }
+}
+
+/// Edits the pages of runs in a chunk: they are reached with this access, or not at all.
+pub(crate) fn edit_chunk<M: TableMem>(
+    memory: &mut M,
+    layout: &Layout,
+    p: PartitionId,
+    row: u32,
+    second: u32,
+    chunk: u32,
+    runs: &[Run],
+    access: &Option<Access>,
+)
+    requires site { IsSite layout.now row chunk second (pages_of (M.state memory.old).memory) }
+    requires row { row_of layout.now.ids p ≡ row }
+    requires free { let m = pages_of (M.state memory.old).memory in
+        IsGrowing (answers_in layout.now row chunk second m) (edited runs.now access.now (answers_in layout.now row chunk second m)) chunk → used_by m row < quota_of m.quotas row }
+    requires room { 515 + part_count chunk runs.now ≤ M.room memory.old }
+    ensures redoes { let view = edited runs.now access.now (answers_in layout.now row chunk second (pages_of (M.state memory.old).memory)) in
+        Redoes_in layout.now row chunk second view (pages_of (M.state memory.old).memory) (pages_of (M.state memory.new).memory) }
+    ensures in_step { let before = answers_in layout.now row chunk second (pages_of (M.state memory.old).memory) in
+        IsSeated layout.now row (chunk / 512) second (pages_of (M.state memory.old).memory) → AreFree (λ n. n / 512 == chunk) runs.now access.now before
+        → StaysInStep layout.now row (λ n. (n / 512 == chunk) && disturbs runs.now before (edited runs.now access.now before) n) (λ n. walked n (edited runs.now access.now before n)) (M.state memory.old) (M.state memory.new) }
+    ensures room { M.room memory.old ≤ M.room memory.new + (515 + part_count chunk runs.now) }
+{
+    let entry = read_slot(memory, layout, 2, second, chunk % 512);
+    let table = table_of(&entry);
+    match outcome(memory, layout, &entry, chunk, runs, access) {
+        Some(answer) => match table {
+            Some(third) => drop_table(memory, layout, p, row, second, chunk, third, &answer),
+            None => set_block(memory, layout, p, row, second, chunk, &answer),
+        },
+        None => match table {
+            Some(third) => {
+                rewrite_table(memory, layout, row, second, chunk, third, runs, access);
+                if access.is_none() {
+                    invalidate_parts(memory, p, chunk, runs);
+                }
+            }
+            None => {
+                let before = block_of(&entry);
+                hang_table(memory, layout, p, row, second, chunk, &before, runs, access)
+            }
+        },
+    }
+}

@@ -1,0 +1,218 @@
+//! The edit of one gigabyte: its level 2 table, and the chunks under it.
+
+ghost use Rattle.std.specs.Prelude.{◌≡◌, ◌≢◌, ℕ, ◌==◌, ◌+◌, ◌*◌, ◌/◌, ◌%◌, ◌<◌, ◌≤◌, ◌^◌, length, true, false, Some, None, is_some, IfSome, IfNone, Bool, ◌&&◌};
+ghost use Rattle.base.specs.Pages.{covers};
+ghost use Rattle.base.specs.Manifest.{page_count, row_of};
+ghost use Rattle.base.specs.Access.{View};
+ghost use Rattle.pool.specs.Pool.{pages_of, taken_of, words_of, with_put, with_mark, row_in, InShare, used_by, quota_of};
+ghost use Rattle.base.specs.Counts.{count_below};
+ghost use Rattle.stage2.specs.Walk.{Gigabyte, table_at};
+ghost use Rattle.stage2.specs.Orderly.{IsOrderly, IsCanonical, answers, linked};
+ghost use Rattle.stage2.specs.Chunks.{edited};
+ghost use Rattle.stage2.specs.Gigabytes.{sum_below, chunk_operations, gigabyte_operations, Fits, FitsGigabyte, touches_run, touches_chunk, IsUnderway, EditsGigabyte, Touches};
+ghost use Rattle.stage2.specs.Walk.{walk, walked, IsForest};
+ghost use Rattle.stage2.specs.declared.walked.Walked.{Walked};
+ghost use Rattle.stage2.specs.declared.walked.Walked.TheVariants.{None as Unmapped};
+ghost use Rattle.stage2.specs.Slot as slots;
+ghost use Rattle.stage2.specs.Moments.{StaysInStep};
+ghost use Rattle.stage2.specs.Steps.{IsSeated, AreFree, disturbed, disturbed_below};
+
+use crate::chunk::{edit_chunk, table_of};
+use crate::edit::put_word;
+use crate::layout::Layout;
+use crate::read::read_slot;
+use crate::unmap::{end_chunk, first_chunk};
+use base::{Access, Page, PartitionId, Run};
+use pool::TableMem;
+use words::table_word;
+
+/// Whether a run has a page in a chunk.
+fn run_touches(run: Run, chunk: u32) -> bool
+    ensures { result ≡ touches_run chunk run }
+{
+    first_chunk(run) <= chunk && chunk < end_chunk(run)
+}
+
+/// Whether the runs have a page in a chunk.
+pub(crate) fn touches(runs: &[Run], chunk: u32) -> bool
+    ensures { result ≡ touches_chunk chunk runs.now }
+{
+    runs.iter().any(|run| run_touches(*run, chunk))
+}
+
+/// Edits the pages of runs in the chunks of a gigabyte, upward, whose level 2 table may not be linked yet.
+fn edit_chunks<M: TableMem>(
+    memory: &mut M,
+    layout: &Layout,
+    p: PartitionId,
+    row: u32,
+    second: u32,
+    gigabyte: u32,
+    runs: &[Run],
+    access: &Option<Access>,
+)
+    requires orderly { IsOrderly layout.now (linked layout.now row gigabyte second (pages_of (M.state memory.old).memory)) }
+    requires second { table_at layout.now (linked layout.now row gigabyte second (pages_of (M.state memory.old).memory)).words (Gigabyte row gigabyte) ≡ Some second }
+    requires row { row_of layout.now.ids p ≡ row }
+    requires partition { row < length layout.now.ids }
+    requires gigabyte { gigabyte < 512 }
+    requires free { Fits layout.now row gigabyte second runs.now access.now (pages_of (M.state memory.old).memory) }
+    requires room { sum_below (λ x. chunk_operations runs.now (512 * gigabyte + x)) 512 ≤ M.room memory.old }
+    ensures underway { let before = answers layout.now (linked layout.now row gigabyte second (pages_of (M.state memory.old).memory)).words row in
+        IsUnderway layout.now row gigabyte second 512 (edited runs.now access.now before) (pages_of (M.state memory.old).memory) (pages_of (M.state memory.new).memory) }
+    ensures in_step { let before = answers layout.now (linked layout.now row gigabyte second (pages_of (M.state memory.old).memory)).words row in
+        IsSeated layout.now row gigabyte second (pages_of (M.state memory.old).memory) → AreFree (λ n. n / 512 / 512 == gigabyte) runs.now access.now before
+        → StaysInStep layout.now row (disturbed_below gigabyte 512 runs.now before (edited runs.now access.now before)) (λ n. walked n (edited runs.now access.now before n)) (M.state memory.old) (M.state memory.new) }
+    ensures room { M.room memory.old ≤ M.room memory.new + sum_below (λ x. chunk_operations runs.now (512 * gigabyte + x)) 512 }
+{
+    for index in 0..512 {
+        let chunk = 512 * gigabyte + index;
+        if touches(runs, chunk) {
+            edit_chunk(memory, layout, p, row, second, chunk, runs, access);
+        }
+    }
+}
+
+/// The level 2 table of a gigabyte, if one hangs there.
+#[tactic(auto, unfolding(crate::specs::Walk::table_at))]
+pub(crate) fn find_table<M: TableMem>(
+    memory: &M,
+    layout: &Layout,
+    row: u32,
+    gigabyte: u32,
+) -> Option<u32>
+    requires pages { layout.now.pages ≡ page_count (M.state memory.now).memory.quotas }
+    requires row { row < layout.now.pages }
+    requires gigabyte { gigabyte < 512 }
+    ensures { result ≡ table_at layout.now (words_of (M.state memory.now).memory.words) (Gigabyte row gigabyte) }
+{
+    table_of(&read_slot(memory, layout, 1, row, gigabyte))
+}
+
+/// The index of a word of a table that is not 0.
+fn first_word<M: TableMem>(memory: &M, table: u32) -> Option<u32>
+    requires { table < page_count (M.state memory.now).memory.quotas }
+    ensures some { IfSome result (λ x. (x < 512) × (words_of (M.state memory.now).memory.words table x ≢ 0)) }
+    ensures none { IfNone result ((i : ℕ) → i < 512 → words_of (M.state memory.now).memory.words table i ≡ 0) }
+{
+    for index in 0..512 {
+        if memory.word(table, index) != 0 {
+            return Some(index);
+        }
+    }
+    None
+}
+
+/// Takes the link of an empty level 2 table away, and gives the table back.
+fn unlink<M: TableMem>(memory: &mut M, p: PartitionId, row: u32, gigabyte: u32, second: u32)
+    requires root { row < length (M.state memory.old).memory.quotas }
+    requires row { row_in (M.state memory.old).memory p ≡ row }
+    requires gigabyte { gigabyte < 512 }
+    requires inside { InShare (M.state memory.old).memory.quotas row second }
+    requires taken { taken_of (M.state memory.old).memory.taken second ≡ true }
+    requires empty { (i : ℕ) → i < 512 → words_of (M.state memory.old).memory.words second i ≡ 0 }
+    requires room { 2 ≤ M.room memory.old }
+    ensures pages { pages_of (M.state memory.new).memory ≡ with_mark second false (with_put row gigabyte 0 (pages_of (M.state memory.old).memory)) }
+    ensures in_step { (layout : slots.Layout) (which : ℕ → Bool) (answer : ℕ → Walked) → IsForest layout (words_of (M.state memory.old).memory.words) → row < length layout.ids → row_of layout.ids p ≡ row
+        → ((n : ℕ) → n < 2 ^ 27 → n / 512 / 512 ≡ gigabyte → walk layout (words_of (M.state memory.old).memory.words) row n ≡ Unmapped)
+        → StaysInStep layout row which answer (M.state memory.old) (M.state memory.new) }
+    ensures room { M.room memory.old ≤ M.room memory.new + 2 }
+{
+    put_word(memory, row, gigabyte, 0);
+    memory.invalidate(p, Run::new(Page::new(262144 * gigabyte), 262144));
+    memory.give_page(p, second);
+}
+
+/// Edits a gigabyte that has its level 2 table, and gives that back where it becomes empty.
+fn edit_tabled<M: TableMem>(
+    memory: &mut M,
+    layout: &Layout,
+    p: PartitionId,
+    row: u32,
+    second: u32,
+    gigabyte: u32,
+    runs: &[Run],
+    access: &Option<Access>,
+)
+    requires canonical { IsCanonical layout.now (pages_of (M.state memory.old).memory) }
+    requires table { table_at layout.now (pages_of (M.state memory.old).memory).words (Gigabyte row gigabyte) ≡ Some second }
+    requires row { row_of layout.now.ids p ≡ row }
+    requires partition { row < length layout.now.ids }
+    requires gigabyte { gigabyte < 512 }
+    requires free { FitsGigabyte layout.now row gigabyte runs.now access.now (pages_of (M.state memory.old).memory) }
+    requires room { gigabyte_operations runs.now gigabyte ≤ M.room memory.old }
+    ensures edits { EditsGigabyte layout.now row gigabyte (edited runs.now access.now (answers layout.now (pages_of (M.state memory.old).memory).words row)) (pages_of (M.state memory.old).memory) (pages_of (M.state memory.new).memory) }
+    ensures in_step { let before = answers layout.now (pages_of (M.state memory.old).memory).words row in
+        AreFree (λ n. n / 512 / 512 == gigabyte) runs.now access.now before
+        → StaysInStep layout.now row (λ n. (n / 512 / 512 == gigabyte) && disturbed runs.now before (edited runs.now access.now before) n) (λ n. walked n (edited runs.now access.now before n)) (M.state memory.old) (M.state memory.new) }
+    ensures room { M.room memory.old ≤ M.room memory.new + gigabyte_operations runs.now gigabyte }
+{
+    edit_chunks(memory, layout, p, row, second, gigabyte, runs, access);
+    match first_word(memory, second) {
+        Some(_) => {}
+        None => unlink(memory, p, row, gigabyte, second),
+    }
+}
+
+/// Edits a gigabyte that has no level 2 table: one is taken, and linked after its last chunk.
+fn edit_untabled<M: TableMem>(
+    memory: &mut M,
+    layout: &Layout,
+    p: PartitionId,
+    row: u32,
+    gigabyte: u32,
+    runs: &[Run],
+    access: &Option<Access>,
+)
+    requires canonical { IsCanonical layout.now (pages_of (M.state memory.old).memory) }
+    requires none { table_at layout.now (pages_of (M.state memory.old).memory).words (Gigabyte row gigabyte) ≡ None }
+    requires touched { Touches runs.now gigabyte }
+    requires maps { is_some access.now ≡ true }
+    requires row { row_of layout.now.ids p ≡ row }
+    requires partition { row < length layout.now.ids }
+    requires gigabyte { gigabyte < 512 }
+    requires free { FitsGigabyte layout.now row gigabyte runs.now access.now (pages_of (M.state memory.old).memory) }
+    requires room { gigabyte_operations runs.now gigabyte ≤ M.room memory.old }
+    ensures edits { EditsGigabyte layout.now row gigabyte (edited runs.now access.now (answers layout.now (pages_of (M.state memory.old).memory).words row)) (pages_of (M.state memory.old).memory) (pages_of (M.state memory.new).memory) }
+    ensures in_step { let before = answers layout.now (pages_of (M.state memory.old).memory).words row in
+        AreFree (λ n. n / 512 / 512 == gigabyte) runs.now access.now before
+        → StaysInStep layout.now row (λ n. (n / 512 / 512 == gigabyte) && disturbed runs.now before (edited runs.now access.now before) n) (λ n. walked n (edited runs.now access.now before n)) (M.state memory.old) (M.state memory.new) }
+    ensures room { M.room memory.old ≤ M.room memory.new + gigabyte_operations runs.now gigabyte }
+{
+    let second = memory.take_page(p);
+    edit_chunks(memory, layout, p, row, second, gigabyte, runs, access);
+    put_word(memory, row, gigabyte, table_word(layout.address(second)));
+}
+
+/// Edits the pages of runs in a gigabyte: they are reached with this access, or not at all.
+pub(crate) fn edit_gigabyte<M: TableMem>(
+    memory: &mut M,
+    layout: &Layout,
+    p: PartitionId,
+    row: u32,
+    gigabyte: u32,
+    runs: &[Run],
+    access: &Option<Access>,
+)
+    requires canonical { IsCanonical layout.now (pages_of (M.state memory.old).memory) }
+    requires touched { Touches runs.now gigabyte }
+    requires row { row_of layout.now.ids p ≡ row }
+    requires partition { row < length layout.now.ids }
+    requires gigabyte { gigabyte < 512 }
+    requires free { FitsGigabyte layout.now row gigabyte runs.now access.now (pages_of (M.state memory.old).memory) }
+    requires room { gigabyte_operations runs.now gigabyte ≤ M.room memory.old }
+    ensures edits { EditsGigabyte layout.now row gigabyte (edited runs.now access.now (answers layout.now (pages_of (M.state memory.old).memory).words row)) (pages_of (M.state memory.old).memory) (pages_of (M.state memory.new).memory) }
+    ensures in_step { let before = answers layout.now (pages_of (M.state memory.old).memory).words row in
+        AreFree (λ n. n / 512 / 512 == gigabyte) runs.now access.now before
+        → StaysInStep layout.now row (λ n. (n / 512 / 512 == gigabyte) && disturbed runs.now before (edited runs.now access.now before) n) (λ n. walked n (edited runs.now access.now before n)) (M.state memory.old) (M.state memory.new) }
+    ensures room { M.room memory.old ≤ M.room memory.new + gigabyte_operations runs.now gigabyte }
+{
+    match find_table(memory, layout, row, gigabyte) {
+        Some(second) => edit_tabled(memory, layout, p, row, second, gigabyte, runs, access),
+        None => {
+            if access.is_some() {
+                edit_untabled(memory, layout, p, row, gigabyte, runs, access);
+            }
+        }
+    }
+}

@@ -1,0 +1,156 @@
+//! How many table pages an edit takes.
+
+ghost use Rattle.std.specs.Prelude.{◌≡◌, ℕ, ◌+◌, ◌*◌, ◌<◌, ◌≤◌, ◌&&◌, not, length, is_some};
+ghost use Rattle.base.specs.Manifest.{page_count};
+ghost use Rattle.pool.specs.Pool.{pages_of, words_of};
+ghost use Rattle.base.specs.Counts.{count_below};
+ghost use Rattle.stage2.specs.Slot as slots;
+ghost use Rattle.stage2.specs.declared.walked.Slot.TheVariants.{Next};
+ghost use Rattle.stage2.specs.Walk.{next_page, Gigabyte, table_at};
+ghost use Rattle.base.specs.Need.{is_mixed, grow};
+ghost use Rattle.stage2.specs.Orderly.{IsCanonical, answers};
+ghost use Rattle.stage2.specs.Chunks.{edited, answers_at, entry_in};
+ghost use Rattle.stage2.specs.Gigabytes.{grows_at, gigabyte_growth, Touches};
+
+use crate::chunk::{outcome, table_of};
+use crate::gigabyte::{find_table, touches as touches_chunk};
+use crate::layout::Layout;
+use crate::read::read_slot;
+use crate::row::touches;
+use crate::walked::Slot;
+use base::{Access, Run};
+use pool::TableMem;
+
+/// A chunk's level 2 word, in a gigabyte's table, if it has one.
+fn entry_at<M: TableMem>(memory: &M, layout: &Layout, second: &Option<u32>, index: u32) -> Slot
+    requires pages { layout.now.pages ≡ page_count (M.state memory.now).memory.quotas }
+    requires table { (j : ℕ) → second.now ≡ Some j → j < layout.now.pages }
+    requires index { index < 512 }
+    ensures same { result ≡ entry_in layout.now (words_of (M.state memory.now).memory.words) second.now index }
+    ensures inside { (k : ℕ) → result ≡ Next k → k < layout.now.pages }
+{
+    match second {
+        Some(second) => read_slot(memory, layout, 2, *second, index),
+        None => Slot::Empty,
+    }
+}
+
+/// Whether a chunk has a table after the edit, and none before it.
+fn grows<M: TableMem>(
+    memory: &M,
+    layout: &Layout,
+    entry: &Slot,
+    chunk: u32,
+    runs: &[Run],
+    access: &Option<Access>,
+) -> bool
+    requires pages { layout.now.pages ≡ page_count (M.state memory.now).memory.quotas }
+    requires table { (k : ℕ) → entry.now ≡ Next k → k < layout.now.pages }
+    requires chunk { chunk < 262144 }
+    ensures { result ≡ (is_mixed (edited runs.now access.now (answers_at layout.now (words_of (M.state memory.now).memory.words) entry.now)) chunk && not (is_some (next_page entry.now))) }
+{
+    let is_mixed = outcome(memory, layout, entry, chunk, runs, access).is_none();
+    is_mixed && table_of(entry).is_none()
+}
+
+/// Whether an edit takes a table for this chunk of a gigabyte.
+fn takes<M: TableMem>(
+    memory: &M,
+    layout: &Layout,
+    row: u32,
+    second: &Option<u32>,
+    gigabyte: u32,
+    index: u32,
+    runs: &[Run],
+    access: &Option<Access>,
+) -> bool
+    requires canonical { IsCanonical layout.now (pages_of (M.state memory.now).memory) }
+    requires partition { row < length layout.now.ids }
+    requires gigabyte { gigabyte < 512 }
+    requires index { index < 512 }
+    requires table { table_at layout.now (pages_of (M.state memory.now).memory).words (Gigabyte row gigabyte) ≡ second.now }
+    ensures { let before = answers layout.now (pages_of (M.state memory.now).memory).words row in
+        result ≡ grows_at before (edited runs.now access.now before) (512 * gigabyte + index) }
+{
+    let _row = row;
+    let chunk = 512 * gigabyte + index;
+    if !touches_chunk(runs, chunk) {
+        return false;
+    }
+    let entry = entry_at(memory, layout, second, index);
+    grows(memory, layout, &entry, chunk, runs, access)
+}
+
+/// How many level 3 tables an edit takes in a gigabyte.
+fn grow_chunks<M: TableMem>(
+    memory: &M,
+    layout: &Layout,
+    row: u32,
+    second: &Option<u32>,
+    gigabyte: u32,
+    runs: &[Run],
+    access: &Option<Access>,
+) -> u32
+    requires canonical { IsCanonical layout.now (pages_of (M.state memory.now).memory) }
+    requires partition { row < length layout.now.ids }
+    requires gigabyte { gigabyte < 512 }
+    requires table { table_at layout.now (pages_of (M.state memory.now).memory).words (Gigabyte row gigabyte) ≡ second.now }
+    ensures same { let before = answers layout.now (pages_of (M.state memory.now).memory).words row in
+        result ≡ count_below (λ x. grows_at before (edited runs.now access.now before) (512 * gigabyte + x)) 512 }
+    ensures most { result ≤ 512 }
+{
+    let mut count = 0;
+    for index in 0..512 {
+        if takes(memory, layout, row, second, gigabyte, index, runs, access) {
+            count += 1;
+        }
+    }
+    count
+}
+
+/// How many tables an edit takes in a gigabyte, its level 2 table with them.
+fn grow_gigabyte<M: TableMem>(
+    memory: &M,
+    layout: &Layout,
+    row: u32,
+    gigabyte: u32,
+    runs: &[Run],
+    access: &Option<Access>,
+) -> u32
+    requires canonical { IsCanonical layout.now (pages_of (M.state memory.now).memory) }
+    requires touched { Touches runs.now gigabyte }
+    requires partition { row < length layout.now.ids }
+    requires gigabyte { gigabyte < 512 }
+    ensures same { let before = answers layout.now (pages_of (M.state memory.now).memory).words row in
+        result ≡ gigabyte_growth before (edited runs.now access.now before) gigabyte }
+    ensures most { result ≤ 513 }
+{
+    let second = find_table(memory, layout, row, gigabyte);
+    let chunks = grow_chunks(memory, layout, row, &second, gigabyte, runs, access);
+    match second {
+        Some(_) => chunks,
+        None => { if access.is_some() { chunks + 1 } else { chunks } }
+    }
+}
+
+/// How many table pages an edit takes: the tables after it at places where there is none before it.
+pub(crate) fn grow_row<M: TableMem>(
+    memory: &M,
+    layout: &Layout,
+    row: u32,
+    runs: &[Run],
+    access: &Option<Access>,
+) -> u32
+    requires canonical { IsCanonical layout.now (pages_of (M.state memory.now).memory) }
+    requires partition { row < length layout.now.ids }
+    ensures { let before = answers layout.now (pages_of (M.state memory.now).memory).words row in
+        result ≡ grow before (edited runs.now access.now before) }
+{
+    let mut count = 0;
+    for gigabyte in 0..512 {
+        if touches(runs, gigabyte) {
+            count += grow_gigabyte(memory, layout, row, gigabyte, runs, access);
+        }
+    }
+    count
+}
