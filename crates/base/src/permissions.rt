@@ -54,6 +54,20 @@ impl Permissions {
         Permissions(byte)
     }
 
+    /// Data access is read-only, and instruction access is not specified.
+    pub fn read_only() -> Self
+        ensures { result ≡ spec.read_only }
+    {
+        Permissions(1)
+    }
+
+    /// Data access is read-write, and instruction access is not specified.
+    pub fn read_write() -> Self
+        ensures { result ≡ spec.read_write }
+    {
+        Permissions(2)
+    }
+
     /// The byte that spells them.
     pub fn byte(self) -> u8
         ensures { result ≡ self }

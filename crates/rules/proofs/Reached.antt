@@ -4,7 +4,7 @@ use Rattle.std.specs.List.{AllByRecursion}
 use Rattle.std.specs.Option.{option_map_or}
 use Rattle.std.specs.Prelude.{IsTrue}
 use Rattle.base.specs.declared.status.Status.{Status}
-use Rattle.base.specs.declared.status.Status.TheVariants.{NotSupported, Denied}
+use Rattle.base.specs.declared.status.Status.TheVariants.{NotSupported, NoMemory, Denied}
 use Rattle.base.specs.Manifest.{ManifestRows, is_partition}
 use Rattle.base.specs.Refusals.{first_refusal}
 use Rattle.base.specs.State.{State, start}
@@ -12,21 +12,22 @@ use Rattle.manifest.specs.Valid.{is_valid}
 use Rattle.wire.specs.declared.request.Request.{Request}
 use Rattle.wire.specs.Requests.{request_of}
 use Rattle.rules.specs.Call.{CallWords, IsCall}
-use Rattle.rules.specs.Rule.{Rule, refused, reply_of, next_of}
+use Rattle.rules.specs.Rule.{Rule, refused, fits, all_tests, next_of}
 use Rattle.rules.specs.Run.{rule_of, rule, refusal, answer, step, state_from, IsReached}
 use Rattle.rules.specs.Laws.EditsTheView.{Passes}
+use Rattle.rules.proofs.Passing.{before_last, last_decides}
 use Rattle.rules.proofs.Laws.ManifestStays.{manifest_stays}
 
 -- ---- one step
 
-granted_cases : (P : State → Type 0) (s : State) (r : Rule) → P s → (first_refusal r.tests ≡ None → P r.next) → P (next_of s r)
+granted_cases : (P : State → Type 0) (s : State) (r : Rule) → P s → (first_refusal r.tests ≡ None → fits s r.edit ≡ true → P r.next) → P (next_of s r)
 granted_cases P s r same change =
-    elim (first_refusal r.tests) as (λ o. first_refusal r.tests ≡ o → P (option_map_or (λ (status : Status). s) o r.next)) [
-      | None ↦ change
+    elim (first_refusal (all_tests s r)) as (λ o. first_refusal (all_tests s r) ≡ o → P (option_map_or (λ (status : Status). s) o r.next)) [
+      | None ↦ λ e. let both = before_last r.tests (fits s r.edit) NoMemory e in change both.0 both.1
       | Some status ↦ λ e. same
     ] refl
 
-cases : (P : State → Type 0) (s : State) (known : Bool) (o : Option Request) (rules : Request → Rule) → P s → ((r : Request) → known ≡ true → o ≡ Some r → first_refusal (rules r).tests ≡ None → P (rules r).next)
+cases : (P : State → Type 0) (s : State) (known : Bool) (o : Option Request) (rules : Request → Rule) → P s → ((r : Request) → known ≡ true → o ≡ Some r → first_refusal (rules r).tests ≡ None → fits s (rules r).edit ≡ true → P (rules r).next)
     → P (next_of s (cond known (option_map_or rules o (refused NotSupported s)) (refused Denied s)))
 cases P s false o rules same change = same
 cases P s true None rules same change = same
@@ -36,7 +37,7 @@ cases P s true (Some r) rules same change = granted_cases P s (rules r) same (ch
 pub step_cases : (P : State → Type 0) (s : State) (c : CallWords) → P s → ((r : Request) → Passes s c r → P (rule_of s c r).next) → P (step s c)
 unfolding step rule
 step_cases P s c same change =
-    cases P s (is_partition s.manifest c.caller) (request_of c.regs) (rule_of s c) same (λ r known named passed. change r (record { known = known; named = named; passed = passed }))
+    cases P s (is_partition s.manifest c.caller) (request_of c.regs) (rule_of s c) same (λ r known named passed fit. change r (record { known = known; named = named; passed = passed; fits = fit }))
 
 -- the rule of a known caller's request
 pub rule_is : (s : State) (c : CallWords) (r : Request) → is_partition s.manifest c.caller ≡ true → request_of c.regs ≡ Some r → rule s c ≡ rule_of s c r
@@ -46,7 +47,9 @@ rule_is s c r known named = rw (known, named) refl
 -- the step of a request that passes its tests
 pub step_is : (s : State) (c : CallWords) (r : Request) → Passes s c r → step s c ≡ (rule_of s c r).next
 unfolding step
-step_is s c r k = rw (rule_is s c r k.known k.named, k.passed) refl
+step_is s c r k =
+    let e : first_refusal (all_tests s (rule_of s c r)) ≡ None = last_decides (rule_of s c r).tests (fits s (rule_of s c r).edit) NoMemory k.passed ∙ ap (λ (b : Bool). cond b None (Some NoMemory)) k.fits in
+    rw (rule_is s c r k.known k.named, e) refl
 
 -- ---- runs
 

@@ -1,12 +1,14 @@
 -- The rule of a call: its tests in order, and what it changes and is answered where they pass.
-use Rattle.std.specs.Prelude.{ℕ, false, ◌&&◌, ◌==◌, List, [], ◌∷◌, Option, Some, None, if◌then◌else◌}
+use Rattle.std.specs.Prelude.{ℕ, ◌+◌, Bool, true, false, ◌&&◌, ◌==◌, nat_le, List, [], ◌∷◌, ◌++◌, Option, Some, None, if◌then◌else◌}
 use Rattle.std.specs.Option.{option_map_or}
 use Rattle.base.specs.declared.status.Status.{Status}
-use Rattle.base.specs.declared.status.Status.TheVariants.{NotSupported}
+use Rattle.base.specs.declared.status.Status.TheVariants.{NotSupported, NoMemory}
 use Rattle.base.specs.Pages.{PageRun, covers}
 use Rattle.base.specs.Access.{View}
 use Rattle.base.specs.Refusals.{Test, ◌otherwise◌, first_refusal}
-use Rattle.base.specs.State.{State}
+use Rattle.base.specs.Need.{need, grow, reaching}
+use Rattle.base.specs.State.{State, sees}
+use Rattle.manifest.specs.Valid.{quota_of}
 use Rattle.wire.specs.Replies.{ReplyWords, error}
 
 -- whose view changes, of which pages, and to what
@@ -15,12 +17,29 @@ pub record Edit : Type 0 where
   pub runs : List PageRun
   pub to : View
 
--- The reply has the bytes of RX with it. What a call clears will be a list of runs here, and whether the tables of an edit fit the quota will be the last of the tests.
+-- The reply has the bytes of RX with it. What a call clears will be a list of runs here.
 pub record Rule : Type 0 where
   pub tests : List Test
   pub edit : Option Edit
   pub next : State
   pub reply : ReplyWords
+
+-- these views with the edit made
+abbrev pub with_edit : Option Edit → (ℕ → ℕ → View) → ℕ → ℕ → View
+with_edit None view p n = view p n
+with_edit (Some edit) view p n = if (p == edit.who) && covers edit.runs n then edit.to else view p n
+
+-- The tables of the edit fit the partition's quota: those that its views need, and those that its new views need where the old ones need none.
+unfoldable pub fits : State → Option Edit → Bool
+fits s None = true
+fits s (Some edit) =
+    let view = sees s edit.who in
+    let after = reaching edit.runs edit.to view in
+    nat_le (need view + grow view after) (quota_of s.manifest edit.who)
+
+-- the tests of a call, and that its edit fits as the last of them
+abbrev pub all_tests : State → Rule → List Test
+all_tests s rule = rule.tests ++ (fits s rule.edit otherwise NoMemory) ∷ []
 
 -- every call is refused with this status
 abbrev pub refused : Status → State → Rule
@@ -31,14 +50,9 @@ abbrev pub not_served : State → Rule
 not_served s = refused NotSupported s
 
 -- the status of the first test that fails, else the rule's reply
-abbrev pub reply_of : Rule → ReplyWords
-reply_of rule = option_map_or error (first_refusal rule.tests) rule.reply
+abbrev pub reply_of : State → Rule → ReplyWords
+reply_of s rule = option_map_or error (first_refusal (all_tests s rule)) rule.reply
 
 -- the state after it; a refused call changes nothing
 abbrev pub next_of : State → Rule → State
-next_of s rule = option_map_or (λ status. s) (first_refusal rule.tests) rule.next
-
--- these views with the edit made
-abbrev pub with_edit : Option Edit → (ℕ → ℕ → View) → ℕ → ℕ → View
-with_edit None view p n = view p n
-with_edit (Some edit) view p n = if (p == edit.who) && covers edit.runs n then edit.to else view p n
+next_of s rule = option_map_or (λ status. s) (first_refusal (all_tests s rule)) rule.next

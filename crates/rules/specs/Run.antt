@@ -14,7 +14,7 @@ use Rattle.wire.specs.declared.request.Request.TheVariants.{Version, Features, R
 use Rattle.wire.specs.Requests.{request_of}
 use Rattle.wire.specs.Replies.{ReplyWords}
 use Rattle.rules.specs.Call.{CallWords, IsCall}
-use Rattle.rules.specs.Rule.{Rule, refused, not_served, reply_of, next_of}
+use Rattle.rules.specs.Rule.{Rule, refused, not_served, all_tests, reply_of, next_of}
 use Rattle.rules.specs.Calls.Version.{version_rule}
 use Rattle.rules.specs.Calls.Features.{features_rule}
 use Rattle.rules.specs.Calls.IdGet.{id_get_rule}
@@ -50,11 +50,11 @@ rule s c =
 
 -- the status that a call is refused with
 unfoldable pub refusal : State → CallWords → Option Status
-refusal s c = first_refusal (rule s c).tests
+refusal s c = first_refusal (all_tests s (rule s c))
 
 -- the reply to a call
 unfoldable pub answer : State → CallWords → ReplyWords
-answer s c = reply_of (rule s c)
+answer s c = reply_of s (rule s c)
 
 -- the state after a call
 unfoldable pub step : State → CallWords → State

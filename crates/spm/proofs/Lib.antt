@@ -1,3 +1,5 @@
 mod Rows
 mod LoopLemmas
+mod QuotaLemmas
+mod ShownLemmas
 mod ConsistencyLemmas

@@ -47,14 +47,15 @@ opens (Open t) = true
 
 -- ---- the tables
 
--- the runs of an edit are maximal, and not too many
-pub record IsOrderly (edit : Edit) : Type 0 where
+-- the edit is of what the partition itself reaches, and its runs are maximal, and not too many
+pub record IsOrderly (p : ℕ) (edit : Edit) : Type 0 where
+  pub own : edit.who ≡ p
   pub normal : are_normal edit.runs ≡ true
   pub few : length edit.runs < 2 ^ 32
 
-abbrev pub AreOrderly : Option Edit → Type 0
-AreOrderly None = Unit {0}
-AreOrderly (Some edit) = IsOrderly edit
+abbrev pub AreOrderly : ℕ → Option Edit → Type 0
+AreOrderly p None = Unit {0}
+AreOrderly p (Some edit) = IsOrderly p edit
 
 -- the same view of the same pages changes alike
 pub record IsSameEdit (a b : Edit) : Type 0 where
@@ -90,7 +91,7 @@ is_send_request (Reclaim handle flags) = false
 pub record IsGranted (s : State) (p : ℕ) (rule : Rule) (memory : Bool) (change : Change) : Type 0 where
   pub passed : first_refusal rule.tests ≡ None
   pub edit : AreSameEdits rule.edit change.edit
-  pub orderly : AreOrderly change.edit
+  pub orderly : AreOrderly p change.edit
   pub next : updated s p change.update ≡ rule.next
   pub can : CanUpdate s p change.update
   pub reply : change.reply ≡ rule.reply

@@ -25,12 +25,15 @@ pub(crate) fn check(state: &State, call: &Call, request: Request) -> Result<Chan
         Request::Version(word) => Ok(version::version(word)),
         Request::Features(identifier) => features::features(identifier),
         Request::RxRelease => buffers::release_rx(state, call),
-        Request::RxtxMap(tx, rx, pages) => buffers::map(state, call, tx, rx, pages),
+        Request::RxtxMap { tx, rx, pages } => buffers::map(state, call, tx, rx, pages),
         Request::RxtxUnmap(word) => buffers::unmap(state, call, word),
         Request::IdGet => Ok(id_get::id_get(call)),
         Request::Send(Kind::Lend, transfer) => send::send(state, call, Kind::Lend, transfer),
         Request::Send(Kind::Share, transfer) => send::send(state, call, Kind::Share, transfer),
-        Request::Send(..) | Request::Retrieve(_) | Request::Relinquish | Request::Reclaim(..) => {
+        Request::Send(..)
+        | Request::Retrieve(_)
+        | Request::Relinquish
+        | Request::Reclaim { .. } => {
             Err(Stop::Refused(Status::NotSupported))
         }
     }

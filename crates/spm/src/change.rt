@@ -3,25 +3,26 @@
 ghost use Rattle.std.specs.Prelude.{◌≡◌, None};
 
 use crate::ledger::Live;
-use base::{OutOfMemory, PartitionId, Run, Status};
+use base::{Access, OutOfMemory, PartitionId, Run, Status};
 use mailbox::Pair;
 use std::marker::Model;
 use wire::Reply;
 
-/// A partition reaches these pages no more. The runs are maximal and stand upward.
+/// What a partition reaches of these pages changes: to this access, or to nothing. The runs are maximal
+/// and stand upward.
 #[derive(Drop)]
 pub(crate) struct Edit {
     pub(crate) who: PartitionId,
     pub(crate) runs: Vec<Run>,
+    pub(crate) to: Option<Access>,
 }
 
 impl Model for Edit {
-    ghost use Rattle.std.specs.Prelude.{None};
     ghost use Rattle.rules.specs.Rule as rules;
 
     ghost Value = { rules.Edit };
 
-    ghost view = { λ e. record { who = e.who; runs = e.runs.items; to = None } };
+    ghost view = { λ e. record { who = e.who; runs = e.runs.items; to = e.to } };
 }
 
 /// A change of the state, made by the calling partition.

@@ -1,31 +1,74 @@
 //! Makes the change of a call: the one place where tables and state change.
 
-ghost use Rattle.std.specs.Prelude.{◌≡◌, true, Some, None, IfOk, OnOk, OnErr};
+ghost use Rattle.std.specs.Prelude.{◌≡◌, ◌≤◌, true, Some, None, IfOk, OnOk, OnErr};
+ghost use Rattle.base.specs.Manifest.{is_partition};
+ghost use Rattle.stage2.specs.Slot.{layout_of};
+ghost use Rattle.stage2.specs.Tables.{Fits, ReachSo, ShowsMoments, edit_operations};
 ghost use Rattle.spm.specs.Granted.{updated, CanUpdate, opens, AreOrderly, IsOrderly, takes_memory};
-ghost use Rattle.spm.specs.Machine.{IsEditedBy};
+ghost use Rattle.spm.specs.Machine.{IsEditedBy, ShowsEdit, fits_in};
 
 use crate::calls::{buffers, send, version};
 use crate::change::{Change, Edit, Update};
 use crate::state::State;
 use base::{OutOfMemory, PartitionId};
+use manifest::Manifest;
 use pool::TableMem;
 use stage2::Tables;
 use wire::Reply;
 
-/// Makes the change of a call of partition `p`. It first takes the memory that is still needed: where
-/// a growth of the heap is refused, the state and the tables are as before.
+/// Whether the tables of an edit by partition `p` fit its quota: the tables that it has, and those that
+/// the edit takes.
+pub(crate) fn fits<M: TableMem + Drop>(
+    manifest: &Manifest,
+    tables: &Tables<M>,
+    p: PartitionId,
+    edit: &Option<Edit>,
+) -> bool
+    requires layout { tables.now.layout ≡ layout_of manifest.now }
+    requires known { is_partition manifest.now p ≡ true }
+    requires orderly { AreOrderly p edit.now }
+    ensures { result ≡ fits_in manifest.now tables.now edit.now }
+{
+    match edit {
+        Some(edit) => edit_fits(manifest, tables, p, edit),
+        None => true,
+    }
+}
+
+fn edit_fits<M: TableMem + Drop>(
+    manifest: &Manifest,
+    tables: &Tables<M>,
+    p: PartitionId,
+    edit: &Edit,
+) -> bool
+    requires layout { tables.now.layout ≡ layout_of manifest.now }
+    requires known { is_partition manifest.now p ≡ true }
+    requires orderly { IsOrderly p edit.now }
+    ensures { result ≡ fits_in manifest.now tables.now (Some edit.now) }
+{
+    let used = tables.used(p);
+    let grown = tables.grow(p, &edit.runs, edit.to);
+    u64::from(used) + u64::from(grown) <= u64::from(manifest.quota(p))
+}
+
+/// Makes the change of a call of partition `p`, whose edit fits. It first takes the memory that is still
+/// needed: where a growth of the heap is refused, the state and the tables are as before.
 pub(crate) fn commit<M: TableMem + Drop>(
     state: &mut State,
     tables: &mut Tables<M>,
     p: PartitionId,
     change: Change,
 ) -> Result<Reply, OutOfMemory>
+    requires layout { tables.old.layout ≡ layout_of state.old.manifest }
+    requires known { is_partition state.old.manifest p ≡ true }
     requires can { CanUpdate state.old p change.update }
-    requires orderly { AreOrderly change.edit }
+    requires orderly { AreOrderly p change.edit }
+    requires fits { fits_in state.old.manifest tables.old change.edit ≡ true }
     ensures reply { IfOk result (λ reply. reply ≡ change.reply) }
     ensures state { OnOk result (state.new ≡ updated state.old p change.update) }
     ensures layout { tables.new.layout ≡ tables.old.layout }
     ensures edited { OnOk result (IsEditedBy change.edit tables.old.layout tables.old.pool tables.new.pool) }
+    ensures shown { OnOk result (ShowsEdit change.edit tables.old tables.new) }
     ensures moves_no_page { change.edit ≡ None → tables.new.pool ≡ tables.old.pool }
     ensures err_state { OnErr result (state.new ≡ state.old) }
     ensures err_pool { OnErr result (tables.new.pool ≡ tables.old.pool) }
@@ -51,18 +94,36 @@ fn edit_and_apply<M: TableMem + Drop>(
     edit: Edit,
     update: Update,
 ) -> Result<(), OutOfMemory>
+    requires layout { tables.old.layout ≡ layout_of state.old.manifest }
+    requires known { is_partition state.old.manifest p ≡ true }
     requires can { CanUpdate state.old p update }
-    requires orderly { IsOrderly edit }
+    requires orderly { IsOrderly p edit }
+    requires fits { fits_in state.old.manifest tables.old (Some edit) ≡ true }
     ensures state { OnOk result (state.new ≡ updated state.old p update) }
     ensures layout { tables.new.layout ≡ tables.old.layout }
     ensures edited { OnOk result (IsEditedBy (Some edit) tables.old.layout tables.old.pool tables.new.pool) }
+    ensures shown { OnOk result (ShowsEdit (Some edit) tables.old tables.new) }
     ensures err_state { OnErr result (state.new ≡ state.old) }
     ensures err_pool { OnErr result (tables.new.pool ≡ tables.old.pool) }
 {
-    tables.ready(&edit.runs)?;
+    tables.ready(edit.who, &edit.runs, edit.to)?;
     apply(state, p, update)?;
-    tables.unmap(edit.who, &edit.runs);
+    edit_tables(tables, edit);
     Ok(())
+}
+
+/// Edits the tables as the edit says. There is room for its operations.
+fn edit_tables<M: TableMem + Drop>(tables: &mut Tables<M>, edit: Edit)
+    requires fits { Fits edit.who edit.runs edit.to tables.old }
+    requires ready { edit_operations edit.who edit.runs tables.old ≤ tables.old.room }
+    ensures layout { tables.new.layout ≡ tables.old.layout }
+    ensures walks { ReachSo edit.who edit.runs edit.to tables.old tables.new }
+    ensures shown { ShowsMoments edit.who edit.runs edit.to tables.old tables.new }
+{
+    match edit.to {
+        Some(access) => tables.map(edit.who, &edit.runs, access),
+        None => tables.unmap(edit.who, &edit.runs),
+    }
 }
 
 /// Changes the state. Only opening a transaction takes memory.

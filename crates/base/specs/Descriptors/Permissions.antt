@@ -27,6 +27,17 @@ instruction_in permissions =
 abbrev pub are_permissions : ℕ → Bool
 are_permissions permissions = nat_lt (permissions % 4) 3 && nat_lt (permissions / 4) 3
 
+-- neither data access nor instruction access is specified
+abbrev pub no_permissions : ℕ
+no_permissions = 0
+
+-- data access alone is specified
+abbrev pub read_only : ℕ
+read_only = 1
+
+abbrev pub read_write : ℕ
+read_write = 2
+
 -- ---- the attributes
 
 abbrev pub not_specified : ℕ

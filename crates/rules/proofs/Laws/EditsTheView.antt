@@ -1,5 +1,5 @@
 -- The law that a rule's edit is what the call changes of the views.
-use Rattle.std.proofs.Common.{◌≡◌, ℕ, refl, ◌∙◌, ap}
+use Rattle.std.proofs.Common.{◌≡◌, ℕ, refl, ◌∙◌, ap, inl}
 use Rattle.base.specs.declared.transaction.Kind.{Kind}
 use Rattle.base.specs.declared.transaction.Kind.TheVariants.{Share, Lend, Donate}
 use Rattle.base.specs.State.{State, sees}
@@ -12,7 +12,7 @@ use Rattle.rules.specs.Calls.Version.{with_version}
 use Rattle.rules.specs.Calls.Buffers.{with_pair, with_rx_released}
 use Rattle.rules.specs.Calls.Send.{sent, send_rule}
 use Rattle.rules.specs.Run.{rule_of}
-use Rattle.rules.specs.Laws.EditsTheView.{Passes, EditsTheView}
+use Rattle.rules.specs.Laws.EditsTheView.{Passes, AreNotReached, EditsTheView}
 use Rattle.rules.proofs.Calls.Send.{SendPasses, send_passes, next_is}
 use Rattle.rules.proofs.FreePages.{common_at}
 use Rattle.rules.proofs.ViewLemmas.{IsSeenAlike, seen_alike, opened_view}
@@ -37,5 +37,20 @@ views s c (Retrieve t) k q n = refl
 views s c Relinquish k q n = refl
 views s c (Reclaim handle flags) k q n = refl
 
+-- a send takes pages away, and no other call edits yet
+free : (s : State) (c : CallWords) (r : Request) → AreNotReached s (rule_of s c r).edit
+free s c (Version word) = tt
+free s c (Features identifier) = tt
+free s c RxRelease = tt
+free s c (RxtxMap tx rx count) = tt
+free s c (RxtxUnmap word) = tt
+free s c IdGet = tt
+free s c (Send Lend t) = λ n here. inl refl
+free s c (Send Share t) = tt
+free s c (Send Donate t) = tt
+free s c (Retrieve t) = tt
+free s c Relinquish = tt
+free s c (Reclaim handle flags) = tt
+
 pub edits_the_view : (s : State) (c : CallWords) (r : Request) → Passes s c r → EditsTheView s c r
-edits_the_view s c r k = record { views = views s c r k }
+edits_the_view s c r k = record { free = free s c r; views = views s c r k }

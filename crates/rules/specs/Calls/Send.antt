@@ -12,7 +12,9 @@ use Rattle.base.specs.Pages.{PageRun}
 use Rattle.base.specs.Access.{Access, View}
 use Rattle.base.specs.Manifest.{is_partition}
 use Rattle.base.specs.Transactions.{Receiver, Live}
+use Rattle.base.specs.Descriptors.Permissions.{no_permissions, read_only, read_write, not_specified, normal_write_back}
 use Rattle.base.specs.Descriptors.Send.{Send, Endpoint, is_send, send_of}
+use Rattle.base.specs.Handles.{handle_of, low_half, high_half}
 use Rattle.base.specs.Refusals.{Test, ◌otherwise◌}
 use Rattle.base.specs.Buffers.{pair_of, has_pair}
 use Rattle.base.specs.State.{State, PartitionState, version_of, sends_of, with_partition, common_home}
@@ -65,24 +67,20 @@ are_parties s p v = (v.sender == p) && list_all (is_receiver s p) v.receivers &&
 
 -- no data access and no instruction access is specified
 abbrev pub gives_nothing : Endpoint → Bool
-gives_nothing e = e.permissions == 0
+gives_nothing e = e.permissions == no_permissions
 
 -- data access is read-only or read-write, and no instruction access is specified
 abbrev pub gives_data : Endpoint → Bool
-gives_data e = (e.permissions == 1) || (e.permissions == 2)
-
--- normal memory, write-back, inner shareable
-abbrev pub write_back : ℕ
-write_back = 0x2f
+gives_data e = (e.permissions == read_only) || (e.permissions == read_write)
 
 -- a donation has one receiver; the sender specifies the memory attributes of a share, and of a lend to several receivers
 unfoldable pub suits : Kind → Send → Bool
-suits Donate v = (length v.receivers == 1) && list_all gives_nothing v.receivers && (v.attributes == 0)
-suits Lend v = list_all gives_data v.receivers && (v.attributes == (if length v.receivers == 1 then 0 else write_back))
-suits Share v = list_all gives_data v.receivers && (v.attributes == write_back)
+suits Donate v = (length v.receivers == 1) && list_all gives_nothing v.receivers && (v.attributes == not_specified)
+suits Lend v = list_all gives_data v.receivers && (v.attributes == (if length v.receivers == 1 then not_specified else normal_write_back))
+suits Share v = list_all gives_data v.receivers && (v.attributes == normal_write_back)
 
 abbrev pub data_access : Endpoint → Rights
-data_access e = if e.permissions == 2 then Rw else Ro
+data_access e = if e.permissions == read_write then Rw else Ro
 
 -- the most that a receiver may retrieve: the data access that the send gives it, and of a donation the home's
 abbrev pub cap : Kind → Access → Endpoint → Rights
@@ -127,7 +125,7 @@ send_tests s c kind t =
 
 -- the handle of the partition's next accepted send: its identifier, and how many it made, from 1
 abbrev pub next_handle : State → ℕ → ℕ
-next_handle s p = p * 2 ^ 32 + (sends_of s.partitions p + 1)
+next_handle s p = handle_of p (sends_of s.partitions p + 1)
 
 -- a receiver that has retrieved nothing
 abbrev pub receiver : Kind → Access → Endpoint → Receiver
@@ -173,5 +171,5 @@ send_rule s c kind t =
       tests = send_tests s c kind t;
       edit = sender_edit kind p v.ranges;
       next = option_map_or (λ home. with_transaction s (opened s p kind v home)) (common_home s p v.ranges) s;
-      reply = success (handle % 2 ^ 32) (handle / 2 ^ 32);
+      reply = success (low_half handle) (high_half handle);
     }

@@ -1,12 +1,13 @@
 -- What a call that passes its tests changes of the views.
-use Rattle.std.specs.Prelude.{◌≡◌, ℕ, true, Some, None}
+use Rattle.std.specs.Prelude.{◌≡◌, ℕ, true, Option, Some, None, ◌⊎◌}
+use Rattle.base.specs.Pages.{covers}
 use Rattle.base.specs.Manifest.{is_partition}
 use Rattle.base.specs.Refusals.{first_refusal}
 use Rattle.base.specs.State.{State, sees}
 use Rattle.wire.specs.declared.request.Request.{Request}
 use Rattle.wire.specs.Requests.{request_of}
 use Rattle.rules.specs.Call.{CallWords}
-use Rattle.rules.specs.Rule.{with_edit}
+use Rattle.rules.specs.Rule.{Edit, with_edit, fits}
 use Rattle.rules.specs.Run.{rule_of}
 
 -- a partition's request, which passes its tests
@@ -14,7 +15,14 @@ pub record Passes (s : State) (c : CallWords) (r : Request) : Type 0 where
   pub known : is_partition s.manifest c.caller ≡ true
   pub named : request_of c.regs ≡ Some r
   pub passed : first_refusal (rule_of s c r).tests ≡ None
+  pub fits : fits s (rule_of s c r).edit ≡ true
+
+-- pages that are to be reached are not reached before
+abbrev pub AreNotReached : State → Option Edit → Type 0
+AreNotReached s None = Unit {0}
+AreNotReached s (Some edit) = (n : ℕ) → covers edit.runs n ≡ true → (edit.to ≡ None) ⊎ (sees s edit.who n ≡ None)
 
 -- what each partition reaches after it is what it reached before, with the rule's edit
 pub record EditsTheView (s : State) (c : CallWords) (r : Request) : Type 0 where
+  pub free : AreNotReached s (rule_of s c r).edit
   pub views : (p n : ℕ) → sees (rule_of s c r).next p n ≡ with_edit (rule_of s c r).edit (sees s) p n

@@ -3,6 +3,7 @@
 ghost use Rattle.std.specs.Prelude.{◌≡◌, ◌+◌, ◌-◌, ◌*◌, ◌/◌, ◌%◌, ◌<◌, ◌≤◌, ◌^◌, ◌==◌, not, map, length, true, None, Some, IfOk, IfErr, OnOk, OnErr, IsTrue, if◌then◌else◌};
 ghost use Rattle.std.specs.List.{list_all};
 ghost use Rattle.base.specs.Pages.{are_disjoint};
+ghost use Rattle.base.specs.Descriptors.Permissions.{not_specified, normal_write_back};
 ghost use Rattle.base.specs.State as spec;
 ghost use Rattle.base.specs.Refusals.{first_refusal};
 ghost use Rattle.rules.specs.Calls.Send as rules;
@@ -14,17 +15,14 @@ use crate::change::{Change, Edit, Stop, Update};
 use crate::ledger::{Live, Receiver};
 use crate::partitions::{PartitionState, put, state_of};
 use crate::state::State;
-use base::{Access, Kind, OutOfMemory, PartitionId, Rights, Run, Status, normal};
+use base::limits::{MOST_LIVE, PAGE_SIZE};
+use base::{
+    Access, Handle, Kind, MemoryAttributes, OutOfMemory, PartitionId, Permissions, Rights, Run, Status,
+    normal,
+};
 use descr::{Endpoint, SendDesc, read_send};
 use std::alloc::Global;
 use wire::{Reply, Transfer};
-
-/// The memory attributes of normal memory, write-back, inner shareable (FF-A 1.1, "Memory region
-/// attributes").
-const NORMAL_WRITE_BACK: u16 = 0x2f;
-
-/// The most live transactions of a sender.
-const MOST_LIVE: usize = 32;
 
 /// What the tests of a send found: what its descriptor says, and the home of its pages.
 #[derive(Drop)]
@@ -111,7 +109,7 @@ fn tx_size(state: &State, p: PartitionId) -> u64
     ensures { result ≡ rules.tx_size state.now p }
 {
     match state.pairs.pair_of(p) {
-        Some(pair) => 4096 * u64::from(pair.tx.count()),
+        Some(pair) => PAGE_SIZE * u64::from(pair.tx.count()),
         None => 0,
     }
 }
@@ -160,9 +158,15 @@ fn suits(kind: Kind, desc: &SendDesc<'_>) -> bool
 {
     let receivers = &desc.receivers;
     match kind {
-        Kind::Donate => receivers.len() == 1 && give_nothing(receivers) && desc.attributes == 0,
+        Kind::Donate => {
+            receivers.len() == 1
+                && give_nothing(receivers)
+                && desc.attributes == MemoryAttributes::not_specified()
+        }
         Kind::Lend => give_data(receivers) && desc.attributes == lend_attributes(receivers),
-        Kind::Share => give_data(receivers) && desc.attributes == NORMAL_WRITE_BACK,
+        Kind::Share => {
+            give_data(receivers) && desc.attributes == MemoryAttributes::normal_write_back()
+        }
     }
 }
 
@@ -170,24 +174,30 @@ fn suits(kind: Kind, desc: &SendDesc<'_>) -> bool
 fn give_nothing(receivers: &[Endpoint]) -> bool
     ensures { result ≡ list_all rules.gives_nothing receivers.now }
 {
-    receivers.iter().all(|endpoint| endpoint.permissions == 0)
+    let nothing = Permissions::default();
+    receivers
+        .iter()
+        .all(|endpoint| endpoint.permissions == nothing)
 }
 
 /// Whether data access is read-only or read-write, and instruction access is not specified.
 fn give_data(receivers: &[Endpoint]) -> bool
     ensures { result ≡ list_all rules.gives_data receivers.now }
 {
-    receivers.iter().all(|endpoint| endpoint.permissions == 1 || endpoint.permissions == 2)
+    let (read_only, read_write) = (Permissions::read_only(), Permissions::read_write());
+    receivers
+        .iter()
+        .all(|endpoint| endpoint.permissions == read_only || endpoint.permissions == read_write)
 }
 
 /// The memory attributes that a lend specifies.
-fn lend_attributes(receivers: &[Endpoint]) -> u16
-    ensures { result ≡ (if length receivers.now == 1 then 0 else rules.write_back) }
+fn lend_attributes(receivers: &[Endpoint]) -> MemoryAttributes
+    ensures { result ≡ (if length receivers.now == 1 then not_specified else normal_write_back) }
 {
     if receivers.len() == 1 {
-        0
+        MemoryAttributes::not_specified()
     } else {
-        NORMAL_WRITE_BACK
+        MemoryAttributes::normal_write_back()
     }
 }
 
@@ -198,7 +208,7 @@ fn cap_of(kind: Kind, home: Access, endpoint: &Endpoint) -> Rights
     match kind {
         Kind::Donate => home.rights(),
         Kind::Lend | Kind::Share => {
-            if endpoint.permissions == 2 {
+            if endpoint.permissions == Permissions::read_write() {
                 Rights::Rw
             } else {
                 Rights::Ro
@@ -259,7 +269,7 @@ fn change(
     Ok(Change {
         edit,
         update: Update::Open(transaction),
-        reply: Reply::success(low_half(handle), high_half(handle)),
+        reply: Reply::success(handle.low(), handle.high()),
     })
 }
 
@@ -289,11 +299,11 @@ fn transaction(
 }
 
 /// The handle of a partition's next accepted send.
-fn next_handle(state: &State, p: PartitionId) -> u64
+fn next_handle(state: &State, p: PartitionId) -> Handle
     requires { spec.sends_of state.now.partitions p < 2 ^ 32 - 1 }
     ensures { result ≡ rules.next_handle state.now p }
 {
-    u64::from(p.number()) * 0x1_0000_0000 + u64::from(sends(state, p) + 1)
+    Handle::new(p, sends(state, p) + 1)
 }
 
 /// The receivers of a transaction that nobody has retrieved.
@@ -332,21 +342,13 @@ fn sender_edit(
         Kind::Share => Ok(None),
         Kind::Lend | Kind::Donate => {
             let runs = normal(alloc, ranges)?;
-            Ok(Some(Edit { who: p, runs }))
+            Ok(Some(Edit {
+                who: p,
+                runs,
+                to: None,
+            }))
         }
     }
-}
-
-fn low_half(number: u64) -> u32
-    ensures { result ≡ number % 2 ^ 32 }
-{
-    (number % 0x1_0000_0000) as u32
-}
-
-fn high_half(number: u64) -> u32
-    ensures { result ≡ number / 2 ^ 32 }
-{
-    (number >> 32) as u32
 }
 
 /// Opens a transaction, and counts the send.

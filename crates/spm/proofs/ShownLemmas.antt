@@ -1,0 +1,75 @@
+-- What walkers see of a call.
+use Rattle.std.proofs.Common.{◌≡◌, ◌^◌, ◌<◌, ℕ, ◌&&◌, true, List, [], Option, Some, None, Result, Ok, Err, cond, eqb, refl, sym, ap, subst, ◌∙◌, inl, inr}
+use Rattle.std.specs.Prelude.{OnOk, OnErr}
+use mathlib.Core.Path.{fun_ext}
+use Rattle.base.specs.Pages.{covers}
+use Rattle.base.specs.Access.{View}
+use Rattle.base.specs.State.{State, sees}
+use Rattle.pool.specs.declared.operation.Op.{Op}
+use Rattle.pool.specs.Pool.{Pool, emptied, words_of}
+use Rattle.stage2.specs.Slot.{Layout, layout_of}
+use Rattle.stage2.specs.Walk.{Agrees}
+use Rattle.stage2.specs.Moments.{Moments}
+use Rattle.stage2.specs.Steps.{with_pages}
+use Rattle.stage2.specs.Tables.{TablesView, AreFreeFor, ShowsMoments}
+use Rattle.stage2.proofs.Seen.{moments-none}
+use Rattle.wire.specs.declared.request.Request.{Request}
+use Rattle.rules.specs.Call.{CallWords}
+use Rattle.rules.specs.Rule.{Edit, Rule, with_edit}
+use Rattle.rules.specs.Run.{rule_of}
+use Rattle.rules.specs.Laws.EditsTheView.{Passes, AreNotReached}
+use Rattle.rules.proofs.Laws.EditsTheView.{edits_the_view}
+use Rattle.spm.specs.Granted.{IsSameEdit, AreSameEdits}
+use Rattle.spm.specs.Machine.{Machine, WalksAgree, IsConsistent, ShowsEdit, ShowsCall, unchanged}
+
+-- a list of operations before the call is none of its own
+pub moments-emptied : (layout : Layout) (old new : Pool) (before after : ℕ → ℕ → View) → Moments layout (emptied old) new before after → Moments layout old new before after
+moments-emptied layout old new before after h = record { exact = h.exact; counted = h.counted; gives = h.gives; keeps = h.keeps; breaks = h.breaks; clears = h.clears; fresh = h.fresh; linked = h.linked }
+
+-- the same views, told otherwise
+moments-as : (layout : Layout) (old new : Pool) (before after views : ℕ → ℕ → View) → ((p n : ℕ) → after p n ≡ views p n) → Moments layout old new before after → Moments layout old new before views
+moments-as layout old new before after views same h = subst (λ (f : ℕ → ℕ → View). Moments layout old new before f) (fun_ext (λ p. fun_ext (λ n. same p n))) h
+
+-- a call that leaves the tables as they were
+pub still-shown : (s t : State) (old new : Pool) → WalksAgree s old → WalksAgree t new → layout_of t.manifest ≡ layout_of s.manifest → old.operations ≡ [] → new ≡ old → Moments (layout_of s.manifest) old new (sees s) (sees t)
+still-shown s t old new before after placed begun same =
+    let ends : Agrees (layout_of s.manifest) (words_of new.memory.words) (sees t) = subst (λ (l : Layout). Agrees l (words_of new.memory.words) (sees t)) placed after.walks in
+    moments-none (layout_of s.manifest) old new (sees s) (sees t) before.walks ends (ap (λ (p : Pool). p.memory) same) (ap (λ (p : Pool). p.operations) same ∙ begun) (ap (λ (p : Pool). p.made) same)
+
+-- a call that leaves the tables and the state
+pub same-shown : (old new : Machine) → WalksAgree old.state old.pool → old.pool.operations ≡ [] → new ≡ old → ShowsCall old new
+same-shown old new agrees begun same = subst (ShowsCall old) (sym same) (still-shown old.state old.state old.pool old.pool agrees agrees refl begun refl)
+
+-- an edit that the rule names so, or otherwise
+same_pages : (a b : Edit) (view : ℕ → ℕ → View) (p n : ℕ) → IsSameEdit a b → with_pages b.who b.runs b.to view p n ≡ with_edit (Some a) view p n
+same_pages a b view p n same = rw (same.who, same.pages n, same.to) refl
+
+free_alike : (s : State) (a b : Edit) → IsSameEdit a b → AreNotReached s (Some a) → AreFreeFor b.who b.runs b.to (sees s)
+free_alike s a b same free n small here =
+    elim (free n (sym (same.pages n) ∙ here)) [
+      | inl e ↦ inl (same.to ∙ e)
+      | inr e ↦ inr (ap (λ p. sees s p n) same.who ∙ e)
+    ]
+
+edit-shown : (s t : State) (old new : TablesView) (a b : Option Edit) → old.layout ≡ layout_of s.manifest → layout_of t.manifest ≡ layout_of s.manifest → WalksAgree s old.pool → WalksAgree t new.pool → old.pool.operations ≡ []
+    → AreSameEdits a b → AreNotReached s a → ((p n : ℕ) → sees t p n ≡ with_edit a (sees s) p n) → ShowsEdit b old new → (b ≡ None → new.pool ≡ old.pool) → Moments (layout_of s.manifest) old.pool new.pool (sees s) (sees t)
+edit-shown s t old new None None placed stays agrees after begun same free views shown still = still-shown s t old.pool new.pool agrees after stays begun (still refl)
+edit-shown s t old new None (Some b) placed stays agrees after begun same free views shown still = absurd same
+edit-shown s t old new (Some a) None placed stays agrees after begun same free views shown still = absurd same
+edit-shown s t old new (Some a) (Some b) placed stays agrees after begun same free views shown still =
+    let starts : Agrees old.layout (words_of old.pool.memory.words) (sees s) = subst (λ (l : Layout). Agrees l (words_of old.pool.memory.words) (sees s)) (sym placed) agrees.walks in
+    let one = shown begun (sees s) starts (free_alike s a b same free) in
+    let two = subst (λ (l : Layout). Moments l old.pool new.pool (sees s) (with_pages b.who b.runs b.to (sees s))) placed one in
+    moments-as (layout_of s.manifest) old.pool new.pool (sees s) (with_pages b.who b.runs b.to (sees s)) (sees t) (λ p n. same_pages a b (sees s) p n same ∙ sym (views p n)) two
+
+-- the commit of a change that is granted
+pub commit-shown : {A B : Type 0} (result : Result A B) (s t next : State) (c : CallWords) (r : Request) (old new : TablesView) (edit : Option Edit)
+    → old.layout ≡ layout_of s.manifest → layout_of t.manifest ≡ layout_of s.manifest → WalksAgree s old.pool → WalksAgree t new.pool → old.pool.operations ≡ []
+    → Passes s c r → AreSameEdits (rule_of s c r).edit edit → next ≡ (rule_of s c r).next
+    → OnOk result (t ≡ next) → OnOk result (ShowsEdit edit old new) → (edit ≡ None → new.pool ≡ old.pool) → OnErr result (t ≡ s) → OnErr result (new.pool ≡ old.pool)
+    → Moments (layout_of s.manifest) old.pool new.pool (sees s) (sees t)
+commit-shown (Ok x) s t next c r old new edit placed stays agrees after begun k same is changed shown still err_state err_pool =
+    let law = edits_the_view s c r k in
+    edit-shown s t old new (rule_of s c r).edit edit placed stays agrees after begun same law.free (λ p n. ap (λ (u : State). sees u p n) (changed ∙ is) ∙ law.views p n) shown still
+commit-shown (Err x) s t next c r old new edit placed stays agrees after begun k same is changed shown still err_state err_pool =
+    still-shown s t old.pool new.pool agrees after stays begun err_pool
