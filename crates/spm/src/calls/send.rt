@@ -19,6 +19,9 @@ use descr::{Endpoint, SendDesc, read_send};
 use std::alloc::Global;
 use wire::{Reply, Transfer};
 
+#[cfg(test)]
+mod tests;
+
 /// The memory attributes of normal memory, write-back, inner shareable (FF-A 1.1, "Memory region
 /// attributes").
 const NORMAL_WRITE_BACK: u16 = 0x2f;
