@@ -114,6 +114,10 @@ has_free_home s p n home e =
     let x = if_free (is_free s p n) (home_of s n) home e in
     record { free = free_page s p n x.0; has = x.1 }
 
+pub owner_from_test : (o : Option ℕ) (p : ℕ) → option_map_or (λ x. eqb x p) o false ≡ true → o ≡ Some p
+owner_from_test None p e = absurd cc
+owner_from_test (Some x) p e = ap (λ (y : ℕ). Some y) (eqb-true x p e)
+
 -- ---- pages with a common home
 
 picked : (view : View) (f : Access → Bool) (home : Access) → option_and_then (λ a. cond (f a) (Some a) None) view ≡ Some home → f home ≡ true

@@ -4,3 +4,6 @@ pub mod EditsTheView
 pub mod OneOwner
 pub mod Handles
 pub mod BuffersApart
+pub mod Writers
+pub mod OwnBuffers
+pub mod Isolation

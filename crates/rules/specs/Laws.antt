@@ -3,3 +3,5 @@ pub mod EditsTheView
 pub mod OneOwner
 pub mod Handles
 pub mod BuffersApart
+pub mod Writers
+pub mod Isolation

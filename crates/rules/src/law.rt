@@ -1,9 +1,12 @@
 ghost use Rattle.rules.specs.Laws.OneOwner.{IsOwnedOnce};
 ghost use Rattle.rules.specs.Laws.Handles.{AreHandlesUsedOnce};
 ghost use Rattle.rules.specs.Laws.BuffersApart.{AreBuffersApart};
+ghost use Rattle.rules.specs.Laws.Writers.{AreWritersAllowed};
+ghost use Rattle.rules.specs.Laws.Isolation.{AreAlikeTo, IsIsolated, transactions_of};
 ghost use Rattle.rules.specs.Laws.EditsTheView.{Passes, EditsTheView};
 ghost use Rattle.rules.specs.Call.{CallWords};
-ghost use Rattle.rules.specs.Run.{IsReached};
+ghost use Rattle.rules.specs.Run.{IsReached, step};
+ghost use Rattle.std.specs.Prelude.{◌≡◌, ◌≢◌, ℕ};
 ghost use Rattle.base.specs.State.{State};
 ghost use Rattle.wire.specs.declared.request.Request.{Request};
 
@@ -29,4 +32,24 @@ pub fn handles_are_used_once()
 /// buffer.
 pub fn buffers_are_apart()
     ensures { (s : State) → IsReached s → AreBuffersApart s }
+{}
+
+/// In every state that some list of calls reaches, two partitions write a page only where the manifest
+/// grants it read-write to both and no transaction or donation covers it, or where one live transaction
+/// covers it by which each of the two writes it: the sender of a share whose home is read-write, or a
+/// receiver that has retrieved it read-write.
+pub fn writers_are_allowed()
+    ensures { (s : State) → IsReached s → AreWritersAllowed s }
+{}
+
+/// A partition that cannot tell two reached states apart is answered alike in both, and cannot tell the
+/// states after its call apart.
+pub fn partitions_are_isolated()
+    ensures { (s : State) → (t : State) → (c : CallWords) → IsReached s → IsReached t → AreAlikeTo c.caller s t → IsIsolated s t c }
+{}
+
+/// A call of another partition leaves all that a partition may learn as it was, where it leaves the
+/// transactions that name the partition.
+pub fn others_leave_a_partition()
+    ensures { (p : ℕ) → (s : State) → (c : CallWords) → c.caller ≢ p → transactions_of p (step s c).live ≡ transactions_of p s.live → AreAlikeTo p s (step s c) }
 {}

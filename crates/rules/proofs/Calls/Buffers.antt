@@ -71,7 +71,7 @@ pair_page p (b ∷ boxes) n e =
       | false ↦ λ h. or_right (option_map_or (λ a. in_pair a n) b.pair false) (is_buffer boxes n) (pair_page p boxes n h)
     ] e
 
-held_alike : (held : Bool) (pair : Option Pair) (n : ℕ) → option_map_or (λ a. in_pair a n) (option_map (holding held) pair) false ≡ option_map_or (λ a. in_pair a n) pair false
+pub held_alike : (held : Bool) (pair : Option Pair) (n : ℕ) → option_map_or (λ a. in_pair a n) (option_map (holding held) pair) false ≡ option_map_or (λ a. in_pair a n) pair false
 held_alike held None n = refl
 held_alike held (Some a) n = refl
 

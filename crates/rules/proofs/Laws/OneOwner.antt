@@ -24,7 +24,7 @@ use Rattle.rules.specs.Run.{rule_of, IsReached}
 use Rattle.rules.specs.Laws.EditsTheView.{Passes}
 use Rattle.rules.specs.Laws.OneOwner.{IsOwnSend, AreApart, AreAllApart, IsOwnedOnce}
 use Rattle.rules.proofs.Calls.Send.{SendPasses, send_passes, next_is}
-use Rattle.rules.proofs.FreePages.{HasFreeHome, common_at}
+use Rattle.rules.proofs.FreePages.{HasFreeHome, owner_from_test, common_at}
 use Rattle.rules.proofs.Reached.{all_push, Keeps, all_reached}
 
 apart_push : (ts : List Live) (t : Live) → AreAllApart ts → AllByRecursion (λ u. AreApart u t) ts → AreAllApart (ts ++ t ∷ [])
@@ -38,10 +38,6 @@ apart_from_all (u ∷ ts) t h = (
   λ n cu. elim (covers t.ranges n) as (λ b. covers t.ranges n ≡ b → b ≡ false) [ true ↦ λ e. let live = h n e in let here : is_some (cond true (Some u) (live_at ts n)) ≡ false = subst (λ (b : Bool). is_some (cond b (Some u) (live_at ts n)) ≡ false) cu live in absurd cc | false ↦ λ e. refl ] refl,
   apart_from_all ts t (λ n ct. elim (covers u.ranges n) as (λ b. is_some (cond b (Some u) (live_at ts n)) ≡ false → is_some (live_at ts n) ≡ false) [ true ↦ λ e. absurd cc | false ↦ λ e. e ] (h n ct)),
 )
-
-owner_from_test : (o : Option ℕ) (p : ℕ) → option_map_or (λ x. eqb x p) o false ≡ true → o ≡ Some p
-owner_from_test None p e = absurd cc
-owner_from_test (Some x) p e = ap (λ (y : ℕ). Some y) (eqb-true x p e)
 
 opened_kept : (s : State) (p : ℕ) (k : Kind) (v : descriptor.Send) (home : Access) → ((n : ℕ) → covers v.ranges n ≡ true → HasFreeHome s p n home) → IsOwnedOnce s → IsOwnedOnce (with_transaction s (opened s p k v home))
 unfolding with_transaction

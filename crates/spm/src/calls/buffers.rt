@@ -13,6 +13,9 @@ use base::{Page, PartitionId, Rights, Run, Status};
 use mailbox::Pair;
 use wire::Reply;
 
+#[cfg(test)]
+mod tests;
+
 // ---- FFA_RXTX_MAP
 
 /// The caller registers TX and RX at these addresses in bytes, with so many pages each.

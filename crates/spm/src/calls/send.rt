@@ -24,6 +24,9 @@ use descr::{Endpoint, SendDesc, read_send};
 use std::alloc::Global;
 use wire::{Reply, Transfer};
 
+#[cfg(test)]
+mod tests;
+
 /// What the tests of a send found: what its descriptor says, and the home of its pages.
 #[derive(Drop)]
 pub(crate) struct Checked<'a> {

@@ -1,0 +1,492 @@
+-- The law of isolation: what a partition is answered, and what becomes of what it may learn, depends on that alone.
+use Rattle.std.proofs.Common.{◌≡◌, ◌≢◌, ℕ, zero, suc, ◌+◌, ◌*◌, ◌^◌, Bool, true, false, ◌&&◌, ◌||◌, not, cond, eqb, List, [], ◌∷◌, ◌++◌, length, map, filter, Option, Some, None, is_some, refl, sym, ap, subst, ◌∙◌, eq-eqb, find}
+use Rattle.std.specs.List.{AllByRecursion, list_any, list_all}
+use Rattle.std.specs.Option.{option_map, option_and_then, option_map_or}
+use Rattle.std.proofs.lemmas.Bool.{eqb-true}
+use Rattle.base.specs.declared.status.Status.{Status}
+use Rattle.base.specs.declared.status.Status.TheVariants.{NotSupported, Denied}
+use Rattle.base.specs.declared.transaction.Kind.{Kind}
+use Rattle.base.specs.declared.transaction.Kind.TheVariants.{Share, Lend, Donate}
+use Rattle.base.specs.declared.partition.Version.TheVariants.{V11}
+use Rattle.base.specs.Access.{Access, View, is_rw, is_reached_with}
+use Rattle.base.specs.Buffers as pairs
+use Rattle.base.specs.Buffers.{Pair, Mailbox, pair_of, has_pair, holds_rx, in_pair, is_buffer, holding, named_pair}
+use Rattle.base.specs.Descriptors.Send as descriptor
+use Rattle.base.specs.Descriptors.Send.{Endpoint, is_send, send_of}
+use Rattle.base.specs.Manifest.{PartitionRow, is_partition}
+use Rattle.base.specs.Pages.{PageRun, covers}
+use Rattle.base.specs.Refusals.{Test, first_refusal}
+use Rattle.base.specs.Transactions.{Live}
+use Rattle.base.specs.Ledger.{live_at}
+use Rattle.base.specs.State.{State, PartitionState, state_of, sends_of, version_of, with_partition, owner_of, owns, home_of, is_free, free_home, is_free_with, common_home, each_page, each_page_in, sees}
+use Rattle.wire.specs.declared.request.Request.{Request}
+use Rattle.wire.specs.declared.request.Transfer.{Transfer}
+use Rattle.wire.specs.declared.request.Request.TheVariants.{Version, Features, RxRelease, RxtxMap, RxtxUnmap, IdGet, Send, Retrieve, Relinquish, Reclaim}
+use Rattle.wire.specs.Requests.{request_of}
+use Rattle.wire.specs.Replies.{ReplyWords, error}
+use Rattle.rules.specs.Call.{CallWords}
+use Rattle.rules.specs.Rule.{Edit, Rule, refused, reply_of, next_of, with_edit}
+use Rattle.rules.specs.Calls.Version.{naming, with_version}
+use Rattle.rules.specs.Calls.Buffers.{with_pair, with_rx_released, may_be_buffer, may_be_buffers, map_tests}
+use Rattle.rules.specs.Calls.Send.{names_tx, has_lengths, tx_size, caller_version, bytes_of, sent, is_receiver, are_distinct, are_parties, suits, are_capped, has_room, next_handle, opened, counting, with_transaction, sender_edit, send_tests, send_rule}
+use Rattle.rules.specs.Run.{rule_of, rule, answer, step, IsReached}
+use Rattle.rules.specs.Laws.EditsTheView.{Passes}
+use Rattle.rules.specs.Laws.OneOwner.{IsOwnSend}
+use Rattle.rules.specs.Laws.Isolation.{names, transactions_of, mailboxes_of, is_sharable_at, AreAlikeTo, IsIsolated}
+use Rattle.rules.proofs.Calls.Send.{SendPasses, send_passes, next_is}
+use Rattle.rules.proofs.FreePages.{owner_from_test}
+use Rattle.rules.proofs.Laws.EditsTheView.{edits_the_view}
+use Rattle.rules.proofs.Laws.Handles.{state_after}
+use Rattle.rules.proofs.Laws.OneOwner.{owned_once}
+use Rattle.rules.proofs.Laws.OwnBuffers.{IsOwnBuffer, AreBuffersOwned, buffers_owned}
+use Rattle.rules.proofs.Reached.{step_cases}
+
+-- ---- of one state: what is asked of a partition's pages is asked of what names it
+
+some_is : (a b : ℕ) → Some a ≡ Some b → a ≡ b
+some_is a b e = cc
+
+module _ (s : State) (p n : ℕ) (own : owner_of s n ≡ Some p) where
+  live_mine : (ts : List Live) → AllByRecursion (IsOwnSend s) ts → is_some (live_at ts n) ≡ is_some (live_at (transactions_of p ts) n)
+  live_mine [] h = refl
+  live_mine (t ∷ ts) h =
+      let here : covers t.ranges n ≡ true → names p t ≡ true = λ e. let q : t.sender ≡ p = some_is _ _ (sym (h.0 n e) ∙ own) in rw (eq-eqb t.sender p q) refl in
+      elim (covers t.ranges n) as (λ b. covers t.ranges n ≡ b → is_some (cond b (Some t) (live_at ts n)) ≡ is_some (live_at (cond (names p t) (t ∷ transactions_of p ts) (transactions_of p ts)) n)) [
+        | true ↦ λ e. rw (here e, e) refl
+        | false ↦ λ e. elim (names p t) as (λ k. is_some (live_at ts n) ≡ is_some (live_at (cond k (t ∷ transactions_of p ts) (transactions_of p ts)) n)) [
+          | true ↦ rw e (live_mine ts h.1)
+          | false ↦ live_mine ts h.1
+        ]
+      ] refl
+
+  buffers_mine : (boxes : List Mailbox) → AllByRecursion (IsOwnBuffer s) boxes → is_buffer boxes n ≡ is_buffer (mailboxes_of p boxes) n
+  buffers_mine [] h = refl
+  buffers_mine (b ∷ boxes) h =
+      elim (option_map_or (λ a. in_pair a n) b.pair false) as (λ t. option_map_or (λ a. in_pair a n) b.pair false ≡ t → (t || is_buffer boxes n) ≡ is_buffer (cond (eqb b.partition p) (b ∷ mailboxes_of p boxes) (mailboxes_of p boxes)) n) [
+        | true ↦ λ e. let q : b.partition ≡ p = some_is _ _ (sym (h.0 n e) ∙ own) in rw (eq-eqb b.partition p q, e) refl
+        | false ↦ λ e. elim (eqb b.partition p) as (λ k. is_buffer boxes n ≡ is_buffer (cond k (b ∷ mailboxes_of p boxes) (mailboxes_of p boxes)) n) [
+          | true ↦ rw e (buffers_mine boxes h.1)
+          | false ↦ buffers_mine boxes h.1
+        ]
+      ] refl
+
+pair_mine : (boxes : List Mailbox) (p : ℕ) → pair_of boxes p ≡ pair_of (mailboxes_of p boxes) p
+pair_mine [] p = refl
+pair_mine (b ∷ boxes) p =
+    elim (eqb b.partition p) as (λ t. eqb b.partition p ≡ t → option_and_then (λ (x : Mailbox). x.pair) (cond t (Some b) (find (λ (x : Mailbox). eqb x.partition p) boxes)) ≡ pair_of (cond t (b ∷ mailboxes_of p boxes) (mailboxes_of p boxes)) p) [
+      | true ↦ λ e. rw e refl
+      | false ↦ λ e. pair_mine boxes p
+    ] refl
+
+partition_ids : (rows : List PartitionRow) (q : ℕ) → list_any (λ row. eqb row.id q) rows ≡ list_any (λ i. eqb i q) (map (λ row. row.id) rows)
+partition_ids [] q = refl
+partition_ids (row ∷ rows) q = ap (λ (b : Bool). eqb row.id q || b) (partition_ids rows q)
+
+sends_mine : (ts : List Live) (p : ℕ) → filter (λ t. eqb t.sender p) ts ≡ filter (λ t. eqb t.sender p) (transactions_of p ts)
+sends_mine [] p = refl
+sends_mine (t ∷ ts) p =
+    elim (eqb t.sender p) as (λ b. eqb t.sender p ≡ b → cond b (t ∷ filter (λ u. eqb u.sender p) ts) (filter (λ u. eqb u.sender p) ts) ≡ filter (λ u. eqb u.sender p) (cond (b || list_any (λ r. eqb r.partition p) t.receivers) (t ∷ transactions_of p ts) (transactions_of p ts))) [
+      | true ↦ λ e. rw e (ap (λ us. t ∷ us) (sends_mine ts p))
+      | false ↦ λ e. elim (list_any (λ r. eqb r.partition p) t.receivers) as (λ k. filter (λ u. eqb u.sender p) ts ≡ filter (λ u. eqb u.sender p) (cond k (t ∷ transactions_of p ts) (transactions_of p ts))) [
+        | true ↦ rw e (sends_mine ts p)
+        | false ↦ sends_mine ts p
+      ]
+    ] refl
+
+-- the change of a pair among the mailboxes of a partition
+mailboxes_mine : (p : ℕ) (pair : Option Pair) (boxes : List Mailbox) → mailboxes_of p (pairs.with_pair p pair boxes) ≡ pairs.with_pair p pair (mailboxes_of p boxes)
+mailboxes_mine p pair [] = refl
+mailboxes_mine p pair (b ∷ boxes) =
+    elim (eqb b.partition p) as (λ t. eqb b.partition p ≡ t → mailboxes_of p (cond t (record b { pair = pair } ∷ boxes) (b ∷ pairs.with_pair p pair boxes)) ≡ pairs.with_pair p pair (cond t (b ∷ mailboxes_of p boxes) (mailboxes_of p boxes))) [
+      | true ↦ λ e. rw e refl
+      | false ↦ λ e. rw e (mailboxes_mine p pair boxes)
+    ] refl
+
+mailboxes_other : (p q : ℕ) (pair : Option Pair) → eqb q p ≡ false → (boxes : List Mailbox) → mailboxes_of p (pairs.with_pair q pair boxes) ≡ mailboxes_of p boxes
+mailboxes_other p q pair ne [] = refl
+mailboxes_other p q pair ne (b ∷ boxes) =
+    elim (eqb b.partition q) as (λ t. eqb b.partition q ≡ t → mailboxes_of p (cond t (record b { pair = pair } ∷ boxes) (b ∷ pairs.with_pair q pair boxes)) ≡ mailboxes_of p (b ∷ boxes)) [
+      | true ↦ λ e. let w : eqb b.partition p ≡ false = ap (λ (y : ℕ). eqb y p) (eqb-true b.partition q e) ∙ ne in rw w refl
+      | false ↦ λ e. elim (eqb b.partition p) as (λ k. cond k (b ∷ mailboxes_of p (pairs.with_pair q pair boxes)) (mailboxes_of p (pairs.with_pair q pair boxes)) ≡ cond k (b ∷ mailboxes_of p boxes) (mailboxes_of p boxes)) [
+        | true ↦ ap (λ ys. b ∷ ys) (mailboxes_other p q pair ne boxes)
+        | false ↦ mailboxes_other p q pair ne boxes
+      ]
+    ] refl
+
+transactions_push : (p : ℕ) (ts : List Live) (t : Live) → transactions_of p (ts ++ t ∷ []) ≡ transactions_of p ts ++ transactions_of p (t ∷ [])
+transactions_push p [] t = refl
+transactions_push p (u ∷ ts) t =
+    elim (names p u) as (λ b. cond b (u ∷ transactions_of p (ts ++ t ∷ [])) (transactions_of p (ts ++ t ∷ [])) ≡ cond b (u ∷ transactions_of p ts) (transactions_of p ts) ++ transactions_of p (t ∷ [])) [
+      | true ↦ ap (λ us. u ∷ us) (transactions_push p ts t)
+      | false ↦ transactions_push p ts t
+    ]
+
+-- ---- what agrees at each page or element
+
+each_page_same : (f g : ℕ → Bool) → ((n : ℕ) → f n ≡ g n) → (count first : ℕ) → each_page f first count ≡ each_page g first count
+each_page_same f g h zero first = refl
+each_page_same f g h (suc count) first = rw (h first, each_page_same f g h count (first + 1)) refl
+
+each_in_same : (f g : ℕ → Bool) → ((n : ℕ) → f n ≡ g n) → (runs : List PageRun) → each_page_in f runs ≡ each_page_in g runs
+each_in_same f g h [] = refl
+each_in_same f g h (run ∷ runs) = rw (each_page_same f g h run.count run.first, each_in_same f g h runs) refl
+
+all_same : {X : Type 0} (f g : X → Bool) → ((x : X) → f x ≡ g x) → (xs : List X) → list_all f xs ≡ list_all g xs
+all_same f g h [] = refl
+all_same f g h (x ∷ xs) = rw (h x, all_same f g h xs) refl
+
+then_same : (f g : Access → View) → ((a : Access) → f a ≡ g a) → (view : View) → option_and_then f view ≡ option_and_then g view
+then_same f g h None = refl
+then_same f g h (Some a) = h a
+
+edit_same : (edit : Option Edit) (view other : ℕ → ℕ → View) (p n : ℕ) → view p n ≡ other p n → with_edit edit view p n ≡ with_edit edit other p n
+edit_same None view other p n e = e
+edit_same (Some edit) view other p n e = ap (λ (v : View). cond (eqb p edit.who && covers edit.runs n) edit.to v) e
+
+not_free : (s : State) (p n : ℕ) → owns s p n ≡ false → is_free s p n ≡ false
+unfolding is_free
+not_free s p n e = rw e refl
+
+-- ---- the rules of two states
+
+-- what makes two rules alike to a partition
+record AreAlikeRules (p : ℕ) (a b : Rule) : Type 0 where
+  tests : a.tests ≡ b.tests
+  reply : a.reply ≡ b.reply
+  next : first_refusal a.tests ≡ None → AreAlikeTo p a.next b.next
+
+alike_replies : (p : ℕ) (a b : Rule) → AreAlikeRules p a b → reply_of a ≡ reply_of b
+alike_replies p a b k = rw (k.tests, k.reply) refl
+
+alike_next : (p : ℕ) (s t : State) (a b : Rule) → AreAlikeTo p s t → AreAlikeRules p a b → AreAlikeTo p (next_of s a) (next_of t b)
+alike_next p s t a b same k =
+    rw (← k.tests) (elim (first_refusal a.tests) as (λ o. first_refusal a.tests ≡ o → AreAlikeTo p (option_map_or (λ (status : Status). s) o a.next) (option_map_or (λ (status : Status). t) o b.next)) [
+      | None ↦ k.next
+      | Some status ↦ λ e. same
+    ] refl)
+
+module _ (p : ℕ) (s t : State) (same : AreAlikeTo p s t) (sends_s : AllByRecursion (IsOwnSend s) s.live) (sends_t : AllByRecursion (IsOwnSend t) t.live) (boxes_s : AreBuffersOwned s) (boxes_t : AreBuffersOwned t) where
+  same_free : (n : ℕ) → is_free s p n ≡ is_free t p n
+  unfolding is_free
+  same_free n =
+      elim (owns s p n) as (λ b. owns s p n ≡ b → is_free s p n ≡ is_free t p n) [
+        | true ↦ λ e.
+            let f : owns t p n ≡ true = sym (same.owned n) ∙ e in
+            let os = owner_from_test (owner_of s n) p e in
+            let ot = owner_from_test (owner_of t n) p f in
+            let share : is_sharable_at s n ≡ is_sharable_at t n = same.sharable n e in
+            let live : is_some (live_at s.live n) ≡ is_some (live_at t.live n) = live_mine s p n os s.live sends_s ∙ ap (λ ts. is_some (live_at ts n)) same.transactions ∙ sym (live_mine t p n ot t.live sends_t) in
+            let buffer : is_buffer s.mailboxes n ≡ is_buffer t.mailboxes n = buffers_mine s p n os s.mailboxes boxes_s.owned ∙ ap (λ bs. is_buffer bs n) same.buffers ∙ sym (buffers_mine t p n ot t.mailboxes boxes_t.owned) in
+            rw (e, f, share, live, buffer) refl
+        | false ↦ λ e. let f : owns t p n ≡ false = sym (same.owned n) ∙ e in rw (e, f) refl
+      ] refl
+
+  same_free_home : (n : ℕ) → free_home s p n ≡ free_home t p n
+  unfolding free_home
+  same_free_home n =
+      elim (owns s p n) as (λ b. owns s p n ≡ b → free_home s p n ≡ free_home t p n) [
+        | true ↦ λ e. ap (λ (b : Bool). cond b (home_of s n) None) (same_free n) ∙ ap (λ (h : View). cond (is_free t p n) h None) (same.homes n e)
+        | false ↦ λ e. let u = not_free s p n e in let v = not_free t p n (sym (same.owned n) ∙ e) in rw (u, v) refl
+      ] refl
+
+  same_with : (home : Access) (n : ℕ) → is_free_with s p home n ≡ is_free_with t p home n
+  unfolding is_free_with
+  same_with home n = ap (is_reached_with home) (same_free_home n)
+
+  same_common : (runs : List PageRun) → common_home s p runs ≡ common_home t p runs
+  unfolding common_home
+  same_common [] = refl
+  same_common (run ∷ runs) =
+      ap (λ (v : View). option_and_then (λ home. cond (each_page_in (is_free_with s p home) (run ∷ runs)) (Some home) None) v) (same_free_home run.first)
+      ∙ then_same (λ home. cond (each_page_in (is_free_with s p home) (run ∷ runs)) (Some home) None) (λ home. cond (each_page_in (is_free_with t p home) (run ∷ runs)) (Some home) None)
+      (λ home. ap (λ (b : Bool). cond b (Some home) None) (each_in_same (is_free_with s p home) (is_free_with t p home) (same_with home) (run ∷ runs))) (free_home t p run.first)
+
+  same_may_buffer : (n : ℕ) → may_be_buffer s p n ≡ may_be_buffer t p n
+  unfolding may_be_buffer
+  same_may_buffer n = ap (λ (v : View). option_map_or (λ home. is_rw home.rights) v false) (same_free_home n)
+
+  same_pair_of : pair_of s.mailboxes p ≡ pair_of t.mailboxes p
+  same_pair_of = pair_mine s.mailboxes p ∙ ap (λ bs. pair_of bs p) same.buffers ∙ sym (pair_mine t.mailboxes p)
+
+  same_pair : has_pair s.mailboxes p ≡ has_pair t.mailboxes p
+  unfolding has_pair
+  same_pair = ap (λ (o : Option Pair). is_some o) same_pair_of
+
+  same_held : holds_rx s.mailboxes p ≡ holds_rx t.mailboxes p
+  unfolding holds_rx
+  same_held = ap (λ (o : Option Pair). option_map_or (λ pair. pair.held) o false) same_pair_of
+
+  same_partition : (q : ℕ) → is_partition s.manifest q ≡ is_partition t.manifest q
+  same_partition q = partition_ids s.manifest.partitions q ∙ ap (λ is. list_any (λ i. eqb i q) is) same.partitions ∙ sym (partition_ids t.manifest.partitions q)
+
+  same_parties : (v : descriptor.Send) → are_parties s p v ≡ are_parties t p v
+  unfolding are_parties
+  same_parties v =
+      ap (λ (b : Bool). (eqb v.sender p && b) && are_distinct v.receivers) (all_same (is_receiver s p) (is_receiver t p) (λ e. ap (λ (b : Bool). not (eqb e.partition p) && b) (same_partition e.partition)) v.receivers)
+
+  same_room : has_room s p ≡ has_room t p
+  unfolding has_room
+  same_room =
+      let counts = sends_mine s.live p ∙ ap (λ ts. filter (λ (u : Live). eqb u.sender p) ts) same.transactions ∙ sym (sends_mine t.live p) in
+      rw (counts, same.state) refl
+
+  same_state_after : (change : PartitionState → PartitionState) → ((r : PartitionState) → (change r).partition ≡ r.partition) → state_of (with_partition p change s.partitions) p ≡ state_of (with_partition p change t.partitions) p
+  same_state_after change keeps = state_after p change keeps s.partitions p ∙ ap (λ (o : Option PartitionState). cond (eqb p p) (option_map change o) o) same.state ∙ sym (state_after p change keeps t.partitions p)
+
+  same_boxes_after : (pair : Option Pair) → mailboxes_of p (pairs.with_pair p pair s.mailboxes) ≡ mailboxes_of p (pairs.with_pair p pair t.mailboxes)
+  same_boxes_after pair = mailboxes_mine p pair s.mailboxes ∙ ap (pairs.with_pair p pair) same.buffers ∙ sym (mailboxes_mine p pair t.mailboxes)
+
+  -- ---- the states after a call of the partition
+
+  named : (word : ℕ) → AreAlikeTo p (with_version s p word) (with_version t p word)
+  unfolding with_version
+  named word = record {
+    partitions = same.partitions;
+    quota = same.quota;
+    grants = same.grants;
+    state = same_state_after (naming word) (λ r. refl);
+    buffers = same.buffers;
+    owned = same.owned;
+    homes = same.homes;
+    sharable = same.sharable;
+    transactions = same.transactions;
+    views = same.views;
+  }
+
+  paired : (pair : Option Pair) → AreAlikeTo p (with_pair s p pair) (with_pair t p pair)
+  unfolding with_pair
+  paired pair = record {
+    partitions = same.partitions;
+    quota = same.quota;
+    grants = same.grants;
+    state = same.state;
+    buffers = same_boxes_after pair;
+    owned = same.owned;
+    homes = same.homes;
+    sharable = same.sharable;
+    transactions = same.transactions;
+    views = same.views;
+  }
+
+  released : AreAlikeTo p (with_rx_released s p) (with_rx_released t p)
+  unfolding with_rx_released
+  released = record {
+    partitions = same.partitions;
+    quota = same.quota;
+    grants = same.grants;
+    state = same.state;
+    buffers = same_boxes_after (option_map (holding false) (pair_of s.mailboxes p)) ∙ ap (λ (o : Option Pair). mailboxes_of p (pairs.with_pair p (option_map (holding false) o) t.mailboxes)) same_pair_of;
+    owned = same.owned;
+    homes = same.homes;
+    sharable = same.sharable;
+    transactions = same.transactions;
+    views = same.views;
+  }
+
+  same_handle : next_handle s p ≡ next_handle t p
+  same_handle = ap (λ (o : Option PartitionState). p * 2 ^ 32 + (option_map_or (λ (r : PartitionState). r.sends) o 0 + 1)) same.state
+
+  same_opened : (k : Kind) (v : descriptor.Send) (home : Access) → opened s p k v home ≡ opened t p k v home
+  same_opened k v home = ap (λ (h : ℕ). record (opened s p k v home) { handle = h }) same_handle
+
+  -- but for what is reached, which the edit decides
+  opened_alike : (k : Kind) (v : descriptor.Send) (home : Access) → ((n : ℕ) → sees (with_transaction s (opened s p k v home)) p n ≡ sees (with_transaction t (opened t p k v home)) p n)
+      → AreAlikeTo p (with_transaction s (opened s p k v home)) (with_transaction t (opened t p k v home))
+  unfolding with_transaction
+  opened_alike k v home seen =
+      let us = opened s p k v home in
+      let ut = opened t p k v home in
+      record {
+        partitions = same.partitions;
+        quota = same.quota;
+        grants = same.grants;
+        state = same_state_after counting (λ r. refl);
+        buffers = same.buffers;
+        owned = same.owned;
+        homes = same.homes;
+        sharable = same.sharable;
+        transactions = transactions_push p s.live us ∙ ap (λ ts. ts ++ transactions_of p (us ∷ [])) same.transactions ∙ ap (λ (u : Live). transactions_of p t.live ++ transactions_of p (u ∷ [])) (same_opened k v home) ∙ sym (transactions_push p t.live ut);
+        views = seen;
+      }
+
+-- ---- a call of the partition
+
+module _ (s t : State) (c : CallWords) (same : AreAlikeTo c.caller s t) (rs : IsReached s) (rt : IsReached t) where
+  sends_s : AllByRecursion (IsOwnSend s) s.live
+  sends_s = (owned_once s rs).senders
+
+  sends_t : AllByRecursion (IsOwnSend t) t.live
+  sends_t = (owned_once t rt).senders
+
+  boxes_s : AreBuffersOwned s
+  boxes_s = buffers_owned s rs
+
+  boxes_t : AreBuffersOwned t
+  boxes_t = buffers_owned t rt
+
+  same_version : caller_version s c ≡ caller_version t c
+  same_version = ap (λ (o : Option PartitionState). option_map_or (λ (r : PartitionState). r.version) o V11) same.state
+
+  same_sent : (x : Transfer) → sent s c x ≡ sent t c x
+  same_sent x = ap (λ v. send_of v (bytes_of c x)) same_version
+
+  same_lengths : (x : Transfer) → has_lengths s c x ≡ has_lengths t c x
+  unfolding has_lengths
+  same_lengths x = rw (same_pair_of c.caller s t same sends_s sends_t boxes_s boxes_t) refl
+
+  same_send_tests : (k : Kind) (x : Transfer) → send_tests s c k x ≡ send_tests t c k x
+  same_send_tests k x =
+      let v = sent t c x in
+      let spelled : is_send (caller_version s c) (bytes_of c x) ≡ is_send (caller_version t c) (bytes_of c x) = ap (λ w. is_send w (bytes_of c x)) same_version in
+      rw (same_sent x, spelled, same_lengths x, same_pair c.caller s t same sends_s sends_t boxes_s boxes_t, same_parties c.caller s t same sends_s sends_t boxes_s boxes_t v, same_common c.caller s t same sends_s sends_t boxes_s boxes_t v.ranges, same_room c.caller s t same sends_s sends_t boxes_s boxes_t) refl
+
+  same_map_tests : (tx rx count : ℕ) → map_tests s c.caller tx rx count ≡ map_tests t c.caller tx rx count
+  same_map_tests tx rx count =
+      let may = same_may_buffer c.caller s t same sends_s sends_t boxes_s boxes_t in
+      let pair = named_pair tx rx count in
+      let first : may_be_buffers s c.caller pair.tx ≡ may_be_buffers t c.caller pair.tx = each_page_same (may_be_buffer s c.caller) (may_be_buffer t c.caller) may pair.tx.count pair.tx.first in
+      let second : may_be_buffers s c.caller pair.rx ≡ may_be_buffers t c.caller pair.rx = each_page_same (may_be_buffer s c.caller) (may_be_buffer t c.caller) may pair.rx.count pair.rx.first in
+      rw (same_pair c.caller s t same sends_s sends_t boxes_s boxes_t, first, second) refl
+
+  same_home : (k : Kind) (x : Transfer) (a : SendPasses s c k x) (b : SendPasses t c k x) → a.home ≡ b.home
+  same_home k x a b =
+      let both : Some a.home ≡ Some b.home = sym a.common ∙ same_common c.caller s t same sends_s sends_t boxes_s boxes_t (sent s c x).ranges ∙ ap (λ (v : descriptor.Send). common_home t c.caller v.ranges) (same_sent x) ∙ b.common in
+      cc
+
+  -- a send of either state, where the views are edited by the rules
+  send_next : (k : Kind) (x : Transfer) → SendPasses s c k x → SendPasses t c k x
+      → ((n : ℕ) → sees (send_rule s c k x).next c.caller n ≡ with_edit (send_rule s c k x).edit (sees s) c.caller n) → ((n : ℕ) → sees (send_rule t c k x).next c.caller n ≡ with_edit (send_rule t c k x).edit (sees t) c.caller n)
+      → AreAlikeTo c.caller (send_rule s c k x).next (send_rule t c k x).next
+  send_next k x a b edit_s edit_t =
+      let p = c.caller in
+      let v = sent s c x in
+      let at_s : with_transaction s (opened s p k v a.home) ≡ (send_rule s c k x).next = sym (next_is s c k x a) in
+      let at_t : with_transaction t (opened t p k v a.home) ≡ (send_rule t c k x).next =
+      ap (λ (w : descriptor.Send). with_transaction t (opened t p k w a.home)) (same_sent x) ∙ ap (λ (h : Access). with_transaction t (opened t p k (sent t c x) h)) (same_home k x a b) ∙ sym (next_is t c k x b) in
+      let edits : (send_rule s c k x).edit ≡ (send_rule t c k x).edit = ap (λ (w : descriptor.Send). sender_edit k p w.ranges) (same_sent x) in
+      let seen : (n : ℕ) → sees (with_transaction s (opened s p k v a.home)) p n ≡ sees (with_transaction t (opened t p k v a.home)) p n = λ n.
+      ap (λ (u : State). sees u p n) at_s ∙ edit_s n ∙ edit_same (send_rule s c k x).edit (sees s) (sees t) p n (same.views n) ∙ ap (λ (e : Option Edit). with_edit e (sees t) p n) edits ∙ sym (edit_t n) ∙ ap (λ (u : State). sees u p n) (sym at_t) in
+      subst (λ (u : State). AreAlikeTo p (send_rule s c k x).next u) at_t (subst (λ (u : State). AreAlikeTo p u (with_transaction t (opened t p k v a.home))) at_s (opened_alike p s t same sends_s sends_t boxes_s boxes_t k v a.home seen))
+
+  send_alike : (k : Kind) (x : Transfer)
+      → (first_refusal (send_tests s c k x) ≡ None → (n : ℕ) → sees (send_rule s c k x).next c.caller n ≡ with_edit (send_rule s c k x).edit (sees s) c.caller n)
+      → (first_refusal (send_tests t c k x) ≡ None → (n : ℕ) → sees (send_rule t c k x).next c.caller n ≡ with_edit (send_rule t c k x).edit (sees t) c.caller n)
+      → AreAlikeRules c.caller (send_rule s c k x) (send_rule t c k x)
+  send_alike k x edit_s edit_t =
+      let handle = same_handle c.caller s t same sends_s sends_t boxes_s boxes_t in
+      record {
+        tests = same_send_tests k x;
+        reply = rw handle refl;
+        next = λ e. let f : first_refusal (send_tests t c k x) ≡ None = ap first_refusal (sym (same_send_tests k x)) ∙ e in send_next k x (send_passes s c k x e) (send_passes t c k x f) (edit_s e) (edit_t f);
+      }
+
+  alike_rules : (r : Request) → is_partition s.manifest c.caller ≡ true → is_partition t.manifest c.caller ≡ true → request_of c.regs ≡ Some r → AreAlikeRules c.caller (rule_of s c r) (rule_of t c r)
+  alike_rules (Version word) ks kt n = record { tests = refl; reply = refl; next = λ e. named c.caller s t same sends_s sends_t boxes_s boxes_t word }
+  alike_rules (Features identifier) ks kt n = record { tests = refl; reply = refl; next = λ e. same }
+  alike_rules RxRelease ks kt n = record { tests = ap (λ (b : Bool). record { passes = b; refusal = Denied } ∷ []) (same_held c.caller s t same sends_s sends_t boxes_s boxes_t); reply = refl; next = λ e. released c.caller s t same sends_s sends_t boxes_s boxes_t }
+  alike_rules (RxtxMap tx rx count) ks kt n = record { tests = same_map_tests tx rx count; reply = refl; next = λ e. paired c.caller s t same sends_s sends_t boxes_s boxes_t (Some (named_pair tx rx count)) }
+  alike_rules (RxtxUnmap word) ks kt n = record { tests = rw (same_pair c.caller s t same sends_s sends_t boxes_s boxes_t) refl; reply = refl; next = λ e. paired c.caller s t same sends_s sends_t boxes_s boxes_t None }
+  alike_rules IdGet ks kt n = record { tests = refl; reply = refl; next = λ e. same }
+  alike_rules (Send Lend x) ks kt n = send_alike Lend x (λ e. (edits_the_view s c (Send Lend x) (record { known = ks; named = n; passed = e })).views c.caller) (λ e. (edits_the_view t c (Send Lend x) (record { known = kt; named = n; passed = e })).views c.caller)
+  alike_rules (Send Share x) ks kt n = send_alike Share x (λ e. (edits_the_view s c (Send Share x) (record { known = ks; named = n; passed = e })).views c.caller) (λ e. (edits_the_view t c (Send Share x) (record { known = kt; named = n; passed = e })).views c.caller)
+  alike_rules (Send Donate x) ks kt n = record { tests = refl; reply = refl; next = λ e. same }
+  alike_rules (Retrieve x) ks kt n = record { tests = refl; reply = refl; next = λ e. same }
+  alike_rules Relinquish ks kt n = record { tests = refl; reply = refl; next = λ e. same }
+  alike_rules (Reclaim handle flags) ks kt n = record { tests = refl; reply = refl; next = λ e. same }
+
+  any_rules : (ks kt : Bool) (o : Option Request) → ks ≡ kt → ((r : Request) → ks ≡ true → o ≡ Some r → AreAlikeRules c.caller (rule_of s c r) (rule_of t c r))
+      → AreAlikeRules c.caller (cond ks (option_map_or (rule_of s c) o (refused NotSupported s)) (refused Denied s)) (cond kt (option_map_or (rule_of t c) o (refused NotSupported t)) (refused Denied t))
+  any_rules false false o e h = record { tests = refl; reply = refl; next = λ x. same }
+  any_rules false true o e h = absurd cc
+  any_rules true false o e h = absurd cc
+  any_rules true true None e h = record { tests = refl; reply = refl; next = λ x. same }
+  any_rules true true (Some r) e h = h r refl refl
+
+  same_rules : AreAlikeRules c.caller (rule s c) (rule t c)
+  unfolding rule
+  same_rules =
+      let known : is_partition s.manifest c.caller ≡ is_partition t.manifest c.caller = same_partition c.caller s t same sends_s sends_t boxes_s boxes_t c.caller in
+      any_rules (is_partition s.manifest c.caller) (is_partition t.manifest c.caller) (request_of c.regs) known (λ r k n. alike_rules r k (sym known ∙ k) n)
+
+-- what a partition is answered, and what it may learn after its call, depends on what it might learn before
+pub isolated : (s t : State) (c : CallWords) → IsReached s → IsReached t → AreAlikeTo c.caller s t → IsIsolated s t c
+unfolding answer step
+isolated s t c rs rt same =
+    record {
+      answers = alike_replies c.caller (rule s c) (rule t c) (same_rules s t c same rs rt);
+      alike = alike_next c.caller s t (rule s c) (rule t c) same (same_rules s t c same rs rt);
+    }
+
+-- ---- a call of another partition
+
+not_eqb : (a b : ℕ) → a ≢ b → eqb a b ≡ false
+not_eqb a b h = elim (eqb a b) as (λ k. eqb a b ≡ k → k ≡ false) [ true ↦ λ e. absurd (h (eqb-true a b e)) | false ↦ λ e. refl ] refl
+
+other_edit : (k : Kind) (q : ℕ) (runs : List PageRun) (view : ℕ → ℕ → View) (p n : ℕ) → eqb p q ≡ false → with_edit (sender_edit k q runs) view p n ≡ view p n
+other_edit Share q runs view p n ne = refl
+other_edit Lend q runs view p n ne = rw ne refl
+other_edit Donate q runs view p n ne = rw ne refl
+
+module _ (p : ℕ) (s : State) (c : CallWords) (ne : eqb c.caller p ≡ false) (en : eqb p c.caller ≡ false) where
+  alike : AreAlikeTo p s s
+  alike = record { partitions = refl; quota = refl; grants = λ n. refl; state = refl; buffers = refl; owned = λ n. refl; homes = λ n e. refl; sharable = λ n e. refl; transactions = refl; views = λ n. refl }
+
+  other_state : (change : PartitionState → PartitionState) → ((r : PartitionState) → (change r).partition ≡ r.partition) → state_of s.partitions p ≡ state_of (with_partition c.caller change s.partitions) p
+  other_state change keeps = sym (state_after c.caller change keeps s.partitions p ∙ rw en refl)
+
+  other_opened : (t : Live) → t.sender ≡ c.caller → transactions_of p (with_transaction s t).live ≡ transactions_of p s.live → ((n : ℕ) → sees (with_transaction s t) p n ≡ sees s p n) → AreAlikeTo p s (with_transaction s t)
+  unfolding with_transaction
+  other_opened t sends kept seen =
+      record {
+        partitions = refl;
+        quota = refl;
+        grants = λ n. refl;
+        state = other_state counting (λ r. refl) ∙ ap (λ (q : ℕ). state_of (with_partition q counting s.partitions) p) (sym sends);
+        buffers = refl;
+        owned = λ n. refl;
+        homes = λ n e. refl;
+        sharable = λ n e. refl;
+        transactions = sym kept;
+        views = λ n. sym (seen n);
+      }
+
+  other_send : (k : Kind) (x : Transfer) → SendPasses s c k x → ((n : ℕ) → sees (send_rule s c k x).next p n ≡ with_edit (send_rule s c k x).edit (sees s) p n) → transactions_of p (send_rule s c k x).next.live ≡ transactions_of p s.live → AreAlikeTo p s (send_rule s c k x).next
+  other_send k x a edited kept =
+      let t = opened s c.caller k (sent s c x) a.home in
+      let at : with_transaction s t ≡ (send_rule s c k x).next = sym (next_is s c k x a) in
+      subst (λ (u : State). AreAlikeTo p s u) at (other_opened t refl (ap (λ (u : State). transactions_of p u.live) at ∙ kept) (λ n. ap (λ (u : State). sees u p n) at ∙ edited n ∙ other_edit k c.caller (sent s c x).ranges (sees s) p n en))
+
+  other_pair : (pair : Option Pair) → AreAlikeTo p s (with_pair s c.caller pair)
+  unfolding with_pair
+  other_pair pair = record { partitions = refl; quota = refl; grants = λ n. refl; state = refl; buffers = sym (mailboxes_other p c.caller pair ne s.mailboxes); owned = λ n. refl; homes = λ n e. refl; sharable = λ n e. refl; transactions = refl; views = λ n. refl }
+
+  other_released : AreAlikeTo p s (with_rx_released s c.caller)
+  unfolding with_rx_released
+  other_released = record { partitions = refl; quota = refl; grants = λ n. refl; state = refl; buffers = sym (mailboxes_other p c.caller (option_map (holding false) (pair_of s.mailboxes c.caller)) ne s.mailboxes); owned = λ n. refl; homes = λ n e. refl; sharable = λ n e. refl; transactions = refl; views = λ n. refl }
+
+  other_named : (word : ℕ) → AreAlikeTo p s (with_version s c.caller word)
+  unfolding with_version
+  other_named word = record { partitions = refl; quota = refl; grants = λ n. refl; state = other_state (naming word) (λ r. refl); buffers = refl; owned = λ n. refl; homes = λ n e. refl; sharable = λ n e. refl; transactions = refl; views = λ n. refl }
+
+  other_next : (r : Request) → Passes s c r → transactions_of p (rule_of s c r).next.live ≡ transactions_of p s.live → AreAlikeTo p s (rule_of s c r).next
+  other_next (Version word) k kept = other_named word
+  other_next (Features identifier) k kept = alike
+  other_next RxRelease k kept = other_released
+  other_next (RxtxMap tx rx count) k kept = other_pair (Some (named_pair tx rx count))
+  other_next (RxtxUnmap word) k kept = other_pair None
+  other_next IdGet k kept = alike
+  other_next (Send Lend x) k kept = other_send Lend x (send_passes s c Lend x k.passed) ((edits_the_view s c (Send Lend x) k).views p) kept
+  other_next (Send Share x) k kept = other_send Share x (send_passes s c Share x k.passed) ((edits_the_view s c (Send Share x) k).views p) kept
+  other_next (Send Donate x) k kept = alike
+  other_next (Retrieve x) k kept = alike
+  other_next Relinquish k kept = alike
+  other_next (Reclaim handle flags) k kept = alike
+
+-- a call of another partition that changes no transaction that names it leaves what a partition may learn
+pub others_leave : (p : ℕ) (s : State) (c : CallWords) → c.caller ≢ p → transactions_of p (step s c).live ≡ transactions_of p s.live → AreAlikeTo p s (step s c)
+others_leave p s c differ =
+    let ne = not_eqb c.caller p differ in
+    let en = not_eqb p c.caller (λ e. differ (sym e)) in
+    step_cases (λ u. transactions_of p u.live ≡ transactions_of p s.live → AreAlikeTo p s u) s c
+    (λ kept. alike p s c ne en)
+    (λ r k. other_next p s c ne en r k)
