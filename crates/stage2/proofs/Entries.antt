@@ -1,5 +1,5 @@
 -- The words of tables that hang are those of their entries.
-use Rattle.std.proofs.Common.{◌≡◌, ℕ, ◌+◌, ◌*◌, ◌/◌, ◌%◌, ◌<◌, Bool, true, false, Some, length, refl, arith, ap, ap₂, sym, ◌∙◌, ◌-◌, ◌&&◌, leb, ltb, inl, inr}
+use Rattle.std.proofs.Common.{◌≡◌, ℕ, ◌+◌, ◌*◌, ◌/◌, ◌%◌, ◌^◌, ◌<◌, IsTrue, Bool, true, false, Some, length, refl, arith, ap, ap₂, subst, sym, ◌∙◌, ◌-◌, ◌&&◌, leb, ltb, inl, inr}
 use Rattle.std.proofs.lemmas.Bool.{cases_Bool}
 use Rattle.base.specs.Access.{Access}
 use Rattle.words.specs.declared.word.Entry.{Entry}
@@ -38,6 +38,15 @@ unfolding slot
 block-word layout n word a is =
     let w = word-leaf 2 word n a (leaf-entry layout n a (entry_of 2 word) is) in
     w.spelled ∙ ap (λ b. leaf_word_of b n a) (level-block w.block w.at_level)
+
+-- a block begins at a multiple of 512
+pub block-page : (layout : Layout) (n word : ℕ) (a : Access) → slot layout 2 word ≡ Maps n a → (x : ℕ) → n + x % 512 < 2 ^ 27
+unfolding slot
+block-page layout n word a is x =
+    let w = word-leaf 2 word n a (leaf-entry layout n a (entry_of 2 word) is) in
+    let aligned : n % 512 ≡ 0 = w.aligned (subst (λ b. IsTrue b) (sym (level-block w.block w.at_level)) refl) in
+    let small = w.in_range in
+    omega (arith, aligned, small)
 
 page-word : (layout : Layout) (n word : ℕ) (a : Access) → slot layout 3 word ≡ Maps n a → word ≡ leaf_word_of false n a
 unfolding slot
