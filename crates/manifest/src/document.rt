@@ -225,7 +225,11 @@ fn check_partition_tables(values: &[Value]) -> Result<(), ManifestFault>
 {
     for (i, value) in values.iter().enumerate() {
         if value.is_table() && !has_partition_keys(value) {
-            return Err(ManifestFault::Key(missing_key(value, Table::Partition(i + 1), &PARTITION_KEYS)));
+            return Err(ManifestFault::Key(missing_key(
+                value,
+                Table::Partition(i + 1),
+                &PARTITION_KEYS,
+            )));
         }
     }
     Ok(())
@@ -336,7 +340,11 @@ fn partition_rows(alloc: Global, values: &[Value]) -> Result<Vec<PartitionDraft>
     for (i, value) in values.iter().enumerate() {
         match partition_of(value, i + 1) {
             Some(row) => rows.push(row)?,
-            None => return Err(ManifestFault::Value(wrong_value(value, Table::Partition(i + 1), &PARTITION_KEYS))),
+            None => return Err(ManifestFault::Value(wrong_value(
+                value,
+                Table::Partition(i + 1),
+                &PARTITION_KEYS,
+            ))),
         }
     }
     Ok(rows)

@@ -166,7 +166,10 @@ impl fmt::Display for ManifestFault {
             ManifestFault::Value(place) => write!(f, "{place}: a value of another kind"),
             ManifestFault::Limit(place) => write!(f, "{place}: outside its limits"),
             ManifestFault::Identifier(place) => {
-                write!(f, "{place}: an identifier that stands twice or names no partition")
+                write!(
+                    f,
+                    "{place}: an identifier that stands twice or names no partition"
+                )
             }
             ManifestFault::Overlap(place) => {
                 write!(f, "{place}: a page of another region or of the pool")
