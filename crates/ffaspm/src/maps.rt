@@ -5,14 +5,12 @@ ghost use Rattle.base.specs.State.{State, sees};
 ghost use Rattle.ffaspm.specs.Reached as spec;
 
 use crate::fault::RunFault;
+use base::limits::PAGE_SIZE;
 use base::{Access, MemoryKind, OutOfMemory, Page, PartitionId, Rights, Run};
 use pool::TableMem;
 use spm::Spm;
 use std::alloc::Global;
 use std::marker::Model;
-
-/// The size of a page in bytes.
-const PAGE_SIZE: u64 = 4096;
 
 /// Pages that a partition reaches alike.
 #[derive(Clone, Copy, Debug, PartialEq, Eq)]

@@ -4,7 +4,7 @@ ghost use Rattle.lines.specs.Lines.{HasParts, IsWhole};
 
 use crate::fault::RunFault;
 use crate::maps::write_maps;
-use base::{Kind, PartitionId};
+use base::{Handle, Kind, MemoryAttributes, PartitionId};
 use descw::{HeaderFields, SendFields, write_send};
 use lines::{Line, SendLine, read_line};
 use manifest::Manifest;
@@ -12,6 +12,7 @@ use pool::TableMem;
 use spm::{Call, Reply, Spm};
 use std::alloc::Global;
 use std::collections::BTreeMap;
+use wire::identifiers::{FFA_MEM_DONATE, FFA_MEM_LEND, FFA_MEM_SHARE};
 
 #[cfg(test)]
 mod tests;
@@ -80,7 +81,7 @@ impl<M: TableMem + Drop> Run<M> {
             sender: send.sender,
             attributes: attributes_of(kind, send.receivers.len()),
             flags: 0,
-            handle: 0,
+            handle: Handle::from_bits(0),
             tag: send.tag,
         };
         let fields = SendFields {
@@ -93,7 +94,7 @@ impl<M: TableMem + Drop> Run<M> {
         let length = tx.len() as u64;
         let call = Call {
             caller: send.sender.number(),
-            regs: [identifier_of(kind), length, length, 0, 0, 0, 0, 0],
+            regs: [u64::from(identifier_of(kind)), length, length, 0, 0, 0, 0, 0],
             tx,
         };
         Ok(self.spm.handle(&call)?)
@@ -114,21 +115,21 @@ impl<M: TableMem + Drop> Run<M> {
 }
 
 /// The identifier of the 32-bit call that sends.
-fn identifier_of(kind: Kind) -> u64 {
+fn identifier_of(kind: Kind) -> u32 {
     match kind {
-        Kind::Donate => 0x8400_0071,
-        Kind::Lend => 0x8400_0072,
-        Kind::Share => 0x8400_0073,
+        Kind::Donate => FFA_MEM_DONATE,
+        Kind::Lend => FFA_MEM_LEND,
+        Kind::Share => FFA_MEM_SHARE,
     }
 }
 
 /// The memory region attributes that a send specifies: none where it has one receiver and is no share,
 /// and else normal memory, write-back, inner shareable.
-fn attributes_of(kind: Kind, receivers: usize) -> u16 {
+fn attributes_of(kind: Kind, receivers: usize) -> MemoryAttributes {
     match kind {
-        Kind::Donate => 0,
-        Kind::Lend if receivers == 1 => 0,
-        Kind::Lend | Kind::Share => 0x2f,
+        Kind::Donate => MemoryAttributes::not_specified(),
+        Kind::Lend if receivers == 1 => MemoryAttributes::not_specified(),
+        Kind::Lend | Kind::Share => MemoryAttributes::normal_write_back(),
     }
 }
 

@@ -15,8 +15,12 @@ use Rattle.wire.specs.declared.request.Request.{Request}
 use Rattle.wire.specs.declared.request.Request.TheVariants.{Version, Features, RxRelease, RxtxMap, RxtxUnmap, IdGet, Send, Retrieve, Relinquish, Reclaim}
 use Rattle.wire.specs.Requests.{request_of}
 use Rattle.rules.specs.Call.{CallWords, IsCall}
-use Rattle.rules.specs.Rule.{Edit, Rule, with_edit}
-use Rattle.rules.specs.Run.{rule_of, refusal, step, IsReached}
+use Rattle.rules.specs.Rule.{Edit, Rule, with_edit, fits, all_tests}
+use Rattle.rules.specs.Run.{rule_of, rule, answer, refusal, step, IsReached}
+use Rattle.rules.proofs.Passing.{last_decides, earlier_decides}
+use Rattle.base.specs.declared.status.Status.{Status}
+use Rattle.base.specs.declared.status.Status.TheVariants.{NoMemory}
+use Rattle.wire.specs.Replies.{error}
 use Rattle.rules.specs.Laws.EditsTheView.{Passes}
 use Rattle.rules.proofs.Reached.{IsReached-start, IsReached-step, step_is, rule_is}
 use Rattle.rules.proofs.Laws.EditsTheView.{edits_the_view}
@@ -73,7 +77,7 @@ not_edited layout old new same = record { walks = λ p n small. ap (λ (pool : P
 -- a request that may need memory is a send
 pub may_need : (s : State) (c : CallWords) (r : Request) → is_partition s.manifest c.caller ≡ true → request_of c.regs ≡ Some r → first_refusal (rule_of s c r).tests ≡ None → is_send_request r ≡ true → MayNeedMemory s c
 unfolding refusal
-may_need s c (Send kind t) known named passed e = record { kind = kind; transfer = t; sends = named; passes = ap (λ (rule : Rule). first_refusal rule.tests) (rule_is s c (Send kind t) known named) ∙ passed }
+may_need s c (Send kind t) known named passed e = record { kind = kind; transfer = t; sends = named; passes = passed }
 may_need s c (Version word) known named passed e = absurd cc
 may_need s c (Features identifier) known named passed e = absurd cc
 may_need s c RxRelease known named passed e = absurd cc
@@ -93,6 +97,54 @@ commit_kept (Ok a) s t c r layout after old new edit next is k same next_is chan
     subst (λ (l : Layout). IsConsistent t l new) (sym placed) (change_kept s c r layout old new edit t is k same by (changed ∙ next_is) kept)
 commit_kept (Err b) s t c r layout after old new edit next is k same next_is changed by placed err_state err_pool kept =
     subst (λ (l : Layout). IsConsistent t l new) (sym placed) (subst (λ (u : State). IsConsistent u layout new) (sym err_state) (subst (λ (w : Pool). IsConsistent s layout w) (sym err_pool) kept))
+
+-- ---- what a call is answered, by the rule of its request
+
+module _ (s : State) (c : CallWords) (r : Request) (known : is_partition s.manifest c.caller ≡ true) (named : request_of c.regs ≡ Some r) where
+  is : rule s c ≡ rule_of s c r
+  is = rule_is s c r known named
+
+  -- a test of the request refuses it
+  pub refused_answer : (status : Status) → first_refusal (rule_of s c r).tests ≡ Some status → answer s c ≡ error status
+  unfolding answer
+  refused_answer status e = let f = earlier_decides (rule_of s c r).tests (fits s (rule_of s c r).edit) NoMemory status e in rw (is, f) refl
+
+  pub refused_step : (status : Status) → first_refusal (rule_of s c r).tests ≡ Some status → step s c ≡ s
+  unfolding step
+  refused_step status e = let f = earlier_decides (rule_of s c r).tests (fits s (rule_of s c r).edit) NoMemory status e in rw (is, f) refl
+
+  -- its edit does not fit
+  unfit : first_refusal (rule_of s c r).tests ≡ None → fits s (rule_of s c r).edit ≡ false → first_refusal (all_tests s (rule_of s c r)) ≡ Some NoMemory
+  unfit e f = last_decides (rule_of s c r).tests (fits s (rule_of s c r).edit) NoMemory e ∙ ap (λ (b : Bool). cond b None (Some NoMemory)) f
+
+  pub unfit_answer : first_refusal (rule_of s c r).tests ≡ None → fits s (rule_of s c r).edit ≡ false → answer s c ≡ error NoMemory
+  unfolding answer
+  unfit_answer e f = let g = unfit e f in rw (is, g) refl
+
+  pub unfit_step : first_refusal (rule_of s c r).tests ≡ None → fits s (rule_of s c r).edit ≡ false → step s c ≡ s
+  unfolding step
+  unfit_step e f = let g = unfit e f in rw (is, g) refl
+
+  -- it is granted
+  granted : first_refusal (rule_of s c r).tests ≡ None → fits s (rule_of s c r).edit ≡ true → first_refusal (all_tests s (rule_of s c r)) ≡ None
+  granted e f = last_decides (rule_of s c r).tests (fits s (rule_of s c r).edit) NoMemory e ∙ ap (λ (b : Bool). cond b None (Some NoMemory)) f
+
+  pub granted_answer : first_refusal (rule_of s c r).tests ≡ None → fits s (rule_of s c r).edit ≡ true → answer s c ≡ (rule_of s c r).reply
+  unfolding answer
+  granted_answer e f = let g = granted e f in rw (is, g) refl
+
+  pub not_refused : first_refusal (rule_of s c r).tests ≡ None → fits s (rule_of s c r).edit ≡ true → refusal s c ≡ None
+  unfolding refusal
+  not_refused e f = let g = granted e f in rw (is, g) refl
+
+  -- where the rule edits no view, neither does the change
+  pub no_edit : (edit : Option Edit) → AreSameEdits (rule_of s c r).edit edit → (rule s c).edit ≡ None → edit ≡ None
+  no_edit edit same none = same_none (rule_of s c r).edit edit same (ap (λ (x : Rule). x.edit) (sym is) ∙ none)
+    where
+      same_none : (a b : Option Edit) → AreSameEdits a b → a ≡ None → b ≡ None
+      same_none a None same e = refl
+      same_none None (Some b) same e = absurd same
+      same_none (Some a) (Some b) same e = absurd cc
 
 -- what two facts of an error give
 pub both_err : {A B P Q R : Type 0} (result : Result A B) → (P → Q → R) → OnErr result P → OnErr result Q → OnErr result R

@@ -20,7 +20,11 @@ use Rattle.stage2.specs.Tables.{TablesView, walk_in, view_of, has_root, Fits, qu
 use Rattle.stage2.specs.Walk.{walked}
 use Rattle.stage2.proofs.Needs.{mixed-same, reached-same}
 use Rattle.rules.specs.Rule.{Edit, fits}
-use Rattle.spm.specs.Granted.{IsSameEdit, AreSameEdits}
+use Rattle.rules.specs.Call.{CallWords}
+use Rattle.rules.specs.Run.{rule_of}
+use Rattle.rules.specs.Laws.EditsTheView.{Passes}
+use Rattle.spm.specs.declared.change.Change.{Change}
+use Rattle.spm.specs.Granted.{IsSameEdit, AreSameEdits, IsGrantedCall}
 use Rattle.spm.specs.Machine.{WalksAgree, fits_in}
 
 -- ---- views that are alike need as many tables
@@ -54,7 +58,7 @@ grow_alike v w x y old new =
 in_rows : (rows : List PartitionRow) (p : ℕ) → list_any (λ row. eqb row.id p) rows ≡ true → row_of (ids_of rows) p < length (ids_of rows)
 in_rows [] p h = absurd cc
 in_rows (row ∷ rows) p h =
-    elim (eqb row.id p) as (λ b. (b || list_any (λ r. eqb r.id p) rows) ≡ true → cond (not b) (suc (row_of (ids_of rows) p)) 0 < suc (length (ids_of rows))) [
+    elim (eqb row.id p) as (λ b. (b || list_any (λ r. eqb r.id p) rows) ≡ true → cond (not b) (1 + row_of (ids_of rows) p) 0 < suc (length (ids_of rows))) [
       | true ↦ λ e. omega arith
       | false ↦ λ e. let lt = in_rows rows p e in omega arith
     ] h
@@ -62,9 +66,9 @@ in_rows (row ∷ rows) p h =
 quota_at : (rows : List PartitionRow) (p : ℕ) → pool.quota_of (quotas_of rows) (row_of (ids_of rows) p) ≡ option_map_or (λ (row : PartitionRow). row.quota) (find (λ row. eqb row.id p) rows) 0
 quota_at [] p = refl
 quota_at (row ∷ rows) p =
-    elim (eqb row.id p) as (λ b. get_or (row.quota ∷ quotas_of rows) (cond (not b) (suc (row_of (ids_of rows) p)) 0) 0 ≡ option_map_or (λ (r : PartitionRow). r.quota) (cond b (Some row) (find (λ r. eqb r.id p) rows)) 0) [
+    elim (eqb row.id p) as (λ b. get_or (row.quota ∷ quotas_of rows) (cond (not b) (1 + row_of (ids_of rows) p) 0) 0 ≡ option_map_or (λ (r : PartitionRow). r.quota) (cond b (Some row) (find (λ r. eqb r.id p) rows)) 0) [
       | true ↦ refl
-      | false ↦ quota_at rows p
+      | false ↦ let next : 1 + row_of (ids_of rows) p ≡ suc (row_of (ids_of rows) p) = omega arith in rw next (quota_at rows p)
     ]
 
 -- a partition of the manifest has a root
@@ -100,3 +104,17 @@ fits_same s t (Some a) (Some b) placed agrees same =
     let after : AreAlike (reaching a.runs a.to old) (reaching b.runs b.to now) = λ n small. chosen (covers b.runs n) (covers a.runs n) b.to a.to (now n) (old n) (same.pages n) same.to (alike n small) in
     let counts : (need now + grow now (reaching b.runs b.to now)) ≡ (need old + grow old (reaching a.runs a.to old)) = ap₂ (λ (x y : ℕ). x + y) (need_alike old now alike) (grow_alike old now (reaching a.runs a.to old) (reaching b.runs b.to now) alike after) in
     ap₂ (λ (x y : ℕ). leb x y) counts (ap (λ p. manifest.quota_of s.manifest p) same.who)
+
+-- the request of a change whose edit fits by the tables passes all its tests
+pub all_passes : (s : State) (t : TablesView) (c : CallWords) (change : Change) (granted : IsGrantedCall s c change) → t.layout ≡ layout_of s.manifest → WalksAgree s t.pool → fits_in s.manifest t change.edit ≡ true → Passes s c granted.request
+all_passes s t c change granted placed agrees h =
+    let rule = rule_of s c granted.request in
+    record {
+      known = granted.known;
+      named = granted.named;
+      passed = granted.granted.passed;
+      fits = sym (fits_same s t rule.edit change.edit placed agrees granted.granted.edit) ∙ h;
+    }
+
+pub unfits : (s : State) (t : TablesView) (c : CallWords) (change : Change) (granted : IsGrantedCall s c change) → t.layout ≡ layout_of s.manifest → WalksAgree s t.pool → fits_in s.manifest t change.edit ≡ false → fits s (rule_of s c granted.request).edit ≡ false
+unfits s t c change granted placed agrees h = sym (fits_same s t (rule_of s c granted.request).edit change.edit placed agrees granted.granted.edit) ∙ h

@@ -7,7 +7,11 @@ use Rattle.base.specs.Refusals.{first_refusal}
 use Rattle.base.specs.State.{State, sends_of}
 use Rattle.wire.specs.declared.request.Request.{Request}
 use Rattle.wire.specs.declared.request.Request.TheVariants.{Version, Features, RxRelease, RxtxMap, RxtxUnmap, IdGet, Send, Retrieve, Relinquish, Reclaim}
+use Rattle.base.specs.Manifest.{is_partition}
+use Rattle.wire.specs.Requests.{request_of}
+use Rattle.rules.specs.Call.{CallWords}
 use Rattle.rules.specs.Rule.{Edit, Rule}
+use Rattle.rules.specs.Run.{rule_of}
 use Rattle.rules.specs.Calls.Version.{with_version}
 use Rattle.rules.specs.Calls.Buffers.{with_pair, with_rx_released}
 use Rattle.rules.specs.Calls.Send.{with_transaction}
@@ -96,6 +100,13 @@ pub record IsGranted (s : State) (p : ℕ) (rule : Rule) (memory : Bool) (change
   pub can : CanUpdate s p change.update
   pub reply : change.reply ≡ rule.reply
   pub memory_taken : takes_memory change ≡ true → memory ≡ true
+
+-- the request of a partition that a call decodes to, and its change
+pub record IsGrantedCall (s : State) (c : CallWords) (change : Change) : Type 0 where
+  pub request : Request
+  pub known : is_partition s.manifest c.caller ≡ true
+  pub named : request_of c.regs ≡ Some request
+  pub granted : IsGranted s c.caller (rule_of s c request) (is_send_request request) change
 
 -- the request is refused by its rule, or passes its tests and lacks memory
 abbrev pub IsStopped : Rule → Bool → Stop → Type 0

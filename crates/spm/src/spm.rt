@@ -3,15 +3,13 @@
 ghost use Rattle.std.specs.Prelude.{◌≡◌, Some, None, [], IfOk, OnOk, OnErr, IsSome, true};
 ghost use Rattle.base.specs.Manifest as rows;
 ghost use Rattle.base.specs.State as state;
-ghost use Rattle.base.specs.Refusals.{first_refusal};
 ghost use Rattle.pool.specs.Pool.{words_of, emptied};
 ghost use Rattle.stage2.specs.Slot.{layout_of};
 ghost use Rattle.stage2.specs.Walk.{translation, walked};
 ghost use Rattle.wire.specs.Requests.{request_of};
-ghost use Rattle.rules.specs.Rule.{all_tests, reply_of, next_of};
 ghost use Rattle.rules.specs.Run as rules;
 ghost use Rattle.rules.specs.Laws.OneOwner.{IsOwnedOnce};
-ghost use Rattle.spm.specs.Granted.{IsGranted, is_send_request};
+ghost use Rattle.spm.specs.Granted.{IsGrantedCall};
 ghost use Rattle.spm.specs.Machine.{WalksAgree, ShowsCall, MayNeedMemory, unchanged};
 
 use crate::call::Call;
@@ -157,41 +155,37 @@ impl<M: TableMem + Drop> Spm<M> {
         requires begun { self.old.pool.operations ≡ [] }
         requires known { rows.is_partition self.old.state.manifest call.now.caller ≡ true }
         requires request_decoded { request_of call.now.regs ≡ Some request }
-        ensures reply { IfOk result (λ reply. reply ≡ reply_of self.old.state (rules.rule_of self.old.state call.now request)) }
-        ensures state { OnOk result (self.new.state ≡ next_of self.old.state (rules.rule_of self.old.state call.now request)) }
-        ensures refused { IsSome (first_refusal (all_tests self.old.state (rules.rule_of self.old.state call.now request))) → self.new ≡ self.old }
-        ensures moves_no_page { (rules.rule_of self.old.state call.now request).edit ≡ None → self.new.pool ≡ self.old.pool }
+        ensures reply { IfOk result (λ reply. reply ≡ rules.answer self.old.state call.now) }
+        ensures state { OnOk result (self.new.state ≡ rules.step self.old.state call.now) }
+        ensures refused { IsSome (rules.refusal self.old.state call.now) → self.new ≡ self.old }
+        ensures moves_no_page { (rules.rule self.old.state call.now).edit ≡ None → self.new.pool ≡ self.old.pool }
         ensures err { OnErr result (self.new ≡ self.old) }
-        ensures passed { OnErr result (first_refusal (rules.rule_of self.old.state call.now request).tests ≡ None) }
-        ensures memory { OnErr result (is_send_request request ≡ true) }
+        ensures only_sends_need_memory { OnErr result (MayNeedMemory self.old.state call.now) }
         ensures moments { ShowsCall self.old self.new }
         ensures agrees { WalksAgree self.new.state self.new.pool }
         ensures reached { rules.IsReached self.new.state }
     {
         match check(&self.state, call, request) {
-            Ok(change) => self.make(call, request, change),
+            Ok(change) => self.make(call, change),
             Err(Stop::Refused(status)) => Ok(Reply::error(status)),
             Err(Stop::NoMemory(error)) => Err(error),
         }
     }
 
     /// Makes the change of a request that has passed its own tests, where its edit fits.
-    fn make(&mut self, call: &Call, request: Request, change: Change) -> Result<Reply, OutOfMemory>
+    fn make(&mut self, call: &Call, change: Change) -> Result<Reply, OutOfMemory>
         requires begun { self.old.pool.operations ≡ [] }
-        requires known { rows.is_partition self.old.state.manifest call.now.caller ≡ true }
-        requires request_decoded { request_of call.now.regs ≡ Some request }
-        requires granted { IsGranted self.old.state call.now.caller (rules.rule_of self.old.state call.now request) (is_send_request request) change }
-        ensures reply { IfOk result (λ reply. reply ≡ reply_of self.old.state (rules.rule_of self.old.state call.now request)) }
-        ensures state { OnOk result (self.new.state ≡ next_of self.old.state (rules.rule_of self.old.state call.now request)) }
-        ensures refused { IsSome (first_refusal (all_tests self.old.state (rules.rule_of self.old.state call.now request))) → self.new ≡ self.old }
-        ensures moves_no_page { (rules.rule_of self.old.state call.now request).edit ≡ None → self.new.pool ≡ self.old.pool }
+        requires granted { IsGrantedCall self.old.state call.now change }
+        ensures reply { IfOk result (λ reply. reply ≡ rules.answer self.old.state call.now) }
+        ensures state { OnOk result (self.new.state ≡ rules.step self.old.state call.now) }
+        ensures refused { IsSome (rules.refusal self.old.state call.now) → self.new ≡ self.old }
+        ensures moves_no_page { (rules.rule self.old.state call.now).edit ≡ None → self.new.pool ≡ self.old.pool }
         ensures err { OnErr result (self.new ≡ self.old) }
-        ensures memory { OnErr result (is_send_request request ≡ true) }
+        ensures only_sends_need_memory { OnErr result (MayNeedMemory self.old.state call.now) }
         ensures moments { ShowsCall self.old self.new }
         ensures agrees { WalksAgree self.new.state self.new.pool }
         ensures reached { rules.IsReached self.new.state }
     {
-        let _request = request;
         let p = call.partition();
         if fits(&self.state.manifest, &self.tables, p, &change.edit) {
             commit(&mut self.state, &mut self.tables, p, change)

@@ -1,14 +1,16 @@
 -- The law of isolation: what a partition is answered, and what becomes of what it may learn, depends on that alone.
-use Rattle.std.proofs.Common.{◌≡◌, ◌≢◌, ℕ, zero, suc, ◌+◌, ◌*◌, ◌^◌, Bool, true, false, ◌&&◌, ◌||◌, not, cond, eqb, List, [], ◌∷◌, ◌++◌, length, map, filter, Option, Some, None, is_some, refl, sym, ap, subst, ◌∙◌, eq-eqb, find}
+use Rattle.std.proofs.Common.{◌≡◌, ◌≢◌, ℕ, zero, suc, ◌+◌, ◌*◌, ◌^◌, Bool, true, false, ◌&&◌, ◌||◌, not, cond, eqb, leb, List, [], ◌∷◌, ◌++◌, length, map, filter, Option, Some, None, is_some, refl, sym, ap, ap₂, subst, ◌∙◌, eq-eqb, find}
 use Rattle.std.specs.List.{AllByRecursion, list_any, list_all}
 use Rattle.std.specs.Option.{option_map, option_and_then, option_map_or}
 use Rattle.std.proofs.lemmas.Bool.{eqb-true}
 use Rattle.base.specs.declared.status.Status.{Status}
-use Rattle.base.specs.declared.status.Status.TheVariants.{NotSupported, Denied}
+use Rattle.base.specs.declared.status.Status.TheVariants.{NotSupported, NoMemory, Denied}
 use Rattle.base.specs.declared.transaction.Kind.{Kind}
 use Rattle.base.specs.declared.transaction.Kind.TheVariants.{Share, Lend, Donate}
 use Rattle.base.specs.declared.partition.Version.TheVariants.{V11}
+use mathlib.Core.Path.{fun_ext}
 use Rattle.base.specs.Access.{Access, View, is_rw, is_reached_with}
+use Rattle.base.specs.Need.{need, grow, reaching}
 use Rattle.base.specs.Buffers as pairs
 use Rattle.base.specs.Buffers.{Pair, Mailbox, pair_of, has_pair, holds_rx, in_pair, is_buffer, holding, named_pair}
 use Rattle.base.specs.Descriptors.Send as descriptor
@@ -25,7 +27,7 @@ use Rattle.wire.specs.declared.request.Request.TheVariants.{Version, Features, R
 use Rattle.wire.specs.Requests.{request_of}
 use Rattle.wire.specs.Replies.{ReplyWords, error}
 use Rattle.rules.specs.Call.{CallWords}
-use Rattle.rules.specs.Rule.{Edit, Rule, refused, reply_of, next_of, with_edit}
+use Rattle.rules.specs.Rule.{Edit, Rule, refused, fits, all_tests, reply_of, next_of, with_edit}
 use Rattle.rules.specs.Calls.Version.{naming, with_version}
 use Rattle.rules.specs.Calls.Buffers.{with_pair, with_rx_released, may_be_buffer, may_be_buffers, map_tests}
 use Rattle.rules.specs.Calls.Send.{names_tx, has_lengths, tx_size, caller_version, bytes_of, sent, is_receiver, are_distinct, are_parties, suits, are_capped, has_room, next_handle, opened, counting, with_transaction, sender_edit, send_tests, send_rule}
@@ -39,6 +41,7 @@ use Rattle.rules.proofs.Laws.EditsTheView.{edits_the_view}
 use Rattle.rules.proofs.Laws.Handles.{state_after}
 use Rattle.rules.proofs.Laws.OneOwner.{owned_once}
 use Rattle.rules.proofs.Laws.OwnBuffers.{IsOwnBuffer, AreBuffersOwned, buffers_owned}
+use Rattle.rules.proofs.Passing.{before_last}
 use Rattle.rules.proofs.Reached.{step_cases}
 
 -- ---- of one state: what is asked of a partition's pages is asked of what names it
@@ -150,18 +153,27 @@ not_free s p n e = rw e refl
 -- ---- the rules of two states
 
 -- what makes two rules alike to a partition
-record AreAlikeRules (p : ℕ) (a b : Rule) : Type 0 where
+record AreAlikeRules (p : ℕ) (s t : State) (a b : Rule) : Type 0 where
   tests : a.tests ≡ b.tests
+  fit : fits s a.edit ≡ fits t b.edit
   reply : a.reply ≡ b.reply
-  next : first_refusal a.tests ≡ None → AreAlikeTo p a.next b.next
+  next : first_refusal a.tests ≡ None → fits s a.edit ≡ true → AreAlikeTo p a.next b.next
 
-alike_replies : (p : ℕ) (a b : Rule) → AreAlikeRules p a b → reply_of a ≡ reply_of b
-alike_replies p a b k = rw (k.tests, k.reply) refl
+no_edit : (s t : State) → fits s None ≡ fits t None
+unfolding fits
+no_edit s t = refl
 
-alike_next : (p : ℕ) (s t : State) (a b : Rule) → AreAlikeTo p s t → AreAlikeRules p a b → AreAlikeTo p (next_of s a) (next_of t b)
+all_alike : (p : ℕ) (s t : State) (a b : Rule) → AreAlikeRules p s t a b → all_tests s a ≡ all_tests t b
+all_alike p s t a b k = rw (k.tests, k.fit) refl
+
+alike_replies : (p : ℕ) (s t : State) (a b : Rule) → AreAlikeRules p s t a b → reply_of s a ≡ reply_of t b
+alike_replies p s t a b k = rw (all_alike p s t a b k, k.reply) refl
+
+alike_next : (p : ℕ) (s t : State) (a b : Rule) → AreAlikeTo p s t → AreAlikeRules p s t a b → AreAlikeTo p (next_of s a) (next_of t b)
 alike_next p s t a b same k =
-    rw (← k.tests) (elim (first_refusal a.tests) as (λ o. first_refusal a.tests ≡ o → AreAlikeTo p (option_map_or (λ (status : Status). s) o a.next) (option_map_or (λ (status : Status). t) o b.next)) [
-      | None ↦ k.next
+    let tests = all_alike p s t a b k in
+    rw (← tests) (elim (first_refusal (all_tests s a)) as (λ o. first_refusal (all_tests s a) ≡ o → AreAlikeTo p (option_map_or (λ (status : Status). s) o a.next) (option_map_or (λ (status : Status). t) o b.next)) [
+      | None ↦ λ e. let both = before_last a.tests (fits s a.edit) NoMemory e in k.next both.0 both.1
       | Some status ↦ λ e. same
     ] refl)
 
@@ -283,6 +295,15 @@ module _ (p : ℕ) (s t : State) (same : AreAlikeTo p s t) (sends_s : AllByRecur
     views = same.views;
   }
 
+  -- what an edit of its own needs fits in both, or in none
+  same_fits : (edit : Option Edit) → ((e : Edit) → edit ≡ Some e → e.who ≡ p) → fits s edit ≡ fits t edit
+  unfolding fits
+  same_fits None own = refl
+  same_fits (Some e) own =
+      let who = own e refl in
+      let views : sees s p ≡ sees t p = fun_ext (λ n. same.views n) in
+      rw who (ap₂ (λ (v : ℕ → View) (q : ℕ). leb (need v + grow v (reaching e.runs e.to v)) q) views same.quota)
+
   same_handle : next_handle s p ≡ next_handle t p
   same_handle = ap (λ (o : Option PartitionState). p * 2 ^ 32 + (option_map_or (λ (r : PartitionState). r.sends) o 0 + 1)) same.state
 
@@ -310,6 +331,12 @@ module _ (p : ℕ) (s t : State) (same : AreAlikeTo p s t) (sends_s : AllByRecur
       }
 
 -- ---- a call of the partition
+
+-- a send edits what its sender reaches
+own_edit : (k : Kind) (p : ℕ) (runs : List PageRun) (e : Edit) → sender_edit k p runs ≡ Some e → e.who ≡ p
+own_edit Share p runs e is = absurd cc
+own_edit Lend p runs e is = let same : record { who = p; runs = runs; to = None } ≡ e = cc in ap (λ (x : Edit). x.who) (sym same)
+own_edit Donate p runs e is = let same : record { who = p; runs = runs; to = None } ≡ e = cc in ap (λ (x : Edit). x.who) (sym same)
 
 module _ (s t : State) (c : CallWords) (same : AreAlikeTo c.caller s t) (rs : IsReached s) (rt : IsReached t) where
   sends_s : AllByRecursion (IsOwnSend s) s.live
@@ -369,40 +396,45 @@ module _ (s t : State) (c : CallWords) (same : AreAlikeTo c.caller s t) (rs : Is
       subst (λ (u : State). AreAlikeTo p (send_rule s c k x).next u) at_t (subst (λ (u : State). AreAlikeTo p u (with_transaction t (opened t p k v a.home))) at_s (opened_alike p s t same sends_s sends_t boxes_s boxes_t k v a.home seen))
 
   send_alike : (k : Kind) (x : Transfer)
-      → (first_refusal (send_tests s c k x) ≡ None → (n : ℕ) → sees (send_rule s c k x).next c.caller n ≡ with_edit (send_rule s c k x).edit (sees s) c.caller n)
-      → (first_refusal (send_tests t c k x) ≡ None → (n : ℕ) → sees (send_rule t c k x).next c.caller n ≡ with_edit (send_rule t c k x).edit (sees t) c.caller n)
-      → AreAlikeRules c.caller (send_rule s c k x) (send_rule t c k x)
+      → (first_refusal (send_tests s c k x) ≡ None → fits s (send_rule s c k x).edit ≡ true → (n : ℕ) → sees (send_rule s c k x).next c.caller n ≡ with_edit (send_rule s c k x).edit (sees s) c.caller n)
+      → (first_refusal (send_tests t c k x) ≡ None → fits t (send_rule t c k x).edit ≡ true → (n : ℕ) → sees (send_rule t c k x).next c.caller n ≡ with_edit (send_rule t c k x).edit (sees t) c.caller n)
+      → AreAlikeRules c.caller s t (send_rule s c k x) (send_rule t c k x)
   send_alike k x edit_s edit_t =
       let handle = same_handle c.caller s t same sends_s sends_t boxes_s boxes_t in
+      let edits : (send_rule s c k x).edit ≡ (send_rule t c k x).edit = ap (λ (w : descriptor.Send). sender_edit k c.caller w.ranges) (same_sent x) in
+      let fit : fits s (send_rule s c k x).edit ≡ fits t (send_rule t c k x).edit = same_fits c.caller s t same sends_s sends_t boxes_s boxes_t (send_rule s c k x).edit (own_edit k c.caller (sent s c x).ranges) ∙ ap (fits t) edits in
       record {
         tests = same_send_tests k x;
+        fit = fit;
         reply = rw handle refl;
-        next = λ e. let f : first_refusal (send_tests t c k x) ≡ None = ap first_refusal (sym (same_send_tests k x)) ∙ e in send_next k x (send_passes s c k x e) (send_passes t c k x f) (edit_s e) (edit_t f);
+        next = λ e g.
+            let f : first_refusal (send_tests t c k x) ≡ None = ap first_refusal (sym (same_send_tests k x)) ∙ e in
+            send_next k x (send_passes s c k x e) (send_passes t c k x f) (edit_s e g) (edit_t f (sym fit ∙ g));
       }
 
-  alike_rules : (r : Request) → is_partition s.manifest c.caller ≡ true → is_partition t.manifest c.caller ≡ true → request_of c.regs ≡ Some r → AreAlikeRules c.caller (rule_of s c r) (rule_of t c r)
-  alike_rules (Version word) ks kt n = record { tests = refl; reply = refl; next = λ e. named c.caller s t same sends_s sends_t boxes_s boxes_t word }
-  alike_rules (Features identifier) ks kt n = record { tests = refl; reply = refl; next = λ e. same }
-  alike_rules RxRelease ks kt n = record { tests = ap (λ (b : Bool). record { passes = b; refusal = Denied } ∷ []) (same_held c.caller s t same sends_s sends_t boxes_s boxes_t); reply = refl; next = λ e. released c.caller s t same sends_s sends_t boxes_s boxes_t }
-  alike_rules (RxtxMap tx rx count) ks kt n = record { tests = same_map_tests tx rx count; reply = refl; next = λ e. paired c.caller s t same sends_s sends_t boxes_s boxes_t (Some (named_pair tx rx count)) }
-  alike_rules (RxtxUnmap word) ks kt n = record { tests = rw (same_pair c.caller s t same sends_s sends_t boxes_s boxes_t) refl; reply = refl; next = λ e. paired c.caller s t same sends_s sends_t boxes_s boxes_t None }
-  alike_rules IdGet ks kt n = record { tests = refl; reply = refl; next = λ e. same }
-  alike_rules (Send Lend x) ks kt n = send_alike Lend x (λ e. (edits_the_view s c (Send Lend x) (record { known = ks; named = n; passed = e })).views c.caller) (λ e. (edits_the_view t c (Send Lend x) (record { known = kt; named = n; passed = e })).views c.caller)
-  alike_rules (Send Share x) ks kt n = send_alike Share x (λ e. (edits_the_view s c (Send Share x) (record { known = ks; named = n; passed = e })).views c.caller) (λ e. (edits_the_view t c (Send Share x) (record { known = kt; named = n; passed = e })).views c.caller)
-  alike_rules (Send Donate x) ks kt n = record { tests = refl; reply = refl; next = λ e. same }
-  alike_rules (Retrieve x) ks kt n = record { tests = refl; reply = refl; next = λ e. same }
-  alike_rules Relinquish ks kt n = record { tests = refl; reply = refl; next = λ e. same }
-  alike_rules (Reclaim handle flags) ks kt n = record { tests = refl; reply = refl; next = λ e. same }
+  alike_rules : (r : Request) → is_partition s.manifest c.caller ≡ true → is_partition t.manifest c.caller ≡ true → request_of c.regs ≡ Some r → AreAlikeRules c.caller s t (rule_of s c r) (rule_of t c r)
+  alike_rules (Version word) ks kt n = record { tests = refl; fit = no_edit s t; reply = refl; next = λ e g. named c.caller s t same sends_s sends_t boxes_s boxes_t word }
+  alike_rules (Features identifier) ks kt n = record { tests = refl; fit = no_edit s t; reply = refl; next = λ e g. same }
+  alike_rules RxRelease ks kt n = record { tests = ap (λ (b : Bool). record { passes = b; refusal = Denied } ∷ []) (same_held c.caller s t same sends_s sends_t boxes_s boxes_t); fit = no_edit s t; reply = refl; next = λ e g. released c.caller s t same sends_s sends_t boxes_s boxes_t }
+  alike_rules (RxtxMap tx rx count) ks kt n = record { tests = same_map_tests tx rx count; fit = no_edit s t; reply = refl; next = λ e g. paired c.caller s t same sends_s sends_t boxes_s boxes_t (Some (named_pair tx rx count)) }
+  alike_rules (RxtxUnmap word) ks kt n = record { tests = rw (same_pair c.caller s t same sends_s sends_t boxes_s boxes_t) refl; fit = no_edit s t; reply = refl; next = λ e g. paired c.caller s t same sends_s sends_t boxes_s boxes_t None }
+  alike_rules IdGet ks kt n = record { tests = refl; fit = no_edit s t; reply = refl; next = λ e g. same }
+  alike_rules (Send Lend x) ks kt n = send_alike Lend x (λ e f. (edits_the_view s c (Send Lend x) (record { known = ks; named = n; passed = e; fits = f })).views c.caller) (λ e f. (edits_the_view t c (Send Lend x) (record { known = kt; named = n; passed = e; fits = f })).views c.caller)
+  alike_rules (Send Share x) ks kt n = send_alike Share x (λ e f. (edits_the_view s c (Send Share x) (record { known = ks; named = n; passed = e; fits = f })).views c.caller) (λ e f. (edits_the_view t c (Send Share x) (record { known = kt; named = n; passed = e; fits = f })).views c.caller)
+  alike_rules (Send Donate x) ks kt n = record { tests = refl; fit = no_edit s t; reply = refl; next = λ e g. same }
+  alike_rules (Retrieve x) ks kt n = record { tests = refl; fit = no_edit s t; reply = refl; next = λ e g. same }
+  alike_rules Relinquish ks kt n = record { tests = refl; fit = no_edit s t; reply = refl; next = λ e g. same }
+  alike_rules (Reclaim handle flags) ks kt n = record { tests = refl; fit = no_edit s t; reply = refl; next = λ e g. same }
 
-  any_rules : (ks kt : Bool) (o : Option Request) → ks ≡ kt → ((r : Request) → ks ≡ true → o ≡ Some r → AreAlikeRules c.caller (rule_of s c r) (rule_of t c r))
-      → AreAlikeRules c.caller (cond ks (option_map_or (rule_of s c) o (refused NotSupported s)) (refused Denied s)) (cond kt (option_map_or (rule_of t c) o (refused NotSupported t)) (refused Denied t))
-  any_rules false false o e h = record { tests = refl; reply = refl; next = λ x. same }
+  any_rules : (ks kt : Bool) (o : Option Request) → ks ≡ kt → ((r : Request) → ks ≡ true → o ≡ Some r → AreAlikeRules c.caller s t (rule_of s c r) (rule_of t c r))
+      → AreAlikeRules c.caller s t (cond ks (option_map_or (rule_of s c) o (refused NotSupported s)) (refused Denied s)) (cond kt (option_map_or (rule_of t c) o (refused NotSupported t)) (refused Denied t))
+  any_rules false false o e h = record { tests = refl; fit = no_edit s t; reply = refl; next = λ x g. same }
   any_rules false true o e h = absurd cc
   any_rules true false o e h = absurd cc
-  any_rules true true None e h = record { tests = refl; reply = refl; next = λ x. same }
+  any_rules true true None e h = record { tests = refl; fit = no_edit s t; reply = refl; next = λ x g. same }
   any_rules true true (Some r) e h = h r refl refl
 
-  same_rules : AreAlikeRules c.caller (rule s c) (rule t c)
+  same_rules : AreAlikeRules c.caller s t (rule s c) (rule t c)
   unfolding rule
   same_rules =
       let known : is_partition s.manifest c.caller ≡ is_partition t.manifest c.caller = same_partition c.caller s t same sends_s sends_t boxes_s boxes_t c.caller in
@@ -413,7 +445,7 @@ pub isolated : (s t : State) (c : CallWords) → IsReached s → IsReached t →
 unfolding answer step
 isolated s t c rs rt same =
     record {
-      answers = alike_replies c.caller (rule s c) (rule t c) (same_rules s t c same rs rt);
+      answers = alike_replies c.caller s t (rule s c) (rule t c) (same_rules s t c same rs rt);
       alike = alike_next c.caller s t (rule s c) (rule t c) same (same_rules s t c same rs rt);
     }
 

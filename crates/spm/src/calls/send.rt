@@ -339,7 +339,7 @@ fn sender_edit(
     requires apart { are_disjoint ranges.now ≡ true }
     requires at_most_512 { length ranges.now ≤ 512 }
     ensures same { IfOk result (λ edit. AreSameEdits (rules.sender_edit kind p ranges.now) edit) }
-    ensures orderly { IfOk result (λ edit. AreOrderly edit) }
+    ensures orderly { IfOk result (λ edit. AreOrderly p edit) }
 {
     match kind {
         Kind::Share => Ok(None),

@@ -1,28 +1,49 @@
-use Rattle.std.proofs.Common.{◌≡◌, None, ap, ◌∙◌}
+use Rattle.std.proofs.Common.{◌≡◌, sym, ap, subst, ◌∙◌}
 use Rattle.base.specs.Manifest.{is_partition}
-use Rattle.rules.specs.Laws.EditsTheView.{Passes}
-use Rattle.spm.specs.Granted.{updated}
-use Rattle.spm.specs.Machine.{Machine}
-use Rattle.spm.proofs.ConsistencyLemmas.{commit_kept}
+use Rattle.rules.specs.Run.{answer, step}
+use Rattle.spm.specs.Machine.{Machine, MayNeedMemory, ShowsCall}
+use Rattle.spm.proofs.ConsistencyLemmas.{refused_answer, refused_step, may_need}
+use Rattle.spm.proofs.ShownLemmas.{same-shown}
 use Rattle.spm.proofs.spm.Spm.serve.Goals as goal
 
-pub invariant_of-self : goal.invariant_of-self
-invariant_of-self g c =
+pub returns-in-Err-Refused-clause-reply : goal.returns-in-Err-Refused-clause-reply
+returns-in-Err-Refused-clause-reply g c =
     let s = c.self.inside.state in
     let call = c.args.call.now in
-    let granted = c.in-Ok.ensures.granted in
-    let change = c.in-Ok.change in
-    let passes : Passes s call c.args.request = record {
-      known = ap (λ (m : Machine). is_partition m.state.manifest call.caller) c.self.view_is ∙ c.requires.known;
-      named = c.requires.request_decoded;
-      passed = granted.passed;
-    } in
-    commit_kept c.commit.result s c.commit.new.state call c.args.request c.self.inside.tables.layout c.commit.new.tables.layout c.self.inside.tables.pool c.commit.new.tables.pool change.edit (updated s c.partition.result change.update)
-    c.partition.ensures.is_call passes granted.edit (ap (λ p. updated s p change.update) c.partition.ensures.same ∙ granted.next)
-    c.commit.ensures.state c.commit.ensures.edited c.commit.ensures.layout c.commit.ensures.err_state c.commit.ensures.err_pool c.self.invariant
+    let r = c.args.request in
+    let known = ap (λ (m : Machine). is_partition m.state.manifest call.caller) c.self.view_is ∙ c.requires.known in
+    c.error.ensures ∙ sym (refused_answer s call r known c.requires.request_decoded _ c.in-Err-Refused.ensures.stopped) ∙ ap (λ (m : Machine). answer m.state call) c.self.view_is
 
-pub returns-in-Ok-clause-agrees : goal.returns-in-Ok-clause-agrees
-returns-in-Ok-clause-agrees g c = (invariant_of-self g c).agrees
+pub returns-in-Err-Refused-clause-state : goal.returns-in-Err-Refused-clause-state
+returns-in-Err-Refused-clause-state g c =
+    let s = c.self.inside.state in
+    let call = c.args.call.now in
+    let r = c.args.request in
+    let known = ap (λ (m : Machine). is_partition m.state.manifest call.caller) c.self.view_is ∙ c.requires.known in
+    sym (refused_step s call r known c.requires.request_decoded _ c.in-Err-Refused.ensures.stopped) ∙ ap (λ (m : Machine). step m.state call) c.self.view_is
 
-pub returns-in-Ok-clause-reached : goal.returns-in-Ok-clause-reached
-returns-in-Ok-clause-reached g c = (invariant_of-self g c).reached
+pub returns-in-Err-Refused-clause-moments : goal.returns-in-Err-Refused-clause-moments
+returns-in-Err-Refused-clause-moments g c =
+    let s = c.self.inside.state in
+    let call = c.args.call.now in
+    let r = c.args.request in
+    let known = ap (λ (m : Machine). is_partition m.state.manifest call.caller) c.self.view_is ∙ c.requires.known in
+    ?
+
+pub returns-in-Err-NoMemory-clause-only_sends_need_memory : goal.returns-in-Err-NoMemory-clause-only_sends_need_memory
+returns-in-Err-NoMemory-clause-only_sends_need_memory g c =
+    let s = c.self.inside.state in
+    let call = c.args.call.now in
+    let r = c.args.request in
+    let known = ap (λ (m : Machine). is_partition m.state.manifest call.caller) c.self.view_is ∙ c.requires.known in
+    let stopped = c.in-Err-NoMemory.ensures.stopped in
+    subst (λ (m : Machine). MayNeedMemory m.state call) c.self.view_is (may_need s call r known c.requires.request_decoded stopped.0 stopped.1)
+
+pub returns-in-Err-NoMemory-clause-moments : goal.returns-in-Err-NoMemory-clause-moments
+returns-in-Err-NoMemory-clause-moments g c =
+    let s = c.self.inside.state in
+    let call = c.args.call.now in
+    let r = c.args.request in
+    let known = ap (λ (m : Machine). is_partition m.state.manifest call.caller) c.self.view_is ∙ c.requires.known in
+    ?
+
