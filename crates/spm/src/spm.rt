@@ -126,10 +126,12 @@ impl<M: TableMem + Drop> Spm<M> {
         ensures state { OnOk result (self.new.state ≡ rules.step self.old.state call.now) }
 
         // A refusal changes nothing.
-        ensures refused { IsSome (rules.refusal self.old.state call.now) → self.new ≡ unchanged self.old }
+        ensures refused { IsSome (rules.refusal self.old.state call.now) →
+            self.new ≡ unchanged self.old }
 
         // A call whose rule edits no view leaves all tables as they were.
-        ensures moves_no_page { (rules.rule self.old.state call.now).edit ≡ None → self.new.pool ≡ emptied self.old.pool }
+        ensures moves_no_page { (rules.rule self.old.state call.now).edit ≡ None →
+            self.new.pool ≡ emptied self.old.pool }
 
         // Want of memory changes nothing,
         ensures err { OnErr result (self.new ≡ unchanged self.old) }
@@ -153,12 +155,17 @@ impl<M: TableMem + Drop> Spm<M> {
     fn serve(&mut self, call: &Call, request: Request) -> Result<Reply, OutOfMemory>
         requires known { rows.is_partition self.old.state.manifest call.now.caller ≡ true }
         requires request_decoded { request_of call.now.regs ≡ Some request }
-        ensures reply { IfOk result (λ reply. reply ≡ reply_of (rules.rule_of self.old.state call.now request)) }
-        ensures state { OnOk result (self.new.state ≡ next_of self.old.state (rules.rule_of self.old.state call.now request)) }
-        ensures refused { IsSome (first_refusal (rules.rule_of self.old.state call.now request).tests) → self.new ≡ self.old }
-        ensures moves_no_page { (rules.rule_of self.old.state call.now request).edit ≡ None → self.new.pool ≡ self.old.pool }
+        ensures reply { IfOk result (λ reply. reply ≡ reply_of
+            (rules.rule_of self.old.state call.now request)) }
+        ensures state { OnOk result (self.new.state ≡ next_of self.old.state
+            (rules.rule_of self.old.state call.now request)) }
+        ensures refused { IsSome (first_refusal
+            (rules.rule_of self.old.state call.now request).tests) → self.new ≡ self.old }
+        ensures moves_no_page { (rules.rule_of self.old.state call.now request).edit ≡ None →
+            self.new.pool ≡ self.old.pool }
         ensures err { OnErr result (self.new ≡ self.old) }
-        ensures passed { OnErr result (first_refusal (rules.rule_of self.old.state call.now request).tests ≡ None) }
+        ensures passed { OnErr result (first_refusal
+            (rules.rule_of self.old.state call.now request).tests ≡ None) }
         ensures memory { OnErr result (is_send_request request ≡ true) }
         ensures agrees { WalksAgree self.new.state self.new.pool }
         ensures reached { rules.IsReached self.new.state }
@@ -177,8 +184,10 @@ pub fn run_calls<M: TableMem + Drop>(
     manifest: Manifest,
     calls: &[Call],
 ) -> Result<(Spm<M>, Vec<Reply>), OutOfMemory>
-    ensures replies { IfOk result (λ run. run.1.items ≡ rules.replies_from (state.start manifest) calls.now) }
-    ensures state { IfOk result (λ run. run.0.state ≡ rules.state_from (state.start manifest) calls.now) }
+    ensures replies { IfOk result (λ run. run.1.items
+        ≡ rules.replies_from (state.start manifest) calls.now) }
+    ensures state { IfOk result (λ run. run.0.state
+        ≡ rules.state_from (state.start manifest) calls.now) }
     ensures agrees { IfOk result (λ run. WalksAgree run.0.state run.0.pool) }
     ensures reached { IfOk result (λ run. rules.IsReached run.0.state) }
 {
