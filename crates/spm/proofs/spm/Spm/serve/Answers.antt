@@ -20,7 +20,7 @@ returns-in-Err-Refused-clause-state g c =
     let call = c.args.call.now in
     let r = c.args.request in
     let known = ap (λ (m : Machine). is_partition m.state.manifest call.caller) c.self.view_is ∙ c.requires.known in
-    sym (refused_step s call r known c.requires.request_decoded c.in-Err-Refused.status (rw c.in-Err-Refused.field-0-is at c.in-Err-Refused.ensures.stopped)) ∙ ap (λ (m : Machine). step m.state call) c.self.view_is
+    ap (λ (m : Machine). m.state) (sym c.self.view_is) ∙ sym (refused_step s call r known c.requires.request_decoded c.in-Err-Refused.status (rw c.in-Err-Refused.field-0-is at c.in-Err-Refused.ensures.stopped)) ∙ ap (λ (m : Machine). step m.state call) c.self.view_is
 
 pub returns-in-Err-Refused-clause-moments : goal.returns-in-Err-Refused-clause-moments
 returns-in-Err-Refused-clause-moments g c =
