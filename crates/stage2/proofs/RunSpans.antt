@@ -1,15 +1,15 @@
 -- The gigabytes and chunks before the first that the runs touch, and after the last, stay as they are.
-use Rattle.std.proofs.Common.{◌≡◌, ℕ, zero, suc, ◌+◌, ◌-◌, ◌*◌, ◌/◌, ◌^◌, ◌<◌, ◌≤◌, Bool, true, false, ◌&&◌, ◌||◌, leb, ltb, List, [], ◌∷◌, ◌++◌, length, take, get_or, refl, sym, ap, subst, ◌∙◌, ◌⊎◌, arith, inl, inr}
+use Rattle.std.proofs.Common.{◌≡◌, ℕ, zero, suc, ◌+◌, ◌*◌, ◌/◌, ◌<◌, ◌≤◌, Bool, true, false, ◌&&◌, ◌||◌, leb, ltb, List, [], ◌∷◌, ◌++◌, length, take, get_or, refl, sym, ap, subst, ◌∙◌, ◌⊎◌, arith, inl, inr}
 use Rattle.std.proofs.lemmas.Bool.{cases_Bool}
 use Rattle.std.proofs.lemmas.Bool.Decides.{nat_tests}
 use Rattle.std.proofs.lemmas.List.{take_more}
 use Rattle.base.specs.Access.{View}
 use Rattle.base.specs.Pages.{PageRun, IsRun, in_run, covers}
-use Rattle.pool.specs.Pool.{Pool, Pages, pages_of}
+use Rattle.pool.specs.Pool.{Pool, Pages}
 use Rattle.stage2.specs.Slot.{Layout}
 use Rattle.stage2.specs.Walk.{walked}
 use Rattle.stage2.specs.Chunks.{edited}
-use Rattle.stage2.specs.Gigabytes.{touches_run, touches_chunk, IsUnderway, IsPast}
+use Rattle.stage2.specs.Gigabytes.{sum_below, touches_run, touches_chunk, IsUnderway, IsPast}
 use Rattle.stage2.specs.Moments.{StaysInStep}
 use Rattle.stage2.specs.Orderly.{answers, linked}
 use Rattle.stage2.specs.Steps.{disturbed_below}
@@ -17,7 +17,7 @@ use Rattle.stage2.proofs.Crossing.{disturbed_before, cross-skip}
 use Rattle.stage2.proofs.Marching.{march-skip}
 use Rattle.stage2.proofs.Parting.{covers-take}
 use Rattle.stage2.proofs.Rowing.{past-skip}
-use Rattle.stage2.proofs.Underway.{underway-skip, untouched}
+use Rattle.stage2.proofs.Underway.{sum_below-more, underway-skip, untouched}
 
 -- ---- spans
 
@@ -109,6 +109,25 @@ module _ (layout : Layout) (row g j : ℕ) (runs : List PageRun) (access : View)
       let here = none i (omega arith) (omega arith) in
       subst (StaysAt a b) e (stays-gap a b k (i + 1) (omega (arith, le)) (λ x from to. none x (omega (arith, from)) (omega (arith, to))) (underway-next i (omega (arith, le)) here u)
       (march-skip layout row g j runs access old inside below i (omega (arith, le)) mid u a b here so))
+
+-- ---- sums and counts
+
+pub sum_below-none : (f : ℕ → ℕ) (n : ℕ) → ((k : ℕ) → k < n → f k ≡ 0) → sum_below f n ≡ 0
+unfolding sum_below
+sum_below-none f zero none = refl
+sum_below-none f (suc n) none = let rest = sum_below-none f n (λ k lt. none k (omega (arith, lt))) in let here = none n (omega arith) in omega (arith, rest, here)
+
+pub sum_below-tail : (f : ℕ → ℕ) (k i : ℕ) → ((x : ℕ) → i ≤ x → x < i + k → f x ≡ 0) → sum_below f (i + k) ≡ sum_below f i
+sum_below-tail f zero i none = let e : i + 0 ≡ i = omega arith in ap (sum_below f) e
+sum_below-tail f (suc k) i none =
+    let e : i + suc k ≡ (i + k) + 1 = omega arith in
+    let more = sum_below-more f (i + k) in
+    let here = none (i + k) (omega arith) (omega arith) in
+    let rest = sum_below-tail f k i (λ x from to. none x from (omega (arith, to))) in
+    ap (sum_below f) e ∙ more ∙ numbers (f (i + k)) (sum_below f (i + k)) (sum_below f i) here rest
+  where
+    numbers : (a b c : ℕ) → a ≡ 0 → b ≡ c → a + b ≡ c
+    numbers a b c x y = omega arith
 
 -- ---- gigabytes
 

@@ -3,7 +3,6 @@ use Rattle.base.specs.Access.{View}
 use Rattle.stage2.specs.Walk.{walked}
 use Rattle.stage2.specs.Orderly.{answers, linked}
 use Rattle.stage2.specs.Chunks.{edited}
-use Rattle.stage2.specs.Moments.{StaysInStep}
 use Rattle.stage2.specs.Steps.{disturbed_below}
 use Rattle.pool.specs.Pool.{pages_of}
 use Rattle.stage2.specs.Parts.{part_count}

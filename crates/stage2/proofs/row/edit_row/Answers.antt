@@ -1,4 +1,4 @@
-use Rattle.std.proofs.Common.{◌≡◌, ℕ, ◌+◌, ◌-◌, ◌/◌, ◌≤◌, subst, inl, inr, arith}
+use Rattle.std.proofs.Common.{◌≡◌, ℕ, ◌+◌, ◌-◌, ◌≤◌, subst, inl, inr, arith}
 use Rattle.pool.specs.Pool.{pages_of}
 use Rattle.base.specs.Access.{View}
 use Rattle.stage2.specs.Orderly.{answers}
