@@ -1,34 +1,22 @@
 -- The gigabytes and chunks before the first that the runs touch, and after the last, stay as they are.
-use Rattle.std.proofs.Common.{◌≡◌, ℕ, zero, suc, ◌+◌, ◌*◌, ◌/◌, ◌<◌, ◌≤◌, Bool, true, false, ◌&&◌, ◌||◌, leb, ltb, List, [], ◌∷◌, ◌++◌, length, take, get_or, refl, sym, ap, subst, ◌∙◌, ◌⊎◌, arith, inl, inr}
+use Rattle.std.proofs.Common.{◌≡◌, ℕ, zero, suc, ◌+◌, ◌*◌, ◌/◌, ◌<◌, ◌≤◌, Bool, true, false, ◌||◌, List, length, refl, ap, subst, ◌∙◌, ◌⊎◌, arith, inl, inr}
 use Rattle.std.proofs.lemmas.Bool.{cases_Bool}
-use Rattle.std.proofs.lemmas.Bool.Decides.{nat_tests}
-use Rattle.std.proofs.lemmas.List.{take_more}
 use Rattle.base.specs.Access.{View}
-use Rattle.base.specs.Pages.{PageRun, IsRun, in_run, covers}
+use Rattle.base.specs.Pages.{PageRun, covers}
 use Rattle.pool.specs.Pool.{Pool, Pages}
 use Rattle.stage2.specs.Slot.{Layout}
 use Rattle.stage2.specs.Walk.{walked}
 use Rattle.stage2.specs.Chunks.{edited}
-use Rattle.stage2.specs.Gigabytes.{sum_below, touches_run, touches_chunk, IsUnderway, IsPast}
+use Rattle.stage2.specs.Gigabytes.{sum_below, touches_chunk, IsUnderway, IsPast}
 use Rattle.stage2.specs.Moments.{StaysInStep}
 use Rattle.stage2.specs.Orderly.{answers, linked}
 use Rattle.stage2.specs.Steps.{disturbed_below}
 use Rattle.stage2.proofs.Crossing.{disturbed_before, cross-skip}
 use Rattle.stage2.proofs.Marching.{march-skip}
-use Rattle.stage2.proofs.Parting.{covers-take}
 use Rattle.stage2.proofs.Rowing.{past-skip}
 use Rattle.stage2.proofs.Underway.{sum_below-more, underway-skip, untouched}
 
 -- ---- spans
-
-touches-push : (runs : List PageRun) (run : PageRun) (c : ℕ) → touches_chunk c (runs ++ run ∷ []) ≡ (touches_chunk c runs || touches_run c run)
-touches-push [] run c = elim (touches_run c run) as (λ b. (b || false) ≡ (false || b)) [ true ↦ refl | false ↦ refl ]
-touches-push (r ∷ runs) run c =
-    elim (touches_run c r) as (λ b. (b || touches_chunk c (runs ++ run ∷ [])) ≡ ((b || touches_chunk c runs) || touches_run c run)) [ true ↦ refl | false ↦ touches-push runs run c ]
-
-touches-take : (runs : List PageRun) (i : ℕ) (run : PageRun) (c : ℕ) → i < length runs → run ≡ get_or runs i run → touches_chunk c (take (i + 1) runs) ≡ (touches_chunk c (take i runs) || touches_run c run)
-touches-take runs i run c lt is =
-    ap (λ (rs : List PageRun). touches_chunk c rs) (take_more runs i run lt ∙ ap (λ (r : PageRun). take i runs ++ r ∷ []) (sym is)) ∙ touches-push (take i runs) run c
 
 either : (a b : Bool) → (a || b) ≡ true → (a ≡ true) ⊎ (b ≡ true)
 either true b e = inl refl
@@ -37,28 +25,6 @@ either false b e = inr e
 -- a place between two bounds
 abbrev pub Between : ℕ → ℕ → ℕ → Type 0
 Between first end x = (first ≤ x) × (x < end)
-
-pub span-gigabytes : (runs : List PageRun) (i : ℕ) (run : PageRun) (first end low high n : ℕ) → i < length runs → run ≡ get_or runs i run → IsRun run
-    → (covers (take i runs) n ≡ true → Between first end (n / 512 / 512)) → low ≤ first → low ≤ run.first / 512 / 512 → end ≤ high → ((run.first + run.count + 511) / 512 + 511) / 512 ≤ high
-    → covers (take (i + 1) runs) n ≡ true → Between low high (n / 512 / 512)
-span-gigabytes runs i run first end low high n lt is some so a b c d covered = elim (either (covers (take i runs) n) (in_run run n) (sym (covers-take runs i run n lt is) ∙ covered)) [
-  | inl before ↦ let s = so before in let s0 = s.0 in let s1 = s.1 in (omega (arith, a, s0), omega (arith, c, s1))
-  | inr here ↦ let h = inside run.first run.count n here in let h0 = h.0 in let h1 = h.1 in (omega (arith, b, h0), omega (arith, d, h1))
-]
-  where
-    inside : (first count n : ℕ) → (leb first n && ltb n (first + count)) ≡ true → (first ≤ n) × (n < first + count)
-    inside first count n e = (grind (arith, nat_tests), grind (arith, nat_tests))
-
-pub span-chunks : (runs : List PageRun) (i g : ℕ) (run : PageRun) (first end low high x : ℕ) → i < length runs → run ≡ get_or runs i run
-    → (touches_chunk (512 * g + x) (take i runs) ≡ true → Between first end x) → low ≤ first → ((run.first / 512 ≤ 512 * g + x) → low ≤ x) → end ≤ high → (512 * g + x < (run.first + run.count + 511) / 512 → x < high)
-    → touches_chunk (512 * g + x) (take (i + 1) runs) ≡ true → Between low high x
-span-chunks runs i g run first end low high x lt is so a b c d touched = elim (either (touches_chunk (512 * g + x) (take i runs)) (touches_run (512 * g + x) run) (sym (touches-take runs i run (512 * g + x) lt is) ∙ touched)) [
-  | inl before ↦ let s = so before in let s0 = s.0 in let s1 = s.1 in (omega (arith, a, s0), omega (arith, c, s1))
-  | inr here ↦ let h = inside run.first run.count (512 * g + x) here in (b h.0, d h.1)
-]
-  where
-    inside : (first count c : ℕ) → (ltb 0 count && (leb (first / 512) c && ltb c ((first + count + 511) / 512))) ≡ true → (first / 512 ≤ c) × (c < (first + count + 511) / 512)
-    inside first count c e = (grind (arith, nat_tests), grind (arith, nat_tests))
 
 -- a chunk outside the span is not touched
 pub outside-chunks : (runs : List PageRun) (g first end x : ℕ) → ((y : ℕ) → y < 512 → touches_chunk (512 * g + y) runs ≡ true → Between first end y) → x < 512 → (x < first) ⊎ (end ≤ x) → touches_chunk (512 * g + x) runs ≡ false

@@ -48,12 +48,6 @@ pub rootless : (t : TablesView) (p n : ℕ) → has_root t p ≡ false → walk_
 unfolding walk_across
 rootless t p n none = rw none refl
 
-pub found-root : (ids : List ℕ) (p row : ℕ) → position (λ id. eqb id p) ids ≡ Some row → ltb (row_of ids p) (length ids) ≡ true
-found-root ids p row is = elim (cases_Bool (ltb (row_of ids p) (length ids))) [
-  | inl t ↦ t
-  | inr f ↦ let none : None ≡ Some row = rw f at is in absurd (cc)
-]
-
 pub found-none : (ids : List ℕ) (p : ℕ) → position (λ id. eqb id p) ids ≡ None → ltb (row_of ids p) (length ids) ≡ false
 found-none ids p is = elim (cases_Bool (ltb (row_of ids p) (length ids))) [
   | inl t ↦ let some : Some (row_of ids p) ≡ None = rw t at is in absurd (cc)
