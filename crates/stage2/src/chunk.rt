@@ -149,8 +149,7 @@ fn is_filled(runs: &[Run], chunk: u32) -> bool
     requires { chunk < 262144 }
     ensures { result ≡ covers_chunk chunk runs.now }
 {
-    runs.iter()
-        .any(|run| run.first().number() <= 512 * chunk && 512 * chunk + 512 <= run.end())
+    runs.iter().any(|run| run.first().number() <= 512 * chunk && 512 * chunk + 512 <= run.end())
 }
 
 /// The one answer that all pages of a chunk have after the edit; none where they are not all alike.

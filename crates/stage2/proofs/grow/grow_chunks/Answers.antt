@@ -17,8 +17,10 @@ loop-index-init g c =
     let first = c.chunk_span-span.result.first in
     let most = c.chunk_span-span.ensures.most in
     let ordered = c.chunk_span-span.ensures.ordered in
-    record { counted = sym (count_below-none (λ x. grows_at v (edited c.args.runs.now c.args.access.now v) (512 * c.args.gigabyte + x)) first (λ x lt. grows-nothing c.args.runs.now c.args.access.now v (512 * c.args.gigabyte + x)
-    (λ n at. untouched (512 * c.args.gigabyte + x) c.args.runs.now n (outside-chunks c.args.runs.now c.args.gigabyte first c.chunk_span-span.result.end x c.chunk_span-span.ensures.within (omega (arith, lt, most, ordered)) (inl lt)) at))) }
+    record {
+      counted = sym (count_below-none (λ x. grows_at v (edited c.args.runs.now c.args.access.now v) (512 * c.args.gigabyte + x)) first (λ x lt. grows-nothing c.args.runs.now c.args.access.now v (512 * c.args.gigabyte + x)
+          (λ n at. untouched (512 * c.args.gigabyte + x) c.args.runs.now n (outside-chunks c.args.runs.now c.args.gigabyte first c.chunk_span-span.result.end x c.chunk_span-span.ensures.within (omega (arith, lt, most, ordered)) (inl lt)) at)));
+    }
 
 pub overflow_add-count : goal.overflow_add-count
 overflow_add-count g c =
