@@ -19,7 +19,7 @@ pub passed-start : (rs : List RegionRow) → begin_from 0 rs ≡ true → Passed
 passed-start rs e = record { begins = e; same = λ n le. refl; inside = omega arith }
 
 -- no region has a page before the first of them
-none_from : (least : ℕ) (rs : List RegionRow) (n : ℕ) → begin_from least rs ≡ true → n < least → find (λ r. in_run r.pages n) rs ≡ None
+pub none_from : (least : ℕ) (rs : List RegionRow) (n : ℕ) → begin_from least rs ≡ true → n < least → find (λ r. in_run r.pages n) rs ≡ None
 none_from least [] n e below = refl
 none_from least (r ∷ rs) n e below =
     let b = and_parts _ _ e in
