@@ -1,11 +1,10 @@
 -- Regions in ascending order: the views of the pages before one, in it and after the last.
-use Rattle.std.proofs.Common.{◌≡◌, ℕ, zero, suc, ◌+◌, ◌-◌, ◌^◌, ◌<◌, ◌≤◌, Bool, true, false, ◌&&◌, List, [], ◌∷◌, drop, find, None, refl, ap, sym, ◌∙◌, arith}
+use Rattle.std.proofs.Common.{◌≡◌, ℕ, ◌+◌, ◌^◌, ◌<◌, ◌≤◌, true, false, List, [], ◌∷◌, drop, find, None, refl, ap, ◌∙◌, arith}
 use Rattle.std.specs.Option.{option_and_then}
 use Rattle.std.proofs.lemmas.Bool.{leb-true}
 use Rattle.std.proofs.lemmas.Bool.Decides.{nat_tests}
 use Rattle.std.proofs.lemmas.Bool.{and_parts}
 use Rattle.base.specs.Pages.{IsRun, in_run}
-use Rattle.base.specs.Access.{View}
 use Rattle.base.specs.Manifest.{RegionRow, granted_in}
 use Rattle.manifest.specs.Valid.{begin_from, granted_by}
 

@@ -1,6 +1,6 @@
-use Rattle.std.proofs.Common.{◌≡◌, ◌<◌, ◌==◌, Bool, true, false, ltb, length, option_map, rules, sym, ap, ◌∙◌}
+use Rattle.std.proofs.Common.{◌≡◌, ◌==◌, true, false, ltb, rules, sym, ap, ◌∙◌}
 use Rattle.std.proofs.lemmas.List.Sorted.{IsPartitionPoint-from_clause}
-use Rattle.base.specs.Manifest.{PartitionRow, ManifestRows}
+use Rattle.base.specs.Manifest.{PartitionRow}
 use Rattle.manifest.specs.Valid.{rise_from}
 use Rattle.manifest.proofs.Facts.{facts}
 use Rattle.manifest.proofs.Lookups.{HalvedRows, halved-rows, rows_are_parted, row-found, row-gap, row-past}
