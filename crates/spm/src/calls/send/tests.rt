@@ -5,7 +5,7 @@ use crate::testing::{
     DENIED, FIRST_PAIR, INVALID_PARAMETERS, LEND, NO_MEMORY, SECOND_PAIR, booted, changed, grant,
     lend, map, refuse, refuse_sends, send, views, with_gap, with_pair, with_part,
 };
-use base::{Access, Kind, OutOfMemory, Page, PartitionId, Rights, Run};
+use base::{Access, Handle, Kind, OutOfMemory, Page, PartitionId, Rights, Run};
 use pool::{ListPool, TableMem};
 use std::alloc::Global;
 use std::process::Abort;
@@ -32,7 +32,7 @@ fn record_lend<M: TableMem + Drop>(rt: &impl Abort, alloc: Global) -> Result<(),
     assert!(rt; spm.ledger().donations().is_empty());
     assert_eq!(rt; spm.ledger().live().len(), 1);
     let live = &spm.ledger().live()[0];
-    assert_eq!(rt; live.handle, 0x8001_0000_0001);
+    assert_eq!(rt; live.handle, Handle::new(PartitionId::new(0x8001), 1));
     assert_eq!(rt; live.kind, Kind::Lend);
     assert_eq!(rt; live.sender, PartitionId::new(0x8001));
     assert_eq!(rt; live.tag, 7);
