@@ -1,5 +1,5 @@
 -- Two views are alike where the derived `==` says that they are equal.
-use Rattle.std.proofs.Common.{◌≡◌, Bool, true, false, ◌&&◌, Some, None, refl, ap, ap₂, sym, ◌∙◌}
+use Rattle.std.proofs.Common.{◌≡◌, Bool, true, false, ◌&&◌, Some, None, refl, ap₂, ◌∙◌}
 use Rattle.std.specs.Option.{option_eq}
 use Rattle.base.specs.declared.access.Rights.{Rights}
 use Rattle.base.specs.declared.access.Rights.TheVariants.{Ro, Rw}

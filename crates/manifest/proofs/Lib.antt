@@ -6,3 +6,4 @@ pub mod Needs
 pub mod Facts
 mod Legal
 mod Rows
+mod Lookups

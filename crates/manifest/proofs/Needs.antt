@@ -1,6 +1,6 @@
 -- The two counts of `need`, region by region.
-use Rattle.std.proofs.Common.{◌≡◌, ℕ, zero, suc, ◌+◌, ◌-◌, ◌*◌, ◌/◌, ◌^◌, ◌<◌, ◌≤◌, Bool, true, false, ◌&&◌, ◌||◌, List, [], ◌∷◌, length, get_or, drop, Some, None, is_some, refl, ap, sym, ◌∙◌, arith, add-one, inl, inr, max}
-use Rattle.std.proofs.lemmas.Bool.{cases_Bool, cases_lt, and_parts, leb-true}
+use Rattle.std.proofs.Common.{◌≡◌, ℕ, suc, ◌+◌, ◌-◌, ◌/◌, ◌<◌, ◌≤◌, Bool, true, false, List, ◌∷◌, length, get_or, drop, None, is_some, ap, sym, ◌∙◌, arith}
+use Rattle.std.proofs.lemmas.Bool.{and_parts, leb-true}
 use Rattle.std.proofs.Math.Seq.{drop-cons}
 use Rattle.std.proofs.lemmas.List.{drop_all}
 use Rattle.base.specs.Pages.{IsRun}
@@ -9,7 +9,7 @@ use Rattle.base.specs.Counts.{count_below}
 use Rattle.base.specs.Need.{is_mixed, is_reached}
 use Rattle.base.specs.Manifest.{RegionRow, granted_in}
 use Rattle.manifest.specs.Valid.{begin_from, granted_by, is_region}
-use Rattle.manifest.specs.Boundaries.{is_boundary, Tally, added, passed}
+use Rattle.manifest.specs.Boundaries.{Tally, added, passed}
 use Rattle.manifest.proofs.Tables.{boundary-none}
 use Rattle.manifest.proofs.Counting.{Counts, Mixed, Reached, count_below-le, mixed-start, mixed-pass, mixed-end, reached-start, reached-none_to, reached-some_to, reached-end}
 use Rattle.manifest.proofs.Regions.{Passed, passed-start, passed-next, begins_at, granted-gap, granted-within, granted-after}

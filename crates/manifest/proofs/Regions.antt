@@ -1,11 +1,10 @@
 -- Regions in ascending order: the views of the pages before one, in it and after the last.
-use Rattle.std.proofs.Common.{◌≡◌, ℕ, zero, suc, ◌+◌, ◌-◌, ◌^◌, ◌<◌, ◌≤◌, Bool, true, false, ◌&&◌, List, [], ◌∷◌, drop, find, None, refl, ap, sym, ◌∙◌, arith}
+use Rattle.std.proofs.Common.{◌≡◌, ℕ, ◌+◌, ◌^◌, ◌<◌, ◌≤◌, true, false, List, [], ◌∷◌, drop, find, None, refl, ap, ◌∙◌, arith}
 use Rattle.std.specs.Option.{option_and_then}
 use Rattle.std.proofs.lemmas.Bool.{leb-true}
 use Rattle.std.proofs.lemmas.Bool.Decides.{nat_tests}
 use Rattle.std.proofs.lemmas.Bool.{and_parts}
 use Rattle.base.specs.Pages.{IsRun, in_run}
-use Rattle.base.specs.Access.{View}
 use Rattle.base.specs.Manifest.{RegionRow, granted_in}
 use Rattle.manifest.specs.Valid.{begin_from, granted_by}
 
@@ -19,7 +18,7 @@ pub passed-start : (rs : List RegionRow) → begin_from 0 rs ≡ true → Passed
 passed-start rs e = record { begins = e; same = λ n le. refl; inside = omega arith }
 
 -- no region has a page before the first of them
-none_from : (least : ℕ) (rs : List RegionRow) (n : ℕ) → begin_from least rs ≡ true → n < least → find (λ r. in_run r.pages n) rs ≡ None
+pub none_from : (least : ℕ) (rs : List RegionRow) (n : ℕ) → begin_from least rs ≡ true → n < least → find (λ r. in_run r.pages n) rs ≡ None
 none_from least [] n e below = refl
 none_from least (r ∷ rs) n e below =
     let b = and_parts _ _ e in

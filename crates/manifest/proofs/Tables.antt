@@ -1,13 +1,13 @@
 -- Which chunks are mixed and which gigabytes are reached, by the pages at which the views change.
-use Rattle.std.proofs.Common.{◌≡◌, ◌≢◌, ℕ, zero, suc, ◌+◌, ◌-◌, ◌*◌, ◌/◌, ◌%◌, ◌^◌, ◌<◌, ◌≤◌, ◌==◌, Bool, true, false, not, ◌&&◌, ◌||◌, Some, None, is_some, refl, ap, ap₂, sym, ◌∙◌, arith, add-one, inl, inr}
-use Rattle.std.proofs.lemmas.Bool.{cases_eq, cases_lt, cases_Bool}
+use Rattle.std.proofs.Common.{◌≡◌, ℕ, zero, suc, ◌+◌, ◌-◌, ◌*◌, ◌/◌, ◌%◌, ◌<◌, ◌==◌, Bool, true, false, not, ◌&&◌, ◌||◌, Some, None, is_some, refl, ap, ap₂, sym, ◌∙◌, arith, inl, inr}
+use Rattle.std.proofs.lemmas.Bool.{cases_eq, cases_Bool}
 use Rattle.std.proofs.lemmas.Bool.Decides.{nat_tests}
 use Rattle.base.specs.declared.access.Rights.{Rights}
 use Rattle.base.specs.declared.access.Rights.TheVariants.{Ro, Rw}
 use Rattle.base.specs.declared.access.MemoryKind.{MemoryKind}
 use Rattle.base.specs.declared.access.MemoryKind.TheVariants.{Normal, Device}
 use Rattle.base.specs.Access.{View, Access, is_same, is_same_bool, is_rw, is_normal}
-use Rattle.base.specs.Counts.{count_below, any_below}
+use Rattle.base.specs.Counts.{any_below}
 use Rattle.base.specs.Need.{is_alike, is_mixed, is_reached}
 use Rattle.manifest.specs.Boundaries.{is_boundary}
 

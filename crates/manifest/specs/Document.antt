@@ -1,5 +1,6 @@
 -- The manifest that a TOML document holds, and the first fault of one that holds none.
-use Rattle.std.specs.Prelude.{◌≡◌, ℕ, ℤ, pos, negsuc, codes, ◌+◌, ◌-◌, ◌*◌, ◌/◌, ◌%◌, ◌^◌, Bool, true, false, ◌&&◌, ◌==◌, nat_lt, nat_eq, List, [], ◌∷◌, Option, Some, None, is_some, if◌then◌else◌, ◌⊎◌}
+use Rattle.std.specs.Prelude.{◌≡◌, ℕ, ℤ, pos, negsuc, codes, ◌+◌, ◌-◌, ◌/◌, ◌%◌, ◌^◌, Bool, true, false, ◌&&◌, ◌==◌, nat_lt, nat_eq, List, [], ◌∷◌, Option, Some, None, is_some, if◌then◌else◌, ◌⊎◌, Result, MatchResult, Vec}
+use Rattle.std.specs.declared.alloc.Global.{Global}
 use Rattle.std.specs.Option.{option_map, option_map_or, option_and_then}
 use Rattle.std.specs.Str.{IsUtf8}
 use Rattle.std.specs.Cmp.Lexicographic.{pointwise}
@@ -10,7 +11,7 @@ use Rattle.base.specs.declared.access.Rights.TheVariants.{Ro, Rw}
 use Rattle.base.specs.declared.access.MemoryKind.{MemoryKind}
 use Rattle.base.specs.declared.access.MemoryKind.TheVariants.{Normal, Device}
 use Rattle.base.specs.Manifest.{PartitionRow, GrantRow, RegionRow, ManifestRows}
-use Rattle.toml.specs.Data.{Data, string, integer, float, boolean, datetime, array, table, Items, no_items, item, Members, no_members, member, get, as_integer, as_bool, as_str, as_array, as_table}
+use Rattle.toml.specs.Data.{Data, table, Items, no_items, item, Members, no_members, member, get, as_integer, as_bool, as_str, as_array, as_table}
 use Rattle.toml.specs.Parse.{parse_document}
 use Rattle.manifest.specs.Faults.{fault_of}
 use Rattle.manifest.specs.declared.fault.ManifestFault.{ManifestFault}
@@ -163,6 +164,14 @@ rows_of d =
 -- a value is of another type or another text (3), or want of memory (11)
 abbrev pub IsWrongValue : {A : Type 0} → Option A → ManifestFault → Type 0
 IsWrongValue rows fault = (number_of fault ≡ 11) ⊎ ((number_of fault ≡ 3) × (rows ≡ None))
+
+-- the value that is wanted, or a fault
+abbrev pub Reads : {A : Type 0} → Option A → Result A ManifestFault → Type 0
+Reads wanted result = MatchResult result (λ x. wanted ≡ Some x) (IsWrongValue wanted)
+
+-- the rows that are wanted, or a fault
+abbrev pub ReadsRows : {A : Type 0} → Option (List A) → Result (Vec A Global) ManifestFault → Type 0
+ReadsRows wanted result = MatchResult result (λ rows. wanted ≡ Some rows.items) (IsWrongValue wanted)
 
 -- the same rows, partitions in ascending order of identifier and regions in ascending order of address
 pub record IsInOrder (rows sorted : ManifestRows) : Type 0 where

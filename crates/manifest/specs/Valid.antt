@@ -1,11 +1,11 @@
 -- The rules of a manifest, in the order of its faults from limits (4) to quotas (10).
-use Rattle.std.specs.Prelude.{ℕ, ◌+◌, ◌^◌, Bool, true, not, ◌&&◌, ◌||◌, ◌==◌, nat_le, List, [], ◌∷◌, length, if◌then◌else◌}
+use Rattle.std.specs.Prelude.{ℕ, ◌+◌, ◌^◌, Bool, true, not, ◌&&◌, ◌||◌, ◌==◌, nat_le, List, [], ◌∷◌, length}
 use Rattle.std.specs.List.{list_all, list_any, find}
 use Rattle.std.specs.Option.{option_map_or, option_and_then}
 use Rattle.base.specs.Pages.{PageRun, in_run, are_apart}
 use Rattle.base.specs.Access.{View, is_normal}
 use Rattle.base.specs.Need.{need}
-use Rattle.base.specs.Manifest.{PartitionRow, GrantRow, RegionRow, ManifestRows, is_partition, quotas_of, page_count, granted_in}
+use Rattle.base.specs.Manifest.{PartitionRow, GrantRow, RegionRow, ManifestRows, quotas_of, page_count, granted_in}
 
 -- ---- a region
 

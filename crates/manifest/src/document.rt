@@ -1,6 +1,6 @@
 //! Reads the rows of a manifest from a TOML document.
 
-ghost use Rattle.std.specs.Prelude.{◌≡◌, is_some, codes, Some, MatchResult};
+ghost use Rattle.std.specs.Prelude.{◌≡◌, is_some, codes};
 ghost use Rattle.std.specs.Option.{option_map};
 ghost use Rattle.toml.specs.View.{view, array_view, items_view};
 ghost use Rattle.manifest.specs.Document as document;
@@ -334,7 +334,7 @@ fn grant_of(value: &Value) -> Option<Grant>
 
 /// The partitions of an array.
 fn partition_rows(alloc: Global, values: &[Value]) -> Result<Vec<PartitionDraft>, ManifestFault>
-    ensures { MatchResult result (λ rows. document.rows_in document.partition_of (items_view values.now) ≡ Some rows.items) (document.IsWrongValue (document.rows_in document.partition_of (items_view values.now))) }
+    ensures { document.ReadsRows (document.rows_in document.partition_of (items_view values.now)) result }
 {
     let mut rows = Vec::new(alloc);
     for (i, value) in values.iter().enumerate() {
@@ -352,7 +352,7 @@ fn partition_rows(alloc: Global, values: &[Value]) -> Result<Vec<PartitionDraft>
 
 /// The grants of an array in a region.
 fn grant_rows(alloc: Global, values: &[Value], region: usize) -> Result<Vec<Grant>, ManifestFault>
-    ensures { MatchResult result (λ rows. document.rows_in document.grant_of (items_view values.now) ≡ Some rows.items) (document.IsWrongValue (document.rows_in document.grant_of (items_view values.now))) }
+    ensures { document.ReadsRows (document.rows_in document.grant_of (items_view values.now)) result }
 {
     let mut rows = Vec::new(alloc);
     for (i, value) in values.iter().enumerate() {
@@ -370,7 +370,7 @@ fn grant_rows(alloc: Global, values: &[Value], region: usize) -> Result<Vec<Gran
 
 /// The grants of a region.
 fn grants_of(alloc: Global, value: &Value, region: usize) -> Result<Vec<Grant>, ManifestFault>
-    ensures { MatchResult result (λ rows. document.rows_at (codes "grants") document.grant_of (view value.now) ≡ Some rows.items) (document.IsWrongValue (document.rows_at (codes "grants") document.grant_of (view value.now))) }
+    ensures { document.ReadsRows (document.rows_at (codes "grants") document.grant_of (view value.now)) result }
 {
     match array_at(value, "grants") {
         Some(grants) => grant_rows(alloc, grants, region),
@@ -398,7 +398,7 @@ fn region_with(value: &Value, number: usize, grants: Vec<Grant>) -> Option<Regio
 
 /// A region.
 fn region_of(alloc: Global, value: &Value, number: usize) -> Result<RegionDraft, ManifestFault>
-    ensures { MatchResult result (λ r. document.region_of (view value.now) ≡ Some r) (document.IsWrongValue (document.region_of (view value.now))) }
+    ensures { document.Reads (document.region_of (view value.now)) result }
 {
     let grants = grants_of(alloc, value, number)?;
     match region_with(value, number, grants) {
@@ -409,7 +409,7 @@ fn region_of(alloc: Global, value: &Value, number: usize) -> Result<RegionDraft,
 
 /// The regions of an array.
 fn region_rows(alloc: Global, values: &[Value]) -> Result<Vec<RegionDraft>, ManifestFault>
-    ensures { MatchResult result (λ rows. document.rows_in document.region_of (items_view values.now) ≡ Some rows.items) (document.IsWrongValue (document.rows_in document.region_of (items_view values.now))) }
+    ensures { document.ReadsRows (document.rows_in document.region_of (items_view values.now)) result }
 {
     let mut rows = Vec::new(alloc);
     for (i, value) in values.iter().enumerate() {
@@ -421,7 +421,7 @@ fn region_rows(alloc: Global, values: &[Value]) -> Result<Vec<RegionDraft>, Mani
 
 /// The partitions of a document.
 fn partitions_of(alloc: Global, value: &Value) -> Result<Vec<PartitionDraft>, ManifestFault>
-    ensures { MatchResult result (λ rows. document.rows_at (codes "partition") document.partition_of (view value.now) ≡ Some rows.items) (document.IsWrongValue (document.rows_at (codes "partition") document.partition_of (view value.now))) }
+    ensures { document.ReadsRows (document.rows_at (codes "partition") document.partition_of (view value.now)) result }
 {
     match array_at(value, "partition") {
         Some(partitions) => partition_rows(alloc, partitions),
@@ -431,7 +431,7 @@ fn partitions_of(alloc: Global, value: &Value) -> Result<Vec<PartitionDraft>, Ma
 
 /// The regions of a document.
 fn regions_of(alloc: Global, value: &Value) -> Result<Vec<RegionDraft>, ManifestFault>
-    ensures { MatchResult result (λ rows. document.rows_at (codes "region") document.region_of (view value.now) ≡ Some rows.items) (document.IsWrongValue (document.rows_at (codes "region") document.region_of (view value.now))) }
+    ensures { document.ReadsRows (document.rows_at (codes "region") document.region_of (view value.now)) result }
 {
     match array_at(value, "region") {
         Some(regions) => region_rows(alloc, regions),
@@ -441,7 +441,7 @@ fn regions_of(alloc: Global, value: &Value) -> Result<Vec<RegionDraft>, Manifest
 
 /// The first page of a document's pool.
 fn pool_of(value: &Value) -> Result<u32, ManifestFault>
-    ensures { MatchResult result (λ pool. document.pool_of (view value.now) ≡ Some pool) (document.IsWrongValue (document.pool_of (view value.now))) }
+    ensures { document.Reads (document.pool_of (view value.now)) result }
 {
     match integer_at(value, "pool") {
         Some(pool) => Ok(page_of(pool)),
@@ -451,7 +451,7 @@ fn pool_of(value: &Value) -> Result<u32, ManifestFault>
 
 /// The rows of a document, in its order.
 pub(crate) fn rows_of(alloc: Global, value: &Value) -> Result<Draft, ManifestFault>
-    ensures { MatchResult result (λ rows. document.rows_of (view value.now) ≡ Some rows) (document.IsWrongValue (document.rows_of (view value.now))) }
+    ensures { document.Reads (document.rows_of (view value.now)) result }
 {
     let pool = pool_of(value)?;
     let partitions = partitions_of(alloc, value)?;

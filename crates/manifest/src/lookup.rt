@@ -14,7 +14,13 @@ pub(crate) fn region_at(regions: &[Region], page: Page) -> Option<&Region>
     requires { begin_from 0 regions.now ≡ true }
     ensures { option_map (λ r. r.now) result ≡ find (λ r. in_run r.pages page) regions.now }
 {
-    regions.iter().find(|region| region.pages().contains(page))
+    let place = regions.partition_point(|region| region.pages().end() <= page.number());
+    let region = regions.get(place)?;
+    if region.pages().contains(page) {
+        Some(region)
+    } else {
+        None
+    }
 }
 
 /// What the regions grant to a partition at a page.

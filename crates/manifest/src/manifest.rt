@@ -132,7 +132,10 @@ impl Manifest {
     fn row(&self, p: PartitionId) -> Option<&Partition>
         ensures { option_map (λ row. row.now) result ≡ find (λ row. row.id == p) self.now.partitions }
     {
-        self.partitions.iter().find(|row| row.id == p)
+        let rows = self.partitions();
+        let place = rows.partition_point(|row| row.id.number() < p.number());
+        let row = rows.get(place)?;
+        if row.id == p { Some(row) } else { None }
     }
 
     /// The region of a page, if one covers it.

@@ -45,11 +45,13 @@ pub fn writers_are_allowed()
 /// A partition that cannot tell two reached states apart is answered alike in both, and cannot tell the
 /// states after its call apart.
 pub fn partitions_are_isolated()
-    ensures { (s : State) → (t : State) → (c : CallWords) → IsReached s → IsReached t → AreAlikeTo c.caller s t → IsIsolated s t c }
+    ensures { (s : State) → (t : State) → (c : CallWords) → IsReached s → IsReached t →
+        AreAlikeTo c.caller s t → IsIsolated s t c }
 {}
 
 /// A call of another partition leaves all that a partition may learn as it was, where it leaves the
 /// transactions that name the partition.
 pub fn others_leave_a_partition()
-    ensures { (p : ℕ) → (s : State) → (c : CallWords) → c.caller ≢ p → transactions_of p (step s c).live ≡ transactions_of p s.live → AreAlikeTo p s (step s c) }
+    ensures { (p : ℕ) → (s : State) → (c : CallWords) → c.caller ≢ p →
+        transactions_of p (step s c).live ≡ transactions_of p s.live → AreAlikeTo p s (step s c) }
 {}

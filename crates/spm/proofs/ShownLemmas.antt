@@ -40,6 +40,12 @@ still-shown s t old new before after placed begun same =
 pub same-shown : (old new : Machine) → WalksAgree old.state old.pool → old.pool.operations ≡ [] → new ≡ old → ShowsCall old new
 same-shown old new agrees begun same = subst (ShowsCall old) (sym same) (still-shown old.state old.state old.pool old.pool agrees agrees refl begun refl)
 
+-- a call that leaves them, but empties the list of operations
+pub begun-shown : (old new : Machine) → WalksAgree old.state old.pool → new ≡ unchanged old → ShowsCall old new
+begun-shown old new agrees same =
+    let still = still-shown old.state old.state (emptied old.pool) (emptied old.pool) (record { walks = agrees.walks }) (record { walks = agrees.walks }) refl refl refl in
+    subst (ShowsCall old) (sym same) (moments-emptied (layout_of old.state.manifest) old.pool (emptied old.pool) (sees old.state) (sees old.state) still)
+
 -- an edit that the rule names so, or otherwise
 same_pages : (a b : Edit) (view : ℕ → ℕ → View) (p n : ℕ) → IsSameEdit a b → with_pages b.who b.runs b.to view p n ≡ with_edit (Some a) view p n
 same_pages a b view p n same = rw (same.who, same.pages n, same.to) refl

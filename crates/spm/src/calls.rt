@@ -18,8 +18,10 @@ use wire::Request;
 
 /// Tests what a partition asks for, and says what it changes. It changes nothing itself.
 pub(crate) fn check(state: &State, call: &Call, request: Request) -> Result<Change, Stop>
-    ensures granted { IfOk result (λ change. IsGranted state.now call.now.caller (rule_of state.now call.now request) (is_send_request request) change) }
-    ensures stopped { IfErr result (λ stop. IsStopped (rule_of state.now call.now request) (is_send_request request) stop) }
+    ensures granted { IfOk result (λ change. IsGranted state.now call.now.caller
+        (rule_of state.now call.now request) (is_send_request request) change) }
+    ensures stopped { IfErr result (λ stop. IsStopped
+        (rule_of state.now call.now request) (is_send_request request) stop) }
 {
     match request {
         Request::Version(word) => Ok(version::version(word)),

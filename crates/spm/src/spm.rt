@@ -124,10 +124,12 @@ impl<M: TableMem + Drop> Spm<M> {
         ensures state { OnOk result (self.new.state ≡ rules.step self.old.state call.now) }
 
         // A refusal changes nothing.
-        ensures refused { IsSome (rules.refusal self.old.state call.now) → self.new ≡ unchanged self.old }
+        ensures refused { IsSome (rules.refusal self.old.state call.now) →
+            self.new ≡ unchanged self.old }
 
         // A call whose rule edits no view leaves all tables as they were.
-        ensures moves_no_page { (rules.rule self.old.state call.now).edit ≡ None → self.new.pool ≡ emptied self.old.pool }
+        ensures moves_no_page { (rules.rule self.old.state call.now).edit ≡ None →
+            self.new.pool ≡ emptied self.old.pool }
 
         // Want of memory changes nothing,
         ensures err { OnErr result (self.new ≡ unchanged self.old) }
@@ -201,8 +203,10 @@ pub fn run_calls<M: TableMem + Drop>(
     manifest: Manifest,
     calls: &[Call],
 ) -> Result<(Spm<M>, Vec<Reply>), OutOfMemory>
-    ensures replies { IfOk result (λ run. run.1.items ≡ rules.replies_from (state.start manifest) calls.now) }
-    ensures state { IfOk result (λ run. run.0.state ≡ rules.state_from (state.start manifest) calls.now) }
+    ensures replies { IfOk result (λ run. run.1.items
+        ≡ rules.replies_from (state.start manifest) calls.now) }
+    ensures state { IfOk result (λ run. run.0.state
+        ≡ rules.state_from (state.start manifest) calls.now) }
     ensures agrees { IfOk result (λ run. WalksAgree run.0.state run.0.pool) }
     ensures reached { IfOk result (λ run. rules.IsReached run.0.state) }
 {

@@ -85,10 +85,6 @@ pub below-more : (g i : ℕ) (runs : List PageRun) (before after : ℕ → View)
     → disturbed_below g (i + 1) runs before after n ≡ (disturbed_below g i runs before after n || (eqb (n / 512) (512 * g + i) && disturbed runs before after n))
 below-more g i runs before after n lt = one-more g i (n / 512) (n / 512 / 512) (disturbed runs before after n) lt refl
 
--- no page before the first chunk
-pub below-none : (g : ℕ) (runs : List PageRun) (before after : ℕ → View) (n : ℕ) → disturbed_below g 0 runs before after n ≡ false
-below-none g runs before after n = let no : (eqb (n / 512 / 512) g && ltb (n / 512) (512 * g + 0)) ≡ false = grind (arith, nat_tests) in rw no refl
-
 pub below-all : (g : ℕ) (runs : List PageRun) (before after : ℕ → View) (n : ℕ) → disturbed_below g 512 runs before after n ≡ (eqb (n / 512 / 512) g && disturbed runs before after n)
 below-all g runs before after n = ap (λ b. b && disturbed runs before after n) (whole (n / 512) (n / 512 / 512) refl)
   where

@@ -1,7 +1,6 @@
 -- The edit of a row is one of its partition.
-use Rattle.std.proofs.Common.{◌≡◌, ℕ, ◌+◌, ◌-◌, ◌*◌, ◌^◌, ◌<◌, ◌≤◌, Bool, true, false, ◌&&◌, cond, eqb, List, length, position, None, is_some, refl, sym, ap, subst, ◌∙◌, arith, inl, inr}
+use Rattle.std.proofs.Common.{◌≡◌, ℕ, ◌+◌, ◌-◌, ◌*◌, ◌^◌, ◌<◌, ◌≤◌, Bool, true, false, ◌&&◌, cond, eqb, List, length, is_some, refl, sym, ap, ◌∙◌, arith, inl, inr}
 use Rattle.std.proofs.lemmas.Bool.{cases_Bool, eqb-true}
-use Rattle.std.proofs.lemmas.Bool.Decides.{nat_tests}
 use Rattle.base.specs.Pages.{PageRun, covers}
 use Rattle.base.specs.Access.{View}
 use Rattle.base.specs.Manifest.{row_of, page_count}
@@ -9,14 +8,12 @@ use Rattle.pool.specs.Pool.{Pages, InShare, used_by, share_start, quota_of}
 use Rattle.pool.proofs.Count.{count_below-none, count_below-some}
 use Rattle.stage2.specs.Slot.{Layout}
 use Rattle.stage2.specs.Walk.{walk, walked, translation, Gigabyte, Chunk, table_at}
-use Rattle.base.specs.Need.{need}
 use Rattle.stage2.specs.Orderly.{IsOrderly, IsCanonical, answers, answer_of}
 use Rattle.stage2.specs.Chunks.{edited}
 use Rattle.stage2.specs.Gigabytes.{EditsRow}
 use Rattle.stage2.proofs.Rows.{IsRow, same_row}
 use Rattle.stage2.proofs.Sites.{tidy-answer}
 use Rattle.stage2.proofs.Needs.{mixed-none, reached-none}
-use Rattle.stage2.proofs.Rowing.{used-need}
 use Rattle.stage2.proofs.Fresh.{no_gigabyte, no_chunk, unmapped, sound_zero}
 
 pub edited-walks : (layout : Layout) (p row : ℕ) (runs : List PageRun) (access : View) (old new : Pages) → IsRow layout.ids p row → IsOrderly layout old → EditsRow layout row (edited runs access (answers layout old.words row)) old new
@@ -35,12 +32,6 @@ edited-walks layout p row runs access old new is orderly h q n small =
     at-row : row_of layout.ids q ≡ row → (b : Bool) → walked n (cond b access (answers layout old.words row n)) ≡ cond b (walked n access) (walk layout old.words (row_of layout.ids q) n)
     at-row at true = refl
     at-row at false = sym (tidy-answer n (walk layout old.words row n) (orderly.tidy row n is.inside small)) ∙ ap (λ r. walk layout old.words r n) (sym at)
-
-pub edited-need : (layout : Layout) (p row : ℕ) (new : Pages) → IsRow layout.ids p row → IsCanonical layout new → used_by new (row_of layout.ids p) ≡ need (answers layout new.words (row_of layout.ids p))
-edited-need layout p row new is canonical = subst (λ r. used_by new r ≡ need (answers layout new.words r)) is.is (used-need layout new row canonical is.inside)
-
-pub has-row : (ids : List ℕ) (p : ℕ) → row_of ids p < length ids → position (λ id. eqb id p) ids ≡ None → ⊥
-has-row ids p below none = grind (arith, nat_tests, none)
 
 -- ---- tables that map nothing
 

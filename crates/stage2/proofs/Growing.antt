@@ -101,7 +101,3 @@ growth-nothing runs access v g none =
     let same : is_reached (edited runs access v) g ≡ is_reached v g = reached-same v (edited runs access v) g (λ i small. let f = none (262144 * g + i) (omega (arith, small)) in rw f refl) in
     let chunks : count_below (λ x. grows_at v (edited runs access v) (512 * g + x)) 512 ≡ 0 = count_below-none (λ x. grows_at v (edited runs access v) (512 * g + x)) 512 (λ x lt. grows-nothing runs access v (512 * g + x) (λ n at. none n (omega (arith, lt, at)))) in
     ap₂ (λ a b. cond a 1 0 + b) (ap (λ b. b && not (is_reached v g)) same ∙ and-not (is_reached v g)) chunks
-
-pub count_below-zero : (f : ℕ → Bool) → count_below f 0 ≡ 0
-unfolding count_below
-count_below-zero f = refl

@@ -1,15 +1,12 @@
 -- Operations, one after another.
-use Rattle.std.proofs.Common.{◌≡◌, ◌≢◌, ℕ, ◌+◌, ◌*◌, ◌/◌, ◌%◌, ◌^◌, ◌≤◌, true, false, cond, eqb, None, inl, inr, List, [], ◌∷◌, ◌++◌, refl, ap, sym, ◌∙◌, arith, append_assoc, Option, Some}
+use Rattle.std.proofs.Common.{◌≡◌, ℕ, ◌+◌, ◌*◌, ◌%◌, ◌^◌, ◌≤◌, cond, eqb, None, inl, inr, List, [], ◌∷◌, ◌++◌, refl, ap, sym, ◌∙◌, arith, append_assoc, Option, Some}
 use Rattle.std.proofs.lemmas.Bool.{cases_Bool, eqb-true}
-use Rattle.std.proofs.lemmas.Bool.Decides.{nat_tests}
-use Rattle.base.specs.Pages.{PageRun}
 use Rattle.base.specs.Access.{View}
 use Rattle.pool.specs.declared.operation.Op.{Op}
 use Rattle.pool.specs.declared.operation.Op.TheVariants.{Set, Invalidate, Clear}
-use Rattle.pool.specs.Pool.{Words, Pool, words_of, put, after_set, after_invalidate}
-use Rattle.stage2.specs.Chunks.{IsWordFor}
+use Rattle.pool.specs.Pool.{Words, Pool, words_of, put, after_set}
 use Rattle.stage2.specs.Moments.{words_after}
-use Rattle.stage2.specs.History.{counted, Made, AreSets, Filled, broken, replaced}
+use Rattle.stage2.specs.History.{counted, Made, AreSets, Filled}
 
 after-append : (b a : List Op) (w : Words) → words_after (b ++ a) w ≡ words_after b (words_after a w)
 after-append [] a w = refl
@@ -24,22 +21,11 @@ counted-append (op ∷ b) a n = ap (λ x. (x + 1) % 2 ^ 64) (counted-append b a 
 pub made-none : (s : Pool) → Made [] s s
 made-none s = record { operations = refl; count = refl; words = refl }
 
--- nothing but marks has changed
-pub made-marks : (x y : Pool) → y.operations ≡ x.operations → y.made ≡ x.made → y.memory.words ≡ x.memory.words → Made [] x y
-made-marks x y a b c = record { operations = a; count = b; words = ap words_of c }
-
 pub made-set : (x y : Pool) (page index word : ℕ) → y ≡ after_set page index word x → words_of y.memory.words ≡ put page index word (words_of x.memory.words) → Made (Set page index word ∷ []) x y
 made-set x y page index word e words = record {
   operations = ap (λ (s : Pool). s.operations) e;
   count = ap (λ (s : Pool). s.made) e;
   words = words;
-}
-
-pub made-invalidate : (x y : Pool) (p : ℕ) (run : PageRun) → y ≡ after_invalidate p run x → Made (Invalidate p run ∷ []) x y
-made-invalidate x y p run e = record {
-  operations = ap (λ (s : Pool). s.operations) e;
-  count = ap (λ (s : Pool). s.made) e;
-  words = ap (λ (s : Pool). words_of s.memory.words) e;
 }
 
 pub made-more : (a b : List Op) (x y z : Pool) → Made a x y → Made b y z → Made (b ++ a) x z
@@ -85,34 +71,4 @@ filled-step k c i plan answer a b e some so here = record {
 pub filled-wider : (k c i b : ℕ) (plan : ℕ → Option View) (a e : Pool) → i ≤ b → Filled k c i plan a e → Filled k c b plan a e
 filled-wider k c i b plan a e le h = record { ops = h.ops; made = h.made; sets = sets-wider k c i b plan h.ops le h.sets }
 
--- one word
-pub filled-one : (k page word : ℕ) (answer : View) (a b : Pool) → IsWordFor page answer word → Made (Set k (page % 512) word ∷ []) a b → Filled k (page / 512) (page % 512 + 1) (λ n. cond (eqb n page) (Some answer) None) a b
-filled-one k page word answer a b is made = record {
-  ops = Set k (page % 512) word ∷ [];
-  made = made;
-  sets = (refl, omega arith, (answer, here, rw place is), tt);
-}
-  where
-    place : 512 * (page / 512) + page % 512 ≡ page
-    place = omega arith
-
-    here : cond (eqb (512 * (page / 512) + page % 512) page) (Some answer) None ≡ Some answer
-    here = let yes_it : eqb (512 * (page / 512) + page % 512) page ≡ true = grind (arith, nat_tests, place) in rw yes_it refl
-
 -- ---- break before make
-
-pub broken-there : (p j c was : ℕ) (s : Pool) → was ≡ 0 → Made (broken p j c was) s s
-broken-there p j c was s e = let t : eqb was 0 ≡ true = grind (arith, nat_tests) in rw t (made-none s)
-
-pub broken-valid : (p j c was : ℕ) (x y z : Pool) → was ≢ 0 → Made (Set j (c % 512) 0 ∷ []) x y → z ≡ after_invalidate p (record { first = 512 * c; count = 512 }) y → Made (broken p j c was) x z
-broken-valid p j c was x y z differs made e =
-    let f : eqb was 0 ≡ false = grind (arith, nat_tests, differs) in
-    rw f (made-more (Set j (c % 512) 0 ∷ []) (Invalidate p (record { first = 512 * c; count = 512 }) ∷ []) x y z made (made-invalidate y z p (record { first = 512 * c; count = 512 }) e))
-
-pub replaced-zero : (p j c was word : ℕ) (x y : Pool) → word ≡ 0 → Made (broken p j c was) x y → Made (replaced p j c was word) x y
-replaced-zero p j c was word x y e made = let t : eqb word 0 ≡ true = grind (arith, nat_tests) in rw t made
-
-pub replaced-word : (p j c was word : ℕ) (x y z : Pool) → word ≢ 0 → Made (broken p j c was) x y → Made (Set j (c % 512) word ∷ []) y z → Made (replaced p j c was word) x z
-replaced-word p j c was word x y z differs made one =
-    let f : eqb word 0 ≡ false = grind (arith, nat_tests, differs) in
-    rw f (made-more (broken p j c was) (Set j (c % 512) word ∷ []) x y z made one)

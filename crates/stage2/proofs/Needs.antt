@@ -1,6 +1,7 @@
 -- What a chunk and a gigabyte need depends on their pages alone.
-use Rattle.std.proofs.Common.{◌≡◌, ℕ, zero, suc, ◌+◌, ◌*◌, ◌%◌, ◌<◌, Bool, true, false, not, ◌&&◌, ◌||◌, Some, None, is_some, refl, ap, ap₂, sym, ◌∙◌, arith, add-one, inl, inr}
+use Rattle.std.proofs.Common.{◌≡◌, ℕ, zero, suc, ◌+◌, ◌*◌, ◌/◌, ◌%◌, ◌<◌, Bool, true, false, not, ◌&&◌, ◌||◌, cond, leb, ltb, List, [], ◌∷◌, Some, None, is_some, refl, ap, ap₂, sym, ◌∙◌, arith, add-one, inl, inr}
 use Rattle.std.proofs.lemmas.Bool.{cases_eq, cases_Bool}
+use Rattle.std.proofs.lemmas.Bool.Decides.{nat_tests}
 use Rattle.base.specs.declared.access.Rights.{Rights}
 use Rattle.base.specs.declared.access.Rights.TheVariants.{Ro, Rw}
 use Rattle.base.specs.declared.access.MemoryKind.{MemoryKind}
@@ -8,7 +9,8 @@ use Rattle.base.specs.declared.access.MemoryKind.TheVariants.{Normal, Device}
 use Rattle.base.specs.Access.{View, Access, is_same, is_same_bool, is_rw, is_normal}
 use Rattle.base.specs.Need.{is_alike, is_mixed, is_reached}
 use Rattle.base.specs.Counts.{any_below}
-use Rattle.stage2.specs.Chunks.{IsOutcome, AreAlike}
+use Rattle.base.specs.Pages.{PageRun, in_run, covers}
+use Rattle.stage2.specs.Chunks.{edited, covers_chunk, IsOutcome, AreAlike}
 
 pub any_below-same : (f g : ℕ → Bool) (n : ℕ) → ((k : ℕ) → k < n → g k ≡ f k) → any_below g n ≡ any_below f n
 unfolding any_below
@@ -160,3 +162,34 @@ reached-none v g none = any_below-no (λ i. is_some (v (262144 * g + i))) 262144
 pub reached-some : (v : ℕ → View) (g i : ℕ) → i < 262144 → is_some (v (262144 * g + i)) ≡ true → is_reached v g ≡ true
 unfolding is_reached
 reached-some v g i below some = any_below-some (λ i. is_some (v (262144 * g + i))) 262144 i below some
+
+-- ---- a chunk that one run fills
+
+filled-page : (runs : List PageRun) (c n : ℕ) → covers_chunk c runs ≡ true → n / 512 ≡ c → covers runs n ≡ true
+filled-page [] c n filled at = absurd (cc)
+filled-page (run ∷ runs) c n filled at = elim (cases_Bool (leb run.first (512 * c) && leb (512 * c + 512) (run.first + run.count))) [
+  | inl t ↦ let here : in_run run n ≡ true = inside run.first run.count c n t at in rw here refl
+  | inr f ↦ let rest = filled-page runs c n (rw f at filled) at in rw rest (either (in_run run n))
+]
+  where
+    inside : (first count c n : ℕ) → (leb first (512 * c) && leb (512 * c + 512) (first + count)) ≡ true → n / 512 ≡ c → (leb first n && ltb n (first + count)) ≡ true
+    inside first count c n t at = grind (arith, nat_tests)
+
+    either : (x : Bool) → (x || true) ≡ true
+    either true = refl
+    either false = refl
+
+same-unmixed : (answer : ℕ → View) (c : ℕ) (one : View) → ((n : ℕ) → n / 512 ≡ c → answer n ≡ one) → is_mixed answer c ≡ false
+unfolding is_mixed
+same-unmixed answer c one same =
+    any_below-no (λ i. not (is_alike (answer (512 * c + i)) (answer (512 * c)))) 512
+    (λ i below. ap₂ (λ a b. not (is_alike a b)) (same (512 * c + i) (omega (arith, below))) (same (512 * c) (omega arith)) ∙ ap not (alike-all one))
+  where
+    alike-all : (a : View) → is_alike a a ≡ true
+    alike-all None = refl
+    alike-all (Some a) = alike-self (Some a) a refl
+
+pub outcome-filled : (runs : List PageRun) (access : View) (before : ℕ → View) (c : ℕ) → covers_chunk c runs ≡ true → IsOutcome c (edited runs access before) (Some access)
+outcome-filled runs access before c filled =
+    let same = λ (n : ℕ) (at : n / 512 ≡ c). ap (λ b. cond b access (before n)) (filled-page runs c n filled at) in
+    record { same = λ one is n at. same n at ∙ (let e : access ≡ one = cc in e); mixed = sym (same-unmixed (edited runs access before) c access same) }

@@ -24,11 +24,6 @@ unfolding sum_below
 sum_below-le f g zero le = omega arith
 sum_below-le f g (suc n) le = let rest = sum_below-le f g n le in let here = le n in omega (arith, rest, here)
 
-pub sum_below-plus : (f g : ℕ → ℕ) (n : ℕ) → sum_below (λ k. f k + g k) n ≡ sum_below f n + sum_below g n
-unfolding sum_below
-sum_below-plus f g zero = refl
-sum_below-plus f g (suc n) = let rest = sum_below-plus f g n in omega (arith, rest)
-
 sum_below-times : (f : ℕ → ℕ) (n : ℕ) → sum_below (λ k. 516 * f k) n ≡ 516 * sum_below f n
 unfolding sum_below
 sum_below-times f zero = refl

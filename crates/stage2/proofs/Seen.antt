@@ -1,7 +1,6 @@
 -- What walkers see of a whole edit.
-use Rattle.std.proofs.Common.{◌≡◌, ℕ, ◌^◌, ◌<◌, Bool, true, false, ◌&&◌, eqb, cond, List, [], ◌∷◌, None, refl, arith, ap, sym, ◌∙◌, ◌⊎◌, inl, inr}
+use Rattle.std.proofs.Common.{◌≡◌, ℕ, ◌^◌, ◌<◌, Bool, true, false, ◌&&◌, eqb, List, [], ◌∷◌, refl, arith, ap, sym, ◌∙◌, ◌⊎◌, inl, inr}
 use Rattle.std.proofs.lemmas.Bool.{eqb-true}
-use Rattle.std.proofs.lemmas.Bool.Decides.{nat_tests}
 use Rattle.base.specs.Access.{View}
 use Rattle.base.specs.Manifest.{row_of}
 use Rattle.pool.specs.Pool.{Pool, Words, words_of}
@@ -9,8 +8,8 @@ use Rattle.pool.specs.declared.operation.Op.{Op}
 use Rattle.stage2.specs.declared.walked.Walked.{Walked}
 use Rattle.stage2.specs.declared.walked.Walked.TheVariants.{None as Unmapped}
 use Rattle.stage2.specs.Slot.{Layout}
-use Rattle.stage2.specs.Walk.{walk, walked, translation, Agrees}
-use Rattle.stage2.specs.Moments.{AtEachMoment, Walker, Begins, Second, Third, Ends, Stands, Edit, MayGive, GivesOnly, IsInStepIn, nothing, StaysInStep, MayAnswer, GivesOldOrNew, KeepsAnswers, IsSteady, Moments, without}
+use Rattle.stage2.specs.Walk.{walked, Agrees}
+use Rattle.stage2.specs.Moments.{AtEachMoment, Walker, Begins, Second, Third, Ends, Stands, Edit, MayGive, GivesOnly, IsInStepIn, nothing, MayAnswer, GivesOldOrNew, KeepsAnswers, IsSteady, Moments}
 use Rattle.stage2.proofs.InStep.{orderly-start}
 
 pub at_each : (P Q : List Op → Type 0) → ((past : List Op) → P past → Q past) → (past : List Op) → AtEachMoment P past → AtEachMoment Q past
@@ -97,31 +96,3 @@ moments-none layout old new before after starts ends same none made =
     (λ q n small e which. absurd (cc))
 
 -- ---- pages are unmapped
-
-unmapped-answer : (b : Bool) (n : ℕ) (a : View) → cond b Unmapped (walked n a) ≡ walked n (cond b None a)
-unmapped-answer true n a = refl
-unmapped-answer false n a = refl
-
--- the walks of these pages give nothing, and all others what they gave
-abbrev pub WalksWithout : Layout → Pool → Pool → ℕ → (ℕ → Bool) → Type 0
-WalksWithout layout old new p which = (q n : ℕ) → n < 2 ^ 27 → translation layout (words_of new.memory.words) q n ≡ cond (eqb q p && which n) Unmapped (translation layout (words_of old.memory.words) q n)
-
-pub agrees-without : (layout : Layout) (old new : Pool) (before : ℕ → ℕ → View) (p : ℕ) (which : ℕ → Bool) → Agrees layout (words_of old.memory.words) before → WalksWithout layout old new p which → Agrees layout (words_of new.memory.words) (without p which before)
-agrees-without layout old new before p which starts walks q n small =
-    walks q n small ∙ ap (λ w. cond (eqb q p && which n) Unmapped w) (starts q n small) ∙ unmapped-answer (eqb q p && which n) n (before q n)
-
-pub moments-unmapped : (layout : Layout) (old new : Pool) (before : ℕ → ℕ → View) (p row : ℕ) (which : ℕ → Bool) → row ≡ row_of layout.ids p → Agrees layout (words_of old.memory.words) before → old.operations ≡ []
-    → StaysInStep layout row which (λ n. Unmapped) old new → WalksWithout layout old new p which → Moments layout old new before (without p which before)
-moments-unmapped layout old new before p row which is starts none stays walks =
-    let after = without p which before in
-    let ends = agrees-without layout old new before p which starts walks in
-    let e = edit_of layout old row which (λ n. Unmapped) in
-    let at_own : (n : ℕ) → which n ≡ true → (eqb row row && which n) ≡ true = λ n w. rw w (grind (arith, nat_tests)) in
-    let o : IsInStepIn e nothing new = stays e (record { same_layout = refl; same_row = refl; may = λ n small w. (inr (at_own n w, inl refl), inr (at_own n w, inl refl)) }) (orderly-begun layout old old row which (λ n. Unmapped) refl none refl) in
-    let here : (n : ℕ) → which n ≡ true → (eqb p p && which n) ≡ true = λ n w. rw w (grind (arith, nat_tests)) in
-    let gone : (q n : ℕ) → n < 2 ^ 27 → row_of layout.ids q ≡ row → which n ≡ true → Unmapped ≡ walked n (after q n) =
-    λ q n small at w.
-    let one : translation layout (words_of new.memory.words) q n ≡ translation layout (words_of new.memory.words) p n = ap (λ r. walk layout (words_of new.memory.words) r n) (at ∙ is) in
-    let two : translation layout (words_of new.memory.words) p n ≡ Unmapped = walks p n small ∙ ap (λ b. cond b Unmapped (translation layout (words_of old.memory.words) p n)) (here n w) in
-    sym (one ∙ two) ∙ ends q n small in
-    moments-of layout old new before after row which (λ n. Unmapped) o starts ends gone (λ q n small at w steady. gone q n small at w ∙ ap (walked n) (sym steady.kept))

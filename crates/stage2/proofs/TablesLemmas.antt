@@ -48,12 +48,6 @@ pub rootless : (t : TablesView) (p n : ℕ) → has_root t p ≡ false → walk_
 unfolding walk_across
 rootless t p n none = rw none refl
 
-pub found-root : (ids : List ℕ) (p row : ℕ) → position (λ id. eqb id p) ids ≡ Some row → ltb (row_of ids p) (length ids) ≡ true
-found-root ids p row is = elim (cases_Bool (ltb (row_of ids p) (length ids))) [
-  | inl t ↦ t
-  | inr f ↦ let none : None ≡ Some row = rw f at is in absurd (cc)
-]
-
 pub found-none : (ids : List ℕ) (p : ℕ) → position (λ id. eqb id p) ids ≡ None → ltb (row_of ids p) (length ids) ≡ false
 found-none ids p is = elim (cases_Bool (ltb (row_of ids p) (length ids))) [
   | inl t ↦ let some : Some (row_of ids p) ≡ None = rw t at is in absurd (cc)
@@ -159,7 +153,7 @@ edited-rooted layout old new room left p row runs access is canonical edits stay
       walks = walks;
       moments = λ begun before starts free. moments-edited layout old new before p row runs access is starts begun free stays walks;
       in_step = subst (λ r. AreFree (λ n. true) runs access (answers layout (words_of old.memory.words) r)
-      → StaysInStep layout r (disturbed runs (answers layout (words_of old.memory.words) r) (edited runs access (answers layout (words_of old.memory.words) r))) (λ n. walked n (edited runs access (answers layout (words_of old.memory.words) r) n)) old new) is.is stays;
+          → StaysInStep layout r (disturbed runs (answers layout (words_of old.memory.words) r) (edited runs access (answers layout (words_of old.memory.words) r))) (λ n. walked n (edited runs access (answers layout (words_of old.memory.words) r) n)) old new) is.is stays;
       room = let root : has_root (view layout old room) p ≡ true = below-root layout.ids p row is in let most = row-operations runs in let all : room ≤ left + operations_for runs = omega (arith, most, enough) in rw root all;
     }
   where
@@ -179,7 +173,7 @@ edited-rootless t p runs access none out = record {
 pub cleared-in_step : (t : TablesView) (run : PageRun) (new : Pool) (left : ℕ) → new ≡ after_clear run t.pool → ClearsInStep run t (view t.layout new left)
 cleared-in_step t run new left is none e same o = record {
   orderly = rw is (orderly-clearing e (words_of t.pool.memory.words) t.pool.operations run o.orderly
-  (subst (λ (l : Layout). (row n : ℕ) → row < length l.ids → n < 2 ^ 27 → in_run run n ≡ true → walk l (words_of t.pool.memory.words) row n ≡ Unmapped) (sym same) none));
+      (subst (λ (l : Layout). (row n : ℕ) → row < length l.ids → n < 2 ^ 27 → in_run run n ≡ true → walk l (words_of t.pool.memory.words) row n ≡ Unmapped) (sym same) none));
   counted = counted-op e (Clear run) t.pool new (record { operations = ap (λ (x : Pool). x.operations) is; made = ap (λ (x : Pool). x.made) is }) o.counted;
 }
 

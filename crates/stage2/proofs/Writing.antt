@@ -33,21 +33,6 @@ writes-put k page word answer m new is e = record {
       ap (λ (x : Pages). x.words k i) e ∙ put-other m.words k (page % 512) word k i (λ _ index. let at : 512 * (page / 512) + i ≡ page = omega (arith, index) in let some : only page answer (512 * (page / 512) + i) ≡ Some answer = rw at (grind (arith, nat_tests)) in absurd (cc));
 }
 
--- it is there
-pub writes-there : (k page word : ℕ) (answer : View) (m : Pages) → IsWordFor page answer word → m.words k (page % 512) ≡ word → Writes k (page / 512) (only page answer) m m
-writes-there k page word answer m is there = record {
-  ids = refl;
-  quotas = refl;
-  taken = refl;
-  others = λ q i apart. refl;
-  here = λ i x small planned.
-      let f = only-at page (512 * (page / 512) + i) answer x planned in
-      let index : i ≡ page % 512 = omega (arith, f.0) in
-      let read : m.words k i ≡ word = ap (m.words k) index ∙ there in
-      rw (read, f.0, ← f.1) is;
-  stays = λ i small none. refl;
-}
-
 -- nothing yet
 pub writes-none : (k c : ℕ) (plan : ℕ → Option View) (m : Pages) → Writes k c (below (512 * c + 0) plan) m m
 writes-none k c plan m = record {

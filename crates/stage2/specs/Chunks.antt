@@ -1,5 +1,6 @@
 -- What the edit of a chunk asks, and what it makes of the tables.
-use Rattle.std.specs.Prelude.{◌≡◌, ◌≢◌, ℕ, ◌+◌, ◌*◌, ◌/◌, ◌^◌, ◌<◌, true, false, not, ◌&&◌, ◌==◌, if◌then◌else◌, nat_lt, Option, Some, None, is_none, length, List}
+use Rattle.std.specs.Prelude.{◌≡◌, ◌≢◌, ℕ, ◌+◌, ◌*◌, ◌/◌, ◌^◌, ◌<◌, Bool, nat_le, true, false, not, ◌&&◌, ◌==◌, if◌then◌else◌, nat_lt, Option, Some, None, is_none, length, List}
+use Rattle.std.specs.List.{list_any}
 use Rattle.words.specs.Words.{entry_of}
 use Rattle.stage2.specs.Change.{entry_for}
 use Rattle.base.specs.Pages.{PageRun, covers}
@@ -57,6 +58,10 @@ answers_at layout words entry n = answer_of (at_2 layout words n entry)
 pub record IsOutcome (c : ℕ) (answer : ℕ → View) (outcome : Option View) : Type 0 where
   pub same : (one : View) → outcome ≡ Some one → (n : ℕ) → n / 512 ≡ c → answer n ≡ one
   pub mixed : is_none outcome ≡ is_mixed answer c
+
+-- one of the runs has all pages of the chunk
+abbrev pub covers_chunk : ℕ → List PageRun → Bool
+covers_chunk c runs = list_any (λ run. nat_le run.first (512 * c) && nat_le (512 * c + 512) (run.first + run.count)) runs
 
 -- the pages of a chunk before the i-th answer as its first does
 pub record AreAlike (answer : ℕ → View) (c i : ℕ) : Type 0 where

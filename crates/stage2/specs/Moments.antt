@@ -182,10 +182,6 @@ Settles who which old new = (e : Edit) (due : ℕ → Bool) → row_of e.layout.
 abbrev pub StaysInStep : Layout → ℕ → (ℕ → Bool) → (ℕ → Walked) → Pool → Pool → Type 0
 StaysInStep layout row which answer old new = (e : Edit) → Allows e layout row which answer → IsInStepIn e nothing old → IsInStepIn e nothing new
 
--- the walks of these pages of the row give nothing
-abbrev pub AreUnmapped : Layout → ℕ → (ℕ → Bool) → Pool → Type 0
-AreUnmapped layout row which pool = (n : ℕ) → n < 2 ^ 27 → which n ≡ true → walk layout (words_of pool.memory.words) row n ≡ Unmapped
-
 -- ---- what walkers see of a whole call
 
 -- after these operations a walk of a page may give a partition this

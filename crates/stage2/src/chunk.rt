@@ -12,7 +12,7 @@ ghost use Rattle.base.specs.Need as needs;
 ghost use Rattle.base.specs.Access.{View};
 ghost use Rattle.pool.specs.Pool.{used_by, quota_of};
 ghost use Rattle.stage2.specs.Walk.{next_page};
-ghost use Rattle.stage2.specs.Chunks.{edited, answers_at, answers_in, planned, below, Writes, IsOutcome, block_answer, IsEntryFor, IsSite, IsGrowing, Redoes_in};
+ghost use Rattle.stage2.specs.Chunks.{edited, answers_at, answers_in, planned, below, Writes, IsOutcome, block_answer, covers_chunk, IsEntryFor, IsSite, IsGrowing, Redoes_in};
 ghost use Rattle.stage2.specs.Parts.{part_count};
 ghost use Rattle.stage2.specs.Moments.{StaysInStep, Clears};
 ghost use Rattle.stage2.specs.Steps.{IsSeated, AreFree, disturbs};
@@ -144,8 +144,38 @@ fn page_after<M: TableMem>(
     }
 }
 
+/// Whether one of the runs has all pages of a chunk.
+fn is_filled(runs: &[Run], chunk: u32) -> bool
+    requires { chunk < 262144 }
+    ensures { result ≡ covers_chunk chunk runs.now }
+{
+    runs.iter().any(|run| run.first().number() <= 512 * chunk && 512 * chunk + 512 <= run.end())
+}
+
 /// The one answer that all pages of a chunk have after the edit; none where they are not all alike.
 pub(crate) fn outcome<M: TableMem>(
+    memory: &M,
+    layout: &Layout,
+    entry: &Slot,
+    chunk: u32,
+    runs: &[Run],
+    access: &Option<Access>,
+) -> Option<Option<Access>>
+    requires pages { layout.now.pages ≡ page_count (M.state memory.now).memory.quotas }
+    requires table { (k : ℕ) → entry.now ≡ Next k → k < layout.now.pages }
+    requires chunk { chunk < 262144 }
+    ensures { IsOutcome chunk (edited runs.now access.now (answers_at layout.now (words_of (M.state memory.now).memory.words) entry.now)) result }
+{
+    if is_filled(runs, chunk) {
+        Some(*access)
+    } else {
+        compared(memory, layout, entry, chunk, runs, access)
+    }
+}
+
+/// The same, found by a look at the pages, one after another, up to the first that is reached
+/// otherwise than the chunk's first page.
+fn compared<M: TableMem>(
     memory: &M,
     layout: &Layout,
     entry: &Slot,

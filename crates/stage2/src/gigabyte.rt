@@ -21,6 +21,7 @@ use crate::chunk::{edit_chunk, table_of};
 use crate::edit::put_word;
 use crate::layout::Layout;
 use crate::read::read_slot;
+use crate::span::chunk_span;
 use crate::unmap::{end_chunk, first_chunk};
 use base::{Access, Page, PartitionId, Run};
 use pool::TableMem;
@@ -65,7 +66,8 @@ fn edit_chunks<M: TableMem>(
         → StaysInStep layout.now row (disturbed_below gigabyte 512 runs.now before (edited runs.now access.now before)) (λ n. walked n (edited runs.now access.now before n)) (M.state memory.old) (M.state memory.new) }
     ensures room { M.room memory.old ≤ M.room memory.new + sum_below (λ x. chunk_operations runs.now (512 * gigabyte + x)) 512 }
 {
-    for index in 0..512 {
+    let span = chunk_span(runs, gigabyte);
+    for index in span.first..span.end {
         let chunk = 512 * gigabyte + index;
         if touches(runs, chunk) {
             edit_chunk(memory, layout, p, row, second, chunk, runs, access);

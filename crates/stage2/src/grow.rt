@@ -17,6 +17,7 @@ use crate::gigabyte::{find_table, touches as touches_chunk};
 use crate::layout::Layout;
 use crate::read::read_slot;
 use crate::row::touches;
+use crate::span::{chunk_span, gigabyte_span};
 use crate::walked::Slot;
 use base::{Access, Run};
 use pool::TableMem;
@@ -99,8 +100,9 @@ fn grow_chunks<M: TableMem>(
         result ≡ count_below (λ x. grows_at before (edited runs.now access.now before) (512 * gigabyte + x)) 512 }
     ensures most { result ≤ 512 }
 {
+    let span = chunk_span(runs, gigabyte);
     let mut count = 0;
-    for index in 0..512 {
+    for index in span.first..span.end {
         if takes(memory, layout, row, second, gigabyte, index, runs, access) {
             count += 1;
         }
@@ -146,8 +148,9 @@ pub(crate) fn grow_row<M: TableMem>(
     ensures { let before = answers layout.now (pages_of (M.state memory.now).memory).words row in
         result ≡ grow before (edited runs.now access.now before) }
 {
+    let span = gigabyte_span(runs);
     let mut count = 0;
-    for gigabyte in 0..512 {
+    for gigabyte in span.first..span.end {
         if touches(runs, gigabyte) {
             count += grow_gigabyte(memory, layout, row, gigabyte, runs, access);
         }

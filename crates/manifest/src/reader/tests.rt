@@ -20,17 +20,25 @@ struct Parts {
     device: &'static str,
 }
 
-const FIRST: &str = "{ id = 0x8001, data = \"rw\", exec = true }";
+fn first_grant() -> &'static str {
+    "{ id = 0x8001, data = \"rw\", exec = true }"
+}
 
-const SECOND: &str = "{ id = 0x8002, data = \"ro\", exec = false }";
+fn second_grant() -> &'static str {
+    "{ id = 0x8002, data = \"ro\", exec = false }"
+}
 
-const SHARED: &str =
-    "{ id = 0x8001, data = \"rw\", exec = false }, { id = 0x8002, data = \"ro\", exec = false }";
+fn shared_grants() -> &'static str {
+    "{ id = 0x8001, data = \"rw\", exec = false }, { id = 0x8002, data = \"ro\", exec = false }"
+}
 
-const TWICE: &str =
-    "{ id = 0x8001, data = \"rw\", exec = false }, { id = 0x8001, data = \"ro\", exec = false }";
+fn doubled_grants() -> &'static str {
+    "{ id = 0x8001, data = \"rw\", exec = false }, { id = 0x8001, data = \"ro\", exec = false }"
+}
 
-const DATA: &str = "{ id = 0x8001, data = \"rw\", exec = false }";
+fn data_grant() -> &'static str {
+    "{ id = 0x8001, data = \"rw\", exec = false }"
+}
 
 fn common() -> Parts {
     Parts {
@@ -40,10 +48,10 @@ fn common() -> Parts {
         third: "0x8003",
         kind: "\"normal\"",
         owner: "0x8001",
-        first: FIRST,
+        first: first_grant(),
         pages: "2",
-        shared: SHARED,
-        device: DATA,
+        shared: shared_grants(),
+        device: data_grant(),
     }
 }
 
@@ -272,11 +280,11 @@ fn pages_in_two_places_are_fault_6(rt: HostRuntime) -> Result<(), Fail> {
 #[test]
 fn rules_of_grants_are_faults_7_to_9(rt: HostRuntime) -> Result<(), Fail> {
     let alloc = rt.alloc();
-    let first = SECOND;
+    let first = second_grant();
     expect_fault(&rt, alloc, &Parts { first, ..common() }, 7)?;
-    let shared = TWICE;
+    let shared = doubled_grants();
     expect_fault(&rt, alloc, &Parts { shared, ..common() }, 8)?;
-    let device = FIRST;
+    let device = first_grant();
     expect_fault(&rt, alloc, &Parts { device, ..common() }, 9)
 }
 
@@ -303,24 +311,62 @@ fn quota_below_the_need_is_fault_10(rt: HostRuntime) -> Result<(), Fail> {
     )
 }
 
+/// The common document with the faults from one number on, for 10 to 7.
+fn with_faults_of_rows(number: u8) -> Parts {
+    let quota = Parts {
+        quota: "5",
+        ..common()
+    };
+    let device = Parts {
+        device: first_grant(),
+        ..quota
+    };
+    let shared = Parts {
+        shared: doubled_grants(),
+        ..device
+    };
+    let first = Parts {
+        first: second_grant(),
+        ..shared
+    };
+    match number {
+        10 => quota,
+        9 => device,
+        8 => shared,
+        _ => first,
+    }
+}
+
 /// The common document with the faults from one number on.
-fn with_faults(from: u8) -> Parts {
-    let whole = common();
-    Parts {
-        top: if from <= 2 {
-            "version = 1\n"
-        } else {
-            whole.top
-        },
-        kind: if from <= 3 { "\"io\"" } else { whole.kind },
-        pages: if from <= 4 { "0" } else { whole.pages },
-        third: if from <= 5 { "0x8002" } else { whole.third },
-        pool: if from <= 6 { "0x80000000" } else { whole.pool },
-        first: if from <= 7 { SECOND } else { whole.first },
-        shared: if from <= 8 { TWICE } else { whole.shared },
-        device: if from <= 9 { FIRST } else { whole.device },
-        quota: if from <= 10 { "5" } else { whole.quota },
-        owner: whole.owner,
+fn with_faults(number: u8) -> Parts {
+    let first = with_faults_of_rows(number);
+    let pool = Parts {
+        pool: "0x80000000",
+        ..first
+    };
+    let third = Parts {
+        third: "0x8002",
+        ..pool
+    };
+    let pages = Parts {
+        pages: "0",
+        ..third
+    };
+    let kind = Parts {
+        kind: "\"io\"",
+        ..pages
+    };
+    let top = Parts {
+        top: "version = 1\n",
+        ..kind
+    };
+    match number {
+        2 => top,
+        3 => kind,
+        4 => pages,
+        5 => third,
+        6 => pool,
+        _ => first,
     }
 }
 
@@ -393,10 +439,10 @@ fn deep_and_long_input_is_fault_1(rt: HostRuntime) -> Result<(), Fail> {
 #[test]
 fn faults_say_where(rt: HostRuntime) -> Result<(), Fail> {
     let alloc = rt.alloc();
-    let device = FIRST;
+    let device = first_grant();
     let text = "region 7, grant 1: only normal memory is executable";
     expect_text(&rt, alloc, &Parts { device, ..common() }, text)?;
-    let shared = TWICE;
+    let shared = doubled_grants();
     let text = "region 6, grant 2: a second grant of one partition";
     expect_text(&rt, alloc, &Parts { shared, ..common() }, text)?;
     let text = "partition 1, quota: fewer table pages than the grants need";

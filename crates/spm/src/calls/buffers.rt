@@ -20,8 +20,10 @@ mod tests;
 
 /// The caller registers TX and RX at these addresses in bytes, with so many pages each.
 pub(crate) fn map(state: &State, call: &Call, tx: u64, rx: u64, pages: u32) -> Result<Change, Stop>
-    ensures granted { IfOk result (λ change. IsGranted state.now call.now.caller (rules.map_rule state.now call.now tx rx pages) false change) }
-    ensures stopped { IfErr result (λ stop. IsStopped (rules.map_rule state.now call.now tx rx pages) false stop) }
+    ensures granted { IfOk result (λ change. IsGranted state.now call.now.caller
+        (rules.map_rule state.now call.now tx rx pages) false change) }
+    ensures stopped { IfErr result (λ stop. IsStopped
+        (rules.map_rule state.now call.now tx rx pages) false stop) }
 {
     match check_map(state, call.partition(), tx, rx, pages) {
         Ok(pair) => Ok(Change::of_state(Update::MapBuffers(pair), Reply::success(0, 0))),
@@ -31,8 +33,10 @@ pub(crate) fn map(state: &State, call: &Call, tx: u64, rx: u64, pages: u32) -> R
 
 /// The tests of FFA_RXTX_MAP, in order. Gives the pair that the call names.
 fn check_map(state: &State, p: PartitionId, tx: u64, rx: u64, pages: u32) -> Result<Pair, Status>
-    ensures refused { IfErr result (λ status. first_refusal (rules.map_tests state.now p tx rx pages) ≡ Some status) }
-    ensures passed { IfOk result (λ pair. (first_refusal (rules.map_tests state.now p tx rx pages) ≡ None) × (pair ≡ pairs.named_pair tx rx pages)) }
+    ensures refused { IfErr result (λ status. first_refusal
+        (rules.map_tests state.now p tx rx pages) ≡ Some status) }
+    ensures passed { IfOk result (λ pair. (first_refusal (rules.map_tests state.now p tx rx pages)
+        ≡ None) × (pair ≡ pairs.named_pair tx rx pages)) }
 {
     let pair = state.pairs.check(p, tx, rx, pages)?;
     if !may_be_buffers(state, p, pair.tx) || !may_be_buffers(state, p, pair.rx) {
@@ -58,7 +62,7 @@ fn may_be_buffer(state: &State, p: PartitionId, page: Page) -> bool
     ensures { result ≡ rules.may_be_buffer state.now p page }
 {
     match state.free_home(p, page) {
-        Some(home) => matches!(home.rights(), Rights::Rw),
+        Some(home) => home.rights() == Rights::Rw,
         None => false,
     }
 }
@@ -75,8 +79,10 @@ pub(crate) fn register(state: &mut State, p: PartitionId, pair: Pair)
 
 /// The caller ends the registration of its pair, with this word in register 1.
 pub(crate) fn unmap(state: &State, call: &Call, word: u32) -> Result<Change, Stop>
-    ensures granted { IfOk result (λ change. IsGranted state.now call.now.caller (rules.unmap_rule state.now call.now word) false change) }
-    ensures stopped { IfErr result (λ stop. IsStopped (rules.unmap_rule state.now call.now word) false stop) }
+    ensures granted { IfOk result (λ change. IsGranted state.now call.now.caller
+        (rules.unmap_rule state.now call.now word) false change) }
+    ensures stopped { IfErr result (λ stop. IsStopped
+        (rules.unmap_rule state.now call.now word) false stop) }
 {
     if word == 0 && state.pairs.has_pair(call.partition()) {
         Ok(Change::of_state(Update::UnmapBuffers, Reply::success(0, 0)))
@@ -98,8 +104,10 @@ pub(crate) fn unregister(state: &mut State, p: PartitionId)
 
 /// The caller gives RX back.
 pub(crate) fn release_rx(state: &State, call: &Call) -> Result<Change, Stop>
-    ensures granted { IfOk result (λ change. IsGranted state.now call.now.caller (rules.release_rule state.now call.now) false change) }
-    ensures stopped { IfErr result (λ stop. IsStopped (rules.release_rule state.now call.now) false stop) }
+    ensures granted { IfOk result (λ change. IsGranted state.now call.now.caller
+        (rules.release_rule state.now call.now) false change) }
+    ensures stopped { IfErr result (λ stop. IsStopped
+        (rules.release_rule state.now call.now) false stop) }
 {
     if state.pairs.holds_rx(call.partition()) {
         Ok(Change::of_state(Update::ReleaseRx, Reply::success(0, 0)))

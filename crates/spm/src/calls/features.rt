@@ -11,8 +11,10 @@ use wire::{Reply, is_feature};
 
 /// The caller asks for the feature or the interface with this identifier.
 pub(crate) fn features(identifier: u32) -> Result<Change, Stop>
-    ensures granted { (s : spec.State) → (p : ℕ) → IfOk result (λ change. IsGranted s p (features_rule s identifier) false change) }
-    ensures stopped { (s : spec.State) → IfErr result (λ stop. IsStopped (features_rule s identifier) false stop) }
+    ensures granted { (s : spec.State) → (p : ℕ) → IfOk result
+        (λ change. IsGranted s p (features_rule s identifier) false change) }
+    ensures stopped { (s : spec.State) → IfErr result
+        (λ stop. IsStopped (features_rule s identifier) false stop) }
 {
     if is_feature(identifier) {
         Ok(Change::nothing(Reply::success(0, 0)))

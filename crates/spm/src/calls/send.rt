@@ -41,8 +41,10 @@ pub(crate) fn send(
     kind: Kind,
     transfer: Transfer,
 ) -> Result<Change, Stop>
-    ensures granted { IfOk result (λ change. IsGranted state.now call.now.caller (rules.send_rule state.now call.now kind transfer) true change) }
-    ensures stopped { IfErr result (λ stop. IsStopped (rules.send_rule state.now call.now kind transfer) true stop) }
+    ensures granted { IfOk result (λ change. IsGranted state.now call.now.caller
+        (rules.send_rule state.now call.now kind transfer) true change) }
+    ensures stopped { IfErr result (λ stop. IsStopped
+        (rules.send_rule state.now call.now kind transfer) true stop) }
 {
     match check(state, call, kind, transfer) {
         Ok(checked) => match change(state, call, kind, transfer, &checked) {
@@ -62,8 +64,10 @@ fn check<'a>(
     kind: Kind,
     transfer: Transfer,
 ) -> Result<Checked<'a>, Status>
-    ensures refused { IfErr result (λ status. first_refusal (rules.send_tests state.now call.now kind transfer) ≡ Some status) }
-    ensures passed { IfOk result (λ checked. IsChecked state.now call.now kind transfer checked.desc checked.home) }
+    ensures refused { IfErr result (λ status. first_refusal
+        (rules.send_tests state.now call.now kind transfer) ≡ Some status) }
+    ensures passed { IfOk result
+        (λ checked. IsChecked state.now call.now kind transfer checked.desc checked.home) }
 {
     let p = call.partition();
     if !state.pairs.has_pair(p) || !names_tx(transfer) || !has_lengths(state, call, transfer) {
@@ -223,7 +227,7 @@ fn cap_of(kind: Kind, home: Access, endpoint: &Endpoint) -> Rights
 fn is_within(cap: Rights, home: Rights) -> bool
     ensures { result ≡ rules.is_within cap home }
 {
-    matches!(cap, Rights::Ro) || matches!(home, Rights::Rw)
+    cap == Rights::Ro || home == Rights::Rw
 }
 
 /// Whether no receiver may retrieve more than the home.
@@ -263,7 +267,8 @@ fn change(
     checked: &Checked<'_>,
 ) -> Result<Change, OutOfMemory>
     requires { IsChecked state.now call.now kind transfer checked.now.desc checked.now.home }
-    ensures { IfOk result (λ change. IsGranted state.now call.now.caller (rules.send_rule state.now call.now kind transfer) true change) }
+    ensures { IfOk result (λ change. IsGranted state.now call.now.caller
+        (rules.send_rule state.now call.now kind transfer) true change) }
 {
     let p = call.partition();
     let transaction = transaction(state, p, kind, checked)?;
@@ -284,7 +289,8 @@ fn transaction(
     checked: &Checked<'_>,
 ) -> Result<Live, OutOfMemory>
     requires { spec.sends_of state.now.partitions p < 2 ^ 32 - 1 }
-    ensures opened { IfOk result (λ t. t ≡ rules.opened state.now p kind checked.now.desc checked.now.home) }
+    ensures opened { IfOk result (λ t. t
+        ≡ rules.opened state.now p kind checked.now.desc checked.now.home) }
     ensures at_most_512 { IfOk result (λ t. length t.ranges ≤ 512) }
 {
     let handle = next_handle(state, p);
@@ -316,7 +322,8 @@ fn receivers_of(
     home: Access,
     endpoints: &[Endpoint],
 ) -> Result<Vec<Receiver>, OutOfMemory>
-    ensures { IfOk result (λ receivers. receivers.items ≡ map (rules.receiver kind home) endpoints.now) }
+    ensures { IfOk result (λ receivers. receivers.items ≡ map
+        (rules.receiver kind home) endpoints.now) }
 {
     let receivers = endpoints
         .iter()

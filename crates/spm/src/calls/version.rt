@@ -21,7 +21,8 @@ const NOT_SUPPORTED: u32 = 0xffff_ffff;
 /// The caller names the version in this word. One that is not supported changes nothing.
 #[tactic(auto, unfolding(rules::specs::Calls::Version::is_version))]
 pub(crate) fn version(word: u32) -> Change
-    ensures { (s : spec.State) → (c : CallWords) → IsGranted s c.caller (rules.version_rule s c word) false result }
+    ensures { (s : spec.State) → (c : CallWords) → IsGranted s c.caller
+        (rules.version_rule s c word) false result }
 {
     let reply = if is_version(word) {
         VERSION_1_1

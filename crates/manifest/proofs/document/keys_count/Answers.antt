@@ -1,8 +1,8 @@
-use Rattle.std.proofs.Common.{◌≡◌, rules, sym, ◌∙◌, ap}
-use Rattle.toml.specs.Data.{Data, table}
+use Rattle.std.proofs.Common.{◌≡◌, sym, ◌∙◌, ap}
+use Rattle.toml.specs.Data.{table}
 use Rattle.toml.specs.View.{view, members_view}
 use Rattle.toml.proofs.Views.{view-Table}
-use Rattle.manifest.specs.Document.{keys_count, members_count}
+use Rattle.manifest.specs.Document.{keys_count}
 use Rattle.manifest.proofs.Rows.{members_count-view}
 use Rattle.manifest.proofs.document.keys_count.Goals as goal
 

@@ -1,4 +1,4 @@
-use Rattle.std.proofs.Common.{◌≡◌, ◌%◌, Bool, true, false, not, ◌&&◌, ◌==◌, ap, ap₂, sym, ◌∙◌, arith}
+use Rattle.std.proofs.Common.{◌≡◌, ◌%◌, true, false, not, ◌==◌, ap, ap₂, ◌∙◌, arith}
 use Rattle.std.proofs.lemmas.Bool.Decides.{nat_tests}
 use Rattle.base.specs.Need.{is_alike}
 use Rattle.manifest.specs.Boundaries.{is_boundary}

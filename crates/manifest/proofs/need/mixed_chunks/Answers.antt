@@ -1,9 +1,8 @@
-use Rattle.std.proofs.Common.{◌≡◌, ◌+◌, ◌≤◌, ◌<◌, length, get_or, arith, sym, ◌∙◌, ap, ap₂, subst}
-use Rattle.base.specs.Counts.{count_below}
+use Rattle.std.proofs.Common.{◌∙◌, ap}
 use Rattle.base.specs.Need as tables
 use Rattle.manifest.specs.Valid.{granted_by}
-use Rattle.manifest.specs.Boundaries.{Tally, passed}
-use Rattle.manifest.proofs.Needs.{MixedUpTo, MayPass, mixed_up_to-start, mixed_up_to-next, mixed_up_to-end, may_pass-first, may_pass-end, rest_at, run_of-region, count-le}
+use Rattle.manifest.specs.Boundaries.{Tally}
+use Rattle.manifest.proofs.Needs.{mixed_up_to-start, mixed_up_to-next, mixed_up_to-end, may_pass-first, may_pass-end, rest_at, run_of-region, count-le}
 use Rattle.manifest.proofs.need.mixed_chunks.Goals as goal
 
 pub loop-region-init : goal.loop-region-init

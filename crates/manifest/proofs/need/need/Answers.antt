@@ -1,4 +1,4 @@
-use Rattle.std.proofs.Common.{◌≡◌, ◌+◌, ap₂}
+use Rattle.std.proofs.Common.{◌+◌, ap₂}
 use Rattle.base.specs.Need.{need}
 use Rattle.manifest.proofs.need.need.Goals as goal
 

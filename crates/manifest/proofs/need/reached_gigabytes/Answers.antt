@@ -1,10 +1,9 @@
-use Rattle.std.proofs.Common.{◌≡◌, ◌+◌, ◌≤◌, ◌<◌, length, get_or, is_some, arith, sym, ◌∙◌, ap}
-use Rattle.base.specs.Counts.{count_below}
+use Rattle.std.proofs.Common.{is_some, sym, ◌∙◌, ap}
 use Rattle.base.specs.Need as tables
 use Rattle.base.specs.Access.{View}
 use Rattle.manifest.specs.Valid.{granted_by}
-use Rattle.manifest.specs.Boundaries.{Tally, added}
-use Rattle.manifest.proofs.Needs.{ReachedUpTo, MayAdd, reached_up_to-start, reached_up_to-some, reached_up_to-none, reached_up_to-end, may_add, rest_at, run_of-region, count-le}
+use Rattle.manifest.specs.Boundaries.{Tally}
+use Rattle.manifest.proofs.Needs.{reached_up_to-start, reached_up_to-some, reached_up_to-none, reached_up_to-end, may_add, rest_at, run_of-region, count-le}
 use Rattle.manifest.proofs.need.reached_gigabytes.Goals.{then-is_some, else-is_some}
 use Rattle.manifest.proofs.need.reached_gigabytes.Goals as goal
 

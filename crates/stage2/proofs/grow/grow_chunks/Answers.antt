@@ -1,18 +1,26 @@
-use Rattle.std.proofs.Common.{◌≡◌, ℕ, ◌+◌, ◌*◌, ◌^◌, ◌≤◌, ◌<◌, Bool, true, false, cond, sym, ap, ◌∙◌, arith}
+use Rattle.std.proofs.Common.{◌≡◌, ℕ, ◌+◌, ◌*◌, ◌^◌, ◌≤◌, ◌<◌, Bool, true, false, cond, inl, inr, sym, ◌∙◌, arith}
 use Rattle.pool.specs.Pool.{pages_of}
 use Rattle.base.specs.Counts.{count_below}
-use Rattle.pool.proofs.Count.{count_below-more, count_below-le}
+use Rattle.pool.proofs.Count.{count_below-none, count_below-tail, count_below-more, count_below-le}
 use Rattle.stage2.specs.Orderly.{answers}
 use Rattle.stage2.specs.Chunks.{edited}
 use Rattle.stage2.specs.Gigabytes.{grows_at}
-use Rattle.stage2.proofs.Growing.{count_below-zero}
+use Rattle.stage2.proofs.Growing.{grows-nothing}
+use Rattle.stage2.proofs.RunSpans.{outside-chunks}
+use Rattle.stage2.proofs.Underway.{untouched}
 use Rattle.stage2.proofs.grow.grow_chunks.Goals as goal
 use Rattle.stage2.proofs.grow.grow_chunks.Goals.{then-takes, else-takes}
 
 pub loop-index-init : goal.loop-index-init
 loop-index-init g c =
     let v = answers c.args.layout.now (pages_of (g.M.TableMem.state c.args.memory.now).memory).words c.args.row in
-    record { counted = sym (count_below-zero (λ x. grows_at v (edited c.args.runs.now c.args.access.now v) (512 * c.args.gigabyte + x))) }
+    let first = c.chunk_span-span.result.first in
+    let most = c.chunk_span-span.ensures.most in
+    let ordered = c.chunk_span-span.ensures.ordered in
+    record {
+      counted = sym (count_below-none (λ x. grows_at v (edited c.args.runs.now c.args.access.now v) (512 * c.args.gigabyte + x)) first (λ x lt. grows-nothing c.args.runs.now c.args.access.now v (512 * c.args.gigabyte + x)
+          (λ n at. untouched (512 * c.args.gigabyte + x) c.args.runs.now n (outside-chunks c.args.runs.now c.args.gigabyte first c.chunk_span-span.result.end x c.chunk_span-span.ensures.within (omega (arith, lt, most, ordered)) (inl lt)) at)));
+    }
 
 pub overflow_add-count : goal.overflow_add-count
 overflow_add-count g c =
@@ -20,7 +28,7 @@ overflow_add-count g c =
     let f : ℕ → Bool = λ x. grows_at v (edited c.args.runs.now c.args.access.now v) (512 * c.args.gigabyte + x) in
     let most = count_below-le f c.loop-index.index in
     let is : c.loop-index.count ≡ count_below f c.loop-index.index = c.loop-index.invariant.counted in
-    let lt : c.loop-index.count + 1 < 2 ^ 32 = small c.loop-index.count (count_below f c.loop-index.index) c.loop-index.index is most c.loop-index-test.true in
+    let lt : c.loop-index.count + 1 < 2 ^ 32 = small c.loop-index.count (count_below f c.loop-index.index) c.loop-index.index is most (omega (arith, c.loop-index-test.true, c.chunk_span-span.ensures.most)) in
     omega (arith, lt)
   where
     small : (count below i : ℕ) → count ≡ below → below ≤ i → i < 512 → count + 1 < 2 ^ 32
@@ -52,8 +60,11 @@ pub returns-clause-same : goal.returns-clause-same
 returns-clause-same g c =
     let v = answers c.args.layout.now (pages_of (g.M.TableMem.state c.args.memory.now).memory).words c.args.row in
     let f : ℕ → Bool = λ x. grows_at v (edited c.args.runs.now c.args.access.now v) (512 * c.args.gigabyte + x) in
-    let end : c.loop-index.index ≡ 512 = omega (arith, c.loop-index-test.false, c.loop-index.auto.index-end) in
-    c.loop-index.invariant.counted ∙ ap (count_below f) end
+    let most = c.chunk_span-span.ensures.most in
+    let end = c.loop-index-test.false in
+    let last : c.loop-index.index ≤ c.chunk_span-span.result.end = c.loop-index.auto.index-end c.chunk_span-span.ensures.ordered in
+    c.loop-index.invariant.counted ∙ sym (count_below-tail f c.loop-index.index 512 (omega (arith, most, last)) (λ x from small. grows-nothing c.args.runs.now c.args.access.now v (512 * c.args.gigabyte + x)
+    (λ n at. untouched (512 * c.args.gigabyte + x) c.args.runs.now n (outside-chunks c.args.runs.now c.args.gigabyte c.chunk_span-span.result.first c.chunk_span-span.result.end x c.chunk_span-span.ensures.within small (inr (omega (arith, from, end)))) at)))
 
 pub returns-clause-most : goal.returns-clause-most
 returns-clause-most g c =
@@ -61,7 +72,7 @@ returns-clause-most g c =
     let f : ℕ → Bool = λ x. grows_at v (edited c.args.runs.now c.args.access.now v) (512 * c.args.gigabyte + x) in
     let most = count_below-le f c.loop-index.index in
     let is : c.loop-index.count ≡ count_below f c.loop-index.index = c.loop-index.invariant.counted in
-    small c.loop-index.count (count_below f c.loop-index.index) c.loop-index.index is most c.loop-index.auto.index-end
+    small c.loop-index.count (count_below f c.loop-index.index) c.loop-index.index is most (let m = c.chunk_span-span.ensures.most in let last : c.loop-index.index ≤ c.chunk_span-span.result.end = c.loop-index.auto.index-end c.chunk_span-span.ensures.ordered in omega (arith, m, last))
   where
     small : (count below i : ℕ) → count ≡ below → below ≤ i → i ≤ 512 → count ≤ 512
     small count below i a b c = omega arith

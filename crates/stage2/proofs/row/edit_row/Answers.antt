@@ -1,25 +1,28 @@
-use Rattle.std.proofs.Common.{◌≡◌, ℕ, ◌+◌, ◌≤◌, arith}
+use Rattle.std.proofs.Common.{◌≡◌, ℕ, ◌+◌, ◌-◌, ◌≤◌, subst, inl, inr, arith}
 use Rattle.pool.specs.Pool.{pages_of}
 use Rattle.base.specs.Access.{View}
 use Rattle.stage2.specs.Orderly.{answers}
 use Rattle.stage2.specs.Chunks.{edited}
-use Rattle.stage2.proofs.Crossing.{cross-edit, cross-free, cross-skip, cross-all}
+use Rattle.stage2.proofs.Crossing.{disturbed_before, cross-edit, cross-free, cross-skip, cross-all}
 use Rattle.stage2.specs.Gigabytes.{sum_below, gigabyte_operations}
 use Rattle.stage2.proofs.Underway.{sum_below-more, sum_below-up}
-use Rattle.stage2.proofs.Rowing.{past-fits, past-skip, past-edit}
+use Rattle.stage2.proofs.Rowing.{past-none, past-fits, past-skip, past-edit, past-all}
+use Rattle.stage2.proofs.RunSpans.{AreUncovered, PastAt, past-gap, cross-gap, outside-gigabytes}
+use Rattle.stage2.proofs.Clearing.{stays-none}
+use Rattle.stage2.specs.Walk.{walked}
 use Rattle.stage2.proofs.row.edit_row.Goals as goal
 use Rattle.stage2.proofs.row.edit_row.Goals.{then-touches, else-touches}
 
 pub edit_gigabyte-requires-clause-free : goal.edit_gigabyte-requires-clause-free
 edit_gigabyte-requires-clause-free g c =
     past-fits c.args.layout.now c.args.row c.args.runs.now c.args.access.now (pages_of (g.M.TableMem.state c.args.memory.now).memory) c.requires.partition
-    c.loop-gigabyte.gigabyte c.loop-gigabyte-test.true (pages_of (g.M.TableMem.state c.loop-gigabyte.memory).memory) c.loop-gigabyte.invariant.past c.requires.canonical c.requires.free
+    c.loop-gigabyte.gigabyte (omega (arith, c.loop-gigabyte-test.true, c.gigabyte_span-span.ensures.most)) (pages_of (g.M.TableMem.state c.loop-gigabyte.memory).memory) c.loop-gigabyte.invariant.past c.requires.canonical c.requires.free
 
 pub edit_gigabyte-requires-clause-room : goal.edit_gigabyte-requires-clause-room
 edit_gigabyte-requires-clause-room g c =
     let f : ℕ → ℕ = gigabyte_operations c.args.runs.now in
     let more = sum_below-more f c.loop-gigabyte.gigabyte in
-    let up = sum_below-up f (c.loop-gigabyte.gigabyte + 1) 512 (omega (arith, c.loop-gigabyte-test.true)) in
+    let up = sum_below-up f (c.loop-gigabyte.gigabyte + 1) 512 (omega (arith, c.loop-gigabyte-test.true, c.gigabyte_span-span.ensures.most)) in
     let room : g.M.TableMem.room c.args.memory.now ≤ g.M.TableMem.room c.loop-gigabyte.memory + sum_below f c.loop-gigabyte.gigabyte = c.loop-gigabyte.invariant.room in
     let all : sum_below f 512 ≤ g.M.TableMem.room c.args.memory.now = c.requires.room in
     enough (g.M.TableMem.room c.args.memory.now) (g.M.TableMem.room c.loop-gigabyte.memory) (f c.loop-gigabyte.gigabyte) (sum_below f c.loop-gigabyte.gigabyte) (sum_below f (c.loop-gigabyte.gigabyte + 1)) (sum_below f 512) more up room all
@@ -39,15 +42,15 @@ loop-gigabyte-preserved g c =
     let r1 = g.M.TableMem.room c.loop-gigabyte.memory in
     elim c.if-touches.branch [
       | then-touches w ↦ rw w.memory-is (record {
-        past = past-edit c.args.layout.now c.args.row c.args.runs.now c.args.access.now old c.requires.partition i c.loop-gigabyte-test.true mid c.loop-gigabyte.invariant.past
+        past = past-edit c.args.layout.now c.args.row c.args.runs.now c.args.access.now old c.requires.partition i (omega (arith, c.loop-gigabyte-test.true, c.gigabyte_span-span.ensures.most)) mid c.loop-gigabyte.invariant.past
             (pages_of (g.M.TableMem.state w.edit_gigabyte.new.memory).memory) w.edit_gigabyte.ensures.edits;
-        in_step = λ free. cross-edit c.args.layout.now c.args.row c.args.runs.now c.args.access.now old c.requires.partition i c.loop-gigabyte-test.true mid c.loop-gigabyte.invariant.past
+        in_step = λ free. cross-edit c.args.layout.now c.args.row c.args.runs.now c.args.access.now old c.requires.partition i (omega (arith, c.loop-gigabyte-test.true, c.gigabyte_span-span.ensures.most)) mid c.loop-gigabyte.invariant.past
             (g.M.TableMem.state c.args.memory.now) (g.M.TableMem.state c.loop-gigabyte.memory) (g.M.TableMem.state w.edit_gigabyte.new.memory) (c.loop-gigabyte.invariant.in_step free)
-            (w.edit_gigabyte.ensures.in_step (cross-free c.args.layout.now c.args.row c.args.runs.now c.args.access.now old c.requires.partition i c.loop-gigabyte-test.true mid c.loop-gigabyte.invariant.past free));
+            (w.edit_gigabyte.ensures.in_step (cross-free c.args.layout.now c.args.row c.args.runs.now c.args.access.now old c.requires.partition i (omega (arith, c.loop-gigabyte-test.true, c.gigabyte_span-span.ensures.most)) mid c.loop-gigabyte.invariant.past free));
         room = less r0 r1 (g.M.TableMem.room w.edit_gigabyte.new.memory) (f i) (sum_below f i) (sum_below f (i + 1)) more c.loop-gigabyte.invariant.room w.edit_gigabyte.ensures.room;
       })
       | else-touches w ↦ rw w.memory-is (record {
-        past = past-skip c.args.layout.now c.args.row c.args.runs.now c.args.access.now old c.requires.partition i c.loop-gigabyte-test.true mid c.loop-gigabyte.invariant.past
+        past = past-skip c.args.layout.now c.args.row c.args.runs.now c.args.access.now old c.requires.partition i (omega (arith, c.loop-gigabyte-test.true, c.gigabyte_span-span.ensures.most)) mid c.loop-gigabyte.invariant.past
             (c.touches.ensures.no w.if-touches.false);
         in_step = λ free. cross-skip c.args.layout.now c.args.row i c.args.runs.now (answers c.args.layout.now old.words c.args.row) (edited c.args.runs.now c.args.access.now (answers c.args.layout.now old.words c.args.row))
             (g.M.TableMem.state c.args.memory.now) (g.M.TableMem.state c.loop-gigabyte.memory) (c.loop-gigabyte.invariant.in_step free);
@@ -61,8 +64,58 @@ loop-gigabyte-preserved g c =
     same : (r0 r before next : ℕ) → before ≤ next → r0 ≤ r + before → r0 ≤ r + next
     same r0 r before next a b = omega arith
 
+pub loop-gigabyte-init : goal.loop-gigabyte-init
+loop-gigabyte-init g c =
+    let old = pages_of (g.M.TableMem.state c.args.memory.now).memory in
+    let state = g.M.TableMem.state c.args.memory.now in
+    let first = c.gigabyte_span-span.result.first in
+    let v : ℕ → View = answers c.args.layout.now old.words c.args.row in
+    let w : ℕ → View = edited c.args.runs.now c.args.access.now v in
+    let most = c.gigabyte_span-span.ensures.most in
+    let ordered = c.gigabyte_span-span.ensures.ordered in
+    let none : AreUncovered c.args.layout.now c.args.row c.args.runs.now c.args.access.now old old c.requires.partition 0 first =
+    λ n from to. outside-gigabytes c.args.runs.now first c.gigabyte_span-span.result.end n c.gigabyte_span-span.ensures.within (inl (omega (arith, to))) in
+    let start = past-none c.args.layout.now c.args.row c.args.runs.now c.args.access.now old c.requires.partition c.requires.canonical in
+    let e : 0 + first ≡ first = omega arith in
+    record {
+      past = subst (PastAt c.args.layout.now c.args.row c.args.runs.now c.args.access.now old old c.requires.partition) e (past-gap c.args.layout.now c.args.row c.args.runs.now c.args.access.now old old c.requires.partition first 0 (omega (arith, most, ordered)) none start);
+      in_step = λ free. stays-none c.args.layout.now c.args.row (disturbed_before first c.args.runs.now v w) (λ n. walked n (w n)) state;
+      room = omega arith;
+    }
+
+pub returns-clause-edits : goal.returns-clause-edits
+returns-clause-edits g c =
+    let old = pages_of (g.M.TableMem.state c.args.memory.now).memory in
+    let new = pages_of (g.M.TableMem.state c.loop-gigabyte.memory).memory in
+    let i = c.loop-gigabyte.gigabyte in
+    let most = c.gigabyte_span-span.ensures.most in
+    let end = c.loop-gigabyte-test.false in
+    let last : i ≤ c.gigabyte_span-span.result.end = c.loop-gigabyte.auto.gigabyte-end c.gigabyte_span-span.ensures.ordered in
+    let none : AreUncovered c.args.layout.now c.args.row c.args.runs.now c.args.access.now old new c.requires.partition i (512 - i) =
+    λ n from to. outside-gigabytes c.args.runs.now c.gigabyte_span-span.result.first c.gigabyte_span-span.result.end n c.gigabyte_span-span.ensures.within (inr (omega (arith, from, end))) in
+    let e : i + (512 - i) ≡ 512 = omega (arith, most, last) in
+    past-all c.args.layout.now c.args.row c.args.runs.now c.args.access.now old c.requires.partition new (subst (PastAt c.args.layout.now c.args.row c.args.runs.now c.args.access.now old new c.requires.partition) e
+    (past-gap c.args.layout.now c.args.row c.args.runs.now c.args.access.now old new c.requires.partition (512 - i) i (omega (arith, most, last)) none c.loop-gigabyte.invariant.past))
+
 pub returns-clause-in_step : goal.returns-clause-in_step
 returns-clause-in_step g c = λ free.
-    let v : ℕ → View = answers c.args.layout.now (pages_of (g.M.TableMem.state c.args.memory.now).memory).words c.args.row in
-    cross-all c.args.layout.now c.args.row c.loop-gigabyte.gigabyte c.args.runs.now v (edited c.args.runs.now c.args.access.now v) (g.M.TableMem.state c.args.memory.now) (g.M.TableMem.state c.loop-gigabyte.memory)
-    (omega (arith, c.loop-gigabyte-test.false, c.loop-gigabyte.auto.gigabyte-end)) (c.loop-gigabyte.invariant.in_step free)
+    let a = g.M.TableMem.state c.args.memory.now in
+    let b = g.M.TableMem.state c.loop-gigabyte.memory in
+    let v : ℕ → View = answers c.args.layout.now (pages_of a.memory).words c.args.row in
+    let w : ℕ → View = edited c.args.runs.now c.args.access.now v in
+    let i = c.loop-gigabyte.gigabyte in
+    let most = c.gigabyte_span-span.ensures.most in
+    let last : i ≤ c.gigabyte_span-span.result.end = c.loop-gigabyte.auto.gigabyte-end c.gigabyte_span-span.ensures.ordered in
+    cross-all c.args.layout.now c.args.row (i + (512 - i)) c.args.runs.now v w a b (omega (arith, most, last))
+    (cross-gap c.args.layout.now c.args.row c.args.runs.now v w a b (512 - i) i (c.loop-gigabyte.invariant.in_step free))
+
+pub returns-clause-room : goal.returns-clause-room
+returns-clause-room g c =
+    let f : ℕ → ℕ = gigabyte_operations c.args.runs.now in
+    let most = c.gigabyte_span-span.ensures.most in
+    let last : c.loop-gigabyte.gigabyte ≤ c.gigabyte_span-span.result.end = c.loop-gigabyte.auto.gigabyte-end c.gigabyte_span-span.ensures.ordered in
+    let up = sum_below-up f c.loop-gigabyte.gigabyte 512 (omega (arith, most, last)) in
+    all (g.M.TableMem.room c.args.memory.now) (g.M.TableMem.room c.loop-gigabyte.memory) (sum_below f c.loop-gigabyte.gigabyte) (sum_below f 512) c.loop-gigabyte.invariant.room up
+  where
+    all : (a b x y : ℕ) → a ≤ b + x → x ≤ y → a ≤ b + y
+    all a b x y le up = omega arith

@@ -1,7 +1,6 @@
-use Rattle.std.proofs.Common.{◌≡◌, rules, sym, ap, subst, List, IsPermutation}
+use Rattle.std.proofs.Common.{◌≡◌, rules, ap, subst, List, IsPermutation}
 use Rattle.std.proofs.lemmas.List.Sorted.{IsNonDecreasingBy-from_sort_by_key}
 use Rattle.base.specs.Manifest.{PartitionRow, RegionRow, ManifestRows}
-use Rattle.manifest.specs.Document.{IsInOrder}
 use Rattle.manifest.proofs.draft.Draft.in_order.Goals as goal
 
 pub returns : goal.returns

@@ -1,7 +1,7 @@
-use Rattle.std.proofs.Common.{◌≡◌, true, List, ap, sym, ◌∙◌, subst}
+use Rattle.std.proofs.Common.{◌≡◌, true, ap}
 use Rattle.std.specs.List.{list_all}
-use Rattle.base.specs.Manifest.{RegionRow, ManifestRows}
-use Rattle.manifest.specs.Valid.{is_region, is_region_row, grants_owner, are_distinct, executes_normal}
+use Rattle.base.specs.Manifest.{ManifestRows}
+use Rattle.manifest.specs.Valid.{is_region_row, grants_owner, are_distinct, executes_normal}
 use Rattle.manifest.proofs.Legal.{regions_are_legal, region_limits}
 use Rattle.manifest.proofs.manifest.Manifest.new.Goals as goal
 

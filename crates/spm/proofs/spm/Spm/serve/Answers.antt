@@ -1,7 +1,7 @@
-use Rattle.std.proofs.Common.{◌≡◌, sym, ap, subst, ◌∙◌}
+use Rattle.std.proofs.Common.{refl, sym, ap, subst, ◌∙◌}
 use Rattle.base.specs.Manifest.{is_partition}
 use Rattle.rules.specs.Run.{answer, step}
-use Rattle.spm.specs.Machine.{Machine, MayNeedMemory, ShowsCall}
+use Rattle.spm.specs.Machine.{Machine, WalksAgree, MayNeedMemory}
 use Rattle.spm.proofs.ConsistencyLemmas.{refused_answer, refused_step, may_need}
 use Rattle.spm.proofs.ShownLemmas.{same-shown}
 use Rattle.spm.proofs.spm.Spm.serve.Goals as goal
@@ -12,7 +12,7 @@ returns-in-Err-Refused-clause-reply g c =
     let call = c.args.call.now in
     let r = c.args.request in
     let known = ap (λ (m : Machine). is_partition m.state.manifest call.caller) c.self.view_is ∙ c.requires.known in
-    c.error.ensures ∙ sym (refused_answer s call r known c.requires.request_decoded _ c.in-Err-Refused.ensures.stopped) ∙ ap (λ (m : Machine). answer m.state call) c.self.view_is
+    c.error.ensures ∙ sym (refused_answer s call r known c.requires.request_decoded c.in-Err-Refused.status (rw c.in-Err-Refused.field-0-is at c.in-Err-Refused.ensures.stopped)) ∙ ap (λ (m : Machine). answer m.state call) c.self.view_is
 
 pub returns-in-Err-Refused-clause-state : goal.returns-in-Err-Refused-clause-state
 returns-in-Err-Refused-clause-state g c =
@@ -20,15 +20,12 @@ returns-in-Err-Refused-clause-state g c =
     let call = c.args.call.now in
     let r = c.args.request in
     let known = ap (λ (m : Machine). is_partition m.state.manifest call.caller) c.self.view_is ∙ c.requires.known in
-    sym (refused_step s call r known c.requires.request_decoded _ c.in-Err-Refused.ensures.stopped) ∙ ap (λ (m : Machine). step m.state call) c.self.view_is
+    ap (λ (m : Machine). m.state) (sym c.self.view_is) ∙ sym (refused_step s call r known c.requires.request_decoded c.in-Err-Refused.status (rw c.in-Err-Refused.field-0-is at c.in-Err-Refused.ensures.stopped)) ∙ ap (λ (m : Machine). step m.state call) c.self.view_is
 
 pub returns-in-Err-Refused-clause-moments : goal.returns-in-Err-Refused-clause-moments
 returns-in-Err-Refused-clause-moments g c =
-    let s = c.self.inside.state in
-    let call = c.args.call.now in
-    let r = c.args.request in
-    let known = ap (λ (m : Machine). is_partition m.state.manifest call.caller) c.self.view_is ∙ c.requires.known in
-    ?
+    let now = c.args.self.now in
+    same-shown now now (subst (λ (m : Machine). WalksAgree m.state m.pool) c.self.view_is c.self.invariant.agrees) c.requires.begun refl
 
 pub returns-in-Err-NoMemory-clause-only_sends_need_memory : goal.returns-in-Err-NoMemory-clause-only_sends_need_memory
 returns-in-Err-NoMemory-clause-only_sends_need_memory g c =
@@ -36,14 +33,10 @@ returns-in-Err-NoMemory-clause-only_sends_need_memory g c =
     let call = c.args.call.now in
     let r = c.args.request in
     let known = ap (λ (m : Machine). is_partition m.state.manifest call.caller) c.self.view_is ∙ c.requires.known in
-    let stopped = c.in-Err-NoMemory.ensures.stopped in
+    let stopped = rw c.in-Err-NoMemory.field-0-is at c.in-Err-NoMemory.ensures.stopped in
     subst (λ (m : Machine). MayNeedMemory m.state call) c.self.view_is (may_need s call r known c.requires.request_decoded stopped.0 stopped.1)
 
 pub returns-in-Err-NoMemory-clause-moments : goal.returns-in-Err-NoMemory-clause-moments
 returns-in-Err-NoMemory-clause-moments g c =
-    let s = c.self.inside.state in
-    let call = c.args.call.now in
-    let r = c.args.request in
-    let known = ap (λ (m : Machine). is_partition m.state.manifest call.caller) c.self.view_is ∙ c.requires.known in
-    ?
-
+    let now = c.args.self.now in
+    same-shown now now (subst (λ (m : Machine). WalksAgree m.state m.pool) c.self.view_is c.self.invariant.agrees) c.requires.begun refl

@@ -1,0 +1,53 @@
+//! Where runs begin and end, in gigabytes and in the chunks of one: an edit looks at no others.
+
+ghost use Rattle.std.specs.Prelude.{◌≡◌, ℕ, ◌+◌, ◌*◌, ◌/◌, ◌<◌, ◌≤◌, true};
+ghost use Rattle.base.specs.Pages.{covers};
+ghost use Rattle.stage2.specs.Gigabytes.{touches_chunk};
+
+use crate::unmap::{end_chunk, first_chunk};
+use base::Run;
+
+/// Places from one up to another.
+#[derive(Clone, Copy)]
+pub(crate) struct Span {
+    pub first: u32,
+    pub end: u32,
+}
+
+/// The gigabytes from the first that the runs touch to the last.
+pub(crate) fn gigabyte_span(runs: &[Run]) -> Span
+    ensures ordered { result.first ≤ result.end }
+    ensures most { result.end ≤ 512 }
+    ensures within { (n : ℕ) → covers runs.now n ≡ true → (result.first ≤ n / 512 / 512) × (n / 512 / 512 < result.end) }
+{
+    let mut first = 512;
+    let mut end = 0;
+    for run in runs {
+        first = first.min(first_chunk(*run) / 512);
+        end = end.max((end_chunk(*run) + 511) / 512);
+    }
+    Span {
+        first: first.min(end),
+        end,
+    }
+}
+
+/// The chunks of a gigabyte, counted from its first, from the first that the runs touch to the last.
+pub(crate) fn chunk_span(runs: &[Run], gigabyte: u32) -> Span
+    requires { gigabyte < 512 }
+    ensures ordered { result.first ≤ result.end }
+    ensures most { result.end ≤ 512 }
+    ensures within { (x : ℕ) → x < 512 → touches_chunk (512 * gigabyte + x) runs.now ≡ true → (result.first ≤ x) × (x < result.end) }
+{
+    let start = 512 * gigabyte;
+    let mut first = 512;
+    let mut end = 0;
+    for run in runs {
+        first = first.min(first_chunk(*run).max(start) - start);
+        end = end.max(end_chunk(*run).clamp(start, start + 512) - start);
+    }
+    Span {
+        first: first.min(end),
+        end,
+    }
+}
