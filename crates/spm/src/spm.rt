@@ -1,9 +1,9 @@
 //! The manager: the state, and the translation tables that agree with it.
 
-ghost use Rattle.std.specs.Prelude.{◌≡◌, Some, None, [], IfOk, OnOk, OnErr, IsSome, true};
+ghost use Rattle.std.specs.Prelude.{◌≡◌, Some, None, [], reverse, IfOk, OnOk, OnErr, IsSome, true};
 ghost use Rattle.base.specs.Manifest as rows;
 ghost use Rattle.base.specs.State as state;
-ghost use Rattle.pool.specs.Pool.{words_of, emptied};
+ghost use Rattle.pool.specs.Pool.{words_of, emptied, image_of};
 ghost use Rattle.stage2.specs.Slot.{layout_of};
 ghost use Rattle.stage2.specs.Walk.{translation, walked};
 ghost use Rattle.wire.specs.Requests.{request_of};
@@ -20,7 +20,7 @@ use crate::ledger::Ledger;
 use crate::state::State;
 use base::{Access, OutOfMemory, Page, PartitionId, Status, Version};
 use manifest::Manifest;
-use pool::TableMem;
+use pool::{Image, Op, TableMem};
 use stage2::Tables;
 use std::alloc::Global;
 use std::marker::Model;
@@ -111,6 +111,27 @@ impl<M: TableMem + Drop> Spm<M> {
         ensures once { IsOwnedOnce self.now.state }
     {
         &self.state.ledger
+    }
+
+    /// The operations on the tables during the last call, in order: none after boot and after a refusal.
+    pub fn last_ops(&self) -> &[Op]
+        ensures { result.now ≡ reverse self.now.pool.operations }
+    {
+        self.tables.memory().ops()
+    }
+
+    /// How many operations were made on the table memory, those of boot included, modulo 2^64.
+    pub fn made(&self) -> u64
+        ensures { result ≡ self.now.pool.made }
+    {
+        self.tables.memory().made()
+    }
+
+    /// A copy of the words of all tables.
+    pub fn image(&self, alloc: Global) -> Result<Image, OutOfMemory>
+        ensures { IfOk result (λ image. image ≡ image_of self.now.pool.memory) }
+    {
+        self.tables.memory().image(alloc)
     }
 
     /// Answers a call. A refused call, and one for which memory is wanting, leaves the state and the
