@@ -1,8 +1,10 @@
 ghost use Rattle.std.specs.Prelude.{◌≡◌, ◌&&◌, true, false, ◌<◌, IfSome, IfNone};
 ghost use Rattle.base.specs.Buffers as spec;
+ghost use Rattle.spans.specs.Alike.{IsAlikeUntil};
 
 use base::limits::{MOST_BUFFER_PAGES, PAGE_SIZE};
 use base::{Page, Run};
+use spans::run_until;
 use std::marker::Model;
 
 /// The TX and the RX buffer of a partition, and whether the partition holds RX (FF-A 1.1, "RX/TX
@@ -33,6 +35,14 @@ impl Pair {
         ensures { result ≡ spec.in_pair self.now page }
     {
         self.tx.contains(page) || self.rx.contains(page)
+    }
+
+    /// The number of a page behind this one, up to a limit, before which neither buffer begins or ends.
+    pub(crate) fn until(&self, page: Page, limit: u32) -> u32
+        requires { page < limit }
+        ensures { IsAlikeUntil (spec.in_pair self.now) page limit result }
+    {
+        run_until(self.rx, page, run_until(self.tx, page, limit))
     }
 
     /// This pair, with RX held or not.

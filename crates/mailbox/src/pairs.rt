@@ -1,8 +1,10 @@
-ghost use Rattle.std.specs.Prelude.{◌≡◌, ◌≤◌, ◌==◌, None, Some, length, map, true, false, IfOk, IfErr, OnOk, OnErr};
+ghost use Rattle.std.specs.Prelude.{◌≡◌, ◌<◌, ◌≤◌, ◌==◌, None, Some, length, map, true, false, IfOk, IfErr, OnOk, OnErr};
 ghost use Rattle.std.specs.List.{find};
 ghost use Rattle.std.specs.Option.{option_map};
 ghost use Rattle.base.specs.Buffers as spec;
 ghost use Rattle.base.specs.Refusals.{first_refusal};
+ghost use Rattle.mailbox.specs.Buffers.{has_buffer_at};
+ghost use Rattle.spans.specs.Alike.{IsAlikeUntil};
 
 use crate::pair::{Pair, named_pair};
 use arrayvec::ArrayVec;
@@ -174,6 +176,15 @@ impl Pairs {
         })
     }
 
+    /// The number of a page behind this one, up to a limit, before which no registered buffer begins or
+    /// ends.
+    pub fn until(&self, page: Page, limit: u32) -> u32
+        requires { page < limit }
+        ensures { IsAlikeUntil (spec.is_buffer self.now) page limit result }
+    {
+        buffers_until(&self.mailboxes, page, limit)
+    }
+
     fn mailbox(&self, p: PartitionId) -> Option<&Mailbox>
         ensures { option_map (λ b. b.now) result ≡ find (λ b. b.partition == p) self.now }
     {
@@ -212,5 +223,26 @@ fn set_pair(mailboxes: &mut [Mailbox], p: PartitionId, pair: Option<Pair>)
             mailbox.pair = pair;
             return;
         }
+    }
+}
+
+fn buffers_until(mailboxes: &[Mailbox], page: Page, limit: u32) -> u32
+    requires { page < limit }
+    ensures { IsAlikeUntil (spec.is_buffer mailboxes.now) page limit result }
+{
+    let mut until = limit;
+    for mailbox in mailboxes {
+        until = buffer_until(mailbox, page, until);
+    }
+    until
+}
+
+fn buffer_until(mailbox: &Mailbox, page: Page, limit: u32) -> u32
+    requires { page < limit }
+    ensures { IsAlikeUntil (has_buffer_at mailbox.now) page limit result }
+{
+    match &mailbox.pair {
+        Some(pair) => pair.until(page, limit),
+        None => limit,
     }
 }

@@ -1,3 +1,4 @@
 mod Ascending
 mod Cutting
 mod Halving
+pub mod Segments

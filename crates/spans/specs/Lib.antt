@@ -1,3 +1,4 @@
+pub mod Alike
 pub mod Spans
 pub mod Edits
 pub mod Search
