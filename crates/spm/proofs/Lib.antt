@@ -1,5 +1,5 @@
 mod Rows
-mod LoopLemmas
+mod SegmentLemmas
 mod QuotaLemmas
 mod ShownLemmas
 mod ConsistencyLemmas

@@ -32,11 +32,7 @@ pub(crate) fn check(state: &State, call: &Call, request: Request) -> Result<Chan
         Request::IdGet => Ok(id_get::id_get(call)),
         Request::Send(Kind::Lend, transfer) => send::send(state, call, Kind::Lend, transfer),
         Request::Send(Kind::Share, transfer) => send::send(state, call, Kind::Share, transfer),
-        Request::Send(..)
-        | Request::Retrieve(_)
-        | Request::Relinquish
-        | Request::Reclaim { .. } => {
-            Err(Stop::Refused(Status::NotSupported))
-        }
+        Request::Send(..) | Request::Retrieve(_) | Request::Relinquish | Request::Reclaim { .. } =>
+            { Err(Stop::Refused(Status::NotSupported)) }
     }
 }

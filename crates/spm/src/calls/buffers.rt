@@ -49,10 +49,13 @@ fn check_map(state: &State, p: PartitionId, tx: u64, rx: u64, pages: u32) -> Res
 fn may_be_buffers(state: &State, p: PartitionId, run: Run) -> bool
     ensures { result ≡ rules.may_be_buffers state.now p run }
 {
-    for number in run.first().number()..run.end() {
-        if !may_be_buffer(state, p, Page::new(number)) {
+    let mut number = run.first().number();
+    while number < run.end() {
+        let page = Page::new(number);
+        if !may_be_buffer(state, p, page) {
             return false;
         }
+        number = state.alike_until(page, run.end());
     }
     true
 }

@@ -17,8 +17,8 @@ use crate::partitions::{PartitionState, put, state_of};
 use crate::state::State;
 use base::limits::{MOST_LIVE, PAGE_SIZE};
 use base::{
-    Access, Handle, Kind, MemoryAttributes, OutOfMemory, PartitionId, Permissions, Rights, Run, Status,
-    normal,
+    Access, Handle, Kind, MemoryAttributes, OutOfMemory, PartitionId, Permissions, Rights, Run,
+    Status, normal,
 };
 use descr::{Endpoint, SendDesc, read_send};
 use std::alloc::Global;
@@ -192,9 +192,8 @@ fn give_data(receivers: &[Endpoint]) -> bool
     ensures { result ≡ list_all rules.gives_data receivers.now }
 {
     let (read_only, read_write) = (Permissions::read_only(), Permissions::read_write());
-    receivers
-        .iter()
-        .all(|endpoint| endpoint.permissions == read_only || endpoint.permissions == read_write)
+    receivers.iter().all(|endpoint| endpoint.permissions == read_only
+        || endpoint.permissions == read_write)
 }
 
 /// The memory attributes that a lend specifies.

@@ -1,6 +1,12 @@
-use Rattle.std.proofs.Common.{◌≡◌, ◌+◌, ◌-◌}
+use Rattle.std.proofs.Common.{◌≡◌, ◌≤◌, ◌+◌, ◌-◌}
 use Rattle.base.specs.State as spec
 use Rattle.spm.proofs.state.State.is_run_free_with.Given as goal
 
 abbrev pub invariant-loop-number : goal.invariant-loop-number
-invariant-loop-number l = spec.each_page (spec.is_free_with l.self l.p l.home) l.number (l.fn.run.first + l.fn.run.count - l.number) ≡ spec.each_page (spec.is_free_with l.self l.p l.home) l.fn.run.first l.fn.run.count
+invariant-loop-number l = record {
+  inside : l.number ≤ l.run.first + l.run.count;
+  rest : spec.each_page (spec.is_free_with l.self l.p l.home) l.number (l.run.first + l.run.count - l.number) ≡ spec.each_page (spec.is_free_with l.self l.p l.home) l.run.first l.run.count;
+}
+
+abbrev pub decreases-loop-number : goal.decreases-loop-number
+decreases-loop-number l = l.run.first + l.run.count - l.number
