@@ -13,7 +13,9 @@ use std::{env, fs};
 mod arguments;
 mod fault;
 mod maps;
+mod operations;
 mod script;
+mod tables;
 
 fn run(rt: &HostRuntime) -> Result<(), Fault> {
     let alloc = rt.alloc();

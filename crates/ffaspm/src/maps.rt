@@ -1,6 +1,6 @@
 //! The text of what a partition reaches.
 
-ghost use Rattle.std.specs.Prelude.{◌≡◌, ℕ, Some, IfOk, OnOk};
+ghost use Rattle.std.specs.Prelude.{◌≡◌, ◌*◌, ℕ, Some, IfOk, OnOk};
 ghost use Rattle.base.specs.State.{State, sees};
 ghost use Rattle.ffaspm.specs.Reached as spec;
 
@@ -39,7 +39,7 @@ pub(crate) fn write_maps<M: TableMem + Drop>(
     let runs = reached_by(alloc, spm, p)?;
     writeln!(text, "maps {:04x} {}", p.number(), runs.len())?;
     for reached in &runs {
-        let address = PAGE_SIZE * u64::from(reached.run.first().number());
+        let address = address_of(reached.run.first());
         let count = reached.run.count();
         let access = access_text(reached.access);
         let kind = kind_text(reached.access);
@@ -118,6 +118,13 @@ fn append(runs: &mut Vec<Reached>, next: Reached) -> Result<(), OutOfMemory>
     }
     runs.push(next)?;
     Ok(())
+}
+
+/// The address at which a page begins.
+pub(crate) fn address_of(page: Page) -> u64
+    ensures { result ≡ 4096 * page }
+{
+    PAGE_SIZE * u64::from(page.number())
 }
 
 fn access_text(access: Access) -> &'static str

@@ -4,6 +4,8 @@ ghost use Rattle.lines.specs.Lines.{HasParts, IsWhole};
 
 use crate::fault::RunFault;
 use crate::maps::write_maps;
+use crate::operations::write_operations;
+use crate::tables::write_tables;
 use base::{Handle, Kind, MemoryAttributes, PartitionId};
 use descw::{HeaderFields, SendFields, write_send};
 use lines::{Line, SendLine, read_line};
@@ -69,6 +71,8 @@ impl<M: TableMem + Drop> Run<M> {
                 write_reply(self.alloc, &reply, text)
             }
             Line::Maps(id) => write_maps(self.alloc, &self.spm, id, text),
+            Line::Tables(id) => write_tables(&self.spm, id, text),
+            Line::Operations => write_operations(&self.spm, text),
         }
     }
 
@@ -91,10 +95,11 @@ impl<M: TableMem + Drop> Run<M> {
             ranges: &send.ranges,
         };
         let tx = write_send(self.alloc, self.spm.version(send.sender), &fields)?;
+        let identifier = u64::from(identifier_of(kind));
         let length = tx.len() as u64;
         let call = Call {
             caller: send.sender.number(),
-            regs: [u64::from(identifier_of(kind)), length, length, 0, 0, 0, 0, 0],
+            regs: [identifier, length, length, 0, 0, 0, 0, 0],
             tx,
         };
         Ok(self.spm.handle(&call)?)

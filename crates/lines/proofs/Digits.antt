@@ -1,5 +1,5 @@
 -- Lower-case hexadecimal digits are a numeral, and few of them write a small number.
-use Rattle.std.proofs.Common.{◌≡◌, ltb, ℕ, suc, ◌+◌, ◌*◌, ◌^◌, ◌<◌, ◌≤◌, Bool, true, false, ◌&&◌, eqb, List, [], ◌∷◌, length, Result, Ok, Err, Option, Some, None, refl, sym, ap, subst, ◌∙◌, cond, drop, arith}
+use Rattle.std.proofs.Common.{◌≡◌, ltb, ℕ, suc, ◌+◌, ◌*◌, ◌^◌, ◌<◌, ◌≤◌, Bool, true, false, ◌&&◌, eqb, List, [], ◌∷◌, length, Result, Ok, Err, Some, None, refl, sym, ap, subst, ◌∙◌, cond, drop, arith}
 use Rattle.std.specs.List.{list_all}
 use Rattle.std.specs.Char.{digit_value}
 use Rattle.std.specs.Str.Parse.{AllDigits, digits_value, digits_value_after, without_leading_plus, ParsesUnsigned}

@@ -30,11 +30,15 @@ pub enum Line {
     Tx(PartitionId, Vec<u8>),
     /// `call ID NUM ..`: a call with these registers, of which 1 to 8 are named and the others are 0.
     Call(PartitionId, [u64; 8]),
-    /// `lend ID NUM RECEIVERS RANGES`: a lend by ID with tag NUM. RECEIVERS are 1 to 8 of `ID:PERM` and
-    /// RANGES 1 to 512 of `NUM+COUNT`, both parted by commas.
+    /// `share`, `lend` or `donate`, then `ID NUM RECEIVERS RANGES`: a send of this kind by ID with tag NUM.
+    /// RECEIVERS are 1 to 8 of `ID:PERM` and RANGES 1 to 512 of `NUM+COUNT`, both parted by commas.
     Send(Kind, SendLine),
     /// `maps ID`: what ID reaches.
     Maps(PartitionId),
+    /// `tables ID`: the valid entries of ID's translation tables.
+    Tables(PartitionId),
+    /// `ops`: the operations on the tables during the last call.
+    Operations,
 }
 
 /// The line that the bytes are, without their line feed; None where they are none. Words are parted by
@@ -67,8 +71,12 @@ pub fn read_line(alloc: Global, bytes: &[u8]) -> Result<Option<Line>, OutOfMemor
         ["tx", id] => Ok(read_id(id).map(|id| Line::Tx(id, Vec::new(alloc)))),
         ["tx", id, hex] => read_tx(alloc, id, hex),
         ["call", id, registers @ ..] => Ok(read_call(id, registers)),
-        ["lend", id, tag, receivers, ranges] => read_lend(alloc, id, tag, receivers, ranges),
+        ["share", words @ ..] => read_send_line(alloc, Kind::Share, words),
+        ["lend", words @ ..] => read_send_line(alloc, Kind::Lend, words),
+        ["donate", words @ ..] => read_send_line(alloc, Kind::Donate, words),
         ["maps", id] => Ok(read_id(id).map(Line::Maps)),
+        ["tables", id] => Ok(read_id(id).map(Line::Tables)),
+        ["ops"] => Ok(Some(Line::Operations)),
         _ => Ok(None),
     }
 }
@@ -98,17 +106,15 @@ fn read_tx(alloc: Global, id: &str, hex: &str) -> Result<Option<Line>, OutOfMemo
     }
 }
 
-fn read_lend(
-    alloc: Global,
-    id: &str,
-    tag: &str,
-    receivers: &str,
-    ranges: &str,
-) -> Result<Option<Line>, OutOfMemory>
+/// The send of this kind that the words after its name say.
+fn read_send_line(alloc: Global, kind: Kind, words: &[&str]) -> Result<Option<Line>, OutOfMemory>
     ensures { IfOk result (λ line. IfSome line HasParts) }
 {
+    let [id, tag, receivers, ranges] = words else {
+        return Ok(None);
+    };
     match read_send(alloc, id, tag, receivers, ranges)? {
-        Some(send) => Ok(Some(Line::Send(Kind::Lend, send))),
+        Some(send) => Ok(Some(Line::Send(kind, send))),
         None => Ok(None),
     }
 }

@@ -1,10 +1,14 @@
 use super::run_script;
 use crate::fault::RunFault;
-use manifest::common_manifest;
+use manifest::{Manifest, common_manifest};
 use pool::{ListPool, TableMem};
 use std::alloc::Global;
 use std::process::Abort;
 use std::test::Fail;
+
+mod operations;
+mod quotas;
+mod tables;
 
 /// What a script writes, from the common manifest on, and the fault that ends it.
 fn expect_text<M: TableMem + Drop>(
@@ -15,6 +19,18 @@ fn expect_text<M: TableMem + Drop>(
     wanted: &str,
 ) -> Result<(), Fail> {
     let manifest = common_manifest(alloc)?;
+    expect_text_from::<M>(rt, alloc, manifest, script, fault, wanted)
+}
+
+/// What a script writes, from a manifest on, and the fault that ends it.
+fn expect_text_from<M: TableMem + Drop>(
+    rt: &impl Abort,
+    alloc: Global,
+    manifest: Manifest,
+    script: &str,
+    fault: Option<RunFault>,
+    wanted: &str,
+) -> Result<(), Fail> {
     let mut text = String::new(alloc);
     let outcome = run_script::<M>(alloc, manifest, script.as_bytes(), &mut text);
     if outcome == Err(RunFault::Memory) {
@@ -248,6 +264,27 @@ fn lends_ranges(rt: HostRuntime) -> Result<(), Fail> {
         00b0000000 2 rw- normal\n\
         00d0000000 1 r-- normal\n";
     expect_after_pairs::<ListPool>(&rt, rt.alloc(), lines, wanted)
+}
+
+/// A share leaves its sender the pages. A page with two grants and a TX buffer cannot be shared, and
+/// nothing without a buffer pair.
+#[test]
+fn shares_pages(rt: HostRuntime) -> Result<(), Fail> {
+    let alloc = rt.alloc();
+    let lines = "share 8001 0 8002:01 d0000000+1\n\
+        share 8001 0 8002:01 90000000+1\n\
+        share 8001 5 8002:01 80000000+1\n\
+        maps 8001\n\
+        call 8001 84000067\n\
+        share 8001 0 8002:01 90000000+1\n";
+    let wanted = format!(in alloc;
+        "{DENIED}{DENIED}\
+        reply 84000061 00000000 00000001 00008001 00000000 00000000 00000000 00000000\n\
+        {MAPS}\
+        reply {SUCCESS} 00000000 00000000 00000000 00000000\n\
+        reply {INVALID} 00000000 00000000 00000000 00000000\n"
+    )?;
+    expect_after_pairs::<ListPool>(&rt, alloc, lines, &wanted)
 }
 
 /// An address near 2^64, one page more than a transaction may have, as many pages as it may have, of

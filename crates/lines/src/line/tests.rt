@@ -34,11 +34,17 @@ fn reads_lines(rt: HostRuntime) -> Result<(), Fail> {
     let text = "call 80af 1 02 3 4 5 6 0000000000000007 ffffffffffffffff";
     expect_line(&rt, alloc, text, Some(call))?;
     expect_line(&rt, alloc, "maps 80af", Some(Line::Maps(id)))?;
+    expect_line(&rt, alloc, "tables 80af", Some(Line::Tables(id)))?;
+    expect_line(&rt, alloc, "ops", Some(Line::Operations))?;
     Ok(())
 }
 
-/// A lend by 0x8001 with tag 5 of two ranges to these receivers.
-fn lend_line(alloc: Global, receivers: ArrayVec<Endpoint, 8>) -> Result<Line, OutOfMemory> {
+/// A send by 0x8001 with tag 5 of two ranges to these receivers.
+fn send_line(
+    alloc: Global,
+    kind: Kind,
+    receivers: ArrayVec<Endpoint, 8>,
+) -> Result<Line, OutOfMemory> {
     let ranges = vec![in alloc;
         RangeFields {
             address: 0x8000_0000,
@@ -56,24 +62,45 @@ fn lend_line(alloc: Global, receivers: ArrayVec<Endpoint, 8>) -> Result<Line, Ou
         ranges,
         total: 256,
     };
-    Ok(Line::Send(Kind::Lend, send))
+    Ok(Line::Send(kind, send))
 }
 
 #[test]
-fn reads_lends(rt: HostRuntime) -> Result<(), Fail> {
+fn reads_sends(rt: HostRuntime) -> Result<(), Fail> {
     let alloc = rt.alloc();
-    let mut receivers = ArrayVec::new();
-    receivers.push(Endpoint {
-        partition: PartitionId::new(0x8002),
-        permissions: Permissions::new(2),
-    });
-    receivers.push(Endpoint {
-        partition: PartitionId::new(0x8003),
-        permissions: Permissions::new(0x1f),
-    });
-    let text = "lend 8001 5 8002:02,8003:1f 80000000+256,ffffffffffffffff+0";
-    expect_line(&rt, alloc, text, Some(lend_line(alloc, receivers)?))?;
+    for (word, kind) in [
+        ("share", Kind::Share),
+        ("lend", Kind::Lend),
+        ("donate", Kind::Donate),
+    ] {
+        let mut receivers = ArrayVec::new();
+        receivers.push(Endpoint {
+            partition: PartitionId::new(0x8002),
+            permissions: Permissions::new(2),
+        });
+        receivers.push(Endpoint {
+            partition: PartitionId::new(0x8003),
+            permissions: Permissions::new(0x1f),
+        });
+        let text = format!(in alloc;
+            "{word} 8001 5 8002:02,8003:1f 80000000+256,ffffffffffffffff+0"
+        )?;
+        let wanted = send_line(alloc, kind, receivers)?;
+        expect_line(&rt, alloc, &text, Some(wanted))?;
+    }
+    Ok(())
+}
+
+#[test]
+fn refuses_other_sends(rt: HostRuntime) -> Result<(), Fail> {
+    let alloc = rt.alloc();
     for text in [
+        "share",
+        "donate 8001 5",
+        "share 8001 5 8002:02",
+        "give 8001 5 8002:02 80000000+1",
+        "lends 8001 5 8002:02 80000000+1",
+        "donate 8001 5 8002:02 80000000+1 ",
         "lend 8001 5 8002:02",
         "lend 8001 5 8002:2 80000000+1",
         "lend 8001 5 8002 80000000+1",
@@ -109,6 +136,13 @@ fn refuses_other_lines(rt: HostRuntime) -> Result<(), Fail> {
         "maps 8001 ",
         "maps 8001\r",
         "maps 8001 8002",
+        "tables",
+        "tables 801",
+        "tables 8001 ",
+        "table 8001",
+        "ops ",
+        "ops 8001",
+        "ops 1",
         "tx",
         "tx 8001 ",
         "tx 8001 0",
