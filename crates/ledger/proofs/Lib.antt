@@ -1,0 +1,6 @@
+mod Receivers
+mod Several
+mod Transactions
+mod Donations
+mod Places
+mod Kept

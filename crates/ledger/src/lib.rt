@@ -1,0 +1,12 @@
+//! The ledger: who owns each page, what it is to its owner, and which transactions are live (FF-A 1.1,
+//! "Memory management").
+#![tactic(auto)]
+
+mod donation;
+mod intervals;
+mod ledger;
+mod live;
+
+pub use donation::Donation;
+pub use ledger::Ledger;
+pub use live::{Live, Receiver};
