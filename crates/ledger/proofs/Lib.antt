@@ -4,3 +4,5 @@ mod Transactions
 mod Donations
 mod Places
 mod Kept
+mod Regions
+mod Segments

@@ -1,4 +1,4 @@
-ghost use Rattle.std.specs.Prelude.{◌≡◌, ◌==◌, ◌++◌, ◌∷◌, [], ◌≤◌, ℕ, None, Some, true, is_some, length, filter, OnOk};
+ghost use Rattle.std.specs.Prelude.{◌≡◌, ◌==◌, ◌++◌, ◌∷◌, [], ◌≤◌, ◌<◌, ◌^◌, ℕ, None, Some, true, is_some, length, filter, OnOk};
 ghost use Rattle.std.specs.Option.{option_map};
 ghost use Rattle.base.specs.Pages.{covers};
 ghost use Rattle.base.specs.Ledger as rules;
@@ -123,6 +123,21 @@ impl Ledger {
         ensures { result ≡ is_some (rules.live_at self.now.live page) }
     {
         self.shared.get(page).is_some()
+    }
+
+    /// The number of a page up to which the donations and the live transactions cover a page and those
+    /// behind it alike.
+    pub(crate) fn end_of_lists(&self, page: Page) -> u32
+        ensures behind { page < result }
+        ensures in_range { result ≤ 2 ^ 27 }
+        ensures donations { (n : ℕ) → page ≤ n → n < result
+            → rules.donation_at self.now.donations n ≡ rules.donation_at self.now.donations page }
+        ensures live { (n : ℕ) → page ≤ n → n < result
+            → is_some (rules.live_at self.now.live n) ≡ is_some (rules.live_at self.now.live page) }
+    {
+        let given = self.given.segment_at(page);
+        let shared = self.shared.segment_at(page);
+        given.end.min(shared.end)
     }
 
     /// The live transaction of a handle.

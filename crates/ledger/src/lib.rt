@@ -3,10 +3,15 @@
 #![tactic(auto)]
 
 mod donation;
+mod free;
 mod intervals;
 mod ledger;
 mod live;
 
 pub use donation::Donation;
+pub use free::Segment;
 pub use ledger::Ledger;
 pub use live::{Live, Receiver};
+
+#[cfg(test)]
+mod tests;
