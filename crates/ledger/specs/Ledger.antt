@@ -1,0 +1,42 @@
+-- What is shared, as the ledger keeps it.
+use Rattle.std.specs.Prelude.{◌≡◌, ℕ, ◌≤◌, ◌==◌, List, Option}
+use Rattle.std.specs.List.{find}
+use Rattle.base.specs.Manifest.{ManifestRows}
+use Rattle.base.specs.Transactions.{Live, Donation}
+use Rattle.spans.specs.Spans.{room_for}
+
+-- for how many more donations and live transactions there is room, and for how many intervals of each
+pub record Room : Type 0 where
+  pub donations : ℕ
+  pub live : ℕ
+  pub given : ℕ
+  pub shared : ℕ
+
+-- the manifest, the completed donations in order, and the live transactions in the order of their sends
+pub record LedgerView : Type 0 where
+  pub manifest : ManifestRows
+  pub donations : List Donation
+  pub live : List Live
+  pub room : Room
+
+-- there is room for one more donation and one more transaction, and for their intervals, if they have this many runs
+pub record IsReady (runs : ℕ) (room : Room) : Type 0 where
+  pub donations : 1 ≤ room.donations
+  pub live : 1 ≤ room.live
+  pub given : room_for runs ≤ room.given
+  pub shared : room_for runs ≤ room.shared
+
+-- there is as much room for donations and their intervals
+pub record HasSameRoomForDonations (old new : Room) : Type 0 where
+  pub donations : new.donations ≡ old.donations
+  pub given : new.given ≡ old.given
+
+-- the two differ in their room alone
+pub record IsSameButRoom (old new : LedgerView) : Type 0 where
+  pub manifest : new.manifest ≡ old.manifest
+  pub donations : new.donations ≡ old.donations
+  pub live : new.live ≡ old.live
+
+-- the live transaction of a handle
+abbrev pub found : List Live → ℕ → Option Live
+found live h = find (λ t. t.handle == h) live

@@ -1,0 +1,4 @@
+pub mod Ledger
+pub mod Changes
+pub mod Intervals
+pub mod Free

@@ -1,0 +1,276 @@
+ghost use Rattle.std.specs.Prelude.{◌≡◌, ◌==◌, ◌++◌, ◌∷◌, [], ◌≤◌, ◌<◌, ◌^◌, ℕ, None, Some, true, is_some, length, filter, OnOk};
+ghost use Rattle.std.specs.Option.{option_map};
+ghost use Rattle.base.specs.Pages.{covers};
+ghost use Rattle.base.specs.Ledger as rules;
+ghost use Rattle.spans.specs.Spans.{room_for};
+ghost use Rattle.ledger.specs.Ledger as spec;
+ghost use Rattle.ledger.specs.Changes as changes;
+
+use crate::donation::Donation;
+use crate::intervals::{cut_all, put_all};
+use crate::live::{self, Live, place_of, set_retrieved};
+use base::{Access, Handle, Kind, OutOfMemory, Page, PartitionId};
+use manifest::Manifest;
+use spans::Spans;
+use std::alloc::Global;
+use std::marker::Model;
+
+/// The manifest, the completed donations in order, and the live transactions. No two live transactions
+/// share a page or a handle. A page is looked up by halving.
+#[derive(Drop)]
+pub struct Ledger {
+    manifest: Manifest,
+    donations: Vec<Donation>,
+    live: Vec<Live>,
+    given: Spans,
+    shared: Spans,
+}
+
+impl Model for Ledger {
+    ghost use Rattle.std.specs.Prelude.{◌-◌, vec_len, vec_capacity};
+    ghost use Rattle.ledger.specs.Ledger.{LedgerView};
+    ghost use Rattle.ledger.specs.Intervals.{IsKept};
+
+    ghost Value = { LedgerView };
+
+    ghost view = { λ l. record {
+      manifest = l.manifest;
+      donations = l.donations.items;
+      live = l.live.items;
+      room = record {
+        donations = vec_capacity l.donations - vec_len l.donations;
+        live = vec_capacity l.live - vec_len l.live;
+        given = l.given.room;
+        shared = l.shared.room;
+      };
+    } };
+
+    ghost invariant = { λ l. IsKept l.donations.items l.live.items l.given.spans l.shared.spans };
+}
+
+impl Ledger {
+    /// Nothing is shared. This takes no memory.
+    pub fn new(alloc: Global, manifest: Manifest) -> Self
+        ensures manifest { result.manifest ≡ manifest }
+        ensures donations { result.donations ≡ [] }
+        ensures live { result.live ≡ [] }
+    {
+        Ledger {
+            manifest,
+            donations: Vec::new(alloc),
+            live: Vec::new(alloc),
+            given: Spans::new(alloc),
+            shared: Spans::new(alloc),
+        }
+    }
+
+    /// The manifest.
+    pub fn manifest(&self) -> &Manifest
+        ensures { result.now ≡ self.now.manifest }
+    {
+        &self.manifest
+    }
+
+    /// The completed donations, in the order of their retrievals.
+    pub fn donations(&self) -> &[Donation]
+        ensures { result.now ≡ self.now.donations }
+    {
+        &self.donations
+    }
+
+    /// The live transactions, in the order of their sends.
+    pub fn live(&self) -> &[Live]
+        ensures { result.now ≡ self.now.live }
+    {
+        &self.live
+    }
+
+    /// The last donation that covers a page.
+    fn donation_at(&self, page: Page) -> Option<&Donation>
+        ensures { option_map (λ d. d.now) result ≡ rules.donation_at self.now.donations page }
+    {
+        let place = self.given.get(page)?;
+        self.donations.get(place as usize)
+    }
+
+    /// The partition that owns a page: the taker of the last donation that covers it, else the
+    /// manifest's owner; None outside all regions.
+    pub fn owner(&self, page: Page) -> Option<PartitionId>
+        ensures { result ≡ rules.owner self.now.manifest self.now.donations page }
+    {
+        match self.donation_at(page) {
+            Some(donation) => Some(donation.taker),
+            None => self.manifest.owner(page),
+        }
+    }
+
+    /// What a page is to its owner: the access of the last donation that covers it, else the owner's
+    /// grant; None outside all regions.
+    pub fn home(&self, page: Page) -> Option<Access>
+        ensures { result ≡ rules.home self.now.manifest self.now.donations page }
+    {
+        match self.donation_at(page) {
+            Some(donation) => Some(donation.access),
+            None => {
+                let region = self.manifest.region_at(page)?;
+                region.access(region.owner())
+            }
+        }
+    }
+
+    /// Whether a live transaction covers a page.
+    pub fn is_live(&self, page: Page) -> bool
+        ensures { result ≡ is_some (rules.live_at self.now.live page) }
+    {
+        self.shared.get(page).is_some()
+    }
+
+    /// The number of a page up to which the donations and the live transactions cover a page and those
+    /// behind it alike.
+    pub(crate) fn end_of_lists(&self, page: Page) -> u32
+        ensures behind { page < result }
+        ensures in_range { result ≤ 2 ^ 27 }
+        ensures donations { (n : ℕ) → page ≤ n → n < result
+            → rules.donation_at self.now.donations n ≡ rules.donation_at self.now.donations page }
+        ensures live { (n : ℕ) → page ≤ n → n < result
+            → is_some (rules.live_at self.now.live n) ≡ is_some (rules.live_at self.now.live page) }
+    {
+        let given = self.given.segment_at(page);
+        let shared = self.shared.segment_at(page);
+        given.end.min(shared.end)
+    }
+
+    /// The live transaction of a handle.
+    pub fn find(&self, handle: Handle) -> Option<&Live>
+        ensures { option_map (λ t. t.now) result ≡ spec.found self.now.live handle }
+    {
+        live::find(&self.live, handle)
+    }
+
+    /// How many live transactions a partition has sent.
+    pub fn live_of(&self, p: PartitionId) -> usize
+        ensures { result ≡ length (filter (λ t. t.sender == p) self.now.live) }
+    {
+        live::live_of(&self.live, p)
+    }
+
+    /// Makes room for one more donation and one more live transaction, and for an `open`, `retrieve`
+    /// or `close` of so many runs. A refusal changes nothing but the room.
+    pub fn ready(&mut self, runs: usize) -> Result<(), OutOfMemory>
+        ensures same { spec.IsSameButRoom self.old self.new }
+        ensures room { OnOk result (spec.IsReady runs self.new.room) }
+    {
+        self.donations.reserve(1)?;
+        self.live.reserve(1)?;
+        self.given.ready(runs)?;
+        self.shared.ready(runs)?;
+        Ok(())
+    }
+
+    /// Adds a live transaction. This takes no memory.
+    pub fn open(&mut self, transaction: Live)
+        requires ready { spec.IsReady (length transaction.ranges) self.old.room }
+        requires new { spec.found self.old.live transaction.handle ≡ None }
+        requires apart { (n : ℕ) → covers transaction.ranges n ≡ true
+            → rules.live_at self.old.live n ≡ None }
+        ensures manifest { self.new.manifest ≡ self.old.manifest }
+        ensures donations { self.new.donations ≡ self.old.donations }
+        ensures live { self.new.live ≡ self.old.live ++ transaction ∷ [] }
+    {
+        put_all(
+            &mut self.shared,
+            &transaction.ranges,
+            transaction.handle.bits(),
+        );
+        self.live.push_reserved(transaction);
+    }
+
+    /// Sets what a receiver has retrieved of the transaction of a handle.
+    fn set_retrieval(&mut self, p: PartitionId, handle: Handle, retrieved: Option<Access>)
+        ensures manifest { self.new.manifest ≡ self.old.manifest }
+        ensures donations { self.new.donations ≡ self.old.donations }
+        ensures live { self.new.live ≡ changes.with_retrieval_of handle p retrieved self.old.live }
+    {
+        if let Some(place) = place_of(&self.live, handle) {
+            set_retrieved(&mut self.live[place], p, retrieved);
+        }
+    }
+
+    /// Takes the transaction of a handle out.
+    fn take(&mut self, handle: Handle) -> Option<Live>
+        requires { (t : _) → spec.found self.old.live handle ≡ Some t
+            → room_for (length t.ranges) ≤ self.old.room.shared }
+        ensures value { result ≡ spec.found self.old.live handle }
+        ensures manifest { self.new.manifest ≡ self.old.manifest }
+        ensures donations { self.new.donations ≡ self.old.donations }
+        ensures live { self.new.live ≡ changes.without handle self.old.live }
+        ensures room { spec.HasSameRoomForDonations self.old.room self.new.room }
+    {
+        let place = place_of(&self.live, handle)?;
+        let transaction = self.live.remove(place);
+        cut_all(&mut self.shared, &transaction.ranges);
+        Some(transaction)
+    }
+
+    /// Ends the transaction of a handle. This takes no memory.
+    pub fn close(&mut self, handle: Handle)
+        requires { (t : _) → spec.found self.old.live handle ≡ Some t
+            → spec.IsReady (length t.ranges) self.old.room }
+        ensures manifest { self.new.manifest ≡ self.old.manifest }
+        ensures donations { self.new.donations ≡ self.old.donations }
+        ensures live { self.new.live ≡ changes.without handle self.old.live }
+    {
+        let _ = self.take(handle);
+    }
+
+    /// Takes back what a receiver has retrieved of the transaction of a handle. This takes no memory.
+    pub fn relinquish(&mut self, p: PartitionId, handle: Handle)
+        ensures manifest { self.new.manifest ≡ self.old.manifest }
+        ensures donations { self.new.donations ≡ self.old.donations }
+        ensures live { self.new.live ≡ changes.with_retrieval_of handle p None self.old.live }
+    {
+        self.set_retrieval(p, handle, None);
+    }
+
+    /// The receiver has retrieved the transaction of a handle, with this access: a donation is
+    /// completed and ends. This takes no memory.
+    pub fn retrieve(&mut self, p: PartitionId, handle: Handle, access: Access)
+        requires { (t : _) → spec.found self.old.live handle ≡ Some t
+            → spec.IsReady (length t.ranges) self.old.room }
+        ensures manifest { self.new.manifest ≡ self.old.manifest }
+        ensures donations { self.new.donations
+            ≡ changes.donations_after p access (spec.found self.old.live handle) self.old.donations }
+        ensures live { self.new.live
+            ≡ changes.live_after handle p access (spec.found self.old.live handle) self.old.live }
+    {
+        let Some(transaction) = self.find(handle) else {
+            return;
+        };
+        match transaction.kind {
+            Kind::Share | Kind::Lend => self.set_retrieval(p, handle, Some(access)),
+            Kind::Donate => self.complete(p, handle, access),
+        }
+    }
+
+    /// The donation of a handle is completed.
+    fn complete(&mut self, p: PartitionId, handle: Handle, access: Access)
+        requires { (t : _) → spec.found self.old.live handle ≡ Some t
+            → spec.IsReady (length t.ranges) self.old.room }
+        ensures manifest { self.new.manifest ≡ self.old.manifest }
+        ensures donations { (t : _) → spec.found self.old.live handle ≡ Some t
+            → self.new.donations ≡ self.old.donations ++ changes.completed p access t ∷ [] }
+        ensures live { self.new.live ≡ changes.without handle self.old.live }
+    {
+        let Some(transaction) = self.take(handle) else {
+            return;
+        };
+        let place = self.donations.len() as u64;
+        put_all(&mut self.given, &transaction.ranges, place);
+        self.donations.push_reserved(Donation {
+            ranges: transaction.ranges,
+            giver: transaction.sender,
+            taker: p,
+            access,
+        });
+    }
+}
