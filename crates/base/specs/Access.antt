@@ -32,7 +32,9 @@ is_same_bool a b = if a then b else not b
 
 -- the two are alike in all three
 abbrev pub is_same : Access → Access → Bool
-is_same a b = is_same_bool (is_rw a.rights) (is_rw b.rights) && is_same_bool a.exec b.exec && is_same_bool (is_normal a.kind) (is_normal b.kind)
+is_same a b =
+    is_same_bool (is_rw a.rights) (is_rw b.rights) && is_same_bool a.exec b.exec
+    && is_same_bool (is_normal a.kind) (is_normal b.kind)
 
 -- the page is reached, and with this permission
 abbrev pub is_reached_with : Access → View → Bool

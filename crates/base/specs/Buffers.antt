@@ -1,11 +1,12 @@
--- The buffers of partitions: which are registered, and the tests of the calls that change them (FF-A 1.1, "RX/TX buffers", "FFA_RXTX_MAP", "FFA_RXTX_UNMAP", "FFA_RX_RELEASE").
-use Rattle.std.specs.Prelude.{ℕ, ◌+◌, ◌/◌, ◌%◌, ◌^◌, Bool, false, ◌&&◌, ◌||◌, ◌==◌, not, nat_le, List, [], ◌∷◌, Option, None, is_some, if◌then◌else◌}
+-- The buffers of partitions: which are registered, and the tests of the calls that change them
+-- (FF-A 1.1, "RX/TX buffers", "FFA_RXTX_MAP", "FFA_RXTX_UNMAP", "FFA_RX_RELEASE").
+use Rattle.std.specs.Prelude.{◌≡◌, ℕ, ◌+◌, ◌/◌, ◌%◌, ◌^◌, Bool, true, false, ◌&&◌, ◌||◌, ◌==◌, not, nat_le, List, [], ◌∷◌, Option, None, is_some, if◌then◌else◌}
 use Rattle.std.specs.List.{list_any, find}
 use Rattle.std.specs.Option.{option_map, option_map_or, option_and_then}
 use Rattle.base.specs.declared.status.Status.TheVariants.{InvalidParameters, Busy, Denied}
 use Rattle.base.specs.Pages.{PageRun, in_run, are_apart}
 use Rattle.base.specs.Manifest.{PartitionRow}
-use Rattle.base.specs.Refusals.{Test, ◌otherwise◌}
+use Rattle.base.specs.Refusals.{Test, ◌otherwise◌, NoneRefuses}
 
 -- the TX and the RX buffer of a partition, and whether it holds RX
 pub record Pair : Type 0 where
@@ -44,7 +45,8 @@ is_buffer boxes n = list_any (λ b. option_map_or (λ pair. in_pair pair n) b.pa
 -- this is the partition's pair, or it has none
 abbrev pub with_pair : ℕ → Option Pair → List Mailbox → List Mailbox
 with_pair p pair [] = []
-with_pair p pair (b ∷ boxes) = if b.partition == p then record b { pair = pair } ∷ boxes else b ∷ with_pair p pair boxes
+with_pair p pair (b ∷ boxes) =
+    if b.partition == p then record b { pair = pair } ∷ boxes else b ∷ with_pair p pair boxes
 
 abbrev pub holding : Bool → Pair → Pair
 holding held pair = record pair { held = held }
@@ -69,9 +71,21 @@ are_areas tx rx count = nat_le 1 count && nat_le count 8 && (tx % 4096 == 0) && 
 abbrev pub ends_in_space : PageRun → Bool
 ends_in_space run = nat_le (run.first + run.count) (2 ^ 27)
 
+-- the run is such an area, and ends within input addresses of 39 bits
+abbrev pub IsArea : ℕ → ℕ → PageRun → Type 0
+IsArea address count run = (run ≡ area address count) × (ends_in_space run ≡ true)
+
 -- both end within input addresses of 39 bits, and they share no page
 unfoldable pub is_pair : Pair → Bool
 is_pair pair = ends_in_space pair.tx && ends_in_space pair.rx && are_apart pair.tx pair.rx
+
+-- the two areas are a pair's
+abbrev pub names_pair : ℕ → ℕ → ℕ → Bool
+names_pair tx rx count = are_areas tx rx count && is_pair (named_pair tx rx count)
+
+-- the pair is that of the two areas
+abbrev pub IsNamedPair : ℕ → ℕ → ℕ → Pair → Type 0
+IsNamedPair tx rx count pair = (pair ≡ named_pair tx rx count) × (names_pair tx rx count ≡ true)
 
 -- ---- the tests of the calls, in order
 
@@ -79,8 +93,13 @@ is_pair pair = ends_in_space pair.tx && ends_in_space pair.rx && are_apart pair.
 abbrev pub pair_tests : List Mailbox → ℕ → ℕ → ℕ → ℕ → List Test
 pair_tests boxes p tx rx count =
     (not (has_pair boxes p) otherwise Denied)
-    ∷ (are_areas tx rx count && is_pair (named_pair tx rx count) otherwise InvalidParameters)
+    ∷ (names_pair tx rx count otherwise InvalidParameters)
     ∷ []
+
+-- they pass, and the pair is that which is named
+abbrev pub PassesWith : List Mailbox → ℕ → ℕ → ℕ → ℕ → Pair → Type 0
+PassesWith boxes p tx rx count pair =
+    NoneRefuses (pair_tests boxes p tx rx count) × (pair ≡ named_pair tx rx count)
 
 -- of FFA_RXTX_UNMAP
 abbrev pub unmap_tests : List Mailbox → ℕ → List Test

@@ -16,19 +16,25 @@ live_at live n = find (λ t. covers t.ranges n) live
 -- the last donation that covers a page
 abbrev pub donation_at : List Donation → ℕ → Option Donation
 donation_at [] n = None
-donation_at (d ∷ ds) n = option_map_or Some (donation_at ds n) (if covers d.ranges n then Some d else None)
+donation_at (d ∷ ds) n =
+    option_map_or Some (donation_at ds n) (if covers d.ranges n then Some d else None)
 
 -- the taker of the last donation that covers the page, else the manifest's owner
 abbrev pub owner : ManifestRows → List Donation → ℕ → Option ℕ
-owner m ds n = option_map_or (λ d. Some d.taker) (donation_at ds n) (option_map (λ r. r.owner) (region_at m n))
+owner m ds n =
+    option_map_or (λ d. Some d.taker) (donation_at ds n) (option_map (λ r. r.owner) (region_at m n))
 
 -- the access of that donation, else the owner's grant
 abbrev pub home : ManifestRows → List Donation → ℕ → View
-home m ds n = option_map_or (λ d. Some d.access) (donation_at ds n) (option_and_then (λ r. granted_in r r.owner) (region_at m n))
+home m ds n =
+    option_map_or (λ d. Some d.access) (donation_at ds n)
+    (option_and_then (λ r. granted_in r r.owner) (region_at m n))
 
 -- what a partition reaches of a page that no live transaction covers: where a donation covers it the owner has the home and all others nothing, else the manifest's grants decide
 abbrev pub settled_view : ManifestRows → List Donation → ℕ → ℕ → View
-settled_view m ds p n = option_map_or (λ d. if d.taker == p then Some d.access else None) (donation_at ds n) (grant m p n)
+settled_view m ds p n =
+    option_map_or (λ d. if d.taker == p then Some d.access else None) (donation_at ds n)
+    (grant m p n)
 
 -- what a partition has retrieved as one of these receivers
 abbrev pub retrieved : List Receiver → ℕ → View
@@ -46,7 +52,8 @@ view_under t home p = if t.sender == p then kept t.kind home else retrieved t.re
 
 -- what a partition reaches of a page
 abbrev pub view : ManifestRows → List Donation → List Live → ℕ → ℕ → View
-view m ds live p n = option_map_or (λ t. view_under t (home m ds n) p) (live_at live n) (settled_view m ds p n)
+view m ds live p n =
+    option_map_or (λ t. view_under t (home m ds n) p) (live_at live n) (settled_view m ds p n)
 
 -- the partition owns the page
 abbrev pub is_owner : ManifestRows → List Donation → ℕ → ℕ → Bool

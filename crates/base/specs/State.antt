@@ -29,7 +29,13 @@ first_state row = record { partition = row.id; version = V11; sends = 0 }
 
 -- before any call: nothing is shared, no buffers are registered, and each partition speaks FF-A 1.1
 abbrev pub start : ManifestRows → State
-start m = record { manifest = m; donations = []; live = []; mailboxes = map first_mailbox m.partitions; partitions = map first_state m.partitions }
+start m = record {
+  manifest = m;
+  donations = [];
+  live = [];
+  mailboxes = map first_mailbox m.partitions;
+  partitions = map first_state m.partitions;
+}
 
 abbrev pub state_of : List PartitionState → ℕ → Option PartitionState
 state_of partitions p = find (λ s. s.partition == p) partitions
@@ -85,4 +91,6 @@ each_page_in holds (run ∷ runs) = each_page holds run.first run.count && each_
 unfoldable pub common_home : State → ℕ → List PageRun → View
 common_home s p [] = None
 common_home s p (run ∷ runs) =
-    option_and_then (λ home. if each_page_in (is_free_with s p home) (run ∷ runs) then Some home else None) (free_home s p run.first)
+    option_and_then
+    (λ home. if each_page_in (is_free_with s p home) (run ∷ runs) then Some home else None)
+    (free_home s p run.first)

@@ -3,6 +3,7 @@
 
 ghost use Rattle.std.specs.Prelude.{◌≡◌, ◌+◌, ◌*◌, ◌≤◌, true, false, length, slice_index, IfSome, IfNone};
 ghost use Rattle.base.specs.Descriptors.Send as spec;
+ghost use Rattle.descr.specs.Parts.{AreEndpoints};
 
 use crate::layout::PART_SIZE;
 use crate::numbers::{u16_at, u32_at, u64_at};
@@ -56,7 +57,7 @@ pub(crate) fn is_access(bytes: &[u8], composite: u32, at: usize) -> bool
 /// The receiver of an access descriptor.
 pub(crate) fn endpoint_at(bytes: &[u8], at: usize) -> Endpoint
     requires { at + 16 ≤ length bytes.now }
-    ensures { result ≡ record { partition = spec.u16_at bytes.now at; permissions = slice_index bytes.now (at + 2) } }
+    ensures { result ≡ spec.endpoint_at bytes.now at }
 {
     Endpoint {
         partition: PartitionId::new(u16_at(bytes, at)),
@@ -74,7 +75,7 @@ pub(crate) fn read_endpoints(
 ) -> Option<ArrayVec<Endpoint, 8>>
     requires few { count ≤ 8 }
     requires inside { array + 16 * count ≤ length bytes.now }
-    ensures some { IfSome result (λ v. (spec.are_accesses count bytes.now composite array ≡ true) × (v.items ≡ spec.endpoints_at count bytes.now array)) }
+    ensures some { IfSome result (λ v. AreEndpoints count bytes.now composite array v.items) }
     ensures none { IfNone result (spec.are_accesses count bytes.now composite array ≡ false) }
 {
     let mut receivers = ArrayVec::new();

@@ -3,7 +3,7 @@
 
 ghost use Rattle.std.specs.Prelude.{◌≡◌, ◌+◌, ◌*◌, ◌/◌, ◌≤◌, true, false, length, IfSome, IfNone, IsTrue};
 ghost use Rattle.base.specs.Descriptors.Send as spec;
-ghost use Rattle.descr.specs.Parts.{is_composite_of};
+ghost use Rattle.descr.specs.Parts.{is_composite_of, AreRanges};
 
 use crate::layout::PART_SIZE;
 use crate::numbers::{u32_at, u64_at};
@@ -89,7 +89,7 @@ fn is_range(bytes: &[u8], at: usize) -> bool
 fn range_at(bytes: &[u8], at: usize) -> Run
     requires inside { at + 16 ≤ length bytes.now }
     requires range { IsTrue (spec.is_range bytes.now at) }
-    ensures { result ≡ record { first = spec.u64_at bytes.now at / 4096; count = spec.u32_at bytes.now (at + 8) } }
+    ensures { result ≡ spec.range_at bytes.now at }
 {
     let first = u64_at(bytes, at) / PAGE_SIZE;
     let count = u32_at(bytes, at + 8);
@@ -100,7 +100,7 @@ fn range_at(bytes: &[u8], at: usize) -> Run
 pub(crate) fn read_ranges(bytes: &[u8], first: usize, count: usize) -> Option<Ranges<'_>>
     requires few { count ≤ 512 }
     requires inside { first + 16 * count ≤ length bytes.now }
-    ensures some { IfSome result (λ v. (spec.are_ranges count bytes.now first ≡ true) × (v ≡ spec.ranges_at count bytes.now first)) }
+    ensures some { IfSome result (AreRanges count bytes.now first) }
     ensures none { IfNone result (spec.are_ranges count bytes.now first ≡ false) }
 {
     let mut at = first;

@@ -46,7 +46,7 @@ fn is_relinquish(bytes: &[u8]) -> bool
 #[tactic(auto, unfolding(base::specs::Descriptors::Relinquish::relinquish_of))]
 pub fn read_relinquish(bytes: &[u8]) -> Option<RelinquishDesc>
     // What is read is spelled so.
-    ensures some { IfSome result (λ v. IsTrue (spec.is_relinquish bytes.now) × (v ≡ spec.relinquish_of bytes.now)) }
+    ensures some { IfSome result (spec.SpellsRelinquish bytes.now) }
 
     // Nothing is read only where no relinquish is spelled.
     ensures none { IfNone result (spec.is_relinquish bytes.now ≡ false) }

@@ -38,9 +38,25 @@ impl Model for RetrieveDesc {
 
     ghost Value = { Retrieve };
 
-    ghost view = { λ d. record { sender = d.sender; attributes = d.attributes; kind = d.kind; bypass = d.bypass; handle = d.handle; tag = d.tag; endpoint = d.endpoint } };
+    ghost view = { λ d. record {
+      sender = d.sender;
+      attributes = d.attributes;
+      kind = d.kind;
+      bypass = d.bypass;
+      handle = d.handle;
+      tag = d.tag;
+      endpoint = d.endpoint;
+    } };
 
-    ghost inverse = { λ v. record { sender = v.sender; attributes = v.attributes; kind = v.kind; bypass = v.bypass; handle = v.handle; tag = v.tag; endpoint = v.endpoint } };
+    ghost inverse = { λ v. record {
+      sender = v.sender;
+      attributes = v.attributes;
+      kind = v.kind;
+      bypass = v.bypass;
+      handle = v.handle;
+      tag = v.tag;
+      endpoint = v.endpoint;
+    } };
 }
 
 /// The kind in bits 4:3 of the flags.
@@ -105,7 +121,7 @@ fn is_retrieve(version: Version, bytes: &[u8]) -> bool
 #[tactic(auto, unfolding(base::specs::Descriptors::Retrieve::retrieve_of))]
 pub fn read_retrieve(bytes: &[u8], version: Version) -> Option<RetrieveDesc>
     // What is read is spelled so.
-    ensures some { IfSome result (λ v. IsTrue (spec.is_retrieve version bytes.now) × (v ≡ spec.retrieve_of version bytes.now)) }
+    ensures some { IfSome result (spec.SpellsRetrieve version bytes.now) }
 
     // Nothing is read only where no retrieve request is spelled.
     ensures none { IfNone result (spec.is_retrieve version bytes.now ≡ false) }

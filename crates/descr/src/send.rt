@@ -1,12 +1,9 @@
 //! Reads the memory transaction descriptor of a send.
 
 ghost use Rattle.std.specs.Prelude.{◌≡◌, ◌≤◌, true, false, length, IfSome, IfNone, IsTrue};
-ghost use Rattle.std.specs.Iterator.{YieldsFirst};
-ghost use Rattle.std.specs.Iterator.Runs.{YieldsInOrder};
-ghost use Rattle.base.specs.Pages.{PageRun};
 ghost use Rattle.base.specs.Descriptors.Send as spec;
 ghost use Rattle.descr.specs.Inside.{IsInside};
-ghost use Rattle.descr.specs.Parts.{has_receivers, receivers_of, has_memory};
+ghost use Rattle.descr.specs.Parts.{has_receivers, SpellsReceivers, has_memory, SpellsMemory, YieldsRanges};
 
 use crate::access::{Endpoint, read_endpoints};
 use crate::apart::are_disjoint;
@@ -40,7 +37,13 @@ impl<'a> Model for SendDesc<'a> {
 
     ghost Value = { Send };
 
-    ghost view = { λ d. record { sender = d.sender; attributes = d.attributes; tag = d.tag; receivers = d.receivers.items; ranges = d.ranges } };
+    ghost view = { λ d. record {
+      sender = d.sender;
+      attributes = d.attributes;
+      tag = d.tag;
+      receivers = d.receivers.items;
+      ranges = d.ranges;
+    } };
 }
 
 impl<'a> SendDesc<'a> {
@@ -48,7 +51,7 @@ impl<'a> SendDesc<'a> {
     pub fn ranges(&self) -> Ranges<'a>
         ensures same { result ≡ self.now.ranges }
         ensures few { length result ≤ 512 }
-        ensures runs { YieldsInOrder (YieldsFirst {A = PageRun} (λ ranges. ranges)) (λ ranges. ranges) }
+        ensures runs { YieldsRanges }
     {
         self.ranges.again()
     }
@@ -57,7 +60,7 @@ impl<'a> SendDesc<'a> {
 /// The receivers that the access descriptors name, if these keep their rules.
 fn read_receivers(version: Version, bytes: &[u8]) -> Option<ArrayVec<Endpoint, 8>>
     requires { IsInside version bytes.now }
-    ensures some { IfSome result (λ v. (has_receivers version bytes.now ≡ true) × (v.items ≡ receivers_of version bytes.now)) }
+    ensures some { IfSome result (λ v. SpellsReceivers version bytes.now v.items) }
     ensures none { IfNone result (has_receivers version bytes.now ≡ false) }
 {
     let composite = composite_at(version, bytes);
@@ -68,7 +71,7 @@ fn read_receivers(version: Version, bytes: &[u8]) -> Option<ArrayVec<Endpoint, 8
 /// The ranges behind the composite descriptor, if it and they keep their rules.
 fn read_memory(version: Version, bytes: &[u8]) -> Option<Ranges<'_>>
     requires { IsInside version bytes.now }
-    ensures some { IfSome result (λ v. (has_memory version bytes.now ≡ true) × (v ≡ spec.ranges_of version bytes.now)) }
+    ensures some { IfSome result (SpellsMemory version bytes.now) }
     ensures none { IfNone result (has_memory version bytes.now ≡ false) }
 {
     let composite = composite_at(version, bytes) as usize;
@@ -86,7 +89,7 @@ fn read_memory(version: Version, bytes: &[u8]) -> Option<Ranges<'_>>
 /// ranges share a page, or the total is not the sum of the ranges' pages.
 pub fn read_send(bytes: &[u8], version: Version) -> Option<SendDesc<'_>>
     // What is read is spelled so.
-    ensures some { IfSome result (λ v. IsTrue (spec.is_send version bytes.now) × (v ≡ spec.send_of version bytes.now)) }
+    ensures some { IfSome result (spec.SpellsSend version bytes.now) }
 
     // Nothing is read only where no send is spelled.
     ensures none { IfNone result (spec.is_send version bytes.now ≡ false) }

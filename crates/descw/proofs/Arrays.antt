@@ -8,7 +8,7 @@ use Rattle.base.specs.Descriptors.Permissions.{are_permissions}
 use Rattle.base.specs.Descriptors.Encoding.{RangeFields, access_text, accesses_text, range_text, ranges_text}
 use Rattle.descw.specs.Fields.{are_range_fields, runs_of}
 use Rattle.descw.specs.Inside.{AreIdentifiers}
-use Rattle.descw.proofs.Tests.{both, left, right}
+use Rattle.base.proofs.Booleans.{and_true, left, right}
 use Rattle.descw.proofs.Reading.{behind, byte_behind, u16_here, u32_behind, u64_here, is_access-text}
 
 pub are_accesses-text : (composite : ℕ) (es : List Endpoint) (bytes rest : List ℕ) (at : ℕ) → composite < 2 ^ 32 → list_all (λ e. are_permissions e.permissions) es ≡ true
@@ -17,7 +17,7 @@ are_accesses-text composite [] bytes rest at fits permitted here = refl
 are_accesses-text composite (e ∷ es) bytes rest at fits permitted here =
     let first = is_access-text composite e bytes (accesses_text composite es ++ rest) at here fits (left _ _ permitted) in
     let next = behind bytes (access_text composite e ++ (accesses_text composite es ++ rest)) at here 16 in
-    both _ _ first (are_accesses-text composite es bytes rest (at + 16) fits (right _ _ permitted) next)
+    and_true _ _ first (are_accesses-text composite es bytes rest (at + 16) fits (right _ _ permitted) next)
 
 pub endpoints_at-text : (composite : ℕ) (es : List Endpoint) (bytes rest : List ℕ) (at : ℕ) → AreIdentifiers es
     → drop at bytes ≡ accesses_text composite es ++ rest → endpoints_at (length es) bytes at ≡ es
@@ -77,7 +77,7 @@ module _ (r : RangeFields) (bytes rest : List ℕ) (at : ℕ) (valid : are_range
 
   is_range-text : is_range bytes at ≡ true
   unfolding is_range
-  is_range-text = both _ _ (rw (address_of, count_of) valid) (eq-eqb _ _ reserved_of)
+  is_range-text = and_true _ _ (rw (address_of, count_of) valid) (eq-eqb _ _ reserved_of)
 
 pub are_ranges-text : (rs : List RangeFields) (bytes rest : List ℕ) (at : ℕ) → list_all are_range_fields rs ≡ true
     → drop at bytes ≡ ranges_text rs ++ rest → are_ranges (length rs) bytes at ≡ true
@@ -85,7 +85,7 @@ are_ranges-text [] bytes rest at valid here = refl
 are_ranges-text (r ∷ rs) bytes rest at valid here =
     let first = is_range-text r bytes (ranges_text rs ++ rest) at (left _ _ valid) here in
     let next = behind bytes (range_text r ++ (ranges_text rs ++ rest)) at here 16 in
-    both _ _ first (are_ranges-text rs bytes rest (at + 16) (right _ _ valid) next)
+    and_true _ _ first (are_ranges-text rs bytes rest (at + 16) (right _ _ valid) next)
 
 pub ranges_at-text : (rs : List RangeFields) (bytes rest : List ℕ) (at : ℕ) → list_all are_range_fields rs ≡ true
     → drop at bytes ≡ ranges_text rs ++ rest → ranges_at (length rs) bytes at ≡ runs_of rs

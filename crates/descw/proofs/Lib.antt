@@ -1,5 +1,4 @@
 mod Turns
-mod Tests
 mod Reading
 mod Arrays
 mod Header

@@ -11,7 +11,7 @@ use Rattle.base.specs.Descriptors.Permissions.{are_permissions}
 use Rattle.base.specs.Descriptors.Encoding.{HeaderFields, RangeFields, header_text, accesses_text, composite_text, ranges_text}
 use Rattle.descw.specs.Fields.{are_range_fields, runs_of}
 use Rattle.descw.specs.Inside.{AreIdentifiers}
-use Rattle.descw.proofs.Tests.{both}
+use Rattle.base.proofs.Booleans.{and_true}
 use Rattle.descw.proofs.Reading.{behind, byte_behind, u16_here, u32_here, u32_behind, u64_behind, is_access-text}
 use Rattle.descw.proofs.Arrays.{are_accesses-text, endpoints_at-text, accesses-end, are_ranges-text, ranges_at-text, length-accesses_text, length-ranges_text}
 use Rattle.descw.proofs.Header.{count-text, array-text, rest-text, behind-header, length-header_text, sender-text, attributes-text, flags-text, handle-text, tag-text}
@@ -119,7 +119,7 @@ module _ (version : Version) (h : HeaderFields) (e : Endpoint) (es : List Endpoi
       let some_ranges = le-leb 1 (range_count version bytes) (omega arith) in
       let at_most_512 = le-leb (range_count version bytes) 512 (omega arith) in
       let end = eq-eqb (length bytes) (composite_at version bytes + 16 + 16 * range_count version bytes) (omega arith) in
-      both _ _ (both _ _ (both _ _ (both _ _ (both _ _ (both _ _ (both _ _ header some_receivers) at_most_8) behind_it) before_composite) some_ranges) at_most_512) end
+      and_true _ _ (and_true _ _ (and_true _ _ (and_true _ _ (and_true _ _ (and_true _ _ (and_true _ _ header some_receivers) at_most_8) behind_it) before_composite) some_ranges) at_most_512) end
 
   pub accesses : list_all (λ e. are_permissions e.permissions) (e ∷ es) ≡ true → are_accesses (receiver_count bytes) bytes (composite_at version bytes) (array_at version bytes) ≡ true
   accesses permitted =
@@ -150,7 +150,7 @@ module _ (version : Version) (h : HeaderFields) (e : Endpoint) (es : List Endpoi
       let zeros = eq-eqb (u64_at bytes (composite_at version bytes + 8)) 0 reserved in
       let is_sum = eq-eqb (pages_in (ranges_of version bytes)) (u32_at bytes (composite_at version bytes)) (read ∙ sym (total_of (omega arith))) in
       let at_most = le-leb (pages_in (ranges_of version bytes)) 262144 (rw read few) in
-      both _ _ (both _ _ (both _ _ aligned zeros) is_sum) at_most
+      and_true _ _ (and_true _ _ (and_true _ _ aligned zeros) is_sum) at_most
 
   pub sender : h.sender < 2 ^ 16 → u16_at bytes 0 ≡ h.sender
   sender fits = ap (λ b. u16_at b 0) parts ∙ sender-text version h (length (e ∷ es)) _ fits

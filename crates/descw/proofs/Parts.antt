@@ -7,7 +7,7 @@ use Rattle.base.specs.declared.partition.Version.TheVariants.{V10, V11}
 use Rattle.base.specs.Pages.{PageRun}
 use Rattle.base.specs.Descriptors.Send.{u16_at, u32_at, u64_at, header_size, array_at, receiver_count, is_rest_of_header, is_access, is_range, are_ranges, ranges_at}
 use Rattle.base.specs.Descriptors.Encoding.{HeaderFields, header_text, header_end, access_text, composite_text, range_text, range_of, runs_text}
-use Rattle.descw.proofs.Tests.{left, right}
+use Rattle.base.proofs.Booleans.{left, right}
 use Rattle.descw.proofs.Cuts.{byte_cut, u16_cut, u32_cut, u64_cut}
 
 module _ (bytes : List ℕ) (small : (i : ℕ) → slice_index bytes i < 256) where

@@ -6,7 +6,7 @@ use Rattle.byteorder.specs.Numbers.{little_number-reads_back}
 use Rattle.base.specs.Descriptors.Send.{Endpoint, u16_at, u32_at, u64_at, is_access}
 use Rattle.base.specs.Descriptors.Permissions.{are_permissions}
 use Rattle.base.specs.Descriptors.Encoding.{access_text}
-use Rattle.descw.proofs.Tests.{both}
+use Rattle.base.proofs.Booleans.{and_true}
 
 -- what stands at an offset of the bytes
 module _ (bytes rest : List ℕ) (at : ℕ) (here : drop at bytes ≡ rest) where
@@ -45,4 +45,4 @@ module _ (composite : ℕ) (e : Endpoint) (bytes rest : List ℕ) (at : ℕ) (he
       let reserved : slice_index bytes (at + 3) ≡ 0 = byte_behind bytes all at here 3 in
       let points : u32_at bytes (at + 4) ≡ composite = u32_behind bytes all at here 4 ∙ little_number-reads_back 4 composite [] fits in
       let zeros : u64_at bytes (at + 8) ≡ 0 = u64_behind bytes all at here 8 ∙ little_number-reads_back 8 0 [] (omega arith) in
-      both _ _ (both _ _ (both _ _ (rw permissions permitted) (eq-eqb _ _ reserved)) (eq-eqb _ _ points)) (eq-eqb _ _ zeros)
+      and_true _ _ (and_true _ _ (and_true _ _ (rw permissions permitted) (eq-eqb _ _ reserved)) (eq-eqb _ _ points)) (eq-eqb _ _ zeros)

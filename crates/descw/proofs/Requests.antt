@@ -10,7 +10,7 @@ use Rattle.base.specs.Descriptors.Relinquish.{is_relinquish, relinquish_of, Spel
 use Rattle.base.specs.Descriptors.Encoding.{RetrieveFields, RelinquishFields, header_text, access_text, retrieve_text, relinquish_text}
 use Rattle.descw.specs.Fields.{are_retrieve_fields, asked_by, are_relinquish_fields, given_up_by}
 use Rattle.descw.specs.Inside.{FitsHeader}
-use Rattle.descw.proofs.Tests.{both, left, right}
+use Rattle.base.proofs.Booleans.{and_true, left, right}
 use Rattle.descw.proofs.Reading.{byte_behind, u16_here, is_access-text}
 use Rattle.descw.proofs.Header.{attributes_small, count-text, array-text, rest-text, behind-header, length-header_text, sender-text, attributes-text, flags-text, handle-text, tag-text}
 
@@ -44,7 +44,7 @@ module _ (version : Version) (f : RetrieveFields) (bytes : List ℕ) (parts : by
       let one = eq-eqb (receiver_count bytes) 1 (ap receiver_count parts ∙ count-text version f.header 1 (access_text 0 f.endpoint) (omega arith)) in
       let behind_it = le-leb (header_size version) (array_at version bytes) (omega arith) in
       let end = eq-eqb (length bytes) (array_at version bytes + 16) (omega arith) in
-      both _ _ (both _ _ (both _ _ inside one) behind_it) end
+      and_true _ _ (and_true _ _ (and_true _ _ inside one) behind_it) end
 
   is_header : is_retrieve_header version bytes ≡ true
   unfolding is_retrieve_header
@@ -52,13 +52,13 @@ module _ (version : Version) (f : RetrieveFields) (bytes : List ℕ) (parts : by
       let kept : are_attributes (u16_at bytes 2) ≡ true = rw attributes_of attributes in
       let set : are_flags (u32_at bytes 4) ≡ true = rw flags_of flags in
       let rest = ap (is_rest_of_header version) parts ∙ rest-text version f.header 1 (access_text 0 f.endpoint) in
-      both _ _ (both _ _ kept set) rest
+      and_true _ _ (and_true _ _ kept set) rest
 
   is_retrieve-text : are_permissions f.endpoint.permissions ≡ true → is_retrieve version bytes ≡ true
   unfolding is_retrieve
   is_retrieve-text permitted =
       let access = is_access-text 0 f.endpoint bytes [] (header_size version) at_access (omega arith) permitted in
-      both _ _ (both _ _ laid_out is_header) (rw array access)
+      and_true _ _ (and_true _ _ laid_out is_header) (rw array access)
 
   retrieve_of-text : f.endpoint.partition < 2 ^ 16 → asked_by f ≡ retrieve_of version bytes
   unfolding retrieve_of
@@ -88,4 +88,4 @@ relinquish_text-spells f bytes is fits identifier valid =
     let handle = little_number-reads_back 8 f.handle [] fits in
     let flags = little_number-reads_back 4 f.flags [] (omega arith) in
     let endpoint = little_number-reads_back 2 f.endpoint [] identifier in
-    rw is (both _ true (eq-eqb _ _ (flags ∙ none)) refl, rw (handle, endpoint) refl)
+    rw is (and_true _ true (eq-eqb _ _ (flags ∙ none)) refl, rw (handle, endpoint) refl)

@@ -14,7 +14,7 @@ use Rattle.base.specs.Descriptors.Response.{Response, kind_bits, kind_named, has
 use Rattle.base.specs.Descriptors.Encoding.{range_of, response_header, header_text, accesses_text, composite_text, response_text}
 use Rattle.descw.specs.Fields.{are_range_fields, are_response_fields}
 use Rattle.descw.specs.Inside.{FitsHeader, AreRuns}
-use Rattle.descw.proofs.Tests.{both, left, right}
+use Rattle.base.proofs.Booleans.{and_true, left, right}
 use Rattle.descw.proofs.Runs.{runs_text-ranges, runs_of-ranges, are_ranges-runs}
 use Rattle.descw.proofs.Order as order
 
@@ -108,7 +108,7 @@ module _ (version : Version) (r : Response) (bytes : List ℕ)
       let some = le-leb 1 (range_count version bytes) (omega arith) in
       let at_most_512 = le-leb (range_count version bytes) 512 (omega arith) in
       let end = eq-eqb (length bytes) (header_size version + 32 + 16 * range_count version bytes) (omega arith) in
-      both _ _ (both _ _ (both _ _ (both _ _ (both _ _ (both _ _ header is_one) behind_it) after_it) some) at_most_512) end
+      and_true _ _ (and_true _ _ (and_true _ _ (and_true _ _ (and_true _ _ (and_true _ _ header is_one) behind_it) after_it) some) at_most_512) end
 
   attributes : u16_at bytes 2 ≡ 0x2f
   attributes = order.attributes version (response_header r) r.endpoint [] (pages_in r.ranges) (map range_of r.ranges) bytes parts one few (omega arith)
@@ -120,7 +120,7 @@ module _ (version : Version) (r : Response) (bytes : List ℕ)
   unfolding is_response_header
   is_header =
       let rest = order.rest_of_header version (response_header r) r.endpoint [] (pages_in r.ranges) (map range_of r.ranges) bytes parts one few in
-      both _ _ (both _ _ (eq-eqb (u16_at bytes 2) 0x2f attributes) (rw flags (is_kind r.kind))) rest
+      and_true _ _ (and_true _ _ (eq-eqb (u16_at bytes 2) 0x2f attributes) (rw flags (is_kind r.kind))) rest
 
   is_response-text : is_response version bytes ≡ true
   unfolding is_response
@@ -132,7 +132,7 @@ module _ (version : Version) (r : Response) (bytes : List ℕ)
       let ranges_here = rw here at at_ranges in
       let sum = ap pages_in (runs_of-ranges r.ranges) in
       let is_composite = order.is_composite-text version (response_header r) r.endpoint [] (pages_in r.ranges) (map range_of r.ranges) bytes parts one few valid sum k.few_pages in
-      both _ _ (both _ _ (both _ _ (both _ _ (both _ _ (both _ _ laid_out is_header) (rw permissions k.granted)) access) ranges_here) (rw ranges_read k.disjoint)) is_composite
+      and_true _ _ (and_true _ _ (and_true _ _ (and_true _ _ (and_true _ _ (and_true _ _ laid_out is_header) (rw permissions k.granted)) access) ranges_here) (rw ranges_read k.disjoint)) is_composite
 
   response_of-text : r.endpoint.partition < 2 ^ 16 → r ≡ response_of version bytes
   unfolding response_of

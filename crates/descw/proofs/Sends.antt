@@ -9,7 +9,7 @@ use Rattle.base.specs.Descriptors.Permissions.{are_attributes, are_permissions}
 use Rattle.base.specs.Descriptors.Encoding.{HeaderFields, RangeFields, SendFields, header_text, send_text}
 use Rattle.descw.specs.Fields.{are_range_fields, runs_of, are_send_fields, sent_by}
 use Rattle.descw.specs.Inside.{FitsHeader, AreIdentifiers}
-use Rattle.descw.proofs.Tests.{both, left, right}
+use Rattle.base.proofs.Booleans.{and_true, left, right}
 use Rattle.descw.proofs.Header.{attributes_small}
 use Rattle.descw.proofs.Order as order
 
@@ -68,7 +68,7 @@ module _ (version : Version) (h : HeaderFields) (e : Endpoint) (es : List Endpoi
       let flags = order.flags version h e es total rs bytes parts k.few_receivers k.few_ranges (omega arith) ∙ k.flags in
       let handle = order.handle version h e es total rs bytes parts k.few_receivers k.few_ranges fits.handle ∙ k.handle in
       let rest = order.rest_of_header version h e es total rs bytes parts k.few_receivers k.few_ranges in
-      both _ _ (both _ _ (both _ _ (rw attributes k.attributes) (eq-eqb _ _ flags)) (eq-eqb _ _ handle)) rest
+      and_true _ _ (and_true _ _ (and_true _ _ (rw attributes k.attributes) (eq-eqb _ _ flags)) (eq-eqb _ _ handle)) rest
 
   is_send-text : is_send version bytes ≡ true
   unfolding is_send
@@ -78,7 +78,7 @@ module _ (version : Version) (h : HeaderFields) (e : Endpoint) (es : List Endpoi
       let ranges = order.ranges_valid version h e es total rs bytes parts k.few_receivers k.few_ranges k.valid in
       let read = order.ranges_read version h e es total rs bytes parts k.few_receivers k.few_ranges k.valid in
       let composite = order.is_composite-text version h e es total rs bytes parts k.few_receivers k.few_ranges k.valid k.sum k.few_pages in
-      both _ _ (both _ _ (both _ _ (both _ _ (both _ _ layout is_header-text) accesses) ranges) (rw read k.disjoint)) composite
+      and_true _ _ (and_true _ _ (and_true _ _ (and_true _ _ (and_true _ _ layout is_header-text) accesses) ranges) (rw read k.disjoint)) composite
 
   send_of-text : AreIdentifiers (e ∷ es) → sent_by (record { header = h; receivers = e ∷ es; total = total; ranges = rs }) ≡ send_of version bytes
   unfolding send_of

@@ -9,7 +9,7 @@ use Rattle.base.specs.Descriptors.Send.{u16_at, u32_at, u64_at, header_size, arr
 use Rattle.base.specs.Descriptors.Response.{kind_bits, kind_named, has_response_layout, is_response_header, is_response, response_of}
 use Rattle.base.specs.Descriptors.Encoding.{header_text, access_text, composite_text, runs_text, response_header, response_text}
 use Rattle.descw.specs.Laws.{HaveResponsesOneText}
-use Rattle.descw.proofs.Tests.{left, right}
+use Rattle.base.proofs.Booleans.{left, right}
 use Rattle.descw.proofs.Order.{regroup}
 use Rattle.descw.proofs.Parts.{header_cut, access_cut, composite_cut, ranges_cut}
 

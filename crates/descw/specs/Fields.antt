@@ -13,7 +13,8 @@ use Rattle.base.specs.Descriptors.Encoding.{RangeFields, SendFields, RetrieveFie
 
 -- whole pages, at least one, within input addresses of 39 bits
 abbrev pub are_range_fields : RangeFields → Bool
-are_range_fields r = (r.address % 4096 == 0) && nat_le 1 r.count && nat_le (r.address / 4096 + r.count) (2 ^ 27)
+are_range_fields r =
+    (r.address % 4096 == 0) && nat_le 1 r.count && nat_le (r.address / 4096 + r.count) (2 ^ 27)
 
 -- the pages of a range
 abbrev pub run_of : RangeFields → PageRun

@@ -6,4 +6,5 @@ use Rattle.base.specs.Descriptors.Encoding.{response_text}
 
 abbrev pub HaveResponsesOneText : Type 0
 HaveResponsesOneText =
-    (version : Version) (bytes : List ℕ) → All (λ byte. byte < 256) bytes → IsTrue (is_response version bytes) → bytes ≡ response_text version (response_of version bytes)
+    (version : Version) (bytes : List ℕ) → All (λ byte. byte < 256) bytes
+    → IsTrue (is_response version bytes) → bytes ≡ response_text version (response_of version bytes)

@@ -25,9 +25,21 @@ impl Model for HeaderFields {
 
     ghost Value = { texts.HeaderFields };
 
-    ghost view = { λ h. record { sender = h.sender; attributes = h.attributes; flags = h.flags; handle = h.handle; tag = h.tag } };
+    ghost view = { λ h. record {
+      sender = h.sender;
+      attributes = h.attributes;
+      flags = h.flags;
+      handle = h.handle;
+      tag = h.tag;
+    } };
 
-    ghost inverse = { λ h. record { sender = h.sender; attributes = h.attributes; flags = h.flags; handle = h.handle; tag = h.tag } };
+    ghost inverse = { λ h. record {
+      sender = h.sender;
+      attributes = h.attributes;
+      flags = h.flags;
+      handle = h.handle;
+      tag = h.tag;
+    } };
 }
 
 /// The fields of a range (FF-A 1.1 and 1.0, "Constituent memory region descriptor").
@@ -67,7 +79,12 @@ impl<'a> Model for SendFields<'a> {
 
     ghost Value = { texts.SendFields };
 
-    ghost view = { λ f. record { header = f.header; receivers = f.receivers.now; total = f.total; ranges = f.ranges.now } };
+    ghost view = { λ f. record {
+      header = f.header;
+      receivers = f.receivers.now;
+      total = f.total;
+      ranges = f.ranges.now;
+    } };
 }
 
 /// The fields of a retrieve request (FF-A 1.1 and 1.0, "FFA_MEM_RETRIEVE_REQ").
@@ -132,5 +149,12 @@ impl<'a> Model for ResponseFields<'a> {
 
     ghost Value = { response.Response };
 
-    ghost view = { λ f. record { sender = f.sender; kind = f.kind; handle = f.handle; tag = f.tag; endpoint = f.endpoint; ranges = f.ranges.now } };
+    ghost view = { λ f. record {
+      sender = f.sender;
+      kind = f.kind;
+      handle = f.handle;
+      tag = f.tag;
+      endpoint = f.endpoint;
+      ranges = f.ranges.now;
+    } };
 }

@@ -7,10 +7,7 @@ use Rattle.std.proofs.lemmas.Bool.{lt-ltb, ltb-true}
 use Rattle.std.proofs.lemmas.Bool.Decides.{nat_tests}
 use Rattle.std.proofs.Math.Nat.{mul-le-mul_right, mul_assoc, pow-succ', pow-le-pow_right}
 use Rattle.lines.specs.Lines.{is_lower_hex_digit, is_digit, count_of}
-
-both : (a b : Bool) → (a && b) ≡ true → (a ≡ true) × (b ≡ true)
-both true b e = (refl, e)
-both false b e = absurd (cc)
+use Rattle.base.proofs.Booleans.{both}
 
 small_digit : (c : ℕ) → is_lower_hex_digit c ≡ true → digit_value c < 16
 small_digit c h = grind (arith, nat_tests)

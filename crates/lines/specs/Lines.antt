@@ -16,15 +16,21 @@ is_digit byte = nat_le 48 byte && nat_le byte 57
 
 -- the number that 1 to 16 lower-case hexadecimal digits write
 abbrev pub number_of : List ℕ → Option ℕ
-number_of word = if nat_le 1 (length word) && nat_le (length word) 16 && list_all is_lower_hex_digit word then Some (digits_value 16 word) else None
+number_of word =
+    if nat_le 1 (length word) && nat_le (length word) 16 && list_all is_lower_hex_digit word
+    then Some (digits_value 16 word) else None
 
 -- the identifier that four lower-case hexadecimal digits write
 abbrev pub id_of : List ℕ → Option ℕ
-id_of word = if (length word == 4) && list_all is_lower_hex_digit word then Some (digits_value 16 word) else None
+id_of word =
+    if (length word == 4) && list_all is_lower_hex_digit word then Some (digits_value 16 word)
+    else None
 
 -- the permissions that two lower-case hexadecimal digits write
 abbrev pub permissions_of : List ℕ → Option ℕ
-permissions_of word = if (length word == 2) && list_all is_lower_hex_digit word then Some (digits_value 16 word) else None
+permissions_of word =
+    if (length word == 2) && list_all is_lower_hex_digit word then Some (digits_value 16 word)
+    else None
 
 -- a zero stands first, and not alone
 abbrev pub has_leading_zero : List ℕ → Bool
@@ -33,12 +39,14 @@ has_leading_zero word = nat_lt 1 (length word) && (slice_index word 0 == 48)
 -- the number below 2^32 that decimal digits without a leading zero write
 abbrev pub count_of : List ℕ → Option ℕ
 count_of word =
-    if nat_le 1 (length word) && list_all is_digit word && not (has_leading_zero word) && nat_lt (digits_value 10 word) (2 ^ 32)
+    if nat_le 1 (length word) && list_all is_digit word && not (has_leading_zero word)
+    && nat_lt (digits_value 10 word) (2 ^ 32)
     then Some (digits_value 10 word) else None
 
 -- the total is the sum of the ranges' counts, and there are at most 512 ranges
 abbrev pub IsWhole : SendLine → Type 0
-IsWhole send = (send.total ≡ sum_by (λ r. r.count) send.ranges.items) × (length send.ranges.items ≤ 512)
+IsWhole send =
+    (send.total ≡ sum_by (λ r. r.count) send.ranges.items) × (length send.ranges.items ≤ 512)
 
 -- empty, or a comment of at most 66,000 bytes
 abbrev pub is_nothing : List ℕ → Bool

@@ -1,4 +1,4 @@
-ghost use Rattle.std.specs.Prelude.{◌≡◌, ◌&&◌, true, false, ◌<◌, IfSome, IfNone};
+ghost use Rattle.std.specs.Prelude.{◌≡◌, false, ◌<◌, IfSome, IfNone};
 ghost use Rattle.base.specs.Buffers as spec;
 ghost use Rattle.spans.specs.Alike.{IsAlikeUntil};
 
@@ -61,8 +61,8 @@ impl Pair {
 /// they are a pair's.
 #[tactic(auto, unfolding(base::specs::Buffers::are_areas, base::specs::Buffers::is_pair))]
 pub(crate) fn named_pair(tx: u64, rx: u64, pages: u32) -> Option<Pair>
-    ensures some { IfSome result (λ pair. (pair ≡ spec.named_pair tx rx pages) × ((spec.are_areas tx rx pages && spec.is_pair (spec.named_pair tx rx pages)) ≡ true)) }
-    ensures none { IfNone result ((spec.are_areas tx rx pages && spec.is_pair (spec.named_pair tx rx pages)) ≡ false) }
+    ensures some { IfSome result (spec.IsNamedPair tx rx pages) }
+    ensures none { IfNone result (spec.names_pair tx rx pages ≡ false) }
 {
     if pages < 1 || pages > MOST_BUFFER_PAGES || tx % PAGE_SIZE != 0 || rx % PAGE_SIZE != 0 {
         return None;
@@ -83,7 +83,7 @@ pub(crate) fn named_pair(tx: u64, rx: u64, pages: u32) -> Option<Pair>
 /// So many pages from an address in bytes, where they end within input addresses of 39 bits.
 fn area(address: u64, pages: u32) -> Option<Run>
     requires { 0 < pages }
-    ensures some { IfSome result (λ run. (run ≡ spec.area address pages) × (spec.ends_in_space run ≡ true)) }
+    ensures some { IfSome result (spec.IsArea address pages) }
     ensures none { IfNone result (spec.ends_in_space (spec.area address pages) ≡ false) }
 {
     let first = address / PAGE_SIZE;

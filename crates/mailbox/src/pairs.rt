@@ -2,7 +2,7 @@ ghost use Rattle.std.specs.Prelude.{◌≡◌, ◌<◌, ◌≤◌, ◌==◌, Non
 ghost use Rattle.std.specs.List.{find};
 ghost use Rattle.std.specs.Option.{option_map};
 ghost use Rattle.base.specs.Buffers as spec;
-ghost use Rattle.base.specs.Refusals.{first_refusal};
+ghost use Rattle.base.specs.Refusals.{NoneRefuses, RefusesWith};
 ghost use Rattle.mailbox.specs.Buffers.{has_buffer_at};
 ghost use Rattle.spans.specs.Alike.{IsAlikeUntil};
 
@@ -75,8 +75,8 @@ impl Pairs {
     /// past input addresses of 39 bits, or where the areas share a page. Whether the pages may be
     /// buffers is not looked at.
     pub fn check(&self, p: PartitionId, tx: u64, rx: u64, pages: u32) -> Result<Pair, Status>
-        ensures refused { IfErr result (λ status. first_refusal (spec.pair_tests self.now p tx rx pages) ≡ Some status) }
-        ensures passed { IfOk result (λ pair. (first_refusal (spec.pair_tests self.now p tx rx pages) ≡ None) × (pair ≡ spec.named_pair tx rx pages)) }
+        ensures refused { IfErr result (RefusesWith (spec.pair_tests self.now p tx rx pages)) }
+        ensures passed { IfOk result (spec.PassesWith self.now p tx rx pages) }
     {
         if self.has_pair(p) {
             return Err(Status::Denied);
@@ -96,9 +96,9 @@ impl Pairs {
     /// not. It is refused as `InvalidParameters` where the partition has no pair, and changes nothing
     /// then.
     pub fn unmap(&mut self, p: PartitionId) -> Result<(), Status>
-        ensures refused { IfErr result (λ status. first_refusal (spec.unmap_tests self.old p) ≡ Some status) }
+        ensures refused { IfErr result (RefusesWith (spec.unmap_tests self.old p)) }
         ensures err { OnErr result (self.new ≡ self.old) }
-        ensures passed { OnOk result (first_refusal (spec.unmap_tests self.old p) ≡ None) }
+        ensures passed { OnOk result (NoneRefuses (spec.unmap_tests self.old p)) }
         ensures ok { OnOk result (self.new ≡ spec.with_pair p None self.old) }
     {
         if !self.has_pair(p) {
@@ -112,9 +112,9 @@ impl Pairs {
     /// `Denied` where the partition does not hold RX, also for want of a pair, and changes nothing
     /// then.
     pub fn release(&mut self, p: PartitionId) -> Result<(), Status>
-        ensures refused { IfErr result (λ status. first_refusal (spec.release_tests self.old p) ≡ Some status) }
+        ensures refused { IfErr result (RefusesWith (spec.release_tests self.old p)) }
         ensures err { OnErr result (self.new ≡ self.old) }
-        ensures passed { OnOk result (first_refusal (spec.release_tests self.old p) ≡ None) }
+        ensures passed { OnOk result (NoneRefuses (spec.release_tests self.old p)) }
         ensures ok { OnOk result (self.new ≡ spec.with_rx p false self.old) }
     {
         if !self.holds_rx(p) {
@@ -128,9 +128,9 @@ impl Pairs {
     /// It is refused as `InvalidParameters` where the partition has no pair, and as `Busy` where it
     /// holds RX already, and changes nothing then.
     pub fn fill(&mut self, p: PartitionId) -> Result<(), Status>
-        ensures refused { IfErr result (λ status. first_refusal (spec.fill_tests self.old p) ≡ Some status) }
+        ensures refused { IfErr result (RefusesWith (spec.fill_tests self.old p)) }
         ensures err { OnErr result (self.new ≡ self.old) }
-        ensures passed { OnOk result (first_refusal (spec.fill_tests self.old p) ≡ None) }
+        ensures passed { OnOk result (NoneRefuses (spec.fill_tests self.old p)) }
         ensures ok { OnOk result (self.new ≡ spec.with_rx p true self.old) }
     {
         if !self.has_pair(p) {

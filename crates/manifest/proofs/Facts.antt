@@ -10,10 +10,7 @@ use Rattle.base.specs.Pages.{in_run}
 use Rattle.base.specs.Manifest.{PartitionRow, GrantRow, RegionRow, ManifestRows, ids_of, quotas_of, row_of, is_partition, granted_in, permission_of, grant}
 use Rattle.base.specs.Need.{need}
 use Rattle.manifest.specs.Valid.{granted_by, rise_from, begin_from, names_partitions, fits_quota, is_partition_row, is_region_row, is_valid}
-
-both : (a b : Bool) → (a && b) ≡ true → (a ≡ true) × (b ≡ true)
-both true b e = (refl, e)
-both false b e = absurd (cc)
+use Rattle.base.proofs.Booleans.{both}
 
 -- the rules that the tables rest on
 pub record Facts (m : ManifestRows) : Type 0 where

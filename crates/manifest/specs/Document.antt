@@ -14,6 +14,7 @@ use Rattle.base.specs.Manifest.{PartitionRow, GrantRow, RegionRow, ManifestRows}
 use Rattle.toml.specs.Data.{Data, table, Items, no_items, item, Members, no_members, member, get, as_integer, as_bool, as_str, as_array, as_table}
 use Rattle.toml.specs.Parse.{parse_document}
 use Rattle.manifest.specs.Faults.{fault_of}
+use Rattle.manifest.specs.Valid.{region}
 use Rattle.manifest.specs.declared.fault.ManifestFault.{ManifestFault}
 use Rattle.manifest.specs.Numbers.{number_of}
 
@@ -36,7 +37,9 @@ abbrev pub has_partition_keys : Data → Bool
 has_partition_keys d = has_key (codes "id") d && has_key (codes "quota") d && (keys_count d == 2)
 
 abbrev pub has_grant_keys : Data → Bool
-has_grant_keys d = has_key (codes "id") d && has_key (codes "data") d && has_key (codes "exec") d && (keys_count d == 3)
+has_grant_keys d =
+    has_key (codes "id") d && has_key (codes "data") d && has_key (codes "exec") d
+    && (keys_count d == 3)
 
 abbrev pub has_region_keys : Data → Bool
 has_region_keys d =
@@ -44,7 +47,9 @@ has_region_keys d =
     && has_key (codes "owner") d && has_key (codes "grants") d && (keys_count d == 5)
 
 abbrev pub has_document_keys : Data → Bool
-has_document_keys d = has_key (codes "pool") d && has_key (codes "partition") d && has_key (codes "region") d && (keys_count d == 3)
+has_document_keys d =
+    has_key (codes "pool") d && has_key (codes "partition") d && has_key (codes "region") d
+    && (keys_count d == 3)
 
 abbrev pub is_table : Data → Bool
 is_table d = is_some (as_table d)
@@ -65,12 +70,15 @@ tables_pass_at key test d = option_map_or (tables_pass test) (array_at key d) tr
 abbrev pub has_all_region_keys : Data → Bool
 has_all_region_keys d = has_region_keys d && tables_pass_at (codes "grants") has_grant_keys d
 
+abbrev pub partitions_have_keys : Data → Bool
+partitions_have_keys d = tables_pass_at (codes "partition") has_partition_keys d
+
+abbrev pub regions_have_keys : Data → Bool
+regions_have_keys d = tables_pass_at (codes "region") has_all_region_keys d
+
 -- fault 2: the document, its partitions, its regions and their grants have the keys that stand there, and no others
 abbrev pub keys_are_right : Data → Bool
-keys_are_right d =
-    has_document_keys d
-    && tables_pass_at (codes "partition") has_partition_keys d
-    && tables_pass_at (codes "region") has_all_region_keys d
+keys_are_right d = has_document_keys d && partitions_have_keys d && regions_have_keys d
 
 -- ---- values
 
@@ -103,28 +111,35 @@ same_text a b = pointwise nat_eq a b
 
 abbrev pub kind_of : List ℕ → Option MemoryKind
 kind_of text =
-    if same_text text (codes "normal") then Some Normal else (if same_text text (codes "device") then Some Device else None)
+    if same_text text (codes "normal") then Some Normal
+    else (if same_text text (codes "device") then Some Device else None)
 
 abbrev pub rights_of : List ℕ → Option Rights
-rights_of text = if same_text text (codes "ro") then Some Ro else (if same_text text (codes "rw") then Some Rw else None)
+rights_of text =
+    if same_text text (codes "ro") then Some Ro
+    else (if same_text text (codes "rw") then Some Rw else None)
 
 abbrev pub partition_of : Data → Option PartitionRow
 partition_of d =
-    option_and_then (λ id. option_map (λ quota. record { id = identifier_of id; quota = count_of quota }) (integer_at (codes "quota") d))
+    option_and_then (λ id.
+    option_map (λ quota. record { id = identifier_of id; quota = count_of quota })
+    (integer_at (codes "quota") d))
     (integer_at (codes "id") d)
 
 abbrev pub grant_of : Data → Option GrantRow
 grant_of d =
     option_and_then (λ id.
     option_and_then (λ rights.
-    option_map (λ exec. record { partition = identifier_of id; rights = rights; exec = exec }) (bool_at (codes "exec") d))
+    option_map (λ exec. record { partition = identifier_of id; rights = rights; exec = exec })
+    (bool_at (codes "exec") d))
     (option_and_then rights_of (text_at (codes "data") d)))
     (integer_at (codes "id") d)
 
 -- the rows of some items, where each item is one
 abbrev pub rows_in : {A : Type 0} → (Data → Option A) → Items → Option (List A)
 rows_in row_of no_items = Some []
-rows_in row_of (item d ds) = option_and_then (λ row. option_map (λ rows. row ∷ rows) (rows_in row_of ds)) (row_of d)
+rows_in row_of (item d ds) =
+    option_and_then (λ row. option_map (λ rows. row ∷ rows) (rows_in row_of ds)) (row_of d)
 
 -- the rows of the array at a key
 abbrev pub rows_at : {A : Type 0} → List ℕ → (Data → Option A) → Data → Option (List A)
@@ -132,7 +147,9 @@ rows_at key row_of d = option_and_then (rows_in row_of) (array_at key d)
 
 abbrev pub pages_of : Data → Option PageRun
 pages_of d =
-    option_and_then (λ base. option_map (λ pages. record { first = page_of base; count = count_of pages }) (integer_at (codes "pages") d))
+    option_and_then (λ base.
+    option_map (λ pages. record { first = page_of base; count = count_of pages })
+    (integer_at (codes "pages") d))
     (integer_at (codes "base") d)
 
 -- a region with these grants
@@ -140,16 +157,25 @@ abbrev pub region_with : List GrantRow → Data → Option RegionRow
 region_with grants d =
     option_and_then (λ pages.
     option_and_then (λ kind.
-    option_map (λ owner. record { pages = pages; kind = kind; owner = identifier_of owner; grants = grants })
+    option_map (λ owner. region pages kind (identifier_of owner) grants)
     (integer_at (codes "owner") d))
     (option_and_then kind_of (text_at (codes "kind") d)))
     (pages_of d)
 
+abbrev pub grants_of : Data → Option (List GrantRow)
+grants_of d = rows_at (codes "grants") grant_of d
+
 abbrev pub region_of : Data → Option RegionRow
-region_of d = option_and_then (λ grants. region_with grants d) (rows_at (codes "grants") grant_of d)
+region_of d = option_and_then (λ grants. region_with grants d) (grants_of d)
 
 abbrev pub pool_of : Data → Option ℕ
 pool_of d = option_map page_of (integer_at (codes "pool") d)
+
+abbrev pub partitions_of : Data → Option (List PartitionRow)
+partitions_of d = rows_at (codes "partition") partition_of d
+
+abbrev pub regions_of : Data → Option (List RegionRow)
+regions_of d = rows_at (codes "region") region_of d
 
 -- the rows of a document, in its order; none where a value is of another type or another text (fault 3)
 abbrev pub rows_of : Data → Option ManifestRows
@@ -157,8 +183,8 @@ rows_of d =
     option_and_then (λ pool.
     option_and_then (λ partitions.
     option_map (λ regions. record { pool = pool; partitions = partitions; regions = regions })
-    (rows_at (codes "region") region_of d))
-    (rows_at (codes "partition") partition_of d))
+    (regions_of d))
+    (partitions_of d))
     (pool_of d)
 
 -- a value is of another type or another text (3), or want of memory (11)
@@ -171,7 +197,8 @@ Reads wanted result = MatchResult result (λ x. wanted ≡ Some x) (IsWrongValue
 
 -- the rows that are wanted, or a fault
 abbrev pub ReadsRows : {A : Type 0} → Option (List A) → Result (Vec A Global) ManifestFault → Type 0
-ReadsRows wanted result = MatchResult result (λ rows. wanted ≡ Some rows.items) (IsWrongValue wanted)
+ReadsRows wanted result =
+    MatchResult result (λ rows. wanted ≡ Some rows.items) (IsWrongValue wanted)
 
 -- the same rows, partitions in ascending order of identifier and regions in ascending order of address
 pub record IsInOrder (rows sorted : ManifestRows) : Type 0 where
@@ -206,6 +233,10 @@ pub record IsManifestOf (bytes : List ℕ) (m : ManifestRows) : Type 0 where
 -- fault 1: no text, or no document
 pub record IsNoDocument (bytes : List ℕ) : Type 0 where
   pub refused : IsUtf8 bytes → parse_document bytes ≡ None
+
+-- the fault of bytes that are no document, or want of memory
+abbrev pub IsUnread : List ℕ → ManifestFault → Type 0
+IsUnread bytes fault = (number_of fault ≡ 11) ⊎ ((number_of fault ≡ 1) × IsNoDocument bytes)
 
 -- fault 2: an unknown or a missing key
 pub record BreaksKeys (bytes : List ℕ) : Type 0 where

@@ -1,5 +1,5 @@
 -- The numbers of a manifest's faults.
-use Rattle.std.specs.Prelude.{◌≡◌, ℕ, Bool, true, false, Result, MatchResult, Some, ◌⊎◌}
+use Rattle.std.specs.Prelude.{◌≡◌, ℕ, Bool, true, false, Result, MatchResult, Some, None, ◌⊎◌}
 use Rattle.base.specs.Manifest.{ManifestRows}
 use Rattle.manifest.specs.Faults.{fault_of}
 use Rattle.manifest.specs.declared.fault.ManifestFault.{ManifestFault}
@@ -20,7 +20,12 @@ number_of OutOfMemory = 11
 
 -- the rule holds, or the answer is the fault of this number
 abbrev pub Tests : {A : Type 0} → Bool → ℕ → Result A ManifestFault → Type 0
-Tests holds fault result = MatchResult result (λ _. holds ≡ true) (λ f. (holds ≡ false) × (number_of f ≡ fault))
+Tests holds fault result =
+    MatchResult result (λ _. holds ≡ true) (λ f. (holds ≡ false) × (number_of f ≡ fault))
+
+-- the manifest has these rows, which break no rule
+abbrev pub IsOfRows : ManifestRows → ManifestRows → Type 0
+IsOfRows rows m = (m ≡ rows) × (fault_of rows ≡ None)
 
 -- the fault is the first of the rows, or want of memory
 abbrev pub AppliesTo : ManifestRows → ManifestFault → Type 0

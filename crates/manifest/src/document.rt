@@ -3,7 +3,8 @@
 ghost use Rattle.std.specs.Prelude.{◌≡◌, is_some, codes};
 ghost use Rattle.std.specs.Option.{option_map};
 ghost use Rattle.toml.specs.View.{view, array_view, items_view};
-ghost use Rattle.manifest.specs.Document as document;
+ghost use Rattle.manifest.specs.Document as spec;
+ghost use Rattle.manifest.specs.Document.{Reads, ReadsRows};
 ghost use Rattle.manifest.specs.Numbers.{Tests};
 
 use crate::draft::{Draft, PartitionDraft, RegionDraft};
@@ -16,7 +17,7 @@ use toml::Value;
 
 /// The integer at a key of a table.
 fn integer_at(value: &Value, key: &str) -> Option<i64>
-    ensures { result ≡ document.integer_at key.now (view value.now) }
+    ensures { result ≡ spec.integer_at key.now (view value.now) }
 {
     match value.get(key) {
         Some(value) => value.as_integer(),
@@ -26,7 +27,7 @@ fn integer_at(value: &Value, key: &str) -> Option<i64>
 
 /// The boolean at a key of a table.
 fn bool_at(value: &Value, key: &str) -> Option<bool>
-    ensures { result ≡ document.bool_at key.now (view value.now) }
+    ensures { result ≡ spec.bool_at key.now (view value.now) }
 {
     match value.get(key) {
         Some(value) => value.as_bool(),
@@ -36,7 +37,7 @@ fn bool_at(value: &Value, key: &str) -> Option<bool>
 
 /// The array at a key of a table.
 fn array_at<'a>(value: &'a Value, key: &str) -> Option<&'a Vec<Value>>
-    ensures { option_map (λ a. array_view a.now) result ≡ document.array_at key.now (view value.now) }
+    ensures { option_map (λ a. array_view a.now) result ≡ spec.array_at key.now (view value.now) }
 {
     match value.get(key) {
         Some(value) => value.as_array(),
@@ -46,14 +47,14 @@ fn array_at<'a>(value: &'a Value, key: &str) -> Option<&'a Vec<Value>>
 
 /// Whether a table has a key.
 fn has_key(value: &Value, key: &str) -> bool
-    ensures { result ≡ document.has_key key.now (view value.now) }
+    ensures { result ≡ spec.has_key key.now (view value.now) }
 {
     value.get(key).is_some()
 }
 
 /// How many keys a table has.
 fn keys_count(value: &Value) -> usize
-    ensures { result ≡ document.keys_count (view value.now) }
+    ensures { result ≡ spec.keys_count (view value.now) }
 {
     match value {
         Value::Table(table) => table.len(),
@@ -63,7 +64,7 @@ fn keys_count(value: &Value) -> usize
 
 /// An identifier of 16 bits; 0 for a number that is none.
 fn identifier_of(number: i64) -> u16
-    ensures { result ≡ document.identifier_of number }
+    ensures { result ≡ spec.identifier_of number }
 {
     if 0 <= number && number < 0x1_0000 {
         number as u16
@@ -74,7 +75,7 @@ fn identifier_of(number: i64) -> u16
 
 /// A number of 32 bits; the largest for a number that is none.
 fn count_of(number: i64) -> u32
-    ensures { result ≡ document.count_of number }
+    ensures { result ≡ spec.count_of number }
 {
     if 0 <= number && number < 0x1_0000_0000 {
         number as u32
@@ -85,7 +86,7 @@ fn count_of(number: i64) -> u32
 
 /// The page of 4 KB that begins at an address below 2^39; the page after the last where none does.
 fn page_of(address: i64) -> u32
-    ensures { result ≡ document.page_of address }
+    ensures { result ≡ spec.page_of address }
 {
     if 0 <= address && address < 0x80_0000_0000 {
         let address = address as u64;
@@ -98,7 +99,7 @@ fn page_of(address: i64) -> u32
 
 /// The data access that a text names.
 fn rights_of(text: &str) -> Option<Rights>
-    ensures { result ≡ document.rights_of text.now }
+    ensures { result ≡ spec.rights_of text.now }
 {
     if text == "ro" {
         Some(Rights::Ro)
@@ -111,7 +112,7 @@ fn rights_of(text: &str) -> Option<Rights>
 
 /// The kind of memory that a text names.
 fn kind_of(text: &str) -> Option<MemoryKind>
-    ensures { result ≡ document.kind_of text.now }
+    ensures { result ≡ spec.kind_of text.now }
 {
     if text == "normal" {
         Some(MemoryKind::Normal)
@@ -124,7 +125,7 @@ fn kind_of(text: &str) -> Option<MemoryKind>
 
 /// The text at a key of a table.
 fn text_at<'a>(value: &'a Value, key: &str) -> Option<&'a str>
-    ensures { option_map (λ s. s.now) result ≡ document.text_at key.now (view value.now) }
+    ensures { option_map (λ s. s.now) result ≡ spec.text_at key.now (view value.now) }
 {
     match value.get(key) {
         Some(value) => value.as_str(),
@@ -182,14 +183,14 @@ fn wrong_value(value: &Value, table: Table, keys: &[Key]) -> Place {
 
 /// Whether a partition has its keys, and no others.
 fn has_partition_keys(value: &Value) -> bool
-    ensures { result ≡ document.has_partition_keys (view value.now) }
+    ensures { result ≡ spec.has_partition_keys (view value.now) }
 {
     has_key(value, "id") && has_key(value, "quota") && keys_count(value) == 2
 }
 
 /// Whether a grant has its keys, and no others.
 fn has_grant_keys(value: &Value) -> bool
-    ensures { result ≡ document.has_grant_keys (view value.now) }
+    ensures { result ≡ spec.has_grant_keys (view value.now) }
 {
     has_key(value, "id")
         && has_key(value, "data")
@@ -199,7 +200,7 @@ fn has_grant_keys(value: &Value) -> bool
 
 /// Whether a region has its keys, and no others.
 fn has_region_keys(value: &Value) -> bool
-    ensures { result ≡ document.has_region_keys (view value.now) }
+    ensures { result ≡ spec.has_region_keys (view value.now) }
 {
     has_key(value, "base")
         && has_key(value, "pages")
@@ -211,7 +212,7 @@ fn has_region_keys(value: &Value) -> bool
 
 /// Whether a document has its keys, and no others.
 fn has_document_keys(value: &Value) -> bool
-    ensures { result ≡ document.has_document_keys (view value.now) }
+    ensures { result ≡ spec.has_document_keys (view value.now) }
 {
     has_key(value, "pool")
         && has_key(value, "partition")
@@ -221,7 +222,7 @@ fn has_document_keys(value: &Value) -> bool
 
 /// Each table among the partitions has its keys, and no others.
 fn check_partition_tables(values: &[Value]) -> Result<(), ManifestFault>
-    ensures { Tests (document.tables_pass document.has_partition_keys (items_view values.now)) 2 result }
+    ensures { Tests (spec.tables_pass spec.has_partition_keys (items_view values.now)) 2 result }
 {
     for (i, value) in values.iter().enumerate() {
         if value.is_table() && !has_partition_keys(value) {
@@ -237,7 +238,7 @@ fn check_partition_tables(values: &[Value]) -> Result<(), ManifestFault>
 
 /// Each table among the grants of a region has its keys, and no others.
 fn check_grant_tables(values: &[Value], region: usize) -> Result<(), ManifestFault>
-    ensures { Tests (document.tables_pass document.has_grant_keys (items_view values.now)) 2 result }
+    ensures { Tests (spec.tables_pass spec.has_grant_keys (items_view values.now)) 2 result }
 {
     for (i, value) in values.iter().enumerate() {
         if value.is_table() && !has_grant_keys(value) {
@@ -251,7 +252,7 @@ fn check_grant_tables(values: &[Value], region: usize) -> Result<(), ManifestFau
 
 /// A region and the tables among its grants have their keys, and no others.
 fn check_region_keys(value: &Value, region: usize) -> Result<(), ManifestFault>
-    ensures { Tests (document.has_all_region_keys (view value.now)) 2 result }
+    ensures { Tests (spec.has_all_region_keys (view value.now)) 2 result }
 {
     if !has_region_keys(value) {
         return Err(ManifestFault::Key(missing_key(value, Table::Region(region), &REGION_KEYS)));
@@ -264,7 +265,7 @@ fn check_region_keys(value: &Value, region: usize) -> Result<(), ManifestFault>
 
 /// Each table among the regions has its keys, and no others.
 fn check_region_tables(values: &[Value]) -> Result<(), ManifestFault>
-    ensures { Tests (document.tables_pass document.has_all_region_keys (items_view values.now)) 2 result }
+    ensures { Tests (spec.tables_pass spec.has_all_region_keys (items_view values.now)) 2 result }
 {
     for (i, value) in values.iter().enumerate() {
         if value.is_table() {
@@ -276,7 +277,7 @@ fn check_region_tables(values: &[Value]) -> Result<(), ManifestFault>
 
 /// The tables in the document's array of partitions have their keys, and no others.
 fn check_partitions(value: &Value) -> Result<(), ManifestFault>
-    ensures { Tests (document.tables_pass_at (codes "partition") document.has_partition_keys (view value.now)) 2 result }
+    ensures { Tests (spec.partitions_have_keys (view value.now)) 2 result }
 {
     match array_at(value, "partition") {
         Some(partitions) => check_partition_tables(partitions),
@@ -286,7 +287,7 @@ fn check_partitions(value: &Value) -> Result<(), ManifestFault>
 
 /// The tables in the document's array of regions have their keys, and no others.
 fn check_regions(value: &Value) -> Result<(), ManifestFault>
-    ensures { Tests (document.tables_pass_at (codes "region") document.has_all_region_keys (view value.now)) 2 result }
+    ensures { Tests (spec.regions_have_keys (view value.now)) 2 result }
 {
     match array_at(value, "region") {
         Some(regions) => check_region_tables(regions),
@@ -296,7 +297,7 @@ fn check_regions(value: &Value) -> Result<(), ManifestFault>
 
 /// The tables of a document have their keys, and no others.
 pub(crate) fn check_keys(value: &Value) -> Result<(), ManifestFault>
-    ensures { Tests (document.keys_are_right (view value.now)) 2 result }
+    ensures { Tests (spec.keys_are_right (view value.now)) 2 result }
 {
     if !has_document_keys(value) {
         return Err(ManifestFault::Key(missing_key(value, Table::Document, &DOCUMENT_KEYS)));
@@ -307,7 +308,7 @@ pub(crate) fn check_keys(value: &Value) -> Result<(), ManifestFault>
 
 /// A partition, if its values are of their types.
 fn partition_of(value: &Value, number: usize) -> Option<PartitionDraft>
-    ensures { result ≡ document.partition_of (view value.now) }
+    ensures { result ≡ spec.partition_of (view value.now) }
 {
     let id = integer_at(value, "id")?;
     let quota = integer_at(value, "quota")?;
@@ -320,7 +321,7 @@ fn partition_of(value: &Value, number: usize) -> Option<PartitionDraft>
 
 /// A grant, if its values are of their types.
 fn grant_of(value: &Value) -> Option<Grant>
-    ensures { result ≡ document.grant_of (view value.now) }
+    ensures { result ≡ spec.grant_of (view value.now) }
 {
     let id = integer_at(value, "id")?;
     let rights = rights_of(text_at(value, "data")?)?;
@@ -334,7 +335,7 @@ fn grant_of(value: &Value) -> Option<Grant>
 
 /// The partitions of an array.
 fn partition_rows(alloc: Global, values: &[Value]) -> Result<Vec<PartitionDraft>, ManifestFault>
-    ensures { document.ReadsRows (document.rows_in document.partition_of (items_view values.now)) result }
+    ensures { ReadsRows (spec.rows_in spec.partition_of (items_view values.now)) result }
 {
     let mut rows = Vec::new(alloc);
     for (i, value) in values.iter().enumerate() {
@@ -352,7 +353,7 @@ fn partition_rows(alloc: Global, values: &[Value]) -> Result<Vec<PartitionDraft>
 
 /// The grants of an array in a region.
 fn grant_rows(alloc: Global, values: &[Value], region: usize) -> Result<Vec<Grant>, ManifestFault>
-    ensures { document.ReadsRows (document.rows_in document.grant_of (items_view values.now)) result }
+    ensures { ReadsRows (spec.rows_in spec.grant_of (items_view values.now)) result }
 {
     let mut rows = Vec::new(alloc);
     for (i, value) in values.iter().enumerate() {
@@ -370,7 +371,7 @@ fn grant_rows(alloc: Global, values: &[Value], region: usize) -> Result<Vec<Gran
 
 /// The grants of a region.
 fn grants_of(alloc: Global, value: &Value, region: usize) -> Result<Vec<Grant>, ManifestFault>
-    ensures { document.ReadsRows (document.rows_at (codes "grants") document.grant_of (view value.now)) result }
+    ensures { ReadsRows (spec.grants_of (view value.now)) result }
 {
     match array_at(value, "grants") {
         Some(grants) => grant_rows(alloc, grants, region),
@@ -380,7 +381,7 @@ fn grants_of(alloc: Global, value: &Value, region: usize) -> Result<Vec<Grant>, 
 
 /// A region with these grants, if its other values are of their types.
 fn region_with(value: &Value, number: usize, grants: Vec<Grant>) -> Option<RegionDraft>
-    ensures { result ≡ document.region_with grants.items (view value.now) }
+    ensures { result ≡ spec.region_with grants.items (view value.now) }
 {
     let base = integer_at(value, "base")?;
     let pages = integer_at(value, "pages")?;
@@ -398,7 +399,7 @@ fn region_with(value: &Value, number: usize, grants: Vec<Grant>) -> Option<Regio
 
 /// A region.
 fn region_of(alloc: Global, value: &Value, number: usize) -> Result<RegionDraft, ManifestFault>
-    ensures { document.Reads (document.region_of (view value.now)) result }
+    ensures { Reads (spec.region_of (view value.now)) result }
 {
     let grants = grants_of(alloc, value, number)?;
     match region_with(value, number, grants) {
@@ -409,7 +410,7 @@ fn region_of(alloc: Global, value: &Value, number: usize) -> Result<RegionDraft,
 
 /// The regions of an array.
 fn region_rows(alloc: Global, values: &[Value]) -> Result<Vec<RegionDraft>, ManifestFault>
-    ensures { document.ReadsRows (document.rows_in document.region_of (items_view values.now)) result }
+    ensures { ReadsRows (spec.rows_in spec.region_of (items_view values.now)) result }
 {
     let mut rows = Vec::new(alloc);
     for (i, value) in values.iter().enumerate() {
@@ -421,7 +422,7 @@ fn region_rows(alloc: Global, values: &[Value]) -> Result<Vec<RegionDraft>, Mani
 
 /// The partitions of a document.
 fn partitions_of(alloc: Global, value: &Value) -> Result<Vec<PartitionDraft>, ManifestFault>
-    ensures { document.ReadsRows (document.rows_at (codes "partition") document.partition_of (view value.now)) result }
+    ensures { ReadsRows (spec.partitions_of (view value.now)) result }
 {
     match array_at(value, "partition") {
         Some(partitions) => partition_rows(alloc, partitions),
@@ -431,7 +432,7 @@ fn partitions_of(alloc: Global, value: &Value) -> Result<Vec<PartitionDraft>, Ma
 
 /// The regions of a document.
 fn regions_of(alloc: Global, value: &Value) -> Result<Vec<RegionDraft>, ManifestFault>
-    ensures { document.ReadsRows (document.rows_at (codes "region") document.region_of (view value.now)) result }
+    ensures { ReadsRows (spec.regions_of (view value.now)) result }
 {
     match array_at(value, "region") {
         Some(regions) => region_rows(alloc, regions),
@@ -441,7 +442,7 @@ fn regions_of(alloc: Global, value: &Value) -> Result<Vec<RegionDraft>, Manifest
 
 /// The first page of a document's pool.
 fn pool_of(value: &Value) -> Result<u32, ManifestFault>
-    ensures { document.Reads (document.pool_of (view value.now)) result }
+    ensures { Reads (spec.pool_of (view value.now)) result }
 {
     match integer_at(value, "pool") {
         Some(pool) => Ok(page_of(pool)),
@@ -451,7 +452,7 @@ fn pool_of(value: &Value) -> Result<u32, ManifestFault>
 
 /// The rows of a document, in its order.
 pub(crate) fn rows_of(alloc: Global, value: &Value) -> Result<Draft, ManifestFault>
-    ensures { document.Reads (document.rows_of (view value.now)) result }
+    ensures { Reads (spec.rows_of (view value.now)) result }
 {
     let pool = pool_of(value)?;
     let partitions = partitions_of(alloc, value)?;

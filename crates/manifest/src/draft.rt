@@ -48,7 +48,12 @@ impl Model for RegionDraft {
 
     ghost Value = { RegionRow };
 
-    ghost view = { λ d. record { pages = record { first = d.first; count = d.count }; kind = d.kind; owner = d.owner; grants = d.grants.items } };
+    ghost view = { λ d. record {
+      pages = record { first = d.first; count = d.count };
+      kind = d.kind;
+      owner = d.owner;
+      grants = d.grants.items;
+    } };
 }
 
 /// The rows of a manifest: partitions in ascending order of identifier, regions in ascending order
@@ -65,7 +70,11 @@ impl Model for Draft {
 
     ghost Value = { ManifestRows };
 
-    ghost view = { λ d. record { pool = d.pool; partitions = d.partitions.items; regions = d.regions.items } };
+    ghost view = { λ d. record {
+      pool = d.pool;
+      partitions = d.partitions.items;
+      regions = d.regions.items;
+    } };
 }
 
 impl Draft {
@@ -232,14 +241,14 @@ fn second_grant(grants: &[Grant]) -> Option<usize> {
 
 /// Whether one of the partitions has the identifier.
 fn has_partition(partitions: &[PartitionDraft], id: PartitionId) -> bool
-    ensures { result ≡ list_any (λ row. row.id == id) partitions.now }
+    ensures { result ≡ rules.has_row partitions.now id }
 {
     partitions.iter().any(|row| row.partition.id == id)
 }
 
 /// Whether each grant names a partition.
 fn are_named(partitions: &[PartitionDraft], grants: &[Grant]) -> bool
-    ensures { result ≡ list_all (λ g. list_any (λ row. row.id == g.partition) partitions.now) grants.now }
+    ensures { result ≡ list_all (λ g. rules.has_row partitions.now g.partition) grants.now }
 {
     grants
         .iter()
@@ -292,7 +301,7 @@ fn table_pages(partitions: &[PartitionDraft]) -> u64
 
 /// There are 1 to 64 partitions and as many regions.
 fn check_counts(draft: &Draft) -> Result<(), ManifestFault>
-    ensures { Tests ((nat_le 1 (length draft.now.partitions) && nat_le (length draft.now.partitions) 64) && (nat_le 1 (length draft.now.regions) && nat_le (length draft.now.regions) 64)) 4 result }
+    ensures { Tests (rules.is_few draft.now.partitions && rules.is_few draft.now.regions) 4 result }
 {
     let (partitions, regions) = (draft.partitions.len(), draft.regions.len());
     if (1 <= partitions && partitions <= 64) && (1 <= regions && regions <= 64) {
@@ -310,7 +319,7 @@ fn check_counts(draft: &Draft) -> Result<(), ManifestFault>
 /// The pool ends within input addresses of 39 bits.
 fn check_pool(draft: &Draft) -> Result<(), ManifestFault>
     requires { length draft.now.partitions ≤ 64 }
-    ensures { Tests (nat_le (draft.now.pool + page_count (quotas_of draft.now.partitions)) (2 ^ 27)) 4 result }
+    ensures { Tests (rules.pool_ends draft.now) 4 result }
 {
     if draft.pool as u64 + table_pages(&draft.partitions) <= Page::COUNT as u64 {
         Ok(())
@@ -346,7 +355,7 @@ fn check_rise(partitions: &[PartitionDraft]) -> Result<(), ManifestFault>
 
 /// Owners and grants name partitions.
 fn check_names(draft: &Draft) -> Result<(), ManifestFault>
-    ensures { Tests (list_all (rules.names_partitions draft.now.partitions) draft.now.regions) 5 result }
+    ensures { Tests (rules.regions_name_partitions draft.now) 5 result }
 {
     for region in &draft.regions {
         if !names_partitions(&draft.partitions, region) {
@@ -381,7 +390,7 @@ fn check_order(regions: &[RegionDraft]) -> Result<(), ManifestFault>
 /// No region shares a page with the pool.
 fn check_pool_apart(draft: &Draft) -> Result<(), ManifestFault>
     requires { length draft.now.partitions ≤ 64 }
-    ensures { Tests (list_all (λ r. are_apart (rules.pool_pages draft.now) r.pages) draft.now.regions) 6 result }
+    ensures { Tests (rules.pool_is_apart draft.now) 6 result }
 {
     let pool = draft.pool as u64;
     let end = pool + table_pages(&draft.partitions);

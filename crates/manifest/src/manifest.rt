@@ -1,10 +1,8 @@
 ghost use Rattle.std.specs.Prelude.{◌≡◌, ◌+◌, ◌≤◌, ◌^◌, ◌==◌, IsTrue, MatchResult};
-ghost use Rattle.std.specs.List.{find};
 ghost use Rattle.std.specs.Option.{option_map};
 ghost use Rattle.base.specs.Manifest as rows;
-ghost use Rattle.manifest.specs.Valid.{is_valid, quota_of};
-ghost use Rattle.manifest.specs.Faults.{fault_of};
-ghost use Rattle.manifest.specs.Numbers.{AppliesTo};
+ghost use Rattle.manifest.specs.Valid.{is_valid, row_with, quota_of};
+ghost use Rattle.manifest.specs.Numbers.{IsOfRows, AppliesTo};
 ghost use Rattle.base.specs.Need as tables;
 
 use crate::draft::{
@@ -51,15 +49,23 @@ impl Model for Manifest {
 
     ghost Value = { ManifestRows };
 
-    ghost view = { λ m. record { pool = m.pool; partitions = m.partitions.items; regions = m.regions.items } };
+    ghost view = { λ m. record {
+      pool = m.pool;
+      partitions = m.partitions.items;
+      regions = m.regions.items;
+    } };
 
-    ghost invariant = { λ m. IsTrue (is_valid (record { pool = m.pool; partitions = m.partitions.items; regions = m.regions.items })) };
+    ghost invariant = { λ m. IsTrue (is_valid (record {
+      pool = m.pool;
+      partitions = m.partitions.items;
+      regions = m.regions.items;
+    })) };
 }
 
 impl Manifest {
     /// The manifest of these rows, or the first rule that they break.
     pub(crate) fn new(alloc: Global, draft: &Draft) -> Result<Self, ManifestFault>
-        ensures { MatchResult result (λ m. (m ≡ draft.now) × (fault_of draft.now ≡ None)) (AppliesTo draft.now) }
+        ensures { MatchResult result (IsOfRows draft.now) (AppliesTo draft.now) }
     {
         check_limits(draft)?;
         check_identifiers(draft)?;
@@ -130,7 +136,7 @@ impl Manifest {
 
     /// The row of a partition.
     fn row(&self, p: PartitionId) -> Option<&Partition>
-        ensures { option_map (λ row. row.now) result ≡ find (λ row. row.id == p) self.now.partitions }
+        ensures { option_map (λ row. row.now) result ≡ row_with self.now.partitions p }
     {
         let rows = self.partitions();
         let place = rows.partition_point(|row| row.id.number() < p.number());

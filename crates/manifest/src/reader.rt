@@ -1,9 +1,8 @@
 //! Reads a manifest from the bytes of a TOML document.
 
-ghost use Rattle.std.specs.Prelude.{◌≡◌, ◌⊎◌, IfOk, IfErr};
+ghost use Rattle.std.specs.Prelude.{IfOk, IfErr};
 ghost use Rattle.toml.specs.View.{view};
-ghost use Rattle.manifest.specs.Numbers.{number_of};
-ghost use Rattle.manifest.specs.Document.{IsDocument, IsNoDocument, IsManifestOf, IsFirstFault};
+ghost use Rattle.manifest.specs.Document.{IsDocument, IsUnread, IsManifestOf, IsFirstFault};
 
 use crate::document;
 use crate::fault::ManifestFault;
@@ -14,7 +13,7 @@ use toml::Value;
 /// The TOML document of these bytes.
 fn document_of(alloc: Global, bytes: &[u8]) -> Result<Value, ManifestFault>
     ensures ok { IfOk result (λ v. IsDocument bytes.now (view v)) }
-    ensures fault { IfErr result (λ f. (number_of f ≡ 11) ⊎ ((number_of f ≡ 1) × IsNoDocument bytes.now)) }
+    ensures fault { IfErr result (IsUnread bytes.now) }
 {
     match toml::table_from_slice(alloc, bytes) {
         Ok(table) => Ok(Value::Table(table)),

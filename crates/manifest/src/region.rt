@@ -1,9 +1,8 @@
-ghost use Rattle.std.specs.Prelude.{◌≡◌, ◌==◌, IsTrue, IfSome};
-ghost use Rattle.std.specs.List.{find};
+ghost use Rattle.std.specs.Prelude.{◌≡◌, IsTrue, IfSome};
 ghost use Rattle.std.specs.Option.{option_map};
-ghost use Rattle.base.specs.Access.{is_normal};
 ghost use Rattle.base.specs.Manifest.{granted_in};
-ghost use Rattle.manifest.specs.Valid.{is_region, is_executable_only_if};
+ghost use Rattle.manifest.specs.Valid as rows;
+ghost use Rattle.manifest.specs.Valid.{is_region, grant_to, suits_kind};
 
 use base::{Access, MemoryKind, PartitionId, Rights, Run};
 use std::marker::Model;
@@ -43,16 +42,26 @@ impl Model for Region {
 
     ghost Value = { RegionRow };
 
-    ghost view = { λ r. record { pages = r.pages; kind = r.kind; owner = r.owner; grants = r.grants.items } };
+    ghost view = { λ r. record {
+      pages = r.pages;
+      kind = r.kind;
+      owner = r.owner;
+      grants = r.grants.items;
+    } };
 
-    ghost invariant = { λ r. IsTrue (is_region (record { pages = r.pages; kind = r.kind; owner = r.owner; grants = r.grants.items })) };
+    ghost invariant = { λ r. IsTrue (is_region (record {
+      pages = r.pages;
+      kind = r.kind;
+      owner = r.owner;
+      grants = r.grants.items;
+    })) };
 }
 
 impl Region {
     /// A region of these parts.
     pub fn new(pages: Run, kind: MemoryKind, owner: PartitionId, grants: Vec<Grant>) -> Self
-        requires { IsTrue (is_region (record { pages = pages; kind = kind; owner = owner; grants = grants.items })) }
-        ensures { result ≡ record { pages = pages; kind = kind; owner = owner; grants = grants.items } }
+        requires { IsTrue (is_region (rows.region pages kind owner grants.items)) }
+        ensures { result ≡ rows.region pages kind owner grants.items }
     {
         Region {
             pages,
@@ -93,8 +102,8 @@ impl Region {
 
     /// Its grant to a partition.
     fn grant(&self, p: PartitionId) -> Option<&Grant>
-        ensures same { option_map (λ g. g.now) result ≡ find (λ g. g.partition == p) self.now.grants }
-        ensures legal { IfSome result (λ g. IsTrue (is_executable_only_if (is_normal self.now.kind) g.now)) }
+        ensures same { option_map (λ g. g.now) result ≡ grant_to self.now p }
+        ensures legal { IfSome result (λ g. IsTrue (suits_kind self.now.kind g.now)) }
     {
         self.grants.iter().find(|grant| grant.partition == p)
     }

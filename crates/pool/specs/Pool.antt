@@ -26,7 +26,8 @@ abbrev pub Words : Type 0
 Words = ℕ → ℕ → ℕ
 
 unfoldable pub words_of : List ℕ → Words
-words_of words = λ page index. if nat_lt index 512 then slice_index words (512 * page + index) else 0
+words_of words =
+    λ page index. if nat_lt index 512 then slice_index words (512 * page + index) else 0
 
 unfoldable pub taken_of : List Bool → ℕ → Bool
 taken_of taken = λ page. slice_index_or taken page false
@@ -38,7 +39,8 @@ pub record Pages : Type 0 where
   pub taken : ℕ → Bool
 
 abbrev pub pages_of : Memory → Pages
-pages_of m = record { ids = m.ids; quotas = m.quotas; words = words_of m.words; taken = taken_of m.taken }
+pages_of m =
+    record { ids = m.ids; quotas = m.quotas; words = words_of m.words; taken = taken_of m.taken }
 
 -- these words with one of them changed
 unfoldable pub put : ℕ → ℕ → ℕ → Words → Words
@@ -87,6 +89,14 @@ pub record IsLowestFree (m : Pages) (row page : ℕ) : Type 0 where
   pub free : m.taken page ≡ false
   pub lowest : (q : ℕ) → InShare m.quotas row q → q < page → m.taken q ≡ true
 
+-- the page stands in a partition's share
+abbrev pub InShareOf : Memory → ℕ → ℕ → Type 0
+InShareOf m p page = InShare m.quotas (row_in m p) page
+
+-- the free page of a partition's share with the lowest number
+abbrev pub IsLowestFreeOf : Memory → ℕ → ℕ → Type 0
+IsLowestFreeOf m p page = IsLowestFree (pages_of m) (row_in m p) page
+
 -- ---- the calls
 
 -- all words are 0, and the roots alone are taken
@@ -96,7 +106,8 @@ new_memory m =
       ids = ids_of m.partitions;
       quotas = quotas_of m.partitions;
       words = replicate (512 * page_count (quotas_of m.partitions)) 0;
-      taken = replicate (length m.partitions) true ++ replicate (sum (quotas_of m.partitions)) false;
+      taken = replicate (length m.partitions) true
+          ++ replicate (sum (quotas_of m.partitions)) false;
     }
 
 abbrev pub new_pool : ManifestRows → Pool
@@ -110,10 +121,12 @@ with_taken page is m = record m { taken = slice_set m.taken page is }
 
 -- one more operation, over this memory
 abbrev pub logged : Op → Memory → Pool → Pool
-logged op memory pool = record { memory = memory; operations = op ∷ pool.operations; made = (pool.made + 1) % 2 ^ 64 }
+logged op memory pool =
+    record { memory = memory; operations = op ∷ pool.operations; made = (pool.made + 1) % 2 ^ 64 }
 
 abbrev pub after_set : ℕ → ℕ → ℕ → Pool → Pool
-after_set page index word pool = logged (Set page index word) (with_word page index word pool.memory) pool
+after_set page index word pool =
+    logged (Set page index word) (with_word page index word pool.memory) pool
 
 abbrev pub after_invalidate : ℕ → PageRun → Pool → Pool
 after_invalidate p run pool = logged (Invalidate p run) pool.memory pool

@@ -1,6 +1,6 @@
 ghost use Rattle.std.specs.Prelude.{◌≡◌, ℕ, ◌+◌, ◌<◌, ◌≤◌, length, reverse, IfOk, OnOk, true, false};
 ghost use Rattle.base.specs.Manifest.{ManifestRows, page_count};
-ghost use Rattle.pool.specs.Pool.{Pool, IsWhole, InShare, IsLowestFree, pages_of, words_of, taken_of, new_pool, after_set, after_invalidate, after_clear, after_take, after_give, emptied, free_of, row_in, image_of};
+ghost use Rattle.pool.specs.Pool.{Pool, IsWhole, InShareOf, IsLowestFreeOf, pages_of, words_of, taken_of, new_pool, after_set, after_invalidate, after_clear, after_take, after_give, emptied, free_of, image_of};
 
 use crate::image::Image;
 use crate::operation::Op;
@@ -57,13 +57,13 @@ pub trait TableMem {
     /// Takes the free page of a partition's share with the lowest number, and answers that number.
     fn take_page(&mut self, p: PartitionId) -> u32
         requires free { 0 < free_of (pages_of (state self.old).memory) p }
-        ensures lowest { IsLowestFree (pages_of (state self.old).memory) (row_in (state self.old).memory p) result }
+        ensures lowest { IsLowestFreeOf (state self.old).memory p result }
         ensures state { state self.new ≡ after_take result (state self.old) }
         ensures room { room self.new ≡ room self.old };
 
     /// Gives back a page of a partition's share, all of whose words are 0.
     fn give_page(&mut self, p: PartitionId, page: u32)
-        requires inside { InShare (state self.old).memory.quotas (row_in (state self.old).memory p) page }
+        requires inside { InShareOf (state self.old).memory p page }
         requires taken { taken_of (state self.old).memory.taken page ≡ true }
         requires empty { (i : ℕ) → i < 512 → words_of (state self.old).memory.words page i ≡ 0 }
         ensures state { state self.new ≡ after_give page (state self.old) }
@@ -99,8 +99,10 @@ pub trait TableMem {
     ghost whole: { (m : Self) → IsWhole (state m).memory };
 
     /// Roots are never free.
-    ghost roots_are_taken: { (m : Self) (row : ℕ) → row < length (state m).memory.quotas → taken_of (state m).memory.taken row ≡ true };
+    ghost roots_are_taken: { (m : Self) (row : ℕ) → row < length (state m).memory.quotas
+        → taken_of (state m).memory.taken row ≡ true };
 
     /// A free page holds zeros alone.
-    ghost free_is_zero: { (m : Self) (page index : ℕ) → taken_of (state m).memory.taken page ≡ false → words_of (state m).memory.words page index ≡ 0 };
+    ghost free_is_zero: { (m : Self) (page index : ℕ) → taken_of (state m).memory.taken page ≡ false
+        → words_of (state m).memory.words page index ≡ 0 };
 }

@@ -14,7 +14,7 @@ use Rattle.base.specs.Transactions.{Live, Donation}
 use Rattle.base.specs.Ledger.{live_at, donation_at, settled_view, is_idle}
 use Rattle.base.specs.Buffers.{is_buffer}
 use Rattle.base.specs.State.{State, is_free, free_home, is_free_with, common_home, home_of, owns, each_page, each_page_in}
-use Rattle.rules.proofs.Passing.{both}
+use Rattle.base.proofs.Booleans.{both}
 
 -- ---- each page of some runs
 

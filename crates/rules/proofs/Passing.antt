@@ -4,10 +4,6 @@ use Rattle.base.specs.declared.status.Status.{Status}
 use Rattle.std.specs.List.{AllByRecursion}
 use Rattle.base.specs.Refusals.{Test, ◌otherwise◌, first_refusal}
 
-pub both : (a b : Bool) → (a && b) ≡ true → (a ≡ true) × (b ≡ true)
-both true b e = (refl, e)
-both false b e = absurd cc
-
 pub all_pass : (ts : List Test) → first_refusal ts ≡ None → AllByRecursion (λ t. t.passes ≡ true) ts
 all_pass [] e = tt
 all_pass (t ∷ ts) e =

@@ -43,7 +43,8 @@ all_tests s rule = rule.tests ++ (fits s rule.edit otherwise NoMemory) ∷ []
 
 -- every call is refused with this status
 abbrev pub refused : Status → State → Rule
-refused status s = record { tests = (false otherwise status) ∷ []; edit = None; next = s; reply = error status }
+refused status s =
+    record { tests = (false otherwise status) ∷ []; edit = None; next = s; reply = error status }
 
 -- the call is not served
 abbrev pub not_served : State → Rule

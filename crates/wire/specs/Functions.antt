@@ -42,4 +42,6 @@ function_of number = option_map (λ i. i.function) (find (λ i. i.number == numb
 
 -- the calls, and FFA_ERROR, FFA_SUCCESS and FFA_MEM_RETRIEVE_RESP, which answer them
 unfoldable pub is_feature : ℕ → Bool
-is_feature number = is_some (function_of number) || (number == 0x84000060) || (number == 0x84000061) || (number == 0x84000075)
+is_feature number =
+    is_some (function_of number) || (number == 0x84000060) || (number == 0x84000061)
+    || (number == 0x84000075)

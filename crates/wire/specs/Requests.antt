@@ -23,7 +23,12 @@ argument regs i = if is_wide (word regs 0) then slice_index regs i else word reg
 
 -- the lengths of a descriptor and of its part, and the address and the pages of another buffer
 abbrev pub transfer_of : List ℕ → Transfer
-transfer_of regs = record { total = word regs 1; fragment = word regs 2; address = argument regs 3; pages = word regs 4 }
+transfer_of regs = record {
+  total = word regs 1;
+  fragment = word regs 2;
+  address = argument regs 3;
+  pages = word regs 4;
+}
 
 abbrev pub request_for : Function → List ℕ → Request
 request_for function.Version regs = Version (word regs 1)

@@ -8,6 +8,7 @@ use Rattle.words.specs.declared.word.Entry.{Entry}
 use Rattle.words.specs.declared.word.Entry.TheVariants.{Invalid, Table, Leaf, Wrong}
 use Rattle.words.specs.Words.{type_bits, leaf_fields, leaf_word_of, table_word_of, leaf_level, page_at, is_normal_at, is_executable_at, access_at, is_aligned, leaf_at, entry_of, IsTableWord, IsLeafWord, SpellsEntry}
 use Rattle.words.proofs.Bits.{fields, or-leaf, or-table}
+use Rattle.base.proofs.Booleans.{both}
 
 -- ---- an address and the fields that are added to it do not change one another
 
@@ -113,17 +114,13 @@ either-entry : (P : Entry → Type 0) (b : Bool) (x y : Entry) → (b ≡ true �
 either-entry P true x y first second = first refl
 either-entry P false x y first second = second refl
 
-both_true : (a b : Bool) → (a && b) ≡ true → (a ≡ true) × (b ≡ true)
-both_true true b e = (refl, e)
-both_true false b e = absurd (false≢true e)
-
 page_at-lt : (w : ℕ) → page_at w < 2 ^ 27
 unfolding page_at
 page_at-lt w = omega arith
 
 access_at-legal : (w : ℕ) → IsLegal (access_at w)
 unfolding access_at
-access_at-legal w e = rw (both_true (is_normal_at w) (is_executable_at w) e).0 refl
+access_at-legal w e = rw (both (is_normal_at w) (is_executable_at w) e).0 refl
 
 is_aligned-true : (b : Bool) (n : ℕ) → is_aligned b n ≡ true → IsTrue b → n % 512 ≡ 0
 is_aligned-true true n aligned block = eqb-true (n % 512) 0 aligned
@@ -135,7 +132,7 @@ leaf_at-tells level w b at_level =
     let n : ℕ = page_at w in
     let p : Access = access_at w in
     either-entry (Tells level w) (is_aligned b n && (w == leaf_word_of b n p)) (Leaf n p) Wrong
-    (λ e. let tests = both_true (is_aligned b n) (w == leaf_word_of b n p) e in
+    (λ e. let tests = both (is_aligned b n) (w == leaf_word_of b n p) e in
     record {
       block = b;
       at_level = at_level;
@@ -152,7 +149,7 @@ entry_of-tells level w =
     let n : ℕ = page_at w in
     either-entry (Tells level w) (w % 2 == 0) Invalid _ (eqb-true (w % 2) 0)
     (λ _. either-entry (Tells level w) (nat_lt level 3 && (w == table_word_of n)) (Table n) _
-    (λ e. let tests = both_true (nat_lt level 3) (w == table_word_of n) e in
+    (λ e. let tests = both (nat_lt level 3) (w == table_word_of n) e in
     record { at_level = ltb-true level 3 tests.0; in_range = page_at-lt w; spelled = eqb-true w (table_word_of n) tests.1 })
     (λ _. either-entry (Tells level w) (level == 2) (leaf_at true w) _ (λ e. leaf_at-tells level w true (eqb-true level 2 e))
     (λ _. either-entry (Tells level w) (level == 3) (leaf_at false w) Wrong (λ e. leaf_at-tells level w false (eqb-true level 3 e))

@@ -96,7 +96,8 @@ is_aligned false page = true
 -- A word is a block or a page if it is, in all its bits, the descriptor of its output address, aligned, and its access.
 unfoldable pub leaf_at : Bool → ℕ → Entry
 leaf_at block word =
-    if is_aligned block (page_at word) && (word == leaf_word_of block (page_at word) (access_at word))
+    if is_aligned block (page_at word)
+    && (word == leaf_word_of block (page_at word) (access_at word))
     then Leaf (page_at word) (access_at word)
     else Wrong
 

@@ -20,16 +20,21 @@ pub record HeaderFields : Type 0 where
 -- from byte 24 on: in 1.0 a reserved word and the count of access descriptors; in 1.1 their size, their count, where they begin, and reserved words
 abbrev pub header_end : Version → ℕ → List ℕ
 header_end V10 count = little_bytes 4 0 ++ little_bytes 4 count
-header_end V11 count = little_bytes 4 16 ++ little_bytes 4 count ++ little_bytes 4 48 ++ little_bytes 8 0 ++ little_bytes 4 0
+header_end V11 count =
+    little_bytes 4 16 ++ little_bytes 4 count ++ little_bytes 4 48 ++ little_bytes 8 0
+    ++ little_bytes 4 0
 
 abbrev pub header_text : Version → HeaderFields → ℕ → List ℕ
 header_text version h count =
-    little_bytes 2 h.sender ++ little_bytes 2 h.attributes ++ little_bytes 4 h.flags ++ little_bytes 8 h.handle ++ little_bytes 8 h.tag
+    little_bytes 2 h.sender ++ little_bytes 2 h.attributes ++ little_bytes 4 h.flags
+    ++ little_bytes 8 h.handle ++ little_bytes 8 h.tag
     ++ header_end version count
 
 -- an access descriptor that points at this composite descriptor
 abbrev pub access_text : ℕ → Endpoint → List ℕ
-access_text composite e = little_bytes 2 e.partition ++ (e.permissions ∷ 0 ∷ []) ++ little_bytes 4 composite ++ little_bytes 8 0
+access_text composite e =
+    little_bytes 2 e.partition ++ (e.permissions ∷ 0 ∷ []) ++ little_bytes 4 composite
+    ++ little_bytes 8 0
 
 abbrev pub accesses_text : ℕ → List Endpoint → List ℕ
 accesses_text composite [] = []
@@ -79,7 +84,9 @@ pub record RelinquishFields : Type 0 where
 
 -- of one endpoint
 unfoldable pub relinquish_text : RelinquishFields → List ℕ
-relinquish_text f = little_bytes 8 f.handle ++ little_bytes 4 f.flags ++ little_bytes 4 1 ++ little_bytes 2 f.endpoint
+relinquish_text f =
+    little_bytes 8 f.handle ++ little_bytes 4 f.flags ++ little_bytes 4 1
+    ++ little_bytes 2 f.endpoint
 
 -- ---- the response
 
@@ -91,7 +98,13 @@ runs_text [] = []
 runs_text (run ∷ runs) = range_text (range_of run) ++ runs_text runs
 
 abbrev pub response_header : Response → HeaderFields
-response_header r = record { sender = r.sender; attributes = 0x2f; flags = kind_bits r.kind; handle = r.handle; tag = r.tag }
+response_header r = record {
+  sender = r.sender;
+  attributes = 0x2f;
+  flags = kind_bits r.kind;
+  handle = r.handle;
+  tag = r.tag;
+}
 
 unfoldable pub response_text : Version → Response → List ℕ
 response_text version r =

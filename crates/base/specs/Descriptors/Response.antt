@@ -43,7 +43,8 @@ is_response_header version bytes =
 
 -- data access and instruction access are granted or not, 1 or 2 each
 abbrev pub are_granted : ℕ → Bool
-are_granted permissions = (permissions == 5) || (permissions == 6) || (permissions == 9) || (permissions == 10)
+are_granted permissions =
+    (permissions == 5) || (permissions == 6) || (permissions == 9) || (permissions == 10)
 
 -- The bytes are those of a retrieve response.
 unfoldable pub is_response : Version → List ℕ → Bool
@@ -71,4 +72,5 @@ response_of version bytes =
 
 -- the bytes spell the response
 abbrev pub SpellsResponse : Version → List ℕ → Response → Type 0
-SpellsResponse version bytes v = IsTrue (is_response version bytes) × (v ≡ response_of version bytes)
+SpellsResponse version bytes v =
+    IsTrue (is_response version bytes) × (v ≡ response_of version bytes)

@@ -69,4 +69,5 @@ retrieve_of version bytes =
 
 -- the bytes spell the request
 abbrev pub SpellsRetrieve : Version → List ℕ → Retrieve → Type 0
-SpellsRetrieve version bytes v = IsTrue (is_retrieve version bytes) × (v ≡ retrieve_of version bytes)
+SpellsRetrieve version bytes v =
+    IsTrue (is_retrieve version bytes) × (v ≡ retrieve_of version bytes)

@@ -64,7 +64,8 @@ has_layout version bytes =
 abbrev pub is_rest_of_header : Version → List ℕ → Bool
 is_rest_of_header V10 bytes = u32_at bytes 24 == 0
 is_rest_of_header V11 bytes =
-    (u32_at bytes 24 == 16) && (array_at V11 bytes % 16 == 0) && (u64_at bytes 36 == 0) && (u32_at bytes 44 == 0)
+    (u32_at bytes 24 == 16) && (array_at V11 bytes % 16 == 0) && (u64_at bytes 36 == 0)
+    && (u32_at bytes 44 == 0)
 
 -- in 1.0 the second byte of the attributes is reserved, and 0
 unfoldable pub is_header : Version → List ℕ → Bool
@@ -86,11 +87,17 @@ is_access bytes composite at =
 
 abbrev pub are_accesses : ℕ → List ℕ → ℕ → ℕ → Bool
 are_accesses zero bytes composite at = true
-are_accesses (suc count) bytes composite at = is_access bytes composite at && are_accesses count bytes composite (at + 16)
+are_accesses (suc count) bytes composite at =
+    is_access bytes composite at && are_accesses count bytes composite (at + 16)
+
+abbrev pub endpoint_at : List ℕ → ℕ → Endpoint
+endpoint_at bytes at =
+    record { partition = u16_at bytes at; permissions = slice_index bytes (at + 2) }
 
 abbrev pub endpoints_at : ℕ → List ℕ → ℕ → List Endpoint
 endpoints_at zero bytes at = []
-endpoints_at (suc count) bytes at = record { partition = u16_at bytes at; permissions = slice_index bytes (at + 2) } ∷ endpoints_at count bytes (at + 16)
+endpoints_at (suc count) bytes at =
+    endpoint_at bytes at ∷ endpoints_at count bytes (at + 16)
 
 -- ---- the composite descriptor and its ranges
 
@@ -106,12 +113,17 @@ abbrev pub are_ranges : ℕ → List ℕ → ℕ → Bool
 are_ranges zero bytes at = true
 are_ranges (suc count) bytes at = is_range bytes at && are_ranges count bytes (at + 16)
 
+abbrev pub range_at : List ℕ → ℕ → PageRun
+range_at bytes at = record { first = u64_at bytes at / 4096; count = u32_at bytes (at + 8) }
+
 abbrev pub ranges_at : ℕ → List ℕ → ℕ → List PageRun
 ranges_at zero bytes at = []
-ranges_at (suc count) bytes at = record { first = u64_at bytes at / 4096; count = u32_at bytes (at + 8) } ∷ ranges_at count bytes (at + 16)
+ranges_at (suc count) bytes at =
+    range_at bytes at ∷ ranges_at count bytes (at + 16)
 
 abbrev pub ranges_of : Version → List ℕ → List PageRun
-ranges_of version bytes = ranges_at (range_count version bytes) bytes (composite_at version bytes + 16)
+ranges_of version bytes =
+    ranges_at (range_count version bytes) bytes (composite_at version bytes + 16)
 
 abbrev pub pages_in : List PageRun → ℕ
 pages_in runs = sum_by (λ run. run.count) runs
@@ -131,7 +143,8 @@ unfoldable pub is_send : Version → List ℕ → Bool
 is_send version bytes =
     has_layout version bytes
     && is_header version bytes
-    && are_accesses (receiver_count bytes) bytes (composite_at version bytes) (array_at version bytes)
+    && are_accesses (receiver_count bytes) bytes (composite_at version bytes)
+    (array_at version bytes)
     && are_ranges (range_count version bytes) bytes (composite_at version bytes + 16)
     && are_disjoint (ranges_of version bytes)
     && is_composite version bytes

@@ -8,7 +8,8 @@ use Rattle.base.specs.Pages.{in_run}
 use Rattle.base.specs.Refusals.{first_refusal}
 use Rattle.base.specs.State.{State, free_home}
 use Rattle.rules.specs.Calls.Buffers.{may_be_buffer, may_be_buffers, map_tests}
-use Rattle.rules.proofs.Passing.{both, all_pass}
+use Rattle.base.proofs.Booleans.{both}
+use Rattle.rules.proofs.Passing.{all_pass}
 use Rattle.rules.proofs.FreePages.{IsFreePage, has_free_home, run_pages}
 
 -- each page of its areas may be a buffer

@@ -23,7 +23,7 @@ use Rattle.rules.specs.Laws.EditsTheView.{Passes}
 use Rattle.rules.proofs.Calls.Send.{SendPasses, send_passes, next_is}
 use Rattle.rules.proofs.Reached.{all_push, Keeps, all_reached}
 use Rattle.rules.specs.Laws.Handles.{IsCounted, HaveOtherHandles, AreHandlesUsedOnce}
-use Rattle.rules.proofs.Passing.{both}
+use Rattle.base.proofs.Booleans.{both}
 
 -- ---- the change of a partition's state
 

@@ -35,7 +35,8 @@ tx_size s p = option_map_or (λ pair. 4096 * pair.tx.count) (pair_of s.mailboxes
 
 -- the total length is the fragment's, and neither the TX buffer nor the bytes that the call carries are shorter
 unfoldable pub has_lengths : State → CallWords → Transfer → Bool
-has_lengths s c t = (t.total == t.fragment) && nat_le t.total (tx_size s c.caller) && nat_le t.total (length c.tx)
+has_lengths s c t =
+    (t.total == t.fragment) && nat_le t.total (tx_size s c.caller) && nat_le t.total (length c.tx)
 
 -- ---- the descriptor
 
@@ -61,7 +62,8 @@ are_distinct [] = true
 are_distinct (e ∷ es) = list_all (λ f. not (f.partition == e.partition)) es && are_distinct es
 
 unfoldable pub are_parties : State → ℕ → Send → Bool
-are_parties s p v = (v.sender == p) && list_all (is_receiver s p) v.receivers && are_distinct v.receivers
+are_parties s p v =
+    (v.sender == p) && list_all (is_receiver s p) v.receivers && are_distinct v.receivers
 
 -- ---- permissions and attributes
 
@@ -75,8 +77,12 @@ gives_data e = (e.permissions == read_only) || (e.permissions == read_write)
 
 -- a donation has one receiver; the sender specifies the memory attributes of a share, and of a lend to several receivers
 unfoldable pub suits : Kind → Send → Bool
-suits Donate v = (length v.receivers == 1) && list_all gives_nothing v.receivers && (v.attributes == not_specified)
-suits Lend v = list_all gives_data v.receivers && (v.attributes == (if length v.receivers == 1 then not_specified else normal_write_back))
+suits Donate v =
+    (length v.receivers == 1) && list_all gives_nothing v.receivers
+    && (v.attributes == not_specified)
+suits Lend v =
+    list_all gives_data v.receivers
+    && (v.attributes == (if length v.receivers == 1 then not_specified else normal_write_back))
 suits Share v = list_all gives_data v.receivers && (v.attributes == normal_write_back)
 
 abbrev pub data_access : Endpoint → Rights
@@ -95,13 +101,16 @@ is_within Rw Rw = true
 
 -- no receiver may retrieve more than the home
 unfoldable pub are_capped : Kind → View → List Endpoint → Bool
-are_capped kind home receivers = option_map_or (λ a. list_all (λ e. is_within (cap kind a e) a.rights) receivers) home false
+are_capped kind home receivers =
+    option_map_or (λ a. list_all (λ e. is_within (cap kind a e) a.rights) receivers) home false
 
 -- ---- the sender's limits
 
 -- fewer than 32 live transactions, and a handle that was not used
 unfoldable pub has_room : State → ℕ → Bool
-has_room s p = nat_lt (length (filter (λ t. t.sender == p) s.live)) 32 && nat_lt (sends_of s.partitions p) (2 ^ 32 - 1)
+has_room s p =
+    nat_lt (length (filter (λ t. t.sender == p) s.live)) 32
+    && nat_lt (sends_of s.partitions p) (2 ^ 32 - 1)
 
 -- ---- the table
 
@@ -170,6 +179,8 @@ send_rule s c kind t =
     record {
       tests = send_tests s c kind t;
       edit = sender_edit kind p v.ranges;
-      next = option_map_or (λ home. with_transaction s (opened s p kind v home)) (common_home s p v.ranges) s;
+      next =
+          option_map_or (λ home. with_transaction s (opened s p kind v home))
+          (common_home s p v.ranges) s;
       reply = success (low_half handle) (high_half handle);
     }

@@ -33,4 +33,9 @@ with_version s p word = record s { partitions = with_partition p (naming word) s
 -- it is never refused: a version that is not supported is answered in register 0
 abbrev pub version_rule : State → CallWords → ℕ → Rule
 version_rule s c word =
-    record { tests = []; edit = None; next = with_version s c.caller word; reply = version_reply word }
+    record {
+      tests = [];
+      edit = None;
+      next = with_version s c.caller word;
+      reply = version_reply word;
+    }

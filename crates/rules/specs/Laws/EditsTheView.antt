@@ -20,7 +20,8 @@ pub record Passes (s : State) (c : CallWords) (r : Request) : Type 0 where
 -- pages that are to be reached are not reached before
 abbrev pub AreNotReached : State → Option Edit → Type 0
 AreNotReached s None = Unit {0}
-AreNotReached s (Some edit) = (n : ℕ) → covers edit.runs n ≡ true → (edit.to ≡ None) ⊎ (sees s edit.who n ≡ None)
+AreNotReached s (Some edit) =
+    (n : ℕ) → covers edit.runs n ≡ true → (edit.to ≡ None) ⊎ (sees s edit.who n ≡ None)
 
 -- what each partition reaches after it is what it reached before, with the rule's edit
 pub record EditsTheView (s : State) (c : CallWords) (r : Request) : Type 0 where

@@ -7,7 +7,8 @@ use Rattle.base.specs.State.{State, state_of, sends_of}
 
 -- the handle's high half is the sender, and its low half one of the sender's accepted sends, from 1
 abbrev pub IsCounted : State → Live → Type 0
-IsCounted s t = (t.sender * 2 ^ 32 < t.handle) × (t.handle ≤ t.sender * 2 ^ 32 + sends_of s.partitions t.sender)
+IsCounted s t =
+    (t.sender * 2 ^ 32 < t.handle) × (t.handle ≤ t.sender * 2 ^ 32 + sends_of s.partitions t.sender)
 
 abbrev pub HaveOtherHandles : List Live → Type 0
 HaveOtherHandles [] = Unit {0}

@@ -15,7 +15,8 @@ IsReadWrite (Some a) = a.rights ≡ Rw
 
 -- the partition shares the page, whose home is read-write, or has retrieved it read-write
 abbrev pub WritesBy : Live → View → ℕ → Type 0
-WritesBy t home p = ((p ≡ t.sender) × (t.kind ≡ Share) × IsReadWrite home) ⊎ IsReadWrite (retrieved t.receivers p)
+WritesBy t home p =
+    ((p ≡ t.sender) × (t.kind ≡ Share) × IsReadWrite home) ⊎ IsReadWrite (retrieved t.receivers p)
 
 -- no live transaction and no donation covers the page, and the manifest grants it read-write to both
 pub record MayBothWriteByGrants (s : State) (p q n : ℕ) : Type 0 where
@@ -33,4 +34,5 @@ pub record MayBothWriteByTransaction (s : State) (p q n : ℕ) : Type 0 where
 
 -- two partitions write a page only where the manifest or one live transaction lets both
 pub record AreWritersAllowed (s : State) : Type 0 where
-  pub allowed : (p q n : ℕ) → (p ≡ q → ⊥) → IsReadWrite (sees s p n) → IsReadWrite (sees s q n) → MayBothWriteByGrants s p q n ⊎ MayBothWriteByTransaction s p q n
+  pub allowed : (p q n : ℕ) → (p ≡ q → ⊥) → IsReadWrite (sees s p n) → IsReadWrite (sees s q n)
+      → MayBothWriteByGrants s p q n ⊎ MayBothWriteByTransaction s p q n
