@@ -4,7 +4,6 @@ use Rattle.std.specs.List.{AllByRecursion}
 use Rattle.std.specs.Option.{option_map_or}
 use Rattle.base.specs.declared.status.Status.{Status}
 use Rattle.base.specs.declared.status.Status.TheVariants.{NotSupported, Denied}
-use Rattle.base.specs.declared.transaction.Kind.TheVariants.{Share, Lend, Donate}
 use Rattle.base.specs.Manifest.{is_partition}
 use Rattle.base.specs.Refusals.{first_refusal}
 use Rattle.base.specs.State.{State, start}
@@ -14,7 +13,7 @@ use Rattle.wire.specs.declared.request.Request.TheVariants.{Version, Features, R
 use Rattle.wire.specs.Requests.{request_of}
 use Rattle.wire.specs.Replies.{ReplyWords}
 use Rattle.rules.specs.Call.{CallWords, IsCall}
-use Rattle.rules.specs.Rule.{Rule, refused, not_served, all_tests, reply_of, next_of}
+use Rattle.rules.specs.Rule.{Rule, refused, all_tests, reply_of, next_of}
 use Rattle.rules.specs.Calls.Version.{version_rule}
 use Rattle.rules.specs.Calls.Features.{features_rule}
 use Rattle.rules.specs.Calls.IdGet.{id_get_rule}
@@ -34,9 +33,7 @@ rule_of s c RxRelease = release_rule s c
 rule_of s c (RxtxMap tx rx count) = map_rule s c tx rx count
 rule_of s c (RxtxUnmap word) = unmap_rule s c word
 rule_of s c IdGet = id_get_rule s c
-rule_of s c (Send Lend transfer) = send_rule s c Lend transfer
-rule_of s c (Send Share transfer) = send_rule s c Share transfer
-rule_of s c (Send Donate transfer) = not_served s
+rule_of s c (Send kind transfer) = send_rule s c kind transfer
 rule_of s c (Retrieve transfer) = retrieve_rule s
 rule_of s c Relinquish = relinquish_rule s
 rule_of s c (Reclaim handle flags) = reclaim_rule s

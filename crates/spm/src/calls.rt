@@ -13,7 +13,7 @@ pub(crate) mod version;
 use crate::call::Call;
 use crate::change::{Change, Stop};
 use crate::state::State;
-use base::{Kind, Status};
+use base::Status;
 use wire::Request;
 
 /// Tests what a partition asks for, and says what it changes. It changes nothing itself.
@@ -30,9 +30,9 @@ pub(crate) fn check(state: &State, call: &Call, request: Request) -> Result<Chan
         Request::RxtxMap { tx, rx, pages } => buffers::map(state, call, tx, rx, pages),
         Request::RxtxUnmap(word) => buffers::unmap(state, call, word),
         Request::IdGet => Ok(id_get::id_get(call)),
-        Request::Send(Kind::Lend, transfer) => send::send(state, call, Kind::Lend, transfer),
-        Request::Send(Kind::Share, transfer) => send::send(state, call, Kind::Share, transfer),
-        Request::Send(..) | Request::Retrieve(_) | Request::Relinquish | Request::Reclaim { .. } =>
-            { Err(Stop::Refused(Status::NotSupported)) }
+        Request::Send(kind, transfer) => send::send(state, call, kind, transfer),
+        Request::Retrieve(_) | Request::Relinquish | Request::Reclaim { .. } => {
+            Err(Stop::Refused(Status::NotSupported))
+        }
     }
 }

@@ -1,7 +1,6 @@
 -- The law that no page of a live transaction lies in a registered buffer.
 use Rattle.std.proofs.Common.{◌≡◌, ℕ, Bool, true, false, ◌⊎◌, inl, inr, Some, None, is_some, refl, sym, ap, ◌∙◌}
 use Rattle.base.specs.declared.transaction.Kind.{Kind}
-use Rattle.base.specs.declared.transaction.Kind.TheVariants.{Share, Lend, Donate}
 use Rattle.base.specs.Access.{Access}
 use Rattle.base.specs.Buffers as pairs
 use Rattle.base.specs.Descriptors.Send as descriptor
@@ -56,9 +55,7 @@ keeps s c (RxtxMap tx rx count) r is k a =
 keeps s c (RxtxUnmap word) r is k a =
     record { apart = λ n b. elim (buffer_after c.caller None s.mailboxes n b) [ inl x ↦ absurd cc | inr y ↦ a.apart n y ] }
 keeps s c IdGet r is k a = a
-keeps s c (Send Lend t) r is k a = send s c Lend t (send_passes s c Lend t k.passed) a
-keeps s c (Send Share t) r is k a = send s c Share t (send_passes s c Share t k.passed) a
-keeps s c (Send Donate t) r is k a = a
+keeps s c (Send kind t) r is k a = send s c kind t (send_passes s c kind t k.passed) a
 keeps s c (Retrieve t) r is k a = a
 keeps s c Relinquish r is k a = a
 keeps s c (Reclaim handle flags) r is k a = a

@@ -5,7 +5,6 @@ use Rattle.std.specs.Option.{option_map, option_map_or}
 use Rattle.std.proofs.lemmas.Bool.{eqb-true, ltb-true, eq-eqb}
 use Rattle.std.proofs.lemmas.Bool.Decides.{nat_tests}
 use Rattle.base.specs.declared.transaction.Kind.{Kind}
-use Rattle.base.specs.declared.transaction.Kind.TheVariants.{Share, Lend, Donate}
 use Rattle.base.specs.Access.{Access}
 use Rattle.base.specs.Descriptors.Send as descriptor
 use Rattle.base.specs.Manifest.{ManifestRows, PartitionRow, is_partition}
@@ -138,9 +137,7 @@ keeps s c RxRelease r is k h = record { rows = h.rows; counts = h.counts; counte
 keeps s c (RxtxMap tx rx count) r is k h = record { rows = h.rows; counts = h.counts; counted = h.counted; distinct = h.distinct }
 keeps s c (RxtxUnmap word) r is k h = record { rows = h.rows; counts = h.counts; counted = h.counted; distinct = h.distinct }
 keeps s c IdGet r is k h = h
-keeps s c (Send Lend t) r is k h = send s c Lend t k.known (send_passes s c Lend t k.passed) h
-keeps s c (Send Share t) r is k h = send s c Share t k.known (send_passes s c Share t k.passed) h
-keeps s c (Send Donate t) r is k h = h
+keeps s c (Send kind t) r is k h = send s c kind t k.known (send_passes s c kind t k.passed) h
 keeps s c (Retrieve t) r is k h = h
 keeps s c Relinquish r is k h = h
 keeps s c (Reclaim handle flags) r is k h = h

@@ -419,9 +419,7 @@ module _ (s t : State) (c : CallWords) (same : AreAlikeTo c.caller s t) (rs : Is
   alike_rules (RxtxMap tx rx count) ks kt n = record { tests = same_map_tests tx rx count; fit = no_edit s t; reply = refl; next = λ e g. paired c.caller s t same sends_s sends_t boxes_s boxes_t (Some (named_pair tx rx count)) }
   alike_rules (RxtxUnmap word) ks kt n = record { tests = rw (same_pair c.caller s t same sends_s sends_t boxes_s boxes_t) refl; fit = no_edit s t; reply = refl; next = λ e g. paired c.caller s t same sends_s sends_t boxes_s boxes_t None }
   alike_rules IdGet ks kt n = record { tests = refl; fit = no_edit s t; reply = refl; next = λ e g. same }
-  alike_rules (Send Lend x) ks kt n = send_alike Lend x (λ e f. (edits_the_view s c (Send Lend x) (record { known = ks; named = n; passed = e; fits = f })).views c.caller) (λ e f. (edits_the_view t c (Send Lend x) (record { known = kt; named = n; passed = e; fits = f })).views c.caller)
-  alike_rules (Send Share x) ks kt n = send_alike Share x (λ e f. (edits_the_view s c (Send Share x) (record { known = ks; named = n; passed = e; fits = f })).views c.caller) (λ e f. (edits_the_view t c (Send Share x) (record { known = kt; named = n; passed = e; fits = f })).views c.caller)
-  alike_rules (Send Donate x) ks kt n = record { tests = refl; fit = no_edit s t; reply = refl; next = λ e g. same }
+  alike_rules (Send kind x) ks kt n = send_alike kind x (λ e f. (edits_the_view s c (Send kind x) (record { known = ks; named = n; passed = e; fits = f })).views c.caller) (λ e f. (edits_the_view t c (Send kind x) (record { known = kt; named = n; passed = e; fits = f })).views c.caller)
   alike_rules (Retrieve x) ks kt n = record { tests = refl; fit = no_edit s t; reply = refl; next = λ e g. same }
   alike_rules Relinquish ks kt n = record { tests = refl; fit = no_edit s t; reply = refl; next = λ e g. same }
   alike_rules (Reclaim handle flags) ks kt n = record { tests = refl; fit = no_edit s t; reply = refl; next = λ e g. same }
@@ -507,9 +505,7 @@ module _ (p : ℕ) (s : State) (c : CallWords) (ne : eqb c.caller p ≡ false) (
   other_next (RxtxMap tx rx count) k kept = other_pair (Some (named_pair tx rx count))
   other_next (RxtxUnmap word) k kept = other_pair None
   other_next IdGet k kept = alike
-  other_next (Send Lend x) k kept = other_send Lend x (send_passes s c Lend x k.passed) ((edits_the_view s c (Send Lend x) k).views p) kept
-  other_next (Send Share x) k kept = other_send Share x (send_passes s c Share x k.passed) ((edits_the_view s c (Send Share x) k).views p) kept
-  other_next (Send Donate x) k kept = alike
+  other_next (Send kind x) k kept = other_send kind x (send_passes s c kind x k.passed) ((edits_the_view s c (Send kind x) k).views p) kept
   other_next (Retrieve x) k kept = alike
   other_next Relinquish k kept = alike
   other_next (Reclaim handle flags) k kept = alike

@@ -1,7 +1,6 @@
 -- No call changes the manifest.
 use Rattle.std.proofs.Common.{◌≡◌, Option, Some, None, refl}
 use Rattle.std.specs.Option.{option_map_or}
-use Rattle.base.specs.declared.transaction.Kind.TheVariants.{Share, Lend, Donate}
 use Rattle.base.specs.declared.transaction.Kind.{Kind}
 use Rattle.base.specs.Access.{Access}
 use Rattle.base.specs.Descriptors.Send as descriptor
@@ -27,9 +26,7 @@ manifest_stays s c RxRelease = refl
 manifest_stays s c (RxtxMap tx rx count) = refl
 manifest_stays s c (RxtxUnmap word) = refl
 manifest_stays s c IdGet = refl
-manifest_stays s c (Send Lend t) = opened_keeps s c.caller Lend (sent s c t) (common_home s c.caller (sent s c t).ranges)
-manifest_stays s c (Send Share t) = opened_keeps s c.caller Share (sent s c t) (common_home s c.caller (sent s c t).ranges)
-manifest_stays s c (Send Donate t) = refl
+manifest_stays s c (Send kind t) = opened_keeps s c.caller kind (sent s c t) (common_home s c.caller (sent s c t).ranges)
 manifest_stays s c (Retrieve t) = refl
 manifest_stays s c Relinquish = refl
 manifest_stays s c (Reclaim handle flags) = refl

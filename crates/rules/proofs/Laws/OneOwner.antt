@@ -5,7 +5,6 @@ use Rattle.std.specs.Option.{option_map_or, option_map}
 use Rattle.std.proofs.lemmas.Bool.{eqb-true}
 use Rattle.base.specs.declared.access.Rights.{Rights}
 use Rattle.base.specs.declared.transaction.Kind.{Kind}
-use Rattle.base.specs.declared.transaction.Kind.TheVariants.{Share, Lend, Donate}
 use Rattle.base.specs.Pages.{covers}
 use Rattle.base.specs.Access.{Access}
 use Rattle.base.specs.Manifest.{RegionRow, region_at}
@@ -62,9 +61,7 @@ keeps s c RxRelease r is k o = record { owners = o.owners; senders = o.senders; 
 keeps s c (RxtxMap tx rx count) r is k o = record { owners = o.owners; senders = o.senders; apart = o.apart }
 keeps s c (RxtxUnmap word) r is k o = record { owners = o.owners; senders = o.senders; apart = o.apart }
 keeps s c IdGet r is k o = o
-keeps s c (Send Lend t) r is k o = send s c Lend t (send_passes s c Lend t k.passed) o
-keeps s c (Send Share t) r is k o = send s c Share t (send_passes s c Share t k.passed) o
-keeps s c (Send Donate t) r is k o = o
+keeps s c (Send kind t) r is k o = send s c kind t (send_passes s c kind t k.passed) o
 keeps s c (Retrieve t) r is k o = o
 keeps s c Relinquish r is k o = o
 keeps s c (Reclaim handle flags) r is k o = o

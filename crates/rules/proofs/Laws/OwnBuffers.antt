@@ -5,7 +5,6 @@ use Rattle.std.specs.Option.{option_map, option_map_or, option_and_then}
 use Rattle.std.specs.List.{find}
 use Rattle.std.proofs.lemmas.Bool.{eqb-true}
 use Rattle.base.specs.declared.transaction.Kind.{Kind}
-use Rattle.base.specs.declared.transaction.Kind.TheVariants.{Share, Lend, Donate}
 use Rattle.base.specs.Access.{Access}
 use Rattle.base.specs.Buffers as pairs
 use Rattle.base.specs.Buffers.{Pair, Mailbox, first_mailbox, pair_of, in_pair, holding}
@@ -66,9 +65,7 @@ keeps s c (RxtxMap tx rx count) r is k o =
     record { owned = with_pair_all s c.caller (Some (pairs.named_pair tx rx count)) (λ n i. owner_from_test (owner_of s n) c.caller (mapped_page s c.caller tx rx count n (map_passes s c.caller tx rx count k.passed) i).owned) s.mailboxes o.owned }
 keeps s c (RxtxUnmap word) r is k o = record { owned = with_pair_all s c.caller None (λ n i. absurd cc) s.mailboxes o.owned }
 keeps s c IdGet r is k o = o
-keeps s c (Send Lend t) r is k o = send s c Lend t (send_passes s c Lend t k.passed) o
-keeps s c (Send Share t) r is k o = send s c Share t (send_passes s c Share t k.passed) o
-keeps s c (Send Donate t) r is k o = o
+keeps s c (Send kind t) r is k o = send s c kind t (send_passes s c kind t k.passed) o
 keeps s c (Retrieve t) r is k o = o
 keeps s c Relinquish r is k o = o
 keeps s c (Reclaim handle flags) r is k o = o

@@ -206,16 +206,33 @@ fn lend_many_pages<M: TableMem + Drop>(rt: &impl Abort, alloc: Global) -> Result
     grant(rt, &mut spm, &other, [1, 0x8002])
 }
 
-/// A share of page 0x80000 of 0x8001, read-only for 0x8002, with tag 5.
-fn share(rt: &impl Abort, alloc: Global, changes: &[(usize, u8)]) -> Result<Call, OutOfMemory> {
-    let mut tx = changed(rt, alloc, &[(2, 0x2f), (16, 5), (50, 1), (81, 0)])?;
+/// A send by 0x8001 of the lend's descriptor with these bytes changed, and then those.
+fn send_as(
+    rt: &impl Abort,
+    alloc: Global,
+    identifier: u64,
+    first: &[(usize, u8)],
+    changes: &[(usize, u8)],
+) -> Result<Call, OutOfMemory> {
+    let mut tx = changed(rt, alloc, first)?;
     for (at, byte) in changes {
         assert!(rt; *at < tx.len());
         tx[*at] = *byte;
     }
     let mut call = lend([0x60, 0x60, 0, 0], tx);
-    call.regs[0] = 0x8400_0073;
+    call.regs[0] = identifier;
     Ok(call)
+}
+
+/// A share of page 0x80000 of 0x8001, read-only for 0x8002, with tag 5.
+fn share(rt: &impl Abort, alloc: Global, changes: &[(usize, u8)]) -> Result<Call, OutOfMemory> {
+    let first = [(2, 0x2f), (16, 5), (50, 1), (81, 0)];
+    send_as(rt, alloc, 0x8400_0073, &first, changes)
+}
+
+/// A donation of page 0x80001 of 0x8001 to 0x8002.
+fn donate(rt: &impl Abort, alloc: Global, changes: &[(usize, u8)]) -> Result<Call, OutOfMemory> {
+    send_as(rt, alloc, 0x8400_0071, &[(50, 0)], changes)
 }
 
 /// The sender keeps its access, and no table changes.
@@ -260,6 +277,39 @@ fn refuse_shares<M: TableMem + Drop>(rt: &impl Abort, alloc: Global) -> Result<(
     refuse(rt, &mut spm, &tx, DENIED, "the TX buffer")
 }
 
+/// The giver reaches the page no more, and the taker does not reach it yet.
+fn donate_page<M: TableMem + Drop>(rt: &impl Abort, alloc: Global) -> Result<(), OutOfMemory> {
+    let mut spm: Spm<M> = with_pair(rt, alloc)?;
+    let [first, _, _] = views(&spm);
+    let call = donate(rt, alloc, &[])?;
+    grant(rt, &mut spm, &call, [1, 0x8001])?;
+    assert_eq!(rt; views(&spm), [first, None, None]);
+    assert_eq!(rt;
+        spm.owner(Page::new(0x8_0001)),
+        Some(PartitionId::new(0x8001))
+    );
+    assert_eq!(rt; spm.ledger().live().len(), 1);
+    assert_eq!(rt; spm.ledger().live()[0].kind, Kind::Donate);
+    assert!(rt; spm.ledger().donations().is_empty());
+    refuse(rt, &mut spm, &call, DENIED, "the same donation")?;
+    let lend = send(rt, alloc, &[])?;
+    refuse(rt, &mut spm, &lend, DENIED, "a lend of it")
+}
+
+/// What the descriptor says is not a donation's.
+fn refuse_donations<M: TableMem + Drop>(rt: &impl Abort, alloc: Global) -> Result<(), OutOfMemory> {
+    let mut spm: Spm<M> = with_pair(rt, alloc)?;
+    for (why, at, byte) in [
+        ("attributes", 2, 0x2f),
+        ("data access", 50, 2),
+        ("instruction access", 50, 4),
+    ] {
+        let call = donate(rt, alloc, &[(at, byte)])?;
+        refuse(rt, &mut spm, &call, INVALID_PARAMETERS, why)?;
+    }
+    Ok(())
+}
+
 #[test]
 fn lends_a_page(rt: HostRuntime) -> Result<(), Fail> {
     lend_page::<ListPool>(&rt, rt.alloc())?;
@@ -299,5 +349,12 @@ fn limits_live_transactions(rt: HostRuntime) -> Result<(), Fail> {
 fn shares_a_page(rt: HostRuntime) -> Result<(), Fail> {
     share_page::<ListPool>(&rt, rt.alloc())?;
     refuse_shares::<ListPool>(&rt, rt.alloc())?;
+    Ok(())
+}
+
+#[test]
+fn donates_a_page(rt: HostRuntime) -> Result<(), Fail> {
+    donate_page::<ListPool>(&rt, rt.alloc())?;
+    refuse_donations::<ListPool>(&rt, rt.alloc())?;
     Ok(())
 }
