@@ -1,5 +1,5 @@
 -- Live transactions and completed donations as data (FF-A 1.1, "Memory management").
-use Rattle.std.specs.Prelude.{ℕ, List}
+use Rattle.std.specs.Prelude.{ℕ, ◌==◌, List, [], ◌∷◌, if◌then◌else◌}
 use Rattle.base.specs.declared.access.Rights.{Rights}
 use Rattle.base.specs.declared.transaction.Kind.{Kind}
 use Rattle.base.specs.Pages.{PageRun}
@@ -27,3 +27,8 @@ pub record Donation : Type 0 where
   pub giver : ℕ
   pub taker : ℕ
   pub access : Access
+
+-- these without the transaction of a handle
+abbrev pub without : ℕ → List Live → List Live
+without h [] = []
+without h (t ∷ ts) = if t.handle == h then ts else t ∷ without h ts

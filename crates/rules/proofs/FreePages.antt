@@ -163,7 +163,8 @@ only_grant kind (g ∷ []) p q home one h =
     ] refl h
 only_grant kind (g ∷ f ∷ gs) p q home one h = absurd (omega (arith, eqb-true _ _ one))
 
-settled : (g : Option Donation) (r : Option RegionRow) (p q : ℕ) (home : Access)
+-- a page that may be shared is reached by its owner, with its home, and by no other partition
+pub settled : (g : Option Donation) (r : Option RegionRow) (p q : ℕ) (home : Access)
     → option_map_or (λ o. eqb o p) (option_map_or (λ (d : Donation). Some d.taker) g (option_map (λ (x : RegionRow). x.owner) r)) false ≡ true
     → option_map_or is_sharable r false ≡ true
     → option_map_or (λ (d : Donation). Some d.access) g (option_and_then (λ (x : RegionRow). granted_in x x.owner) r) ≡ Some home

@@ -1,5 +1,6 @@
 pub mod Passing
 pub mod FreePages
+pub mod Ended
 pub mod Calls
 pub mod ViewLemmas
 pub mod Laws

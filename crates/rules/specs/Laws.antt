@@ -5,3 +5,4 @@ pub mod Handles
 pub mod BuffersApart
 pub mod Writers
 pub mod Isolation
+pub mod SentHomes

@@ -36,7 +36,7 @@ rule_of s c IdGet = id_get_rule s c
 rule_of s c (Send kind transfer) = send_rule s c kind transfer
 rule_of s c (Retrieve transfer) = retrieve_rule s
 rule_of s c Relinquish = relinquish_rule s
-rule_of s c (Reclaim handle flags) = reclaim_rule s
+rule_of s c (Reclaim handle flags) = reclaim_rule s c handle flags
 
 -- the rule of any call: a caller without a row is refused first, and then an identifier that names no call
 unfoldable pub rule : State → CallWords → Rule

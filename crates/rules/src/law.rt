@@ -3,6 +3,7 @@ ghost use Rattle.rules.specs.Laws.Handles.{AreHandlesUsedOnce};
 ghost use Rattle.rules.specs.Laws.BuffersApart.{AreBuffersApart};
 ghost use Rattle.rules.specs.Laws.Writers.{AreWritersAllowed};
 ghost use Rattle.rules.specs.Laws.Isolation.{AreAlikeTo, IsIsolated, transactions_of};
+ghost use Rattle.rules.specs.Laws.SentHomes.{AreHomesKept};
 ghost use Rattle.rules.specs.Laws.EditsTheView.{Passes, EditsTheView};
 ghost use Rattle.rules.specs.Call.{CallWords};
 ghost use Rattle.rules.specs.Run.{IsReached, step};
@@ -16,10 +17,11 @@ pub fn pages_have_one_owner()
     ensures { (s : State) → IsReached s → IsOwnedOnce s }
 {}
 
-/// What every partition reaches of every page after a call that passes its tests is what it reached
-/// before, with the one edit that the call's rule names.
+/// In every state that some list of calls reaches, what every partition reaches of every page after a
+/// call that passes its tests is what it reached before, with the one edit that the call's rule names.
 pub fn edits_the_view()
-    ensures { (s : State) → (c : CallWords) → (r : Request) → Passes s c r → EditsTheView s c r }
+    ensures { (s : State) → (c : CallWords) → (r : Request) → IsReached s → Passes s c r →
+        EditsTheView s c r }
 {}
 
 /// In every state that some list of calls reaches, no two live transactions have one handle, and no
@@ -32,6 +34,12 @@ pub fn handles_are_used_once()
 /// buffer.
 pub fn buffers_are_apart()
     ensures { (s : State) → IsReached s → AreBuffersApart s }
+{}
+
+/// In every state that some list of calls reaches, the sender of a live transaction owns its pages,
+/// which lie in normal memory with one grant, and their home is that of the transaction.
+pub fn transactions_keep_their_homes()
+    ensures { (s : State) → IsReached s → AreHomesKept s }
 {}
 
 /// In every state that some list of calls reaches, two partitions write a page only where the manifest
@@ -49,9 +57,9 @@ pub fn partitions_are_isolated()
         AreAlikeTo c.caller s t → IsIsolated s t c }
 {}
 
-/// A call of another partition leaves all that a partition may learn as it was, where it leaves the
-/// transactions that name the partition.
+/// In every state that some list of calls reaches, a call of another partition leaves all that a
+/// partition may learn as it was, where it leaves the transactions that name the partition.
 pub fn others_leave_a_partition()
-    ensures { (p : ℕ) → (s : State) → (c : CallWords) → c.caller ≢ p →
+    ensures { (p : ℕ) → (s : State) → (c : CallWords) → IsReached s → c.caller ≢ p →
         transactions_of p (step s c).live ≡ transactions_of p s.live → AreAlikeTo p s (step s c) }
 {}

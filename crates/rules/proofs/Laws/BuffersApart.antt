@@ -15,12 +15,14 @@ use Rattle.rules.specs.Call.{CallWords}
 use Rattle.rules.specs.Calls.Version.{naming, with_version}
 use Rattle.rules.specs.Calls.Buffers.{with_pair, with_rx_released}
 use Rattle.rules.specs.Calls.Send.{opened, with_transaction, sent, send_rule, counting, has_room, next_handle}
+use Rattle.rules.specs.Calls.Reclaim.{ended}
 use Rattle.rules.specs.Run.{rule_of, IsReached}
 use Rattle.rules.specs.Laws.EditsTheView.{Passes}
 use Rattle.rules.proofs.Calls.Send.{SendPasses, send_passes, next_is}
 use Rattle.rules.proofs.Reached.{all_push, Keeps, all_reached}
 use Rattle.rules.specs.Laws.BuffersApart.{AreBuffersApart}
 use Rattle.rules.proofs.Calls.Buffers.{map_passes, mapped_page, buffer_after, buffer_after_rx}
+use Rattle.rules.proofs.Ended.{none_ended}
 use Rattle.rules.proofs.FreePages.{HasFreeHome, common_at}
 use Rattle.rules.proofs.ViewLemmas.{live_at-other}
 
@@ -40,6 +42,10 @@ send s c k t passes a =
     let v = sent s c t in
     rw (next_is s c k t passes) (opened_kept s c.caller k v passes.home (common_at s c.caller v.ranges passes.home passes.common) a)
 
+ended_kept : (s : State) (handle : ℕ) → AreBuffersApart s → AreBuffersApart (ended s handle)
+unfolding ended
+ended_kept s handle a = record { apart = λ n b. none_ended handle s.live n (a.apart n b) }
+
 keeps : Keeps AreBuffersApart
 unfolding with_version with_pair with_rx_released
 keeps s c (Version word) r is k a = record { apart = a.apart }
@@ -58,7 +64,7 @@ keeps s c IdGet r is k a = a
 keeps s c (Send kind t) r is k a = send s c kind t (send_passes s c kind t k.passed) a
 keeps s c (Retrieve t) r is k a = a
 keeps s c Relinquish r is k a = a
-keeps s c (Reclaim handle flags) r is k a = a
+keeps s c (Reclaim handle flags) r is k a = ended_kept s handle a
 
 pub buffers_apart : (s : State) → IsReached s → AreBuffersApart s
 buffers_apart = all_reached AreBuffersApart (λ m valid. record { apart = λ n b. refl }) keeps

@@ -17,9 +17,11 @@ use Rattle.rules.specs.Call.{CallWords}
 use Rattle.rules.specs.Calls.Version.{naming, with_version}
 use Rattle.rules.specs.Calls.Buffers.{with_pair, with_rx_released}
 use Rattle.rules.specs.Calls.Send.{opened, with_transaction, sent, send_rule, counting, has_room, next_handle}
+use Rattle.rules.specs.Calls.Reclaim.{ended}
 use Rattle.rules.specs.Run.{rule_of, IsReached}
 use Rattle.rules.specs.Laws.EditsTheView.{Passes}
 use Rattle.rules.proofs.Calls.Send.{SendPasses, send_passes, next_is}
+use Rattle.rules.proofs.Ended.{all_without, handles_without}
 use Rattle.rules.proofs.Reached.{all_push, Keeps, all_reached}
 use Rattle.rules.specs.Laws.Handles.{IsCounted, HaveOtherHandles, AreHandlesUsedOnce}
 use Rattle.base.proofs.Booleans.{both}
@@ -129,6 +131,16 @@ named_kept s p word h =
       distinct = h.distinct;
     }
 
+ended_kept : (s : State) (handle : ℕ) → AreHandlesUsedOnce s → AreHandlesUsedOnce (ended s handle)
+unfolding ended
+ended_kept s handle h =
+    record {
+      rows = h.rows;
+      counts = h.counts;
+      counted = all_without (IsCounted s) handle s.live h.counted;
+      distinct = handles_without handle s.live h.distinct;
+    }
+
 keeps : Keeps AreHandlesUsedOnce
 unfolding with_pair with_rx_released
 keeps s c (Version word) r is k h = named_kept s c.caller word h
@@ -140,7 +152,7 @@ keeps s c IdGet r is k h = h
 keeps s c (Send kind t) r is k h = send s c kind t k.known (send_passes s c kind t k.passed) h
 keeps s c (Retrieve t) r is k h = h
 keeps s c Relinquish r is k h = h
-keeps s c (Reclaim handle flags) r is k h = h
+keeps s c (Reclaim handle flags) r is k h = ended_kept s handle h
 
 first_rows : (rows : List PartitionRow) (p : ℕ) → is_some (state_of (map first_state rows) p) ≡ list_any (λ (row : PartitionRow). eqb row.id p) rows
 first_rows [] p = refl

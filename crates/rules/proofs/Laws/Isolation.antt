@@ -18,7 +18,7 @@ use Rattle.base.specs.Descriptors.Send.{Endpoint, is_send, send_of}
 use Rattle.base.specs.Manifest.{PartitionRow, is_partition}
 use Rattle.base.specs.Pages.{PageRun, covers}
 use Rattle.base.specs.Refusals.{Test, first_refusal}
-use Rattle.base.specs.Transactions.{Live}
+use Rattle.base.specs.Transactions.{Live, without}
 use Rattle.base.specs.Ledger.{live_at}
 use Rattle.base.specs.State.{State, PartitionState, state_of, sends_of, version_of, with_partition, owner_of, owns, home_of, is_free, free_home, is_free_with, common_home, each_page, each_page_in, sees}
 use Rattle.wire.specs.declared.request.Request.{Request}
@@ -31,14 +31,18 @@ use Rattle.rules.specs.Rule.{Edit, Rule, refused, fits, all_tests, reply_of, nex
 use Rattle.rules.specs.Calls.Version.{naming, with_version}
 use Rattle.rules.specs.Calls.Buffers.{with_pair, with_rx_released, may_be_buffer, may_be_buffers, map_tests}
 use Rattle.rules.specs.Calls.Send.{names_tx, has_lengths, tx_size, caller_version, bytes_of, sent, is_receiver, are_distinct, are_parties, suits, are_capped, has_room, next_handle, opened, counting, with_transaction, sender_edit, send_tests, send_rule}
+use Rattle.rules.specs.Calls.Reclaim.{sent_with, returned, returned_by, ended, reclaim_tests, reclaim_rule}
 use Rattle.rules.specs.Run.{rule_of, rule, answer, step, IsReached}
 use Rattle.rules.specs.Laws.EditsTheView.{Passes}
 use Rattle.rules.specs.Laws.OneOwner.{IsOwnSend}
 use Rattle.rules.specs.Laws.Isolation.{names, transactions_of, mailboxes_of, is_sharable_at, AreAlikeTo, IsIsolated}
+use Rattle.base.proofs.Booleans.{both}
+use Rattle.rules.proofs.Calls.Reclaim.{ReclaimPasses, reclaim_passes}
+use Rattle.rules.proofs.Ended.{found_is, found_first}
 use Rattle.rules.proofs.Calls.Send.{SendPasses, send_passes, next_is}
 use Rattle.rules.proofs.FreePages.{owner_from_test}
 use Rattle.rules.proofs.Laws.EditsTheView.{edits_the_view}
-use Rattle.rules.proofs.Laws.Handles.{state_after}
+use Rattle.rules.proofs.Laws.Handles.{state_after, handles_used_once}
 use Rattle.rules.proofs.Laws.OneOwner.{owned_once}
 use Rattle.rules.proofs.Laws.OwnBuffers.{IsOwnBuffer, AreBuffersOwned, buffers_owned}
 use Rattle.rules.proofs.Passing.{before_last}
@@ -123,6 +127,36 @@ transactions_push p (u ∷ ts) t =
       | true ↦ ap (λ us. u ∷ us) (transactions_push p ts t)
       | false ↦ transactions_push p ts t
     ]
+
+-- ---- the transaction that a partition has sent with a handle
+
+and_false : (b : Bool) → (b && false) ≡ false
+and_false true = refl
+and_false false = refl
+
+find_mine : (p h : ℕ) (ts : List Live) → find (λ u. eqb u.handle h && eqb u.sender p) ts ≡ find (λ u. eqb u.handle h && eqb u.sender p) (transactions_of p ts)
+find_mine p h [] = refl
+find_mine p h (t ∷ ts) =
+    elim (eqb t.sender p) as (λ b. eqb t.sender p ≡ b → cond (eqb t.handle h && b) (Some t) (find (λ u. eqb u.handle h && eqb u.sender p) ts) ≡ find (λ u. eqb u.handle h && eqb u.sender p) (cond (b || list_any (λ r. eqb r.partition p) t.receivers) (t ∷ transactions_of p ts) (transactions_of p ts))) [
+      | true ↦ λ e. rw e (ap (λ (o : Option Live). cond (eqb t.handle h && true) (Some t) o) (find_mine p h ts))
+      | false ↦ λ e.
+          let not_it : (eqb t.handle h && false) ≡ false = and_false (eqb t.handle h) in
+          rw not_it (elim (list_any (λ r. eqb r.partition p) t.receivers) as (λ k. find (λ u. eqb u.handle h && eqb u.sender p) ts ≡ find (λ u. eqb u.handle h && eqb u.sender p) (cond k (t ∷ transactions_of p ts) (transactions_of p ts))) [
+            | true ↦ rw (e, not_it) (find_mine p h ts)
+            | false ↦ find_mine p h ts
+          ])
+    ] refl
+
+without_mine : (p h : ℕ) (ts : List Live) (t : Live) → find (λ u. eqb u.handle h) ts ≡ Some t → names p t ≡ true → transactions_of p (without h ts) ≡ without h (transactions_of p ts)
+without_mine p h [] t e mine = absurd cc
+without_mine p h (u ∷ us) t e mine =
+    elim (eqb u.handle h) as (λ b. eqb u.handle h ≡ b → cond b (Some u) (find (λ v. eqb v.handle h) us) ≡ Some t → transactions_of p (cond b us (u ∷ without h us)) ≡ without h (cond (names p u) (u ∷ transactions_of p us) (transactions_of p us))) [
+      | true ↦ λ is k. let one : u ≡ t = cc in let here : names p u ≡ true = ap (names p) one ∙ mine in rw (here, is) refl
+      | false ↦ λ is k. elim (names p u) as (λ b. cond b (u ∷ transactions_of p (without h us)) (transactions_of p (without h us)) ≡ without h (cond b (u ∷ transactions_of p us) (transactions_of p us))) [
+        | true ↦ rw is (ap (λ ts. u ∷ ts) (without_mine p h us t k mine))
+        | false ↦ without_mine p h us t k mine
+      ]
+    ] refl e
 
 -- ---- what agrees at each page or element
 
@@ -310,6 +344,25 @@ module _ (p : ℕ) (s t : State) (same : AreAlikeTo p s t) (sends_s : AllByRecur
   same_opened : (k : Kind) (v : descriptor.Send) (home : Access) → opened s p k v home ≡ opened t p k v home
   same_opened k v home = ap (λ (h : ℕ). record (opened s p k v home) { handle = h }) same_handle
 
+  same_sent_with : (h : ℕ) → sent_with s p h ≡ sent_with t p h
+  same_sent_with h = find_mine p h s.live ∙ ap (λ ts. find (λ u. eqb u.handle h && eqb u.sender p) ts) same.transactions ∙ sym (find_mine p h t.live)
+
+  -- but for what is reached, which the edit decides
+  ended_alike : (h : ℕ) → transactions_of p (without h s.live) ≡ transactions_of p (without h t.live) → ((n : ℕ) → sees (ended s h) p n ≡ sees (ended t h) p n) → AreAlikeTo p (ended s h) (ended t h)
+  unfolding ended
+  ended_alike h kept seen = record {
+    partitions = same.partitions;
+    quota = same.quota;
+    grants = same.grants;
+    state = same.state;
+    buffers = same.buffers;
+    owned = same.owned;
+    homes = same.homes;
+    sharable = same.sharable;
+    transactions = kept;
+    views = seen;
+  }
+
   -- but for what is reached, which the edit decides
   opened_alike : (k : Kind) (v : descriptor.Send) (home : Access) → ((n : ℕ) → sees (with_transaction s (opened s p k v home)) p n ≡ sees (with_transaction t (opened t p k v home)) p n)
       → AreAlikeTo p (with_transaction s (opened s p k v home)) (with_transaction t (opened t p k v home))
@@ -331,6 +384,19 @@ module _ (p : ℕ) (s t : State) (same : AreAlikeTo p s t) (sends_s : AllByRecur
       }
 
 -- ---- a call of the partition
+
+-- a reclaim edits what its sender reaches
+returned_to : (k : Kind) (p : ℕ) (runs : List PageRun) (home : Access) (e : Edit) → returned k p runs home ≡ Some e → e.who ≡ p
+returned_to Share p runs home e is = absurd cc
+returned_to Lend p runs home e is = let same : record { who = p; runs = runs; to = Some home } ≡ e = cc in ap (λ (x : Edit). x.who) (sym same)
+returned_to Donate p runs home e is = let same : record { who = p; runs = runs; to = Some home } ≡ e = cc in ap (λ (x : Edit). x.who) (sym same)
+
+own_return : (s : State) (p h : ℕ) (e : Edit) → option_and_then returned_by (sent_with s p h) ≡ Some e → e.who ≡ p
+own_return s p h e is =
+    elim (sent_with s p h) as (λ o. sent_with s p h ≡ o → option_and_then returned_by o ≡ Some e → e.who ≡ p) [
+      | None ↦ λ f k. absurd cc
+      | Some u ↦ λ f k. returned_to u.kind u.sender u.ranges u.home e k ∙ eqb-true _ _ (both (eqb u.handle h) (eqb u.sender p) (found_is (λ v. eqb v.handle h && eqb v.sender p) s.live u f)).1
+    ] refl is
 
 -- a send edits what its sender reaches
 own_edit : (k : Kind) (p : ℕ) (runs : List PageRun) (e : Edit) → sender_edit k p runs ≡ Some e → e.who ≡ p
@@ -412,6 +478,35 @@ module _ (s t : State) (c : CallWords) (same : AreAlikeTo c.caller s t) (rs : Is
             send_next k x (send_passes s c k x e) (send_passes t c k x f) (edit_s e g) (edit_t f (sym fit ∙ g));
       }
 
+  -- ---- a reclaim
+
+  mine_without : (u : State) (h : ℕ) → IsReached u → ReclaimPasses u c.caller h → transactions_of c.caller (without h u.live) ≡ without h (transactions_of c.caller u.live)
+  mine_without u h ru k =
+      let mine : names c.caller k.transaction ≡ true = rw (eq-eqb _ _ k.sender) refl in
+      without_mine c.caller h u.live k.transaction (found_first u.live h c.caller k.transaction (handles_used_once u ru).distinct k.found) mine
+
+  reclaim_alike : (h flags : ℕ)
+      → (first_refusal (reclaim_tests s c.caller h flags) ≡ None → fits s (reclaim_rule s c h flags).edit ≡ true → (n : ℕ) → sees (ended s h) c.caller n ≡ with_edit (reclaim_rule s c h flags).edit (sees s) c.caller n)
+      → (first_refusal (reclaim_tests t c.caller h flags) ≡ None → fits t (reclaim_rule t c h flags).edit ≡ true → (n : ℕ) → sees (ended t h) c.caller n ≡ with_edit (reclaim_rule t c h flags).edit (sees t) c.caller n)
+      → AreAlikeRules c.caller s t (reclaim_rule s c h flags) (reclaim_rule t c h flags)
+  reclaim_alike h flags edit_s edit_t =
+      let p = c.caller in
+      let one : sent_with s p h ≡ sent_with t p h = same_sent_with p s t same sends_s sends_t boxes_s boxes_t h in
+      let tests : reclaim_tests s p h flags ≡ reclaim_tests t p h flags = rw one refl in
+      let edits : (reclaim_rule s c h flags).edit ≡ (reclaim_rule t c h flags).edit = ap (λ (o : Option Live). option_and_then returned_by o) one in
+      let fit : fits s (reclaim_rule s c h flags).edit ≡ fits t (reclaim_rule t c h flags).edit = same_fits p s t same sends_s sends_t boxes_s boxes_t (reclaim_rule s c h flags).edit (own_return s p h) ∙ ap (fits t) edits in
+      record {
+        tests = tests;
+        fit = fit;
+        reply = refl;
+        next = λ e g.
+            let f : first_refusal (reclaim_tests t p h flags) ≡ None = ap first_refusal (sym tests) ∙ e in
+            let kept = mine_without s h rs (reclaim_passes s p h flags e) ∙ ap (without h) same.transactions ∙ sym (mine_without t h rt (reclaim_passes t p h flags f)) in
+            let seen : (n : ℕ) → sees (ended s h) p n ≡ sees (ended t h) p n = λ n.
+            edit_s e g n ∙ edit_same (reclaim_rule s c h flags).edit (sees s) (sees t) p n (same.views n) ∙ ap (λ (x : Option Edit). with_edit x (sees t) p n) edits ∙ sym (edit_t f (sym fit ∙ g) n) in
+            ended_alike p s t same sends_s sends_t boxes_s boxes_t h kept seen;
+      }
+
   alike_rules : (r : Request) → is_partition s.manifest c.caller ≡ true → is_partition t.manifest c.caller ≡ true → request_of c.regs ≡ Some r → AreAlikeRules c.caller s t (rule_of s c r) (rule_of t c r)
   alike_rules (Version word) ks kt n = record { tests = refl; fit = no_edit s t; reply = refl; next = λ e g. named c.caller s t same sends_s sends_t boxes_s boxes_t word }
   alike_rules (Features identifier) ks kt n = record { tests = refl; fit = no_edit s t; reply = refl; next = λ e g. same }
@@ -419,10 +514,10 @@ module _ (s t : State) (c : CallWords) (same : AreAlikeTo c.caller s t) (rs : Is
   alike_rules (RxtxMap tx rx count) ks kt n = record { tests = same_map_tests tx rx count; fit = no_edit s t; reply = refl; next = λ e g. paired c.caller s t same sends_s sends_t boxes_s boxes_t (Some (named_pair tx rx count)) }
   alike_rules (RxtxUnmap word) ks kt n = record { tests = rw (same_pair c.caller s t same sends_s sends_t boxes_s boxes_t) refl; fit = no_edit s t; reply = refl; next = λ e g. paired c.caller s t same sends_s sends_t boxes_s boxes_t None }
   alike_rules IdGet ks kt n = record { tests = refl; fit = no_edit s t; reply = refl; next = λ e g. same }
-  alike_rules (Send kind x) ks kt n = send_alike kind x (λ e f. (edits_the_view s c (Send kind x) (record { known = ks; named = n; passed = e; fits = f })).views c.caller) (λ e f. (edits_the_view t c (Send kind x) (record { known = kt; named = n; passed = e; fits = f })).views c.caller)
+  alike_rules (Send kind x) ks kt n = send_alike kind x (λ e f. (edits_the_view s c (Send kind x) rs (record { known = ks; named = n; passed = e; fits = f })).views c.caller) (λ e f. (edits_the_view t c (Send kind x) rt (record { known = kt; named = n; passed = e; fits = f })).views c.caller)
   alike_rules (Retrieve x) ks kt n = record { tests = refl; fit = no_edit s t; reply = refl; next = λ e g. same }
   alike_rules Relinquish ks kt n = record { tests = refl; fit = no_edit s t; reply = refl; next = λ e g. same }
-  alike_rules (Reclaim handle flags) ks kt n = record { tests = refl; fit = no_edit s t; reply = refl; next = λ e g. same }
+  alike_rules (Reclaim handle flags) ks kt n = reclaim_alike handle flags (λ e f. (edits_the_view s c (Reclaim handle flags) rs (record { known = ks; named = n; passed = e; fits = f })).views c.caller) (λ e f. (edits_the_view t c (Reclaim handle flags) rt (record { known = kt; named = n; passed = e; fits = f })).views c.caller)
 
   any_rules : (ks kt : Bool) (o : Option Request) → ks ≡ kt → ((r : Request) → ks ≡ true → o ≡ Some r → AreAlikeRules c.caller s t (rule_of s c r) (rule_of t c r))
       → AreAlikeRules c.caller s t (cond ks (option_map_or (rule_of s c) o (refused NotSupported s)) (refused Denied s)) (cond kt (option_map_or (rule_of t c) o (refused NotSupported t)) (refused Denied t))
@@ -457,7 +552,12 @@ other_edit Share q runs view p n ne = refl
 other_edit Lend q runs view p n ne = rw ne refl
 other_edit Donate q runs view p n ne = rw ne refl
 
-module _ (p : ℕ) (s : State) (c : CallWords) (ne : eqb c.caller p ≡ false) (en : eqb p c.caller ≡ false) where
+-- an edit of another partition
+other_edited : (edit : Option Edit) (q : ℕ) → ((e : Edit) → edit ≡ Some e → e.who ≡ q) → (view : ℕ → ℕ → View) (p n : ℕ) → eqb p q ≡ false → with_edit edit view p n ≡ view p n
+other_edited None q own view p n ne = refl
+other_edited (Some e) q own view p n ne = let who = own e refl in rw (who, ne) refl
+
+module _ (p : ℕ) (s : State) (c : CallWords) (is : IsReached s) (ne : eqb c.caller p ≡ false) (en : eqb p c.caller ≡ false) where
   alike : AreAlikeTo p s s
   alike = record { partitions = refl; quota = refl; grants = λ n. refl; state = refl; buffers = refl; owned = λ n. refl; homes = λ n e. refl; sharable = λ n e. refl; transactions = refl; views = λ n. refl }
 
@@ -498,6 +598,10 @@ module _ (p : ℕ) (s : State) (c : CallWords) (ne : eqb c.caller p ≡ false) (
   unfolding with_version
   other_named word = record { partitions = refl; quota = refl; grants = λ n. refl; state = other_state (naming word) (λ r. refl); buffers = refl; owned = λ n. refl; homes = λ n e. refl; sharable = λ n e. refl; transactions = refl; views = λ n. refl }
 
+  other_ended : (h : ℕ) → transactions_of p (ended s h).live ≡ transactions_of p s.live → ((n : ℕ) → sees (ended s h) p n ≡ sees s p n) → AreAlikeTo p s (ended s h)
+  unfolding ended
+  other_ended h kept seen = record { partitions = refl; quota = refl; grants = λ n. refl; state = refl; buffers = refl; owned = λ n. refl; homes = λ n e. refl; sharable = λ n e. refl; transactions = sym kept; views = λ n. sym (seen n) }
+
   other_next : (r : Request) → Passes s c r → transactions_of p (rule_of s c r).next.live ≡ transactions_of p s.live → AreAlikeTo p s (rule_of s c r).next
   other_next (Version word) k kept = other_named word
   other_next (Features identifier) k kept = alike
@@ -505,16 +609,17 @@ module _ (p : ℕ) (s : State) (c : CallWords) (ne : eqb c.caller p ≡ false) (
   other_next (RxtxMap tx rx count) k kept = other_pair (Some (named_pair tx rx count))
   other_next (RxtxUnmap word) k kept = other_pair None
   other_next IdGet k kept = alike
-  other_next (Send kind x) k kept = other_send kind x (send_passes s c kind x k.passed) ((edits_the_view s c (Send kind x) k).views p) kept
+  other_next (Send kind x) k kept = other_send kind x (send_passes s c kind x k.passed) ((edits_the_view s c (Send kind x) is k).views p) kept
   other_next (Retrieve x) k kept = alike
   other_next Relinquish k kept = alike
-  other_next (Reclaim handle flags) k kept = alike
+  other_next (Reclaim handle flags) k kept =
+      other_ended handle kept (λ n. (edits_the_view s c (Reclaim handle flags) is k).views p n ∙ other_edited (option_and_then returned_by (sent_with s c.caller handle)) c.caller (own_return s c.caller handle) (sees s) p n en)
 
 -- a call of another partition that changes no transaction that names it leaves what a partition may learn
-pub others_leave : (p : ℕ) (s : State) (c : CallWords) → c.caller ≢ p → transactions_of p (step s c).live ≡ transactions_of p s.live → AreAlikeTo p s (step s c)
-others_leave p s c differ =
+pub others_leave : (p : ℕ) (s : State) (c : CallWords) → IsReached s → c.caller ≢ p → transactions_of p (step s c).live ≡ transactions_of p s.live → AreAlikeTo p s (step s c)
+others_leave p s c is differ =
     let ne = not_eqb c.caller p differ in
     let en = not_eqb p c.caller (λ e. differ (sym e)) in
     step_cases (λ u. transactions_of p u.live ≡ transactions_of p s.live → AreAlikeTo p s u) s c
-    (λ kept. alike p s c ne en)
-    (λ r k. other_next p s c ne en r k)
+    (λ kept. alike p s c is ne en)
+    (λ r k. other_next p s c is ne en r k)

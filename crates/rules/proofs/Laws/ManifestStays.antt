@@ -11,6 +11,7 @@ use Rattle.rules.specs.Call.{CallWords}
 use Rattle.rules.specs.Calls.Version.{with_version}
 use Rattle.rules.specs.Calls.Buffers.{with_pair, with_rx_released}
 use Rattle.rules.specs.Calls.Send.{sent, opened, with_transaction}
+use Rattle.rules.specs.Calls.Reclaim.{ended}
 use Rattle.rules.specs.Run.{rule_of}
 
 opened_keeps : (s : State) (p : _) (kind : Kind) (v : descriptor.Send) (home : Option Access) → (option_map_or (λ a. with_transaction s (opened s p kind v a)) home s).manifest ≡ s.manifest
@@ -19,7 +20,7 @@ opened_keeps s p kind v (Some a) = refl
 opened_keeps s p kind v None = refl
 
 pub manifest_stays : (s : State) (c : CallWords) (r : Request) → (rule_of s c r).next.manifest ≡ s.manifest
-unfolding with_version with_pair with_rx_released
+unfolding with_version with_pair with_rx_released ended
 manifest_stays s c (Version word) = refl
 manifest_stays s c (Features identifier) = refl
 manifest_stays s c RxRelease = refl

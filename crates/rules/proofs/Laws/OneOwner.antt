@@ -19,10 +19,12 @@ use Rattle.rules.specs.Call.{CallWords}
 use Rattle.rules.specs.Calls.Version.{with_version}
 use Rattle.rules.specs.Calls.Buffers.{with_pair, with_rx_released}
 use Rattle.rules.specs.Calls.Send.{opened, with_transaction, sent, send_rule}
+use Rattle.rules.specs.Calls.Reclaim.{ended}
 use Rattle.rules.specs.Run.{rule_of, IsReached}
 use Rattle.rules.specs.Laws.EditsTheView.{Passes}
 use Rattle.rules.specs.Laws.OneOwner.{IsOwnSend, AreApart, AreAllApart, IsOwnedOnce}
 use Rattle.rules.proofs.Calls.Send.{SendPasses, send_passes, next_is}
+use Rattle.rules.proofs.Ended.{all_without, apart_without}
 use Rattle.rules.proofs.FreePages.{HasFreeHome, owner_from_test, common_at}
 use Rattle.rules.proofs.Reached.{all_push, Keeps, all_reached}
 
@@ -53,6 +55,15 @@ send s c k t passes o =
     let v = sent s c t in
     rw (next_is s c k t passes) (opened_kept s c.caller k v passes.home (common_at s c.caller v.ranges passes.home passes.common) o)
 
+ended_kept : (s : State) (handle : ℕ) → IsOwnedOnce s → IsOwnedOnce (ended s handle)
+unfolding ended
+ended_kept s handle o =
+    record {
+      owners = o.owners;
+      senders = all_without (IsOwnSend s) handle s.live o.senders;
+      apart = apart_without handle s.live o.apart;
+    }
+
 keeps : Keeps IsOwnedOnce
 unfolding with_version with_pair with_rx_released
 keeps s c (Version word) r is k o = record { owners = o.owners; senders = o.senders; apart = o.apart }
@@ -64,7 +75,7 @@ keeps s c IdGet r is k o = o
 keeps s c (Send kind t) r is k o = send s c kind t (send_passes s c kind t k.passed) o
 keeps s c (Retrieve t) r is k o = o
 keeps s c Relinquish r is k o = o
-keeps s c (Reclaim handle flags) r is k o = o
+keeps s c (Reclaim handle flags) r is k o = ended_kept s handle o
 
 some_owner : (r : Option RegionRow) → is_some (option_map (λ (x : RegionRow). x.owner) r) ≡ is_some r
 some_owner None = refl

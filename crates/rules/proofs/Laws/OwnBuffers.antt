@@ -18,6 +18,7 @@ use Rattle.rules.specs.Call.{CallWords}
 use Rattle.rules.specs.Calls.Version.{with_version}
 use Rattle.rules.specs.Calls.Buffers.{with_pair, with_rx_released}
 use Rattle.rules.specs.Calls.Send.{opened, with_transaction, sent, send_rule}
+use Rattle.rules.specs.Calls.Reclaim.{ended}
 use Rattle.rules.specs.Run.{rule_of, IsReached}
 use Rattle.rules.specs.Laws.EditsTheView.{Passes}
 use Rattle.rules.proofs.Calls.Send.{SendPasses, send_passes, next_is}
@@ -56,7 +57,7 @@ send : (s : State) (c : CallWords) (k : Kind) (t : Transfer) → SendPasses s c 
 send s c k t passes o = rw (next_is s c k t passes) (opened_kept s c.caller k (sent s c t) passes.home o)
 
 keeps : Keeps AreBuffersOwned
-unfolding with_version with_pair with_rx_released
+unfolding with_version with_pair with_rx_released ended
 keeps s c (Version word) r is k o = record { owned = o.owned }
 keeps s c (Features identifier) r is k o = o
 keeps s c RxRelease r is k o =
@@ -68,7 +69,7 @@ keeps s c IdGet r is k o = o
 keeps s c (Send kind t) r is k o = send s c kind t (send_passes s c kind t k.passed) o
 keeps s c (Retrieve t) r is k o = o
 keeps s c Relinquish r is k o = o
-keeps s c (Reclaim handle flags) r is k o = o
+keeps s c (Reclaim handle flags) r is k o = record { owned = o.owned }
 
 first_owned : (s : State) (rows : List PartitionRow) → AllByRecursion (IsOwnBuffer s) (map first_mailbox rows)
 first_owned s [] = tt

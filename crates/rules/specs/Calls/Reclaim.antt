@@ -1,6 +1,52 @@
--- FFA_MEM_RECLAIM (FF-A 1.1, "FFA_MEM_RECLAIM").
+-- FFA_MEM_RECLAIM: the sender ends a transaction, and reaches its pages as before (FF-A 1.1, "FFA_MEM_RECLAIM").
+use Rattle.std.specs.Prelude.{ℕ, Bool, false, ◌&&◌, ◌==◌, not, List, [], ◌∷◌, Option, Some, None, is_some}
+use Rattle.std.specs.List.{list_all, find}
+use Rattle.std.specs.Option.{option_map_or, option_and_then}
+use Rattle.base.specs.declared.status.Status.TheVariants.{InvalidParameters, Denied}
+use Rattle.base.specs.declared.transaction.Kind.{Kind}
+use Rattle.base.specs.declared.transaction.Kind.TheVariants.{Share, Lend, Donate}
+use Rattle.base.specs.Access.{Access}
+use Rattle.base.specs.Pages.{PageRun}
+use Rattle.base.specs.Refusals.{Test, ◌otherwise◌}
+use Rattle.base.specs.Transactions.{Live, without}
 use Rattle.base.specs.State.{State}
-use Rattle.rules.specs.Rule.{Rule, not_served}
+use Rattle.wire.specs.Replies.{success}
+use Rattle.rules.specs.Call.{CallWords}
+use Rattle.rules.specs.Rule.{Rule, Edit}
 
-abbrev pub reclaim_rule : State → Rule
-reclaim_rule s = not_served s
+-- the live transaction of a handle that a partition has sent
+abbrev pub sent_with : State → ℕ → ℕ → Option Live
+sent_with s p handle = find (λ t. (t.handle == handle) && (t.sender == p)) s.live
+
+-- each receiver that has retrieved it has relinquished it
+abbrev pub is_given_back : Live → Bool
+is_given_back t = list_all (λ r. not (is_some r.retrieved)) t.receivers
+
+-- the tests, in order
+abbrev pub reclaim_tests : State → ℕ → ℕ → ℕ → List Test
+reclaim_tests s p handle flags =
+    (flags == 0 otherwise InvalidParameters)
+    ∷ (is_some (sent_with s p handle) otherwise InvalidParameters)
+    ∷ (option_map_or is_given_back (sent_with s p handle) false otherwise Denied)
+    ∷ []
+
+-- the sender reaches again what it lent or gave away; it kept what it shared
+abbrev pub returned : Kind → ℕ → List PageRun → Access → Option Edit
+returned Share p runs home = None
+returned Lend p runs home = Some (record { who = p; runs = runs; to = Some home })
+returned Donate p runs home = Some (record { who = p; runs = runs; to = Some home })
+
+abbrev pub returned_by : Live → Option Edit
+returned_by t = returned t.kind t.sender t.ranges t.home
+
+-- the transaction of the handle has ended
+unfoldable pub ended : State → ℕ → State
+ended s handle = record s { live = without handle s.live }
+
+abbrev pub reclaim_rule : State → CallWords → ℕ → ℕ → Rule
+reclaim_rule s c handle flags = record {
+  tests = reclaim_tests s c.caller handle flags;
+  edit = option_and_then returned_by (sent_with s c.caller handle);
+  next = ended s handle;
+  reply = success 0 0;
+}

@@ -1,0 +1,121 @@
+-- A live transaction ends: the others stay, and none covers its pages any more.
+use Rattle.std.proofs.Common.{◌≡◌, ◌≢◌, ℕ, Bool, true, false, ◌&&◌, cond, eqb, List, [], ◌∷◌, Option, Some, None, is_some, refl, sym, ap, ◌∙◌, find}
+use Rattle.std.specs.List.{AllByRecursion}
+use Rattle.std.proofs.lemmas.Bool.{eqb-true}
+use Rattle.base.specs.Pages.{covers}
+use Rattle.base.specs.Transactions.{Live, without}
+use Rattle.base.specs.Ledger.{live_at}
+use Rattle.base.proofs.Booleans.{both}
+use Rattle.rules.specs.Laws.OneOwner.{AreApart, AreAllApart}
+use Rattle.rules.specs.Laws.Handles.{HaveOtherHandles}
+
+some_is : (t u : Live) → Some t ≡ Some u → t ≡ u
+some_is t u e = cc
+
+-- ---- one of them is found
+
+pub found_in : (P : Live → Type 0) (f : Live → Bool) (ts : List Live) (t : Live) → find f ts ≡ Some t → AllByRecursion P ts → P t
+found_in P f [] t e h = absurd cc
+found_in P f (u ∷ us) t e h =
+    elim (f u) as (λ b. cond b (Some u) (find f us) ≡ Some t → P t) [
+      | true ↦ λ k. let is = some_is u t k in rw (← is) h.0
+      | false ↦ λ k. found_in P f us t k h.1
+    ] e
+
+pub found_is : (f : Live → Bool) (ts : List Live) (t : Live) → find f ts ≡ Some t → f t ≡ true
+found_is f [] t e = absurd cc
+found_is f (u ∷ us) t e =
+    elim (f u) as (λ b. f u ≡ b → cond b (Some u) (find f us) ≡ Some t → f t ≡ true) [
+      | true ↦ λ is k. rw (← some_is u t k) is
+      | false ↦ λ is k. found_is f us t k
+    ] refl e
+
+-- handles differ, so it is the first of its handle
+pub found_first : (ts : List Live) (h p : ℕ) (t : Live) → HaveOtherHandles ts → find (λ u. eqb u.handle h && eqb u.sender p) ts ≡ Some t → find (λ u. eqb u.handle h) ts ≡ Some t
+found_first [] h p t others e = absurd cc
+found_first (u ∷ us) h p t others e =
+    elim (eqb u.handle h) as (λ b. eqb u.handle h ≡ b → cond (b && eqb u.sender p) (Some u) (find (λ v. eqb v.handle h && eqb v.sender p) us) ≡ Some t → cond b (Some u) (find (λ v. eqb v.handle h) us) ≡ Some t) [
+      | true ↦ λ is k. elim (eqb u.sender p) as (λ b. cond b (Some u) (find (λ v. eqb v.handle h && eqb v.sender p) us) ≡ Some t → Some u ≡ Some t) [
+        | true ↦ λ m. m
+        | false ↦ λ m.
+            let same : t.handle ≡ h = eqb-true _ _ (both (eqb t.handle h) (eqb t.sender p) (found_is (λ v. eqb v.handle h && eqb v.sender p) us t m)).0 in
+            absurd (found_in (λ v. u.handle ≢ v.handle) (λ v. eqb v.handle h && eqb v.sender p) us t m others.0 (eqb-true _ _ is ∙ sym same))
+      ] k
+      | false ↦ λ is k. found_first us h p t others.1 k
+    ] refl e
+
+-- ---- the others stay
+
+pub all_without : (P : Live → Type 0) (h : ℕ) (ts : List Live) → AllByRecursion P ts → AllByRecursion P (without h ts)
+all_without P h [] a = tt
+all_without P h (t ∷ ts) a =
+    elim (eqb t.handle h) as (λ b. AllByRecursion P (cond b ts (t ∷ without h ts))) [
+      | true ↦ a.1
+      | false ↦ (a.0, all_without P h ts a.1)
+    ]
+
+pub apart_without : (h : ℕ) (ts : List Live) → AreAllApart ts → AreAllApart (without h ts)
+apart_without h [] a = tt
+apart_without h (t ∷ ts) a =
+    elim (eqb t.handle h) as (λ b. AreAllApart (cond b ts (t ∷ without h ts))) [
+      | true ↦ a.1
+      | false ↦ (all_without (AreApart t) h ts a.0, apart_without h ts a.1)
+    ]
+
+pub handles_without : (h : ℕ) (ts : List Live) → HaveOtherHandles ts → HaveOtherHandles (without h ts)
+handles_without h [] a = tt
+handles_without h (t ∷ ts) a =
+    elim (eqb t.handle h) as (λ b. HaveOtherHandles (cond b ts (t ∷ without h ts))) [
+      | true ↦ a.1
+      | false ↦ (all_without (λ u. t.handle ≢ u.handle) h ts a.0, handles_without h ts a.1)
+    ]
+
+-- ---- which of them covers a page
+
+none_covers : (t : Live) (ts : List Live) (n : ℕ) → AllByRecursion (AreApart t) ts → covers t.ranges n ≡ true → live_at ts n ≡ None
+none_covers t [] n a c = refl
+none_covers t (u ∷ us) n a c = let no = a.0 n c in rw no (none_covers t us n a.1 c)
+
+-- one that is apart from it covers none of its pages
+not_covered : (u t : Live) (n : ℕ) → AreApart u t → covers t.ranges n ≡ true → covers u.ranges n ≡ false
+not_covered u t n apart c =
+    elim (covers u.ranges n) as (λ b. covers u.ranges n ≡ b → b ≡ false) [
+      | true ↦ λ e. absurd (let no = apart n e in cc)
+      | false ↦ λ e. refl
+    ] refl
+
+pub covered_live : (h : ℕ) (ts : List Live) (t : Live) (n : ℕ) → AreAllApart ts → find (λ u. eqb u.handle h) ts ≡ Some t → covers t.ranges n ≡ true → live_at ts n ≡ Some t
+covered_live h [] t n a e c = absurd cc
+covered_live h (u ∷ us) t n a e c =
+    elim (eqb u.handle h) as (λ b. cond b (Some u) (find (λ v. eqb v.handle h) us) ≡ Some t → cond (covers u.ranges n) (Some u) (live_at us n) ≡ Some t) [
+      | true ↦ λ k. let is = some_is u t k in let here : covers u.ranges n ≡ true = ap (λ (v : Live). covers v.ranges n) is ∙ c in rw here k
+      | false ↦ λ k. let no = not_covered u t n (found_in (AreApart u) (λ v. eqb v.handle h) us t k a.0) c in rw no (covered_live h us t n a.1 k c)
+    ] e
+
+pub covered_ended : (h : ℕ) (ts : List Live) (t : Live) (n : ℕ) → AreAllApart ts → find (λ u. eqb u.handle h) ts ≡ Some t → covers t.ranges n ≡ true → live_at (without h ts) n ≡ None
+covered_ended h [] t n a e c = absurd cc
+covered_ended h (u ∷ us) t n a e c =
+    elim (eqb u.handle h) as (λ b. cond b (Some u) (find (λ v. eqb v.handle h) us) ≡ Some t → live_at (cond b us (u ∷ without h us)) n ≡ None) [
+      | true ↦ λ k. none_covers u us n a.0 (ap (λ (v : Live). covers v.ranges n) (some_is u t k) ∙ c)
+      | false ↦ λ k. let no = not_covered u t n (found_in (AreApart u) (λ v. eqb v.handle h) us t k a.0) c in rw no (covered_ended h us t n a.1 k c)
+    ] e
+
+pub other_ended : (h : ℕ) (ts : List Live) (t : Live) (n : ℕ) → find (λ u. eqb u.handle h) ts ≡ Some t → covers t.ranges n ≡ false → live_at (without h ts) n ≡ live_at ts n
+other_ended h [] t n e c = absurd cc
+other_ended h (u ∷ us) t n e c =
+    elim (eqb u.handle h) as (λ b. cond b (Some u) (find (λ v. eqb v.handle h) us) ≡ Some t → live_at (cond b us (u ∷ without h us)) n ≡ cond (covers u.ranges n) (Some u) (live_at us n)) [
+      | true ↦ λ k. let no : covers u.ranges n ≡ false = ap (λ (v : Live). covers v.ranges n) (some_is u t k) ∙ c in rw no refl
+      | false ↦ λ k. ap (λ (o : Option Live). cond (covers u.ranges n) (Some u) o) (other_ended h us t n k c)
+    ] e
+
+-- where none covers a page, none does afterwards
+pub none_ended : (h : ℕ) (ts : List Live) (n : ℕ) → is_some (live_at ts n) ≡ false → is_some (live_at (without h ts) n) ≡ false
+none_ended h [] n e = refl
+none_ended h (u ∷ us) n e =
+    elim (covers u.ranges n) as (λ b. covers u.ranges n ≡ b → is_some (cond b (Some u) (live_at us n)) ≡ false → is_some (live_at (cond (eqb u.handle h) us (u ∷ without h us)) n) ≡ false) [
+      | true ↦ λ is k. absurd cc
+      | false ↦ λ is k. elim (eqb u.handle h) as (λ b. is_some (live_at (cond b us (u ∷ without h us)) n) ≡ false) [
+        | true ↦ k
+        | false ↦ rw is (none_ended h us n k)
+      ]
+    ] refl e
