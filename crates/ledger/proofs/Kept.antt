@@ -1,6 +1,6 @@
 -- The intervals agree with the lists after each change.
-use Rattle.std.proofs.Common.{◌≡◌, ℕ, zero, ◌<◌, true, cond, List, [], ◌∷◌, ◌++◌, Option, Some, None, length, get_or, sym, ap, subst, ◌∙◌}
-use Rattle.std.specs.List.{slice_get, remove}
+use Rattle.std.proofs.Common.{◌≡◌, ℕ, true, cond, List, [], ◌∷◌, ◌++◌, Some, None, length, get_or, sym, ap, subst, ◌∙◌}
+use Rattle.std.specs.List.{remove}
 use Rattle.std.proofs.Math.ListN.{set}
 use Rattle.std.proofs.lemmas.Option.{slice_get-get_or}
 use Rattle.base.specs.Access.{View}

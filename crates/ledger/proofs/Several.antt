@@ -1,5 +1,5 @@
 -- The numbers of the pages of several runs, run by run.
-use Rattle.std.proofs.Common.{◌≡◌, ℕ, suc, ◌<◌, Bool, true, false, ◌||◌, cond, List, Option, Some, None, length, get_or, drop, drop-cons, refl, sym, ap, ◌∙◌}
+use Rattle.std.proofs.Common.{◌≡◌, ℕ, suc, ◌<◌, Bool, true, false, ◌||◌, cond, List, Option, length, get_or, drop, drop-cons, refl}
 use Rattle.base.specs.Pages.{PageRun, in_run, covers}
 
 parted : (here later : Bool) (to old : Option ℕ) → cond later to (cond here to old) ≡ cond (here || later) to old

@@ -2,14 +2,11 @@
 
 ghost use Rattle.std.specs.Prelude.{◌≡◌, ◌==◌, ◌≤◌, ◌<◌, ◌^◌, ℕ, false};
 ghost use Rattle.std.specs.Option.{option_map_or};
-ghost use Rattle.base.specs.Access as access;
 ghost use Rattle.base.specs.Manifest as rows;
-ghost use Rattle.base.specs.Ledger as rules;
-ghost use Rattle.base.specs.State.{each_page, each_page_in};
 ghost use Rattle.ledger.specs.Free as spec;
 
 use crate::ledger::Ledger;
-use base::{Access, MemoryKind, Page, PartitionId, Rights, Run};
+use base::{Access, MemoryKind, Page, PartitionId};
 use manifest::{Manifest, Region};
 
 /// What pages that follow one another have in common, and where they end.
@@ -28,15 +25,19 @@ pub struct Segment {
 }
 
 impl Segment {
-    /// Whether the partition owns the pages, they are sharable, no live transaction covers them, and
-    /// this is their home.
-    pub fn has_idle_pages(&self, p: PartitionId, home: Access) -> bool
-        ensures { result ≡ spec.has_idle_pages self.now p home }
+    /// The home of the pages, where they are free for a partition, buffers apart: it owns them, they are
+    /// normal memory with exactly one grant, and no live transaction covers them.
+    pub fn idle_home(&self, p: PartitionId) -> Option<Access>
+        ensures { (m : _) → (donations : _) → (live : _) → (n : ℕ)
+            → spec.IsAlike m donations live self.now n → spec.idle_home m donations live p n ≡ result }
     {
-        is_owned_by(self.owner, p)
-            && self.is_sharable
-            && !self.is_live
-            && is_reached_with(home, self.home)
+        if self.is_idle_for(p) { self.home } else { None }
+    }
+
+    fn is_idle_for(&self, p: PartitionId) -> bool
+        ensures { result ≡ spec.is_idle_for self.now p }
+    {
+        is_owned_by(self.owner, p) && self.is_sharable && !self.is_live
     }
 }
 
@@ -68,63 +69,6 @@ impl Ledger {
             None => false,
         }
     }
-
-    /// Whether a page is free for a partition, buffers apart: the partition owns it, it is normal
-    /// memory with exactly one grant, and no live transaction covers it.
-    pub fn is_free(&self, p: PartitionId, page: Page) -> bool
-        ensures { result ≡ rules.is_idle self.now.manifest self.now.donations self.now.live p page }
-    {
-        is_owned_by(self.owner(page), p) && self.is_sharable(page) && !self.is_live(page)
-    }
-
-    /// The home that the pages of the runs have in common, where each is free for the partition,
-    /// buffers apart. It goes by segments and not by pages.
-    pub fn common_home(&self, p: PartitionId, runs: &[Run]) -> Option<Access>
-        ensures { result ≡ spec.common_idle_home self.now.manifest self.now.donations self.now.live p runs.now }
-    {
-        let first = runs.first()?;
-        let home = self.idle_home(p, first.first())?;
-        if self.are_idle_with(p, home, runs) {
-            Some(home)
-        } else {
-            None
-        }
-    }
-
-    fn idle_home(&self, p: PartitionId, page: Page) -> Option<Access>
-        ensures { result ≡ spec.idle_home self.now.manifest self.now.donations self.now.live p page }
-    {
-        if self.is_free(p, page) {
-            self.home(page)
-        } else {
-            None
-        }
-    }
-
-    fn are_idle_with(&self, p: PartitionId, home: Access, runs: &[Run]) -> bool
-        ensures { result ≡ each_page_in (spec.is_idle_with self.now.manifest self.now.donations self.now.live p home) runs.now }
-    {
-        for run in runs {
-            if !self.is_idle_with(p, home, *run) {
-                return false;
-            }
-        }
-        true
-    }
-
-    fn is_idle_with(&self, p: PartitionId, home: Access, run: Run) -> bool
-        ensures { result ≡ each_page (spec.is_idle_with self.now.manifest self.now.donations self.now.live p home) run.first run.count }
-    {
-        let mut number = run.first().number();
-        while number < run.end() {
-            let segment = self.segment(Page::new(number));
-            if !segment.has_idle_pages(p, home) {
-                return false;
-            }
-            number = segment.end;
-        }
-        true
-    }
 }
 
 fn is_owned_by(owner: Option<PartitionId>, p: PartitionId) -> bool
@@ -141,21 +85,6 @@ fn is_sharable(region: &Region) -> bool
     ensures { result ≡ rows.is_sharable region.now }
 {
     matches!(region.kind(), MemoryKind::Normal) && region.grants().len() == 1
-}
-
-/// Whether pages are reached, and with this access.
-fn is_reached_with(home: Access, view: Option<Access>) -> bool
-    ensures { result ≡ access.is_reached_with home view }
-{
-    match view {
-        Some(access) => {
-            matches!(access.rights(), Rights::Rw) == matches!(home.rights(), Rights::Rw)
-                && access.is_executable() == home.is_executable()
-                && matches!(access.kind(), MemoryKind::Normal)
-                    == matches!(home.kind(), MemoryKind::Normal)
-        }
-        None => false,
-    }
 }
 
 /// The number of the page after the last of the region of a page; outside all regions, of the next page.

@@ -1,7 +1,7 @@
 //! How far the pages behind a page are like it: up to where a run begins or ends.
 
 ghost use Rattle.std.specs.Prelude.{◌<◌};
-ghost use Rattle.base.specs.Pages.{in_run, covers};
+ghost use Rattle.base.specs.Pages.{in_run};
 ghost use Rattle.spans.specs.Alike.{IsAlikeUntil};
 
 use base::{Page, Run};
@@ -19,16 +19,4 @@ pub fn run_until(run: Run, page: Page, limit: u32) -> u32
     } else {
         limit
     }
-}
-
-/// The number of a page behind this one, up to a limit, before which no run begins or ends.
-pub fn runs_until(runs: &[Run], page: Page, limit: u32) -> u32
-    requires { page < limit }
-    ensures { IsAlikeUntil (covers runs.now) page limit result }
-{
-    let mut until = limit;
-    for run in runs {
-        until = run_until(*run, page, until);
-    }
-    until
 }

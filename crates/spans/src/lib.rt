@@ -6,7 +6,7 @@ mod find;
 mod probes;
 mod spans;
 
-pub use alike::{run_until, runs_until};
+pub use alike::run_until;
 pub use find::Segment;
 pub use probes::Probes;
 pub use spans::Spans;

@@ -1,5 +1,5 @@
 -- The tables and the state go on together.
-use Rattle.std.proofs.Common.{◌≡◌, ◌^◌, ◌<◌, ℕ, Bool, ◌&&◌, true, false, List, Option, Some, None, Result, Ok, Err, cond, eqb, refl, sym, ap, subst, ◌∙◌}
+use Rattle.std.proofs.Common.{◌≡◌, ℕ, Bool, ◌&&◌, true, false, Option, Some, None, Result, Ok, Err, cond, eqb, refl, sym, ap, subst, ◌∙◌}
 use Rattle.std.specs.Prelude.{IsTrue, OnOk, OnErr}
 use Rattle.base.specs.Pages.{covers}
 use Rattle.base.specs.Access.{View}
@@ -10,7 +10,6 @@ use Rattle.manifest.specs.Valid.{is_valid}
 use Rattle.pool.specs.Pool.{Pool, words_of}
 use Rattle.stage2.specs.Slot.{Layout, layout_of}
 use Rattle.stage2.specs.Walk.{translation, walked, Agrees}
-use Rattle.stage2.specs.declared.walked.Walked.{Walked}
 use Rattle.wire.specs.declared.request.Request.{Request}
 use Rattle.wire.specs.declared.request.Request.TheVariants.{Version, Features, RxRelease, RxtxMap, RxtxUnmap, IdGet, Send, Retrieve, Relinquish, Reclaim}
 use Rattle.wire.specs.Requests.{request_of}
@@ -25,7 +24,7 @@ use Rattle.rules.specs.Laws.EditsTheView.{Passes}
 use Rattle.rules.proofs.Reached.{IsReached-start, IsReached-step, step_is, rule_is}
 use Rattle.rules.proofs.Laws.EditsTheView.{edits_the_view}
 use Rattle.rules.proofs.Laws.ManifestStays.{manifest_stays}
-use Rattle.spm.specs.Granted.{IsSameEdit, AreSameEdits, is_send_request}
+use Rattle.spm.specs.Granted.{AreSameEdits, is_send_request}
 use Rattle.spm.specs.Machine.{IsConsistent, IsEditedBy, edited, MayNeedMemory}
 
 -- before any call each partition reaches what the manifest grants it

@@ -1,14 +1,13 @@
 -- An edit fits by the tables exactly where it fits by the state.
-use Rattle.std.proofs.Common.{◌≡◌, ℕ, suc, ◌+◌, ◌*◌, ◌^◌, ◌<◌, ◌≤◌, Bool, true, false, ◌&&◌, ◌||◌, not, cond, eqb, leb, ltb, List, [], ◌∷◌, length, map, get_or, Option, Some, None, is_some, refl, sym, ap, ap₂, ◌∙◌, arith}
+use Rattle.std.proofs.Common.{◌≡◌, ℕ, suc, ◌+◌, ◌*◌, ◌^◌, ◌<◌, ◌≤◌, Bool, true, false, ◌&&◌, ◌||◌, not, cond, eqb, leb, List, [], ◌∷◌, length, get_or, Option, Some, None, refl, sym, ap, ap₂, ◌∙◌, arith}
 use Rattle.std.specs.Option.{option_map_or}
 use Rattle.std.specs.List.{list_any, find}
 use Rattle.std.proofs.lemmas.Bool.{leb-true}
 use Rattle.std.proofs.lemmas.Bool.Decides.{nat_tests}
 use Rattle.base.specs.Access.{View}
-use Rattle.base.specs.Counts.{count_below}
 use Rattle.base.specs.Manifest.{PartitionRow, ManifestRows, ids_of, quotas_of, row_of, is_partition}
 use Rattle.base.specs.Need.{is_mixed, is_reached, need, grow, reaching}
-use Rattle.base.specs.Pages.{PageRun, covers}
+use Rattle.base.specs.Pages.{covers}
 use Rattle.base.specs.State.{State, sees}
 use Rattle.manifest.specs.Valid as manifest
 use Rattle.pool.specs.Pool as pool
@@ -24,7 +23,7 @@ use Rattle.rules.specs.Call.{CallWords}
 use Rattle.rules.specs.Run.{rule_of}
 use Rattle.rules.specs.Laws.EditsTheView.{Passes}
 use Rattle.spm.specs.declared.change.Change.{Change}
-use Rattle.spm.specs.Granted.{IsSameEdit, AreSameEdits, IsGrantedCall}
+use Rattle.spm.specs.Granted.{AreSameEdits, IsGrantedCall}
 use Rattle.spm.specs.Machine.{WalksAgree, fits_in}
 
 -- ---- views that are alike need as many tables

@@ -1,26 +1,24 @@
 -- What walkers see of a call.
-use Rattle.std.proofs.Common.{◌≡◌, ◌^◌, ◌<◌, ℕ, ◌&&◌, true, List, [], Option, Some, None, Result, Ok, Err, cond, eqb, refl, sym, ap, subst, ◌∙◌, inl, inr}
+use Rattle.std.proofs.Common.{◌≡◌, ℕ, [], Option, Some, None, Result, Ok, Err, refl, sym, ap, subst, ◌∙◌, inl, inr}
 use Rattle.std.specs.Prelude.{OnOk, OnErr}
 use mathlib.Core.Path.{fun_ext}
-use Rattle.base.specs.Pages.{covers}
 use Rattle.base.specs.Access.{View}
 use Rattle.base.specs.State.{State, sees}
-use Rattle.pool.specs.declared.operation.Op.{Op}
 use Rattle.pool.specs.Pool.{Pool, emptied, words_of}
 use Rattle.stage2.specs.Slot.{Layout, layout_of}
 use Rattle.stage2.specs.Walk.{Agrees}
 use Rattle.stage2.specs.Moments.{Moments}
 use Rattle.stage2.specs.Steps.{with_pages}
-use Rattle.stage2.specs.Tables.{TablesView, AreFreeFor, ShowsMoments}
+use Rattle.stage2.specs.Tables.{TablesView, AreFreeFor}
 use Rattle.stage2.proofs.Seen.{moments-none}
 use Rattle.wire.specs.declared.request.Request.{Request}
 use Rattle.rules.specs.Call.{CallWords}
-use Rattle.rules.specs.Rule.{Edit, Rule, with_edit}
+use Rattle.rules.specs.Rule.{Edit, with_edit}
 use Rattle.rules.specs.Run.{rule_of}
 use Rattle.rules.specs.Laws.EditsTheView.{Passes, AreNotReached}
 use Rattle.rules.proofs.Laws.EditsTheView.{edits_the_view}
 use Rattle.spm.specs.Granted.{IsSameEdit, AreSameEdits}
-use Rattle.spm.specs.Machine.{Machine, WalksAgree, IsConsistent, ShowsEdit, ShowsCall, unchanged}
+use Rattle.spm.specs.Machine.{Machine, WalksAgree, ShowsEdit, ShowsCall, unchanged}
 
 -- a list of operations before the call is none of its own
 pub moments-emptied : (layout : Layout) (old new : Pool) (before after : ℕ → ℕ → View) → Moments layout (emptied old) new before after → Moments layout old new before after

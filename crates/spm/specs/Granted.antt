@@ -1,10 +1,12 @@
 -- What is known of the change of a call that passes its tests, and of one that does not.
 use Rattle.std.specs.Prelude.{◌≡◌, ℕ, ◌-◌, ◌<◌, ◌^◌, Bool, true, false, ◌||◌, Option, Some, None, is_some, length}
-use Rattle.base.specs.declared.status.Status.{Status}
 use Rattle.base.specs.Buffers as pairs
 use Rattle.base.specs.Pages.{covers, are_normal}
 use Rattle.base.specs.Refusals.{first_refusal}
+use Rattle.base.specs.Transactions.{Live}
+use Rattle.base.specs.Ledger.{live_at}
 use Rattle.base.specs.State.{State, sends_of}
+use Rattle.ledger.specs.Ledger.{found}
 use Rattle.wire.specs.declared.request.Request.{Request}
 use Rattle.wire.specs.declared.request.Request.TheVariants.{Version, Features, RxRelease, RxtxMap, RxtxUnmap, IdGet, Send, Retrieve, Relinquish, Reclaim}
 use Rattle.base.specs.Manifest.{is_partition}
@@ -32,6 +34,12 @@ updated s p UnmapBuffers = with_pair s p None
 updated s p ReleaseRx = with_rx_released s p
 updated s p (Open t) = with_transaction s t
 
+-- the transaction can be opened: its sender may make one send more, its handle is new, and no live transaction covers its pages
+pub record CanOpen (s : State) (t : Live) : Type 0 where
+  pub room : sends_of s.partitions t.sender < 2 ^ 32 - 1
+  pub new : found s.live t.handle ≡ None
+  pub apart : (n : ℕ) → covers t.ranges n ≡ true → live_at s.live n ≡ None
+
 -- the update can be made
 abbrev pub CanUpdate : State → ℕ → Update → Type 0
 CanUpdate s p Nothing = Unit {0}
@@ -39,7 +47,7 @@ CanUpdate s p (SetVersion word) = Unit {0}
 CanUpdate s p (MapBuffers pair) = Unit {0}
 CanUpdate s p UnmapBuffers = first_refusal (pairs.unmap_tests s.mailboxes p) ≡ None
 CanUpdate s p ReleaseRx = first_refusal (pairs.release_tests s.mailboxes p) ≡ None
-CanUpdate s p (Open t) = sends_of s.partitions t.sender < 2 ^ 32 - 1
+CanUpdate s p (Open t) = CanOpen s t
 
 abbrev pub opens : Update → Bool
 opens Nothing = false

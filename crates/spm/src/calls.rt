@@ -1,7 +1,7 @@
 //! The calls, a file each: the tests in order, and what the call changes.
 
 ghost use Rattle.std.specs.Prelude.{IfOk, IfErr};
-ghost use Rattle.rules.specs.Run.{rule_of};
+ghost use Rattle.rules.specs.Run.{rule_of, IsReached};
 ghost use Rattle.spm.specs.Granted.{IsGranted, IsStopped, is_send_request};
 
 pub(crate) mod buffers;
@@ -18,6 +18,7 @@ use wire::Request;
 
 /// Tests what a partition asks for, and says what it changes. It changes nothing itself.
 pub(crate) fn check(state: &State, call: &Call, request: Request) -> Result<Change, Stop>
+    requires { IsReached state.now }
     ensures granted { IfOk result (λ change. IsGranted state.now call.now.caller
         (rule_of state.now call.now request) (is_send_request request) change) }
     ensures stopped { IfErr result (λ stop. IsStopped

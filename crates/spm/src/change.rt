@@ -2,8 +2,8 @@
 
 ghost use Rattle.std.specs.Prelude.{◌≡◌, None};
 
-use crate::ledger::Live;
 use base::{Access, OutOfMemory, PartitionId, Run, Status};
+use ledger::Live;
 use mailbox::Pair;
 use std::marker::Model;
 use wire::Reply;

@@ -16,9 +16,9 @@ use crate::call::Call;
 use crate::calls::check;
 use crate::change::{Change, Stop};
 use crate::commit::{commit, fits};
-use crate::ledger::Ledger;
 use crate::state::State;
 use base::{Access, OutOfMemory, Page, PartitionId, Status, Version};
+use ledger::Ledger;
 use manifest::Manifest;
 use pool::{Image, Op, TableMem};
 use stage2::Tables;
@@ -73,7 +73,7 @@ impl<M: TableMem + Drop> Spm<M> {
         ensures same { result ≡ state.owner_of self.now.state page }
         ensures once { IsOwnedOnce self.now.state }
     {
-        self.state.ledger.owner(&self.state.manifest, page)
+        self.state.ledger.owner(page)
     }
 
     /// The version of FF-A that a partition speaks: 1.1 at boot and for one that has no row, and else
@@ -88,7 +88,7 @@ impl<M: TableMem + Drop> Spm<M> {
     pub fn manifest(&self) -> &Manifest
         ensures { result.now ≡ self.now.state.manifest }
     {
-        &self.state.manifest
+        self.state.manifest()
     }
 
     /// The translation tables. What they give agrees with the state, and some list of calls leads to
@@ -210,7 +210,7 @@ impl<M: TableMem + Drop> Spm<M> {
         ensures reached { rules.IsReached self.new.state }
     {
         let p = call.partition();
-        if fits(&self.state.manifest, &self.tables, p, &change.edit) {
+        if fits(self.state.manifest(), &self.tables, p, &change.edit) {
             commit(&mut self.state, &mut self.tables, p, change)
         } else {
             Ok(Reply::error(Status::NoMemory))

@@ -76,7 +76,7 @@ counted_still : (s t : State) → ((p : ℕ) → sends_of s.partitions p ≤ sen
 counted_still s t more [] h = tt
 counted_still s t more (u ∷ ts) h = ((h.0.0, let m = more u.sender in let b = h.0.1 in omega arith), counted_still s t more ts h.1)
 
-other_handle : (s : State) (p : ℕ) (t : Live) → IsCounted s t → (sends_of s.partitions t.sender < 2 ^ 32) → sends_of s.partitions p + 1 < 2 ^ 32 → t.handle ≡ next_handle s p → ⊥
+pub other_handle : (s : State) (p : ℕ) (t : Live) → IsCounted s t → (sends_of s.partitions t.sender < 2 ^ 32) → sends_of s.partitions p + 1 < 2 ^ 32 → t.handle ≡ next_handle s p → ⊥
 other_handle s p t counted small room same =
     let above = counted.0 in
     let below = counted.1 in

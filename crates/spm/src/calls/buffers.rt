@@ -1,6 +1,8 @@
 //! FFA_RXTX_MAP, FFA_RXTX_UNMAP and FFA_RX_RELEASE.
 
 ghost use Rattle.std.specs.Prelude.{◌≡◌, false, Some, None, IfOk, IfErr};
+ghost use Rattle.std.specs.Option.{option_map_or};
+ghost use Rattle.base.specs.Access.{is_rw};
 ghost use Rattle.base.specs.Refusals.{first_refusal};
 ghost use Rattle.base.specs.Buffers as pairs;
 ghost use Rattle.rules.specs.Calls.Buffers as rules;
@@ -9,7 +11,7 @@ ghost use Rattle.spm.specs.Granted.{IsGranted, IsStopped};
 use crate::call::Call;
 use crate::change::{Change, Stop, Update};
 use crate::state::State;
-use base::{Page, PartitionId, Rights, Run, Status};
+use base::{Access, Page, PartitionId, Rights, Run, Status};
 use mailbox::Pair;
 use wire::Reply;
 
@@ -51,21 +53,20 @@ fn may_be_buffers(state: &State, p: PartitionId, run: Run) -> bool
 {
     let mut number = run.first().number();
     while number < run.end() {
-        let page = Page::new(number);
-        if !may_be_buffer(state, p, page) {
+        let segment = state.free_segment(p, Page::new(number), run.end());
+        if !is_read_write(segment.home) {
             return false;
         }
-        number = state.alike_until(page, run.end());
+        number = segment.end;
     }
     true
 }
 
-#[tactic(auto, unfolding(rules::specs::Calls::Buffers::may_be_buffer))]
-fn may_be_buffer(state: &State, p: PartitionId, page: Page) -> bool
-    ensures { result ≡ rules.may_be_buffer state.now p page }
+fn is_read_write(home: Option<Access>) -> bool
+    ensures { result ≡ option_map_or (λ access. is_rw access.rights) home false }
 {
-    match state.free_home(p, page) {
-        Some(home) => home.rights() == Rights::Rw,
+    match home {
+        Some(access) => access.rights() == Rights::Rw,
         None => false,
     }
 }

@@ -7,12 +7,12 @@ ghost use Rattle.base.specs.Descriptors.Permissions.{not_specified, normal_write
 ghost use Rattle.base.specs.State as spec;
 ghost use Rattle.base.specs.Refusals.{first_refusal};
 ghost use Rattle.rules.specs.Calls.Send as rules;
-ghost use Rattle.spm.specs.Granted.{IsGranted, IsStopped, AreSameEdits, AreOrderly};
+ghost use Rattle.rules.specs.Run.{IsReached};
+ghost use Rattle.spm.specs.Granted.{IsGranted, IsStopped, AreSameEdits, AreOrderly, CanOpen};
 ghost use Rattle.spm.specs.Checked.{IsChecked};
 
 use crate::call::Call;
 use crate::change::{Change, Edit, Stop, Update};
-use crate::ledger::{Live, Receiver};
 use crate::partitions::{PartitionState, put, state_of};
 use crate::state::State;
 use base::limits::{MOST_LIVE, PAGE_SIZE};
@@ -21,6 +21,7 @@ use base::{
     Status, normal,
 };
 use descr::{Endpoint, SendDesc, read_send};
+use ledger::{Live, Receiver};
 use std::alloc::Global;
 use wire::{Reply, Transfer};
 
@@ -41,6 +42,7 @@ pub(crate) fn send(
     kind: Kind,
     transfer: Transfer,
 ) -> Result<Change, Stop>
+    requires { IsReached state.now }
     ensures granted { IfOk result (λ change. IsGranted state.now call.now.caller
         (rules.send_rule state.now call.now kind transfer) true change) }
     ensures stopped { IfErr result (λ stop. IsStopped
@@ -265,7 +267,8 @@ fn change(
     transfer: Transfer,
     checked: &Checked<'_>,
 ) -> Result<Change, OutOfMemory>
-    requires { IsChecked state.now call.now kind transfer checked.now.desc checked.now.home }
+    requires reached { IsReached state.now }
+    requires checked { IsChecked state.now call.now kind transfer checked.now.desc checked.now.home }
     ensures { IfOk result (λ change. IsGranted state.now call.now.caller
         (rules.send_rule state.now call.now kind transfer) true change) }
 {
@@ -363,12 +366,13 @@ fn sender_edit(
 /// Opens a transaction, and counts the send.
 #[tactic(auto, unfolding(rules::specs::Calls::Send::with_transaction))]
 pub(crate) fn open(state: &mut State, transaction: Live) -> Result<(), OutOfMemory>
-    requires { spec.sends_of state.old.partitions transaction.sender < 2 ^ 32 - 1 }
+    requires { CanOpen state.old transaction }
     ensures ok { OnOk result (state.new ≡ rules.with_transaction state.old transaction) }
     ensures err { OnErr result (state.new ≡ state.old) }
 {
     let p = transaction.sender;
-    state.ledger.open(transaction)?;
+    state.ledger.ready(transaction.ranges.len())?;
+    state.ledger.open(transaction);
     count_send(&mut state.partitions, p);
     Ok(())
 }

@@ -1,4 +1,4 @@
-use Rattle.std.proofs.Common.{◌≡◌, ◌+◌, ◌<◌, sym, ap, ◌∙◌, arith}
+use Rattle.std.proofs.Common.{◌+◌, ◌<◌, sym, ap, arith}
 use Rattle.base.specs.Pages.{PageRun}
 use Rattle.manifest.proofs.Facts.{facts}
 use Rattle.ledger.proofs.Regions.{in_run-before, found_has, region_at-same}

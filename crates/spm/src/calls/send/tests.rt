@@ -1,11 +1,11 @@
 use crate::call::Call;
-use crate::ledger::Receiver;
 use crate::spm::Spm;
 use crate::testing::{
     DENIED, FIRST_PAIR, INVALID_PARAMETERS, LEND, NO_MEMORY, SECOND_PAIR, booted, changed, grant,
     lend, map, refuse, refuse_sends, send, views, with_gap, with_pair, with_part,
 };
 use base::{Access, Handle, Kind, OutOfMemory, Page, PartitionId, Rights, Run};
+use ledger::Receiver;
 use pool::{ListPool, TableMem};
 use std::alloc::Global;
 use std::process::Abort;

@@ -1,4 +1,4 @@
-use Rattle.std.proofs.Common.{◌≡◌, ◌≤◌, List, Some, length, sym, ap, ◌∙◌, arith}
+use Rattle.std.proofs.Common.{◌≡◌, List, Some, length, sym, ap, ◌∙◌, arith}
 use Rattle.base.specs.Pages.{PageRun}
 use Rattle.base.specs.Transactions.{Live}
 use Rattle.ledger.specs.Ledger.{LedgerView, found, IsReady}

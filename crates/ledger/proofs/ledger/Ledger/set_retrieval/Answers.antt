@@ -1,7 +1,7 @@
 use Rattle.std.proofs.Common.{sym, ap, ◌∙◌}
 use Rattle.ledger.specs.Ledger.{LedgerView}
 use Rattle.ledger.specs.Changes.{with_retrieval_of}
-use Rattle.ledger.proofs.Places.{IsPlace, HasNone, IsPlace-in, HasNone-in}
+use Rattle.ledger.proofs.Places.{IsPlace-in, HasNone-in}
 use Rattle.ledger.proofs.Kept.{changed_at, IsKept-retrieval}
 use Rattle.ledger.proofs.ledger.Ledger.set_retrieval.Goals as goal
 

@@ -3,7 +3,7 @@ use Rattle.base.specs.Pages.{PageRun}
 use Rattle.base.specs.Transactions.{Live}
 use Rattle.ledger.specs.Ledger.{LedgerView, found}
 use Rattle.ledger.specs.Changes.{without}
-use Rattle.ledger.proofs.Places.{IsPlace, HasNone, IsPlace-in, HasNone-in}
+use Rattle.ledger.proofs.Places.{IsPlace-in, HasNone-in}
 use Rattle.ledger.proofs.Kept.{found_at, IsKept-close}
 use Rattle.ledger.proofs.ledger.Ledger.take.Goals as goal
 

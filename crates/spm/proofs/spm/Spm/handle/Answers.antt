@@ -1,4 +1,4 @@
-use Rattle.std.proofs.Common.{◌≡◌, refl, sym, ap, subst, ◌∙◌}
+use Rattle.std.proofs.Common.{ap, subst, ◌∙◌}
 use Rattle.pool.specs.Pool.{Pool}
 use Rattle.spm.specs.Machine.{Machine, WalksAgree, unchanged}
 use Rattle.spm.proofs.ShownLemmas.{begun-shown}

@@ -1,143 +1,72 @@
-use Rattle.std.proofs.Common.{◌≡◌, true, false, None, refl, sym, ap, subst, ◌∙◌}
-use Rattle.base.specs.declared.status.Status.TheVariants.{NoMemory}
-use Rattle.base.specs.State.{State}
-use Rattle.rules.specs.Rule.{fits}
-use Rattle.rules.specs.Run.{rule_of, rule, answer, refusal, step}
-use Rattle.rules.specs.Laws.EditsTheView.{Passes}
-use Rattle.rules.proofs.Reached.{step_is}
-use Rattle.spm.specs.declared.spm.Spm.TheInside.{Inside}
-use Rattle.spm.specs.Granted.{updated, IsGrantedCall}
+use Rattle.std.proofs.Common.{◌≡◌, refl, sym, ap, subst, ◌∙◌}
+use Rattle.base.specs.Manifest.{ManifestRows}
+use Rattle.rules.specs.Run.{step}
+use Rattle.spm.specs.Granted.{updated}
 use Rattle.spm.specs.Machine.{Machine, WalksAgree, ShowsCall, fits_in}
-use Rattle.spm.proofs.ConsistencyLemmas.{commit_kept, unfit_answer, unfit_step, granted_answer, not_refused, no_edit}
-use Rattle.spm.proofs.QuotaLemmas.{all_passes, unfits}
+use Rattle.spm.proofs.ConsistencyLemmas.{commit_kept}
+use Rattle.spm.proofs.MadeLemmas.{IsMade, IsUnfit, made, unfit}
 use Rattle.spm.proofs.ShownLemmas.{commit-shown, same-shown}
+use Rattle.spm.proofs.spm.Spm.make.Given.{Over}
 use Rattle.spm.proofs.spm.Spm.make.Goals as goal
+
+change_made : (g : Over) (c : goal.After-commit g) → IsMade c.args.self.now c.self.inside.state c.args.call.now c.args.change
+change_made g c =
+    made c.args.self.now c.self.inside.state c.self.inside.tables c.args.call.now c.args.change c.self.view_is c.requires.granted c.self.invariant
+    (ap (λ (m : ManifestRows). fits_in m c.self.inside.tables c.args.change.edit) (sym c.manifest.ensures) ∙ sym c.fits.ensures ∙ c.if-fits.true)
+
+next_made : (g : Over) (c : goal.After-commit g) → updated c.self.inside.state c.partition-p.result c.args.change.update ≡ updated c.self.inside.state c.args.call.now.caller c.args.change.update
+next_made g c = ap (λ p. updated c.self.inside.state p c.args.change.update) c.partition-p.ensures.same
 
 pub invariant_of-self : goal.invariant_of-self
 invariant_of-self g c =
     let s = c.self.inside.state in
     let t = c.self.inside.tables in
-    let call = c.args.call.now in
-    let change = c.args.change in
-    let granted : IsGrantedCall s call change = subst (λ (m : Machine). IsGrantedCall m.state call change) (sym c.self.view_is) c.requires.granted in
-    let r = granted.request in
-    let placed = c.self.invariant.layout_of_manifest in
-    let agrees = c.self.invariant.agrees in
-    let passes : Passes s call r = all_passes s t call change granted placed agrees (sym (ap (λ (x : Inside g.row.M.Denot). fits_in x.state.manifest x.tables change.edit) c.self-inside.view_is) ∙ sym c.fits.ensures ∙ c.if-fits.true) in
-    let next : updated s c.partition-p.result change.update ≡ (rule_of s call r).next = ap (λ p. updated s p change.update) c.partition-p.ensures.same ∙ granted.granted.next in
-    commit_kept c.commit.result s c.commit.new.state call r t.layout c.commit.new.tables.layout t.pool c.commit.new.tables.pool change.edit (updated s c.partition-p.result change.update)
-    c.partition-p.ensures.is_call passes granted.granted.edit next c.commit.ensures.state c.commit.ensures.edited c.commit.ensures.layout c.commit.ensures.err_state c.commit.ensures.err_pool c.self.invariant
+    let is = change_made g c in
+    commit_kept c.commit.result s c.commit.new.state c.args.call.now is.request t.layout c.commit.new.tables.layout t.pool c.commit.new.tables.pool c.args.change.edit (updated s c.partition-p.result c.args.change.update)
+    c.partition-p.ensures.is_call is.passes is.same (next_made g c ∙ is.next) c.commit.ensures.state c.commit.ensures.edited c.commit.ensures.layout c.commit.ensures.err_state c.commit.ensures.err_pool c.self.invariant
 
 pub returns-then-fits-clause-reply : goal.returns-then-fits-clause-reply
-returns-then-fits-clause-reply g c =
-    let s = c.self.inside.state in
-    let t = c.self.inside.tables in
-    let call = c.args.call.now in
-    let change = c.args.change in
-    let granted : IsGrantedCall s call change = subst (λ (m : Machine). IsGrantedCall m.state call change) (sym c.self.view_is) c.requires.granted in
-    let r = granted.request in
-    let placed = c.self.invariant.layout_of_manifest in
-    let agrees = c.self.invariant.agrees in
-    let passes : Passes s call r = all_passes s t call change granted placed agrees (sym (ap (λ (x : Inside g.row.M.Denot). fits_in x.state.manifest x.tables change.edit) c.self-inside.view_is) ∙ sym c.fits.ensures ∙ c.if-fits.true) in
-    let next : updated s c.partition-p.result change.update ≡ (rule_of s call r).next = ap (λ p. updated s p change.update) c.partition-p.ensures.same ∙ granted.granted.next in
-    let same : change.reply ≡ answer c.args.self.now.state call = granted.granted.reply ∙ sym (granted_answer s call r granted.known granted.named passes.passed passes.fits) ∙ ap (λ (m : Machine). answer m.state call) c.self.view_is in
-    rw (← same) c.commit.ensures.reply
+returns-then-fits-clause-reply g c = rw (← (change_made g c).reply) c.commit.ensures.reply
 
 pub returns-then-fits-clause-state : goal.returns-then-fits-clause-state
 returns-then-fits-clause-state g c =
-    let s = c.self.inside.state in
-    let t = c.self.inside.tables in
-    let call = c.args.call.now in
-    let change = c.args.change in
-    let granted : IsGrantedCall s call change = subst (λ (m : Machine). IsGrantedCall m.state call change) (sym c.self.view_is) c.requires.granted in
-    let r = granted.request in
-    let placed = c.self.invariant.layout_of_manifest in
-    let agrees = c.self.invariant.agrees in
-    let passes : Passes s call r = all_passes s t call change granted placed agrees (sym (ap (λ (x : Inside g.row.M.Denot). fits_in x.state.manifest x.tables change.edit) c.self-inside.view_is) ∙ sym c.fits.ensures ∙ c.if-fits.true) in
-    let next : updated s c.partition-p.result change.update ≡ (rule_of s call r).next = ap (λ p. updated s p change.update) c.partition-p.ensures.same ∙ granted.granted.next in
-    let same : updated s c.partition-p.result change.update ≡ step c.args.self.now.state call = next ∙ sym (step_is s call r passes) ∙ ap (λ (m : Machine). step m.state call) c.self.view_is in
+    let same : updated c.self.inside.state c.partition-p.result c.args.change.update ≡ step c.args.self.now.state c.args.call.now = next_made g c ∙ (change_made g c).state in
     rw (← same) c.commit.ensures.state
 
 pub returns-then-fits-clause-refused : goal.returns-then-fits-clause-refused
-returns-then-fits-clause-refused g c =
-    let s = c.self.inside.state in
-    let t = c.self.inside.tables in
-    let call = c.args.call.now in
-    let change = c.args.change in
-    let granted : IsGrantedCall s call change = subst (λ (m : Machine). IsGrantedCall m.state call change) (sym c.self.view_is) c.requires.granted in
-    let r = granted.request in
-    let placed = c.self.invariant.layout_of_manifest in
-    let agrees = c.self.invariant.agrees in
-    let passes : Passes s call r = all_passes s t call change granted placed agrees (sym (ap (λ (x : Inside g.row.M.Denot). fits_in x.state.manifest x.tables change.edit) c.self-inside.view_is) ∙ sym c.fits.ensures ∙ c.if-fits.true) in
-    let next : updated s c.partition-p.result change.update ≡ (rule_of s call r).next = ap (λ p. updated s p change.update) c.partition-p.ensures.same ∙ granted.granted.next in
-    let none : refusal c.args.self.now.state call ≡ None = ap (λ (m : Machine). refusal m.state call) (sym c.self.view_is) ∙ not_refused s call r granted.known granted.named passes.passed passes.fits in
-    rw none (λ h. absurd cc)
+returns-then-fits-clause-refused g c = rw (change_made g c).accepted (λ h. absurd cc)
 
 pub returns-then-fits-clause-moves_no_page : goal.returns-then-fits-clause-moves_no_page
-returns-then-fits-clause-moves_no_page g c =
-    let s = c.self.inside.state in
-    let t = c.self.inside.tables in
-    let call = c.args.call.now in
-    let change = c.args.change in
-    let granted : IsGrantedCall s call change = subst (λ (m : Machine). IsGrantedCall m.state call change) (sym c.self.view_is) c.requires.granted in
-    let r = granted.request in
-    let placed = c.self.invariant.layout_of_manifest in
-    let agrees = c.self.invariant.agrees in
-    let passes : Passes s call r = all_passes s t call change granted placed agrees (sym (ap (λ (x : Inside g.row.M.Denot). fits_in x.state.manifest x.tables change.edit) c.self-inside.view_is) ∙ sym c.fits.ensures ∙ c.if-fits.true) in
-    let next : updated s c.partition-p.result change.update ≡ (rule_of s call r).next = ap (λ p. updated s p change.update) c.partition-p.ensures.same ∙ granted.granted.next in
-    λ e. c.commit.ensures.moves_no_page (no_edit s call r granted.known granted.named change.edit granted.granted.edit (ap (λ (m : Machine). (rule m.state call).edit) c.self.view_is ∙ e)) ∙ ap (λ (m : Machine). m.pool) c.self.view_is
+returns-then-fits-clause-moves_no_page g c = λ e. c.commit.ensures.moves_no_page ((change_made g c).still e) ∙ ap (λ (m : Machine). m.pool) c.self.view_is
 
 pub returns-then-fits-clause-moments : goal.returns-then-fits-clause-moments
 returns-then-fits-clause-moments g c =
     let s = c.self.inside.state in
     let t = c.self.inside.tables in
-    let call = c.args.call.now in
-    let change = c.args.change in
-    let granted : IsGrantedCall s call change = subst (λ (m : Machine). IsGrantedCall m.state call change) (sym c.self.view_is) c.requires.granted in
-    let r = granted.request in
-    let placed = c.self.invariant.layout_of_manifest in
-    let agrees = c.self.invariant.agrees in
-    let passes : Passes s call r = all_passes s t call change granted placed agrees (sym (ap (λ (x : Inside g.row.M.Denot). fits_in x.state.manifest x.tables change.edit) c.self-inside.view_is) ∙ sym c.fits.ensures ∙ c.if-fits.true) in
-    let next : updated s c.partition-p.result change.update ≡ (rule_of s call r).next = ap (λ p. updated s p change.update) c.partition-p.ensures.same ∙ granted.granted.next in
+    let is = change_made g c in
     let kept = invariant_of-self g c in
+    let placed = c.self.invariant.layout_of_manifest in
     let begun = ap (λ (m : Machine). m.pool.operations) c.self.view_is ∙ c.requires.begun in
-    let shown = commit-shown c.commit.result s c.commit.new.state (updated s c.partition-p.result change.update) call r t c.commit.new.tables change.edit placed (sym kept.layout_of_manifest ∙ c.commit.ensures.layout ∙ placed) agrees kept.agrees begun passes granted.granted.edit next
-    c.commit.ensures.state c.commit.ensures.shown c.commit.ensures.moves_no_page c.commit.ensures.err_state c.commit.ensures.err_pool in
+    let shown = commit-shown c.commit.result s c.commit.new.state (updated s c.partition-p.result c.args.change.update) c.args.call.now is.request t c.commit.new.tables c.args.change.edit placed (sym kept.layout_of_manifest ∙ c.commit.ensures.layout ∙ placed)
+    c.self.invariant.agrees kept.agrees begun is.passes is.same (next_made g c ∙ is.next) c.commit.ensures.state c.commit.ensures.shown c.commit.ensures.moves_no_page c.commit.ensures.err_state c.commit.ensures.err_pool in
     subst (λ (m : Machine). ShowsCall m (record { state = c.commit.new.state; pool = c.commit.new.tables.pool })) c.self.view_is shown
 
 pub returns-then-fits-clause-agrees : goal.returns-then-fits-clause-agrees
-returns-then-fits-clause-agrees g c =
-    (invariant_of-self g c).agrees
+returns-then-fits-clause-agrees g c = (invariant_of-self g c).agrees
 
 pub returns-then-fits-clause-reached : goal.returns-then-fits-clause-reached
-returns-then-fits-clause-reached g c =
-    (invariant_of-self g c).reached
+returns-then-fits-clause-reached g c = (invariant_of-self g c).reached
+
+change_unfit : (g : Over) (c : goal.Joined-change-3 g) → IsUnfit c.args.self.now c.self.inside.state c.args.call.now
+change_unfit g c =
+    unfit c.args.self.now c.self.inside.state c.self.inside.tables c.args.call.now c.args.change c.self.view_is c.requires.granted c.self.invariant
+    (ap (λ (m : ManifestRows). fits_in m c.self.inside.tables c.args.change.edit) (sym c.manifest.ensures) ∙ sym c.fits.ensures ∙ c.if-fits.false)
 
 pub returns-else-fits-clause-reply : goal.returns-else-fits-clause-reply
-returns-else-fits-clause-reply g c =
-    let s = c.self.inside.state in
-    let t = c.self.inside.tables in
-    let call = c.args.call.now in
-    let change = c.args.change in
-    let granted : IsGrantedCall s call change = subst (λ (m : Machine). IsGrantedCall m.state call change) (sym c.self.view_is) c.requires.granted in
-    let r = granted.request in
-    let placed = c.self.invariant.layout_of_manifest in
-    let agrees = c.self.invariant.agrees in
-    let out : fits s (rule_of s call r).edit ≡ false = unfits s t call change granted placed agrees (sym (ap (λ (x : Inside g.row.M.Denot). fits_in x.state.manifest x.tables change.edit) c.self-inside.view_is) ∙ sym c.fits.ensures ∙ c.if-fits.false) in
-    c.error.ensures ∙ sym (unfit_answer s call r granted.known granted.named granted.granted.passed out) ∙ ap (λ (m : Machine). answer m.state call) c.self.view_is
+returns-else-fits-clause-reply g c = c.error.ensures ∙ (change_unfit g c).reply
 
 pub returns-else-fits-clause-state : goal.returns-else-fits-clause-state
-returns-else-fits-clause-state g c =
-    let s = c.self.inside.state in
-    let t = c.self.inside.tables in
-    let call = c.args.call.now in
-    let change = c.args.change in
-    let granted : IsGrantedCall s call change = subst (λ (m : Machine). IsGrantedCall m.state call change) (sym c.self.view_is) c.requires.granted in
-    let r = granted.request in
-    let placed = c.self.invariant.layout_of_manifest in
-    let agrees = c.self.invariant.agrees in
-    let out : fits s (rule_of s call r).edit ≡ false = unfits s t call change granted placed agrees (sym (ap (λ (x : Inside g.row.M.Denot). fits_in x.state.manifest x.tables change.edit) c.self-inside.view_is) ∙ sym c.fits.ensures ∙ c.if-fits.false) in
-    ap (λ (m : Machine). m.state) (sym c.self.view_is) ∙ sym (unfit_step s call r granted.known granted.named granted.granted.passed out) ∙ ap (λ (m : Machine). step m.state call) c.self.view_is
+returns-else-fits-clause-state g c = ap (λ (m : Machine). m.state) (sym c.self.view_is) ∙ (change_unfit g c).state
 
 pub returns-else-fits-clause-moments : goal.returns-else-fits-clause-moments
 returns-else-fits-clause-moments g c =
