@@ -1,6 +1,5 @@
 -- What is known of the change of a call that passes its tests, and of one that does not.
 use Rattle.std.specs.Prelude.{◌≡◌, ℕ, ◌-◌, ◌<◌, ◌^◌, Bool, true, false, ◌||◌, Option, Some, None, is_some}
-use Rattle.base.specs.declared.status.Status.{Status}
 use Rattle.base.specs.Buffers as pairs
 use Rattle.base.specs.Pages.{covers, are_normal}
 use Rattle.base.specs.Refusals.{first_refusal}

@@ -1,7 +1,7 @@
 //! The edit of one gigabyte: its level 2 table, and the chunks under it.
 
 ghost use Rattle.std.specs.Prelude.{◌≡◌, ◌≢◌, ℕ, ◌==◌, ◌+◌, ◌*◌, ◌/◌, ◌%◌, ◌<◌, ◌≤◌, ◌^◌, length, true, false, Some, None, is_some, IfSome, IfNone, Bool, ◌&&◌};
-ghost use Rattle.base.specs.Pages.{covers};
+ghost use Rattle.base.specs.Pages.{covers, are_normal};
 ghost use Rattle.base.specs.Manifest.{page_count, row_of};
 ghost use Rattle.base.specs.Access.{View};
 ghost use Rattle.pool.specs.Pool.{pages_of, taken_of, words_of, with_put, with_mark, row_in, InShare, used_by, quota_of};
@@ -20,6 +20,7 @@ ghost use Rattle.stage2.specs.Steps.{IsSeated, AreFree, disturbed, disturbed_bel
 use crate::chunk::{edit_chunk, table_of};
 use crate::edit::put_word;
 use crate::layout::Layout;
+use crate::part::chunk_runs;
 use crate::read::read_slot;
 use crate::span::chunk_span;
 use crate::unmap::{end_chunk, first_chunk};
@@ -57,6 +58,7 @@ fn edit_chunks<M: TableMem>(
     requires row { row_of layout.now.ids p ≡ row }
     requires partition { row < length layout.now.ids }
     requires gigabyte { gigabyte < 512 }
+    requires normal { are_normal runs.now ≡ true }
     requires free { Fits layout.now row gigabyte second runs.now access.now (pages_of (M.state memory.old).memory) }
     requires room { sum_below (λ x. chunk_operations runs.now (512 * gigabyte + x)) 512 ≤ M.room memory.old }
     ensures underway { let before = answers layout.now (linked layout.now row gigabyte second (pages_of (M.state memory.old).memory)).words row in
@@ -69,8 +71,9 @@ fn edit_chunks<M: TableMem>(
     let span = chunk_span(runs, gigabyte);
     for index in span.first..span.end {
         let chunk = 512 * gigabyte + index;
-        if touches(runs, chunk) {
-            edit_chunk(memory, layout, p, row, second, chunk, runs, access);
+        let part = chunk_runs(runs, chunk);
+        if touches(part, chunk) {
+            edit_chunk(memory, layout, p, row, second, chunk, part, access);
         }
     }
 }
@@ -141,6 +144,7 @@ fn edit_tabled<M: TableMem>(
     requires row { row_of layout.now.ids p ≡ row }
     requires partition { row < length layout.now.ids }
     requires gigabyte { gigabyte < 512 }
+    requires normal { are_normal runs.now ≡ true }
     requires free { FitsGigabyte layout.now row gigabyte runs.now access.now (pages_of (M.state memory.old).memory) }
     requires room { gigabyte_operations runs.now gigabyte ≤ M.room memory.old }
     ensures edits { EditsGigabyte layout.now row gigabyte (edited runs.now access.now (answers layout.now (pages_of (M.state memory.old).memory).words row)) (pages_of (M.state memory.old).memory) (pages_of (M.state memory.new).memory) }
@@ -173,6 +177,7 @@ fn edit_untabled<M: TableMem>(
     requires row { row_of layout.now.ids p ≡ row }
     requires partition { row < length layout.now.ids }
     requires gigabyte { gigabyte < 512 }
+    requires normal { are_normal runs.now ≡ true }
     requires free { FitsGigabyte layout.now row gigabyte runs.now access.now (pages_of (M.state memory.old).memory) }
     requires room { gigabyte_operations runs.now gigabyte ≤ M.room memory.old }
     ensures edits { EditsGigabyte layout.now row gigabyte (edited runs.now access.now (answers layout.now (pages_of (M.state memory.old).memory).words row)) (pages_of (M.state memory.old).memory) (pages_of (M.state memory.new).memory) }
@@ -201,6 +206,7 @@ pub(crate) fn edit_gigabyte<M: TableMem>(
     requires row { row_of layout.now.ids p ≡ row }
     requires partition { row < length layout.now.ids }
     requires gigabyte { gigabyte < 512 }
+    requires normal { are_normal runs.now ≡ true }
     requires free { FitsGigabyte layout.now row gigabyte runs.now access.now (pages_of (M.state memory.old).memory) }
     requires room { gigabyte_operations runs.now gigabyte ≤ M.room memory.old }
     ensures edits { EditsGigabyte layout.now row gigabyte (edited runs.now access.now (answers layout.now (pages_of (M.state memory.old).memory).words row)) (pages_of (M.state memory.old).memory) (pages_of (M.state memory.new).memory) }
