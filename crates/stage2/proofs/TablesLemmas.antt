@@ -102,7 +102,7 @@ no-quota : (t : TablesView) (p : ℕ) → length t.layout.ids ≡ length t.pool.
 no-quota t p rows none = quota_of-none t.pool.memory.quotas (row_of t.layout.ids p) (grind (arith, nat_tests, none, rows))
 
 -- so a map that fits has no page
-pub rootless-map : (t : TablesView) (p n : ℕ) (runs : List PageRun) (a : Access) → length t.layout.ids ≡ length t.pool.memory.quotas → has_root t p ≡ false → Fits p runs (Some a) t → n < 2 ^ 27 → covers runs n ≡ false
+rootless-map : (t : TablesView) (p n : ℕ) (runs : List PageRun) (a : Access) → length t.layout.ids ≡ length t.pool.memory.quotas → has_root t p ≡ false → Fits p runs (Some a) t → n < 2 ^ 27 → covers runs n ≡ false
 rootless-map t p n runs a rows none fits small = elim (cases_Bool (covers runs n)) [
   | inl t' ↦
       let some = grow-some (view_of t p) (edited runs (Some a) (view_of t p)) n small (λ x. nothing-there t p x none) (rw t' refl) in
@@ -128,6 +128,10 @@ both-true false b e = absurd (cc)
 -- a partition that has no root: the pages of the runs, if there are any, are not reached, and stay so
 abbrev pub StaysOut : ℕ → List PageRun → View → Type 0
 StaysOut p runs access = (n : ℕ) → n < 2 ^ 27 → covers runs n ≡ true → access ≡ None
+
+pub rootless-edit : (t : TablesView) (p : ℕ) (runs : List PageRun) (access : View) → length t.layout.ids ≡ length t.pool.memory.quotas → has_root t p ≡ false → Fits p runs access t → StaysOut p runs access
+rootless-edit t p runs None rows none fits n small covered = refl
+rootless-edit t p runs (Some a) rows none fits n small covered = let apart = rootless-map t p n runs a rows none fits small in absurd (cc)
 
 pub rootless-walks : (t : TablesView) (p : ℕ) (runs : List PageRun) (access : View) → has_root t p ≡ false → StaysOut p runs access → ReachSo p runs access t t
 rootless-walks t p runs access none out q n small =
