@@ -3,14 +3,13 @@
 ghost use Rattle.std.specs.Prelude.{◌≡◌, ℕ, ◌+◌, ◌*◌, ◌<◌, ◌≤◌, ◌&&◌, true, Some, not, length, is_some};
 ghost use Rattle.base.specs.Manifest.{page_count};
 ghost use Rattle.base.specs.Pages.{are_normal};
-ghost use Rattle.pool.specs.Pool.{pages_of, words_of};
-ghost use Rattle.base.specs.Counts.{count_below};
-ghost use Rattle.stage2.specs.Slot as slots;
+ghost use Rattle.pool.specs.Pool.{pages_of};
 ghost use Rattle.stage2.specs.declared.walked.Slot.TheVariants.{Next};
 ghost use Rattle.stage2.specs.Walk.{next_page};
 ghost use Rattle.base.specs.Need.{is_mixed, grow};
 ghost use Rattle.stage2.specs.Orderly.{IsCanonical};
-ghost use Rattle.stage2.specs.Chunks.{edited, answers_at, answers_of, second_of, entry_in};
+ghost use Rattle.stage2.specs.Chunks.{edited};
+ghost use Rattle.stage2.specs.Clauses.{read_after, view_in, second_in, entry_read, chunks_growth};
 ghost use Rattle.stage2.specs.Gigabytes.{grows_at, gigabyte_growth, Touches};
 
 use crate::chunk::{outcome, table_of};
@@ -34,7 +33,7 @@ fn second_at<M: TableMem>(
     requires canonical { IsCanonical layout.now (pages_of (M.state memory.now).memory) }
     requires partition { (r : ℕ) → row ≡ Some r → r < length layout.now.ids }
     requires gigabyte { gigabyte < 512 }
-    ensures { result ≡ second_of layout.now (words_of (M.state memory.now).memory.words) row gigabyte }
+    ensures { result ≡ second_in layout.now row gigabyte (M.state memory.now) }
 {
     find_table(memory, layout, row?, gigabyte)
 }
@@ -44,7 +43,7 @@ fn entry_at<M: TableMem>(memory: &M, layout: &Layout, second: &Option<u32>, inde
     requires pages { layout.now.pages ≡ page_count (M.state memory.now).memory.quotas }
     requires table { (j : ℕ) → second.now ≡ Some j → j < layout.now.pages }
     requires index { index < 512 }
-    ensures same { result ≡ entry_in layout.now (words_of (M.state memory.now).memory.words) second.now index }
+    ensures same { result ≡ entry_read layout.now second.now index (M.state memory.now) }
     ensures inside { (k : ℕ) → result ≡ Next k → k < layout.now.pages }
 {
     match second {
@@ -65,7 +64,8 @@ fn grows<M: TableMem>(
     requires pages { layout.now.pages ≡ page_count (M.state memory.now).memory.quotas }
     requires table { (k : ℕ) → entry.now ≡ Next k → k < layout.now.pages }
     requires chunk { chunk < 262144 }
-    ensures { result ≡ (is_mixed (edited runs.now access.now (answers_at layout.now (words_of (M.state memory.now).memory.words) entry.now)) chunk && not (is_some (next_page entry.now))) }
+    ensures { let after = read_after layout.now runs.now access.now entry.now (M.state memory.now) in
+        result ≡ (is_mixed after chunk && not (is_some (next_page entry.now))) }
 {
     let is_mixed = outcome(memory, layout, entry, chunk, runs, access).is_none();
     is_mixed && table_of(entry).is_none()
@@ -87,8 +87,8 @@ fn takes<M: TableMem>(
     requires normal { are_normal runs.now ≡ true }
     requires gigabyte { gigabyte < 512 }
     requires index { index < 512 }
-    requires table { second_of layout.now (words_of (M.state memory.now).memory.words) row gigabyte ≡ second.now }
-    ensures { let before = answers_of layout.now (words_of (M.state memory.now).memory.words) row in
+    requires table { second_in layout.now row gigabyte (M.state memory.now) ≡ second.now }
+    ensures { let before = view_in layout.now row (M.state memory.now) in
         result ≡ grows_at before (edited runs.now access.now before) (512 * gigabyte + index) }
 {
     let _row = row;
@@ -115,9 +115,9 @@ fn grow_chunks<M: TableMem>(
     requires partition { (r : ℕ) → row ≡ Some r → r < length layout.now.ids }
     requires normal { are_normal runs.now ≡ true }
     requires gigabyte { gigabyte < 512 }
-    requires table { second_of layout.now (words_of (M.state memory.now).memory.words) row gigabyte ≡ second.now }
-    ensures same { let before = answers_of layout.now (words_of (M.state memory.now).memory.words) row in
-        result ≡ count_below (λ x. grows_at before (edited runs.now access.now before) (512 * gigabyte + x)) 512 }
+    requires table { second_in layout.now row gigabyte (M.state memory.now) ≡ second.now }
+    ensures same { let before = view_in layout.now row (M.state memory.now) in
+        result ≡ chunks_growth before (edited runs.now access.now before) gigabyte }
     ensures most { result ≤ 512 }
 {
     let span = chunk_span(runs, gigabyte);
@@ -144,7 +144,7 @@ fn grow_gigabyte<M: TableMem>(
     requires partition { (r : ℕ) → row ≡ Some r → r < length layout.now.ids }
     requires normal { are_normal runs.now ≡ true }
     requires gigabyte { gigabyte < 512 }
-    ensures same { let before = answers_of layout.now (words_of (M.state memory.now).memory.words) row in
+    ensures same { let before = view_in layout.now row (M.state memory.now) in
         result ≡ gigabyte_growth before (edited runs.now access.now before) gigabyte }
     ensures most { result ≤ 513 }
 {
@@ -167,7 +167,7 @@ pub(crate) fn grow_row<M: TableMem>(
     requires canonical { IsCanonical layout.now (pages_of (M.state memory.now).memory) }
     requires partition { (r : ℕ) → row ≡ Some r → r < length layout.now.ids }
     requires normal { are_normal runs.now ≡ true }
-    ensures { let before = answers_of layout.now (words_of (M.state memory.now).memory.words) row in
+    ensures { let before = view_in layout.now row (M.state memory.now) in
         result ≡ grow before (edited runs.now access.now before) }
 {
     let span = gigabyte_span(runs);
