@@ -1,21 +1,20 @@
 -- What the clauses of an edit say, of the pool before it and the pool after it.
-use Rattle.std.specs.Prelude.{◌≡◌, ◌≢◌, ℕ, ◌+◌, ◌*◌, ◌/◌, ◌%◌, ◌^◌, ◌<◌, ◌≤◌, Bool, true, false, ◌&&◌, ◌==◌, not, if◌then◌else◌, is_some, Option, Some, None, List, length}
+use Rattle.std.specs.Prelude.{◌≡◌, ℕ, ◌+◌, ◌*◌, ◌/◌, ◌%◌, ◌^◌, ◌<◌, Bool, true, false, ◌&&◌, ◌==◌, if◌then◌else◌, is_some, Option, Some, None, List, length}
 use Rattle.base.specs.Access.{View}
 use Rattle.base.specs.Counts.{count_below}
 use Rattle.base.specs.Manifest.{row_of}
-use Rattle.base.specs.Need.{is_mixed, grow}
 use Rattle.base.specs.Pages.{PageRun, covers}
-use Rattle.pool.specs.Pool.{Pool, Pages, pages_of, words_of, with_put, with_mark, used_by, quota_of}
+use Rattle.pool.specs.Pool.{Pool, pages_of, words_of, with_put, with_mark, used_by, quota_of}
 use Rattle.stage2.specs.declared.walked.Walked.{Walked}
 use Rattle.stage2.specs.declared.walked.Walked.TheVariants.{None as Unmapped}
-use Rattle.stage2.specs.Chunks.{edited, planned, Writes, answers_at, answers_in, answers_of, second_of, entry_in, IsOutcome, IsGrowing, Redoes_in}
-use Rattle.stage2.specs.Gigabytes.{sum_below, chunk_operations, grows_at, gigabyte_growth, Fits, FitsGigabyte, FitsRow, IsUnderway, EditsGigabyte, EditsRow}
-use Rattle.stage2.specs.History.{Made, Filled, broken, replaced}
+use Rattle.stage2.specs.Chunks.{edited, Writes, answers_at, answers_in, answers_of, second_of, entry_in, IsOutcome, IsGrowing, Redoes_in}
+use Rattle.stage2.specs.Gigabytes.{sum_below, chunk_operations, grows_at, Fits, FitsGigabyte, FitsRow, IsUnderway, EditsGigabyte, EditsRow}
+use Rattle.stage2.specs.History.{Made, broken, replaced}
 use Rattle.stage2.specs.Moments.{StaysInStep, Clears}
 use Rattle.stage2.specs.Orderly.{IsOrderly, answers, linked}
 use Rattle.stage2.specs.Slot.{Layout, Slot, slot}
 use Rattle.stage2.specs.Steps.{IsSeated, AreFree, disturbs, disturbed, disturbed_below}
-use Rattle.stage2.specs.Walk.{Gigabyte, table_at, next_page, walk, walked, IsForest}
+use Rattle.stage2.specs.Walk.{Gigabyte, table_at, walk, walked, IsForest}
 
 -- ---- words
 

@@ -127,7 +127,8 @@ fn page_after<M: TableMem>(
 ) -> Option<Access>
     requires pages { layout.now.pages ≡ page_count (M.state memory.now).memory.quotas }
     requires table { (k : ℕ) → entry.now ≡ Next k → k < layout.now.pages }
-    ensures { result ≡ read_after layout.now runs.now access.now entry.now (M.state memory.now) page }
+    ensures { result
+        ≡ read_after layout.now runs.now access.now entry.now (M.state memory.now) page }
 {
     if is_covered(runs, page) {
         return *access;
@@ -162,7 +163,8 @@ pub(crate) fn outcome<M: TableMem>(
     requires pages { layout.now.pages ≡ page_count (M.state memory.now).memory.quotas }
     requires table { (k : ℕ) → entry.now ≡ Next k → k < layout.now.pages }
     requires chunk { chunk < 262144 }
-    ensures { let after = read_after layout.now runs.now access.now entry.now (M.state memory.now) in
+    ensures { let now = M.state memory.now in
+        let after = read_after layout.now runs.now access.now entry.now now in
         IsOutcome chunk after result }
 {
     if is_filled(runs, chunk) {
@@ -185,7 +187,8 @@ fn compared<M: TableMem>(
     requires pages { layout.now.pages ≡ page_count (M.state memory.now).memory.quotas }
     requires table { (k : ℕ) → entry.now ≡ Next k → k < layout.now.pages }
     requires chunk { chunk < 262144 }
-    ensures { let after = read_after layout.now runs.now access.now entry.now (M.state memory.now) in
+    ensures { let now = M.state memory.now in
+        let after = read_after layout.now runs.now access.now entry.now now in
         IsOutcome chunk after result }
 {
     let first = page_after(memory, layout, entry, Page::new(512 * chunk), runs, access);

@@ -50,7 +50,8 @@ fn edit_chunks<M: TableMem>(
     requires partition { row < length layout.now.ids }
     requires gigabyte { gigabyte < 512 }
     requires normal { are_normal runs.now ≡ true }
-    requires free { FitsChunks layout.now row gigabyte second runs.now access.now (M.state memory.old) }
+    requires free { FitsChunks layout.now row gigabyte second runs.now access.now
+        (M.state memory.old) }
     requires room { chunks_operations runs.now gigabyte ≤ M.room memory.old }
     ensures underway { EditsChunks layout.now row gigabyte second runs.now access.now
         (M.state memory.old) (M.state memory.new) }
@@ -133,7 +134,8 @@ fn edit_tabled<M: TableMem>(
     requires partition { row < length layout.now.ids }
     requires gigabyte { gigabyte < 512 }
     requires normal { are_normal runs.now ≡ true }
-    requires free { FitsInGigabyte layout.now row gigabyte runs.now access.now (M.state memory.old) }
+    requires free { FitsInGigabyte layout.now row gigabyte runs.now access.now
+        (M.state memory.old) }
     requires room { gigabyte_operations runs.now gigabyte ≤ M.room memory.old }
     ensures edits { EditsInGigabyte layout.now row gigabyte runs.now access.now
         (M.state memory.old) (M.state memory.new) }
@@ -166,7 +168,8 @@ fn edit_untabled<M: TableMem>(
     requires partition { row < length layout.now.ids }
     requires gigabyte { gigabyte < 512 }
     requires normal { are_normal runs.now ≡ true }
-    requires free { FitsInGigabyte layout.now row gigabyte runs.now access.now (M.state memory.old) }
+    requires free { FitsInGigabyte layout.now row gigabyte runs.now access.now
+        (M.state memory.old) }
     requires room { gigabyte_operations runs.now gigabyte ≤ M.room memory.old }
     ensures edits { EditsInGigabyte layout.now row gigabyte runs.now access.now
         (M.state memory.old) (M.state memory.new) }
@@ -195,7 +198,8 @@ pub(crate) fn edit_gigabyte<M: TableMem>(
     requires partition { row < length layout.now.ids }
     requires gigabyte { gigabyte < 512 }
     requires normal { are_normal runs.now ≡ true }
-    requires free { FitsInGigabyte layout.now row gigabyte runs.now access.now (M.state memory.old) }
+    requires free { FitsInGigabyte layout.now row gigabyte runs.now access.now
+        (M.state memory.old) }
     requires room { gigabyte_operations runs.now gigabyte ≤ M.room memory.old }
     ensures edits { EditsInGigabyte layout.now row gigabyte runs.now access.now
         (M.state memory.old) (M.state memory.new) }

@@ -64,7 +64,8 @@ fn grows<M: TableMem>(
     requires pages { layout.now.pages ≡ page_count (M.state memory.now).memory.quotas }
     requires table { (k : ℕ) → entry.now ≡ Next k → k < layout.now.pages }
     requires chunk { chunk < 262144 }
-    ensures { let after = read_after layout.now runs.now access.now entry.now (M.state memory.now) in
+    ensures { let now = M.state memory.now in
+        let after = read_after layout.now runs.now access.now entry.now now in
         result ≡ (is_mixed after chunk && not (is_some (next_page entry.now))) }
 {
     let is_mixed = outcome(memory, layout, entry, chunk, runs, access).is_none();
