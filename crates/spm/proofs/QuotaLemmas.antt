@@ -1,11 +1,10 @@
 -- An edit fits by the tables exactly where it fits by the state.
-use Rattle.std.proofs.Common.{◌≡◌, ℕ, suc, ◌+◌, ◌*◌, ◌^◌, ◌<◌, ◌≤◌, Bool, true, false, ◌&&◌, ◌||◌, not, cond, eqb, leb, List, [], ◌∷◌, length, get_or, Option, Some, None, refl, sym, ap, ap₂, ◌∙◌, arith}
+use Rattle.std.proofs.Common.{◌≡◌, ℕ, suc, ◌+◌, ◌*◌, ◌^◌, ◌<◌, ◌≤◌, Bool, true, false, ◌&&◌, not, cond, eqb, leb, List, [], ◌∷◌, get_or, Option, Some, None, refl, sym, ap, ap₂, ◌∙◌, arith}
 use Rattle.std.specs.Option.{option_map_or}
-use Rattle.std.specs.List.{list_any, find}
+use Rattle.std.specs.List.{find}
 use Rattle.std.proofs.lemmas.Bool.{leb-true}
-use Rattle.std.proofs.lemmas.Bool.Decides.{nat_tests}
 use Rattle.base.specs.Access.{View}
-use Rattle.base.specs.Manifest.{PartitionRow, ManifestRows, ids_of, quotas_of, row_of, is_partition}
+use Rattle.base.specs.Manifest.{PartitionRow, ManifestRows, ids_of, quotas_of, row_of}
 use Rattle.base.specs.Need.{is_mixed, is_reached, need, grow, reaching}
 use Rattle.base.specs.Pages.{covers}
 use Rattle.base.specs.State.{State, sees}
@@ -15,7 +14,7 @@ use Rattle.pool.specs.Pool.{words_of}
 use Rattle.pool.proofs.Count.{count_below-same}
 use Rattle.stage2.specs.Orderly.{answer_of}
 use Rattle.stage2.specs.Slot.{Layout, layout_of}
-use Rattle.stage2.specs.Tables.{TablesView, walk_in, view_of, has_root, Fits, quota_in}
+use Rattle.stage2.specs.Tables.{TablesView, walk_in, view_of, Fits, quota_in}
 use Rattle.stage2.specs.Walk.{walked}
 use Rattle.stage2.proofs.Needs.{mixed-same, reached-same}
 use Rattle.rules.specs.Rule.{Edit, fits}
@@ -54,14 +53,6 @@ grow_alike v w x y old new =
 
 -- ---- rows and quotas
 
-in_rows : (rows : List PartitionRow) (p : ℕ) → list_any (λ row. eqb row.id p) rows ≡ true → row_of (ids_of rows) p < length (ids_of rows)
-in_rows [] p h = absurd cc
-in_rows (row ∷ rows) p h =
-    elim (eqb row.id p) as (λ b. (b || list_any (λ r. eqb r.id p) rows) ≡ true → cond (not b) (1 + row_of (ids_of rows) p) 0 < suc (length (ids_of rows))) [
-      | true ↦ λ e. omega arith
-      | false ↦ λ e. let lt = in_rows rows p e in omega arith
-    ] h
-
 quota_at : (rows : List PartitionRow) (p : ℕ) → pool.quota_of (quotas_of rows) (row_of (ids_of rows) p) ≡ option_map_or (λ (row : PartitionRow). row.quota) (find (λ row. eqb row.id p) rows) 0
 quota_at [] p = refl
 quota_at (row ∷ rows) p =
@@ -69,10 +60,6 @@ quota_at (row ∷ rows) p =
       | true ↦ refl
       | false ↦ let next : 1 + row_of (ids_of rows) p ≡ suc (row_of (ids_of rows) p) = omega arith in rw next (quota_at rows p)
     ]
-
--- a partition of the manifest has a root
-pub rooted : (m : ManifestRows) (t : TablesView) (p : ℕ) → t.layout ≡ layout_of m → is_partition m p ≡ true → has_root t p ≡ true
-rooted m t p placed known = let lt = in_rows m.partitions p known in rw placed (grind (arith, nat_tests))
 
 -- ---- the edit fits
 

@@ -1,5 +1,5 @@
 -- What is known of the change of a call that passes its tests, and of one that does not.
-use Rattle.std.specs.Prelude.{◌≡◌, ℕ, ◌-◌, ◌<◌, ◌^◌, Bool, true, false, ◌||◌, Option, Some, None, is_some, length}
+use Rattle.std.specs.Prelude.{◌≡◌, ℕ, ◌-◌, ◌<◌, ◌^◌, Bool, true, false, ◌||◌, Option, Some, None, is_some}
 use Rattle.base.specs.Buffers as pairs
 use Rattle.base.specs.Pages.{covers, are_normal}
 use Rattle.base.specs.Refusals.{first_refusal}
@@ -59,11 +59,10 @@ opens (Open t) = true
 
 -- ---- the tables
 
--- the edit is of what the partition itself reaches, and its runs are maximal, and not too many
+-- the edit is of what the partition itself reaches, and its runs are maximal
 pub record IsOrderly (p : ℕ) (edit : Edit) : Type 0 where
   pub own : edit.who ≡ p
   pub normal : are_normal edit.runs ≡ true
-  pub few : length edit.runs < 2 ^ 32
 
 abbrev pub AreOrderly : ℕ → Option Edit → Type 0
 AreOrderly p None = Unit {0}

@@ -2,6 +2,7 @@
 
 ghost use Rattle.std.specs.Prelude.{◌≡◌, ◌≤◌, true, Some, None, IfOk, OnOk, OnErr};
 ghost use Rattle.base.specs.Manifest.{is_partition};
+ghost use Rattle.base.specs.Pages.{are_normal};
 ghost use Rattle.stage2.specs.Slot.{layout_of};
 ghost use Rattle.stage2.specs.Tables.{Fits, ReachSo, ShowsMoments, edit_operations};
 ghost use Rattle.spm.specs.Granted.{updated, CanUpdate, opens, AreOrderly, IsOrderly, takes_memory};
@@ -114,6 +115,7 @@ fn edit_and_apply<M: TableMem + Drop>(
 
 /// Edits the tables as the edit says. There is room for its operations.
 fn edit_tables<M: TableMem + Drop>(tables: &mut Tables<M>, edit: Edit)
+    requires normal { are_normal edit.runs ≡ true }
     requires fits { Fits edit.who edit.runs edit.to tables.old }
     requires ready { edit_operations edit.who edit.runs tables.old ≤ tables.old.room }
     ensures layout { tables.new.layout ≡ tables.old.layout }

@@ -17,7 +17,8 @@ use Rattle.stage2.specs.Moments.{IsInStepIn, nothing, StaysInStep, Moments}
 use Rattle.stage2.specs.Steps.{AreFree, disturbs, disturbed, with_pages}
 use Rattle.stage2.proofs.Rows.{IsRow, same_row}
 use Rattle.stage2.proofs.Redoing.{answer-walked}
-use Rattle.stage2.proofs.Needs.{any_below-none, alike-same, mixed-same}
+use Rattle.manifest.proofs.Tables.{alike-same}
+use Rattle.stage2.proofs.Needs.{any_below-none, mixed-same}
 use Rattle.stage2.proofs.Seen.{both-true, edit_of, orderly-begun, moments-of}
 
 -- ---- chunks that are not mixed

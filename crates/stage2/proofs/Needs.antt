@@ -2,14 +2,11 @@
 use Rattle.std.proofs.Common.{◌≡◌, ℕ, zero, suc, ◌+◌, ◌*◌, ◌/◌, ◌%◌, ◌<◌, Bool, true, false, not, ◌&&◌, ◌||◌, cond, leb, ltb, List, [], ◌∷◌, Some, None, is_some, refl, ap, ap₂, sym, ◌∙◌, arith, add-one, inl, inr}
 use Rattle.std.proofs.lemmas.Bool.{cases_eq, cases_Bool}
 use Rattle.std.proofs.lemmas.Bool.Decides.{nat_tests}
-use Rattle.base.specs.declared.access.Rights.{Rights}
-use Rattle.base.specs.declared.access.Rights.TheVariants.{Ro, Rw}
-use Rattle.base.specs.declared.access.MemoryKind.{MemoryKind}
-use Rattle.base.specs.declared.access.MemoryKind.TheVariants.{Normal, Device}
-use Rattle.base.specs.Access.{View, Access, is_same, is_same_bool, is_rw, is_normal}
+use Rattle.base.specs.Access.{View, Access}
 use Rattle.base.specs.Need.{is_alike, is_mixed, is_reached}
 use Rattle.base.specs.Counts.{any_below}
 use Rattle.base.specs.Pages.{PageRun, in_run, covers}
+use Rattle.manifest.proofs.Tables.{alike-same, alike-refl}
 use Rattle.stage2.specs.Chunks.{edited, covers_chunk, IsOutcome, AreAlike}
 
 pub any_below-same : (f g : ℕ → Bool) (n : ℕ) → ((k : ℕ) → k < n → g k ≡ f k) → any_below g n ≡ any_below f n
@@ -57,54 +54,8 @@ pub any_below-zero : (f : ℕ → Bool) → any_below f 0 ≡ false
 unfolding any_below
 any_below-zero f = refl
 
-rights-same : (a b : Rights) → is_same_bool (is_rw a) (is_rw b) ≡ true → a ≡ b
-rights-same Ro Ro e = refl
-rights-same Ro Rw e = absurd (cc)
-rights-same Rw Ro e = absurd (cc)
-rights-same Rw Rw e = refl
-
-bool-same : (a b : Bool) → is_same_bool a b ≡ true → a ≡ b
-bool-same true true e = refl
-bool-same true false e = absurd (cc)
-bool-same false true e = absurd (cc)
-bool-same false false e = refl
-
-kind-same : (a b : MemoryKind) → is_same_bool (is_normal a) (is_normal b) ≡ true → a ≡ b
-kind-same Normal Normal e = refl
-kind-same Normal Device e = absurd (cc)
-kind-same Device Normal e = absurd (cc)
-kind-same Device Device e = refl
-
-and-left : (a b : Bool) → (a && b) ≡ true → a ≡ true
-and-left true b e = refl
-and-left false b e = absurd (cc)
-
-and-right : (a b : Bool) → (a && b) ≡ true → b ≡ true
-and-right true b e = e
-and-right false b e = absurd (cc)
-
-permission-same : (a b : Access) → is_same a b ≡ true → a ≡ b
-permission-same a b e =
-    let first = is_same_bool (is_rw a.rights) (is_rw b.rights) in
-    let second = is_same_bool a.exec b.exec in
-    let third = is_same_bool (is_normal a.kind) (is_normal b.kind) in
-    let r = rights-same a.rights b.rights (and-left first second (and-left (first && second) third e)) in
-    let x = bool-same a.exec b.exec (and-right first second (and-left (first && second) third e)) in
-    let k = kind-same a.kind b.kind (and-right (first && second) third e) in
-    ap₂ (λ (u : Rights × Bool) (v : MemoryKind). record { rights = u.0; exec = u.1; kind = v }) (ap₂ (λ (u : Rights) (v : Bool). (u, v)) r x) k
-
-pub alike-same : (a b : View) → is_alike a b ≡ true → a ≡ b
-alike-same None None e = refl
-alike-same None (Some b) e = absurd (cc)
-alike-same (Some a) None e = absurd (cc)
-alike-same (Some a) (Some b) e = ap Some (permission-same a b e)
-
-bool-self : (b : Bool) → is_same_bool b b ≡ true
-bool-self true = refl
-bool-self false = refl
-
 pub alike-self : (x : View) (a : Access) → x ≡ Some a → is_alike x (Some a) ≡ true
-alike-self x a e = rw (e, bool-self (is_rw a.rights), bool-self a.exec, bool-self (is_normal a.kind)) refl
+alike-self x a e = rw e (alike-refl (Some a))
 
 -- ---- the one answer of a chunk
 

@@ -301,11 +301,19 @@ module _ (layout : Layout) (row c j : ℕ) (m : Pages) (h : IsSite layout row c 
   -- ---- what the code reads
 
   -- the answer of a chunk, read from its word on, is that of its pages
-  pub outcome-entry : (runs : List PageRun) (access : View) (o : Option View) → IsOutcome c (edited runs access (answers_at layout m.words entry)) o → IsOutcome c (edited runs access (answers layout old row)) o
+  outcome-entry : (runs : List PageRun) (access : View) (o : Option View) → IsOutcome c (edited runs access (answers_at layout m.words entry)) o → IsOutcome c (edited runs access (answers layout old row)) o
   outcome-entry runs access o outcome = record {
     same = λ one e n at. ap (λ a. cond (covers runs n) access a) (answers-entry n at) ∙ outcome.same one e n at;
     mixed = outcome.mixed ∙ mixed-same (edited runs access (answers layout old row)) (edited runs access (answers_at layout m.words entry)) c (λ i small. ap (λ a. cond (covers runs (512 * c + i)) access a) (sym (answers-entry (512 * c + i) (omega (arith, small)))));
   }
+
+  pub outcome-read : (runs : List PageRun) (access : View) (read : Slot) (o found : Option View) → read ≡ entry → o ≡ found → IsOutcome c (edited runs access (answers_at layout m.words read)) o → IsOutcome c (edited runs access (answers layout old row)) found
+  outcome-read runs access read o found is e outcome =
+      subst (IsOutcome c (edited runs access (answers layout old row))) e (outcome-entry runs access o (subst (λ (s : Slot). IsOutcome c (edited runs access (answers_at layout m.words s)) o) is outcome))
+
+  -- a chunk that has no table, as read
+  pub unhung : (read : Slot) (table : Option ℕ) → read ≡ entry → table ≡ next_page read → table ≡ None → next_page entry ≡ None
+  unhung read table is e none = ap next_page (sym is) ∙ sym e ∙ none
 
   pub growing : (new : ℕ → View) → next_page entry ≡ None → IsOutcome c new None → IsGrowing (answers layout old row) new c
   growing new none outcome = record {

@@ -1,5 +1,5 @@
 -- What clauses say of the tables: canonical tables, and an edit of a partition that has a root or has none.
-use Rattle.std.proofs.Common.{◌≡◌, ℕ, ◌+◌, ◌-◌, ◌*◌, ◌/◌, ◌%◌, ◌^◌, ◌<◌, ◌≤◌, Bool, true, false, not, ◌&&◌, cond, eqb, ltb, List, length, position, Some, None, is_some, refl, sym, ap, ap₂, subst, ◌∙◌, arith, inl, inr}
+use Rattle.std.proofs.Common.{◌≡◌, ℕ, ◌+◌, ◌-◌, ◌*◌, ◌/◌, ◌%◌, ◌^◌, ◌<◌, ◌≤◌, Bool, true, false, not, ◌&&◌, cond, eqb, ltb, List, length, position, Option, Some, None, is_some, refl, sym, ap, ap₂, subst, ◌∙◌, arith, inl, inr}
 use Rattle.std.specs.Option.{option_map}
 use Rattle.std.proofs.lemmas.Bool.{cases_Bool, ltb-true, eqb-true}
 use Rattle.std.proofs.lemmas.Bool.Decides.{nat_tests}
@@ -9,11 +9,11 @@ use Rattle.base.specs.Need.{is_mixed, is_reached, need, grow}
 use Rattle.base.specs.Pages.{PageRun, in_run, covers}
 use Rattle.pool.specs.declared.operation.Op.TheVariants.{Clear}
 use Rattle.pool.specs.Pool.{Pool, Pages, pages_of, words_of, taken_of, used_by, quota_of, free_of, after_clear}
-use Rattle.pool.proofs.Count.{count_below-none, count_below-some}
+use Rattle.pool.proofs.Count.{count_below-same, count_below-none, count_below-some}
 use Rattle.pool.proofs.Shares.{quota_of-none, used_by-le}
 use Rattle.stage2.specs.declared.walked.Walked.{Walked}
 use Rattle.stage2.specs.declared.walked.Walked.TheVariants.{None as Unmapped}
-use Rattle.stage2.specs.Chunks.{edited}
+use Rattle.stage2.specs.Chunks.{edited, answers_of}
 use Rattle.stage2.specs.Gigabytes.{EditsRow, FitsRow, row_operations}
 use Rattle.stage2.specs.Moments.{StaysInStep}
 use Rattle.stage2.specs.Orderly.{IsOrderly, IsCanonical, answers, answer_of}
@@ -27,10 +27,10 @@ use Rattle.stage2.proofs.Clearing.{counted-op, stays-none}
 use Rattle.stage2.proofs.Engines.{edited-walks}
 use Rattle.stage2.proofs.Entries.{entries}
 use Rattle.stage2.proofs.InStep.{orderly-clearing}
-use Rattle.stage2.proofs.Needs.{mixed-none, reached-none, reached-some}
+use Rattle.stage2.proofs.Needs.{mixed-same, mixed-none, reached-same, reached-none, reached-some}
 use Rattle.stage2.proofs.Rowing.{used-need}
 use Rattle.stage2.proofs.RunChunks.{row-operations}
-use Rattle.stage2.proofs.Rows.{IsRow}
+use Rattle.stage2.proofs.Rows.{IsRow, row-found}
 use Rattle.stage2.proofs.Seen.{moments-none}
 
 pub are-canonical : (t : TablesView) → IsCanonical t.layout (pages_of t.pool.memory) → ((q i : ℕ) → taken_of t.pool.memory.taken q ≡ false → words_of t.pool.memory.words q i ≡ 0) → AreCanonical t
@@ -62,6 +62,26 @@ need-none v none =
     let chunks = count_below-none (is_mixed v) 262144 (λ c below. mixed-none v c (λ i small. none (512 * c + i))) in
     omega (arith, gigabytes, chunks)
 
+-- the same views grow alike
+grow-same : (v w : ℕ → View) (runs : List PageRun) (access : View) → ((n : ℕ) → w n ≡ v n) → grow w (edited runs access w) ≡ grow v (edited runs access v)
+unfolding grow
+grow-same v w runs access same =
+    let after : (n : ℕ) → edited runs access w n ≡ edited runs access v n = λ n. ap (cond (covers runs n) access) (same n) in
+    ap₂ (λ x y. x + y)
+    (count_below-same (λ g. is_reached (edited runs access v) g && not (is_reached v g)) (λ g. is_reached (edited runs access w) g && not (is_reached w g)) 512
+    (λ g below. ap₂ (λ x y. x && not y) (reached-same (edited runs access v) (edited runs access w) g (λ i small. after (262144 * g + i))) (reached-same v w g (λ i small. same (262144 * g + i)))))
+    (count_below-same (λ c. is_mixed (edited runs access v) c && not (is_mixed v c)) (λ c. is_mixed (edited runs access w) c && not (is_mixed w c)) 262144
+    (λ c below. ap₂ (λ x y. x && not y) (mixed-same (edited runs access v) (edited runs access w) c (λ i small. after (512 * c + i))) (mixed-same v w c (λ i small. same (512 * c + i)))))
+
+-- the views of a partition, whether it has a root or not
+pub grow-found : (t : TablesView) (p : ℕ) (runs : List PageRun) (access : View) (row : Option ℕ) → row ≡ position (λ id. eqb id p) t.layout.ids
+    → grow (answers_of t.layout (words_of t.pool.memory.words) row) (edited runs access (answers_of t.layout (words_of t.pool.memory.words) row)) ≡ grow (view_of t p) (edited runs access (view_of t p))
+grow-found t p runs access None e =
+    grow-same (view_of t p) (answers_of t.layout (words_of t.pool.memory.words) None) runs access (λ n. sym (ap answer_of (rootless t p n (found-none t.layout.ids p (sym e)))))
+grow-found t p runs access (Some row) e =
+    let is = row-found t.layout.ids p row (sym e) in
+    ap (λ r. grow (answers t.layout (words_of t.pool.memory.words) r) (edited runs access (answers t.layout (words_of t.pool.memory.words) r))) is.is
+
 pub rootless-need : (t : TablesView) (p : ℕ) → has_root t p ≡ false → need (view_of t p) ≡ 0
 rootless-need t p none = need-none (view_of t p) (λ n. ap answer_of (rootless t p n none))
 
@@ -82,7 +102,7 @@ no-quota : (t : TablesView) (p : ℕ) → length t.layout.ids ≡ length t.pool.
 no-quota t p rows none = quota_of-none t.pool.memory.quotas (row_of t.layout.ids p) (grind (arith, nat_tests, none, rows))
 
 -- so a map that fits has no page
-pub rootless-map : (t : TablesView) (p n : ℕ) (runs : List PageRun) (a : Access) → length t.layout.ids ≡ length t.pool.memory.quotas → has_root t p ≡ false → Fits p runs (Some a) t → n < 2 ^ 27 → covers runs n ≡ false
+rootless-map : (t : TablesView) (p n : ℕ) (runs : List PageRun) (a : Access) → length t.layout.ids ≡ length t.pool.memory.quotas → has_root t p ≡ false → Fits p runs (Some a) t → n < 2 ^ 27 → covers runs n ≡ false
 rootless-map t p n runs a rows none fits small = elim (cases_Bool (covers runs n)) [
   | inl t' ↦
       let some = grow-some (view_of t p) (edited runs (Some a) (view_of t p)) n small (λ x. nothing-there t p x none) (rw t' refl) in
@@ -108,6 +128,10 @@ both-true false b e = absurd (cc)
 -- a partition that has no root: the pages of the runs, if there are any, are not reached, and stay so
 abbrev pub StaysOut : ℕ → List PageRun → View → Type 0
 StaysOut p runs access = (n : ℕ) → n < 2 ^ 27 → covers runs n ≡ true → access ≡ None
+
+pub rootless-edit : (t : TablesView) (p : ℕ) (runs : List PageRun) (access : View) → length t.layout.ids ≡ length t.pool.memory.quotas → has_root t p ≡ false → Fits p runs access t → StaysOut p runs access
+rootless-edit t p runs None rows none fits n small covered = refl
+rootless-edit t p runs (Some a) rows none fits n small covered = let apart = rootless-map t p n runs a rows none fits small in absurd (cc)
 
 pub rootless-walks : (t : TablesView) (p : ℕ) (runs : List PageRun) (access : View) → has_root t p ≡ false → StaysOut p runs access → ReachSo p runs access t t
 rootless-walks t p runs access none out q n small =

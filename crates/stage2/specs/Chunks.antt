@@ -104,3 +104,15 @@ block_answer Bad = None
 abbrev pub entry_in : Layout → Words → Option ℕ → ℕ → Slot
 entry_in layout words None i = Empty
 entry_in layout words (Some j) i = slot layout 2 (words j i)
+
+-- ---- the tables of a partition that may have no root
+
+-- what the pages of a row answer; nothing where there is no row
+abbrev pub answers_of : Layout → Words → Option ℕ → ℕ → View
+answers_of layout words None n = None
+answers_of layout words (Some row) n = answers layout words row n
+
+-- the level 2 table of a gigabyte of the row, if there are both
+abbrev pub second_of : Layout → Words → Option ℕ → ℕ → Option ℕ
+second_of layout words None g = None
+second_of layout words (Some row) g = table_at layout words (Gigabyte row g)

@@ -12,3 +12,4 @@ pub mod Entries
 pub mod Tables
 pub mod Moments
 pub mod Steps
+pub mod Clauses

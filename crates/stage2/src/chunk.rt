@@ -1,23 +1,17 @@
 //! The edit of one chunk: its level 2 word, and its level 3 table.
 
-ghost use Rattle.std.specs.Prelude.{◌≡◌, ℕ, ◌==◌, ◌&&◌, ◌^◌, is_some, ◌+◌, ◌*◌, ◌/◌, ◌%◌, ◌<◌, ◌≤◌, length, true, Some, None, if◌then◌else◌};
+ghost use Rattle.std.specs.Prelude.{◌≡◌, ℕ, ◌+◌, ◌*◌, ◌/◌, ◌%◌, ◌<◌, ◌≤◌, length, true, Some, None};
 ghost use Rattle.base.specs.Pages.{covers};
 ghost use Rattle.base.specs.Manifest.{page_count, row_of};
 ghost use Rattle.base.specs.Access as permissions;
-ghost use Rattle.pool.specs.Pool.{pages_of, taken_of};
-ghost use Rattle.pool.specs.Pool.{words_of, with_put};
-ghost use Rattle.stage2.specs.Slot as slots;
-ghost use Rattle.stage2.specs.declared.walked.Slot.TheVariants.{Next};
 ghost use Rattle.base.specs.Need as needs;
-ghost use Rattle.base.specs.Access.{View};
-ghost use Rattle.pool.specs.Pool.{used_by, quota_of};
+ghost use Rattle.pool.specs.Pool.{pages_of, taken_of};
+ghost use Rattle.stage2.specs.declared.walked.Slot.TheVariants.{Next};
 ghost use Rattle.stage2.specs.Walk.{next_page};
-ghost use Rattle.stage2.specs.Chunks.{edited, answers_at, answers_in, planned, below, Writes, IsOutcome, block_answer, covers_chunk, IsEntryFor, IsSite, IsGrowing, Redoes_in};
+ghost use Rattle.stage2.specs.Chunks.{planned, IsOutcome, block_answer, covers_chunk, IsEntryFor, IsSite};
 ghost use Rattle.stage2.specs.Parts.{part_count};
-ghost use Rattle.stage2.specs.Moments.{StaysInStep, Clears};
-ghost use Rattle.stage2.specs.Steps.{IsSeated, AreFree, disturbs};
-ghost use Rattle.stage2.specs.Walk.{walked};
-ghost use Rattle.stage2.specs.History.{Made, Filled, broken, replaced};
+ghost use Rattle.stage2.specs.History.{Filled};
+ghost use Rattle.stage2.specs.Clauses.{Puts, WritesPlan, one_page, Breaks, Replaces, chunk_slot, read_after, AnswersAll, HasFree, GrowsChunk, EditsChunk, EditsMixed, SetsChunk, SetsInStep, MixesInStep, MapsInStep, ClearsPages, ChunkInStep};
 
 use crate::edit::{put_word, word_of};
 use crate::layout::Layout;
@@ -56,8 +50,10 @@ fn write_page<M: TableMem>(memory: &mut M, third: u32, page: Page, answer: &Opti
     requires page_in { third < page_count (M.state memory.old).memory.quotas }
     requires taken { taken_of (M.state memory.old).memory.taken third ≡ true }
     requires room { 0 < M.room memory.old }
-    ensures writes { Writes third (page / 512) (λ n. if n == page then Some answer.now else None) (pages_of (M.state memory.old).memory) (pages_of (M.state memory.new).memory) }
-    ensures filled { Filled third (page / 512) (page % 512 + 1) (λ n. if n == page then Some answer.now else None) (M.state memory.old) (M.state memory.new) }
+    ensures writes { WritesPlan third (page / 512) (one_page page answer.now)
+        (M.state memory.old) (M.state memory.new) }
+    ensures filled { Filled third (page / 512) (page % 512 + 1) (one_page page answer.now)
+        (M.state memory.old) (M.state memory.new) }
     ensures room { M.room memory.old ≤ M.room memory.new + 1 }
 {
     let index = page.number() % 512;
@@ -80,8 +76,10 @@ fn write_table<M: TableMem>(
     requires taken { taken_of (M.state memory.old).memory.taken third ≡ true }
     requires chunk { chunk < 262144 }
     requires room { 512 ≤ M.room memory.old }
-    ensures writes { Writes third chunk (planned runs.now access.now others.now) (pages_of (M.state memory.old).memory) (pages_of (M.state memory.new).memory) }
-    ensures filled { Filled third chunk 512 (planned runs.now access.now others.now) (M.state memory.old) (M.state memory.new) }
+    ensures writes { WritesPlan third chunk (planned runs.now access.now others.now)
+        (M.state memory.old) (M.state memory.new) }
+    ensures filled { Filled third chunk 512 (planned runs.now access.now others.now)
+        (M.state memory.old) (M.state memory.new) }
     ensures room { M.room memory.old ≤ M.room memory.new + 512 }
 {
     for index in 0..512 {
@@ -129,7 +127,8 @@ fn page_after<M: TableMem>(
 ) -> Option<Access>
     requires pages { layout.now.pages ≡ page_count (M.state memory.now).memory.quotas }
     requires table { (k : ℕ) → entry.now ≡ Next k → k < layout.now.pages }
-    ensures { result ≡ edited runs.now access.now (answers_at layout.now (words_of (M.state memory.now).memory.words) entry.now) page }
+    ensures { result
+        ≡ read_after layout.now runs.now access.now entry.now (M.state memory.now) page }
 {
     if is_covered(runs, page) {
         return *access;
@@ -164,7 +163,9 @@ pub(crate) fn outcome<M: TableMem>(
     requires pages { layout.now.pages ≡ page_count (M.state memory.now).memory.quotas }
     requires table { (k : ℕ) → entry.now ≡ Next k → k < layout.now.pages }
     requires chunk { chunk < 262144 }
-    ensures { IsOutcome chunk (edited runs.now access.now (answers_at layout.now (words_of (M.state memory.now).memory.words) entry.now)) result }
+    ensures { let now = M.state memory.now in
+        let after = read_after layout.now runs.now access.now entry.now now in
+        IsOutcome chunk after result }
 {
     if is_filled(runs, chunk) {
         Some(*access)
@@ -186,7 +187,9 @@ fn compared<M: TableMem>(
     requires pages { layout.now.pages ≡ page_count (M.state memory.now).memory.quotas }
     requires table { (k : ℕ) → entry.now ≡ Next k → k < layout.now.pages }
     requires chunk { chunk < 262144 }
-    ensures { IsOutcome chunk (edited runs.now access.now (answers_at layout.now (words_of (M.state memory.now).memory.words) entry.now)) result }
+    ensures { let now = M.state memory.now in
+        let after = read_after layout.now runs.now access.now entry.now now in
+        IsOutcome chunk after result }
 {
     let first = page_after(memory, layout, entry, Page::new(512 * chunk), runs, access);
     for index in 0..512 {
@@ -211,8 +214,8 @@ fn break_entry<M: TableMem>(memory: &mut M, p: PartitionId, second: u32, chunk: 
     requires taken { taken_of (M.state memory.old).memory.taken second ≡ true }
     requires chunk { chunk < 262144 }
     requires room { 2 ≤ M.room memory.old }
-    ensures pages { pages_of (M.state memory.new).memory ≡ with_put second (chunk % 512) 0 (pages_of (M.state memory.old).memory) }
-    ensures history { Made (broken p second chunk (words_of (M.state memory.old).memory.words second (chunk % 512))) (M.state memory.old) (M.state memory.new) }
+    ensures pages { Puts second (chunk % 512) 0 (M.state memory.old) (M.state memory.new) }
+    ensures history { Breaks p second chunk (M.state memory.old) (M.state memory.new) }
     ensures room { M.room memory.old ≤ M.room memory.new + 2 }
 {
     if memory.word(second, chunk % 512) != 0 {
@@ -227,8 +230,8 @@ fn replace_entry<M: TableMem>(memory: &mut M, p: PartitionId, second: u32, chunk
     requires taken { taken_of (M.state memory.old).memory.taken second ≡ true }
     requires chunk { chunk < 262144 }
     requires room { 3 ≤ M.room memory.old }
-    ensures pages { pages_of (M.state memory.new).memory ≡ with_put second (chunk % 512) word (pages_of (M.state memory.old).memory) }
-    ensures history { Made (replaced p second chunk (words_of (M.state memory.old).memory.words second (chunk % 512)) word) (M.state memory.old) (M.state memory.new) }
+    ensures pages { Puts second (chunk % 512) word (M.state memory.old) (M.state memory.new) }
+    ensures history { Replaces p second chunk word (M.state memory.old) (M.state memory.new) }
     ensures room { M.room memory.old ≤ M.room memory.new + 3 }
 {
     break_entry(memory, p, second, chunk);
@@ -261,11 +264,12 @@ fn set_block<M: TableMem>(
 )
     requires site { IsSite layout.now row chunk second (pages_of (M.state memory.old).memory) }
     requires row { row_of layout.now.ids p ≡ row }
-    requires none { next_page (slots.slot layout.now 2 (words_of (M.state memory.old).memory.words second (chunk % 512))) ≡ None }
+    requires none { next_page (chunk_slot layout.now chunk second (M.state memory.old)) ≡ None }
     requires room { 3 ≤ M.room memory.old }
-    ensures redoes { (view : ℕ → View) → IsOutcome chunk view (Some answer.now) → Redoes_in layout.now row chunk second view (pages_of (M.state memory.old).memory) (pages_of (M.state memory.new).memory) }
-    ensures in_step { (view : ℕ → View) → IsOutcome chunk view (Some answer.now) → IsSeated layout.now row (chunk / 512) second (pages_of (M.state memory.old).memory)
-        → StaysInStep layout.now row (λ n. n / 512 == chunk) (λ n. walked n (view n)) (M.state memory.old) (M.state memory.new) }
+    ensures redoes { SetsChunk layout.now row chunk second answer.now
+        (M.state memory.old) (M.state memory.new) }
+    ensures in_step { SetsInStep layout.now row chunk second answer.now
+        (M.state memory.old) (M.state memory.new) }
     ensures room { M.room memory.old ≤ M.room memory.new + 3 }
 {
     let _layout = layout;
@@ -286,11 +290,12 @@ fn drop_table<M: TableMem>(
 )
     requires site { IsSite layout.now row chunk second (pages_of (M.state memory.old).memory) }
     requires row { row_of layout.now.ids p ≡ row }
-    requires table { slots.slot layout.now 2 (words_of (M.state memory.old).memory.words second (chunk % 512)) ≡ Next third }
+    requires table { chunk_slot layout.now chunk second (M.state memory.old) ≡ Next third }
     requires room { 515 ≤ M.room memory.old }
-    ensures redoes { (view : ℕ → View) → IsOutcome chunk view (Some answer.now) → Redoes_in layout.now row chunk second view (pages_of (M.state memory.old).memory) (pages_of (M.state memory.new).memory) }
-    ensures in_step { (view : ℕ → View) → IsOutcome chunk view (Some answer.now) → IsSeated layout.now row (chunk / 512) second (pages_of (M.state memory.old).memory)
-        → StaysInStep layout.now row (λ n. n / 512 == chunk) (λ n. walked n (view n)) (M.state memory.old) (M.state memory.new) }
+    ensures redoes { SetsChunk layout.now row chunk second answer.now
+        (M.state memory.old) (M.state memory.new) }
+    ensures in_step { SetsInStep layout.now row chunk second answer.now
+        (M.state memory.old) (M.state memory.new) }
     ensures room { M.room memory.old ≤ M.room memory.new + 515 }
 {
     let _layout = layout;
@@ -312,14 +317,14 @@ fn rewrite_table<M: TableMem>(
     access: &Option<Access>,
 )
     requires site { IsSite layout.now row chunk second (pages_of (M.state memory.old).memory) }
-    requires table { slots.slot layout.now 2 (words_of (M.state memory.old).memory.words second (chunk % 512)) ≡ Next third }
+    requires table { chunk_slot layout.now chunk second (M.state memory.old) ≡ Next third }
     requires room { 512 ≤ M.room memory.old }
-    ensures redoes { let view = edited runs.now access.now (answers_in layout.now row chunk second (pages_of (M.state memory.old).memory)) in
-        IsOutcome chunk view None → Redoes_in layout.now row chunk second view (pages_of (M.state memory.old).memory) (pages_of (M.state memory.new).memory) }
-    ensures makes { IsSeated layout.now row (chunk / 512) second (pages_of (M.state memory.old).memory) → AreFree (λ n. n / 512 == chunk) runs.now access.now (answers_in layout.now row chunk second (pages_of (M.state memory.old).memory)) → is_some access.now ≡ true
-        → StaysInStep layout.now row (λ n. covers runs.now n && (n / 512 == chunk)) (λ n. walked n access.now) (M.state memory.old) (M.state memory.new) }
-    ensures clears { access.now ≡ None → IsSeated layout.now row (chunk / 512) second (pages_of (M.state memory.old).memory)
-        → Clears layout.now row (λ n. covers runs.now n && (n / 512 == chunk)) (M.state memory.old) (M.state memory.new) }
+    ensures redoes { EditsMixed layout.now row chunk second runs.now access.now
+        (M.state memory.old) (M.state memory.new) }
+    ensures makes { MapsInStep layout.now row chunk second runs.now access.now
+        (M.state memory.old) (M.state memory.new) }
+    ensures clears { ClearsPages layout.now row chunk second runs.now access.now
+        (M.state memory.old) (M.state memory.new) }
     ensures room { M.room memory.old ≤ M.room memory.new + 512 }
 {
     let _layout = layout;
@@ -342,15 +347,14 @@ fn hang_table<M: TableMem>(
 )
     requires site { IsSite layout.now row chunk second (pages_of (M.state memory.old).memory) }
     requires row { row_of layout.now.ids p ≡ row }
-    requires none { next_page (slots.slot layout.now 2 (words_of (M.state memory.old).memory.words second (chunk % 512))) ≡ None }
-    requires before { (n : ℕ) → n / 512 ≡ chunk → answers_in layout.now row chunk second (pages_of (M.state memory.old).memory) n ≡ before.now }
-    requires free { let m = pages_of (M.state memory.old).memory in used_by m row < quota_of m.quotas row }
+    requires none { next_page (chunk_slot layout.now chunk second (M.state memory.old)) ≡ None }
+    requires before { AnswersAll layout.now row chunk second before.now (M.state memory.old) }
+    requires free { HasFree row (M.state memory.old) }
     requires room { 515 ≤ M.room memory.old }
-    ensures redoes { let view = edited runs.now access.now (answers_in layout.now row chunk second (pages_of (M.state memory.old).memory)) in
-        IsOutcome chunk view None → Redoes_in layout.now row chunk second view (pages_of (M.state memory.old).memory) (pages_of (M.state memory.new).memory) }
-    ensures in_step { let view = edited runs.now access.now (answers_in layout.now row chunk second (pages_of (M.state memory.old).memory)) in
-        IsOutcome chunk view None → IsSeated layout.now row (chunk / 512) second (pages_of (M.state memory.old).memory)
-        → StaysInStep layout.now row (λ n. n / 512 == chunk) (λ n. walked n (view n)) (M.state memory.old) (M.state memory.new) }
+    ensures redoes { EditsMixed layout.now row chunk second runs.now access.now
+        (M.state memory.old) (M.state memory.new) }
+    ensures in_step { MixesInStep layout.now row chunk second runs.now access.now
+        (M.state memory.old) (M.state memory.new) }
     ensures room { M.room memory.old ≤ M.room memory.new + 515 }
 {
     let _row = row;
@@ -392,14 +396,13 @@ pub(crate) fn edit_chunk<M: TableMem>(
 )
     requires site { IsSite layout.now row chunk second (pages_of (M.state memory.old).memory) }
     requires row { row_of layout.now.ids p ≡ row }
-    requires free { let m = pages_of (M.state memory.old).memory in
-        IsGrowing (answers_in layout.now row chunk second m) (edited runs.now access.now (answers_in layout.now row chunk second m)) chunk → used_by m row < quota_of m.quotas row }
+    requires free { GrowsChunk layout.now row chunk second runs.now access.now (M.state memory.old)
+        → HasFree row (M.state memory.old) }
     requires room { 515 + part_count chunk runs.now ≤ M.room memory.old }
-    ensures redoes { let view = edited runs.now access.now (answers_in layout.now row chunk second (pages_of (M.state memory.old).memory)) in
-        Redoes_in layout.now row chunk second view (pages_of (M.state memory.old).memory) (pages_of (M.state memory.new).memory) }
-    ensures in_step { let before = answers_in layout.now row chunk second (pages_of (M.state memory.old).memory) in
-        IsSeated layout.now row (chunk / 512) second (pages_of (M.state memory.old).memory) → AreFree (λ n. n / 512 == chunk) runs.now access.now before
-        → StaysInStep layout.now row (λ n. (n / 512 == chunk) && disturbs runs.now before (edited runs.now access.now before) n) (λ n. walked n (edited runs.now access.now before n)) (M.state memory.old) (M.state memory.new) }
+    ensures redoes { EditsChunk layout.now row chunk second runs.now access.now
+        (M.state memory.old) (M.state memory.new) }
+    ensures in_step { ChunkInStep layout.now row chunk second runs.now access.now
+        (M.state memory.old) (M.state memory.new) }
     ensures room { M.room memory.old ≤ M.room memory.new + (515 + part_count chunk runs.now) }
 {
     let entry = read_slot(memory, layout, 2, second, chunk % 512);

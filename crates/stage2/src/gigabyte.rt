@@ -1,25 +1,17 @@
 //! The edit of one gigabyte: its level 2 table, and the chunks under it.
 
-ghost use Rattle.std.specs.Prelude.{◌≡◌, ◌≢◌, ℕ, ◌==◌, ◌+◌, ◌*◌, ◌/◌, ◌%◌, ◌<◌, ◌≤◌, ◌^◌, length, true, false, Some, None, is_some, IfSome, IfNone, Bool, ◌&&◌};
-ghost use Rattle.base.specs.Pages.{covers};
+ghost use Rattle.std.specs.Prelude.{◌≡◌, ◌≢◌, ℕ, ◌+◌, ◌*◌, ◌<◌, ◌≤◌, length, true, Some, None, is_some, IfSome, IfNone};
+ghost use Rattle.base.specs.Pages.{are_normal};
 ghost use Rattle.base.specs.Manifest.{page_count, row_of};
-ghost use Rattle.base.specs.Access.{View};
-ghost use Rattle.pool.specs.Pool.{pages_of, taken_of, words_of, with_put, with_mark, row_in, InShare, used_by, quota_of};
-ghost use Rattle.base.specs.Counts.{count_below};
-ghost use Rattle.stage2.specs.Walk.{Gigabyte, table_at};
-ghost use Rattle.stage2.specs.Orderly.{IsOrderly, IsCanonical, answers, linked};
-ghost use Rattle.stage2.specs.Chunks.{edited};
-ghost use Rattle.stage2.specs.Gigabytes.{sum_below, chunk_operations, gigabyte_operations, Fits, FitsGigabyte, touches_run, touches_chunk, IsUnderway, EditsGigabyte, Touches};
-ghost use Rattle.stage2.specs.Walk.{walk, walked, IsForest};
-ghost use Rattle.stage2.specs.declared.walked.Walked.{Walked};
-ghost use Rattle.stage2.specs.declared.walked.Walked.TheVariants.{None as Unmapped};
-ghost use Rattle.stage2.specs.Slot as slots;
-ghost use Rattle.stage2.specs.Moments.{StaysInStep};
-ghost use Rattle.stage2.specs.Steps.{IsSeated, AreFree, disturbed, disturbed_below};
+ghost use Rattle.pool.specs.Pool.{pages_of, taken_of, row_in, InShare};
+ghost use Rattle.stage2.specs.Orderly.{IsCanonical};
+ghost use Rattle.stage2.specs.Gigabytes.{gigabyte_operations, touches_run, touches_chunk, Touches};
+ghost use Rattle.stage2.specs.Clauses.{IsLinkedOrderly, IsSecond, FitsChunks, chunks_operations, EditsChunks, ChunksInStep, second_at, word_in, IsEmpty, Unlinks, UnlinksInStep, FitsInGigabyte, EditsInGigabyte, GigabyteInStep};
 
 use crate::chunk::{edit_chunk, table_of};
 use crate::edit::put_word;
 use crate::layout::Layout;
+use crate::part::chunk_runs;
 use crate::read::read_slot;
 use crate::span::chunk_span;
 use crate::unmap::{end_chunk, first_chunk};
@@ -52,25 +44,27 @@ fn edit_chunks<M: TableMem>(
     runs: &[Run],
     access: &Option<Access>,
 )
-    requires orderly { IsOrderly layout.now (linked layout.now row gigabyte second (pages_of (M.state memory.old).memory)) }
-    requires second { table_at layout.now (linked layout.now row gigabyte second (pages_of (M.state memory.old).memory)).words (Gigabyte row gigabyte) ≡ Some second }
+    requires orderly { IsLinkedOrderly layout.now row gigabyte second (M.state memory.old) }
+    requires second { IsSecond layout.now row gigabyte second (M.state memory.old) }
     requires row { row_of layout.now.ids p ≡ row }
     requires partition { row < length layout.now.ids }
     requires gigabyte { gigabyte < 512 }
-    requires free { Fits layout.now row gigabyte second runs.now access.now (pages_of (M.state memory.old).memory) }
-    requires room { sum_below (λ x. chunk_operations runs.now (512 * gigabyte + x)) 512 ≤ M.room memory.old }
-    ensures underway { let before = answers layout.now (linked layout.now row gigabyte second (pages_of (M.state memory.old).memory)).words row in
-        IsUnderway layout.now row gigabyte second 512 (edited runs.now access.now before) (pages_of (M.state memory.old).memory) (pages_of (M.state memory.new).memory) }
-    ensures in_step { let before = answers layout.now (linked layout.now row gigabyte second (pages_of (M.state memory.old).memory)).words row in
-        IsSeated layout.now row gigabyte second (pages_of (M.state memory.old).memory) → AreFree (λ n. n / 512 / 512 == gigabyte) runs.now access.now before
-        → StaysInStep layout.now row (disturbed_below gigabyte 512 runs.now before (edited runs.now access.now before)) (λ n. walked n (edited runs.now access.now before n)) (M.state memory.old) (M.state memory.new) }
-    ensures room { M.room memory.old ≤ M.room memory.new + sum_below (λ x. chunk_operations runs.now (512 * gigabyte + x)) 512 }
+    requires normal { are_normal runs.now ≡ true }
+    requires free { FitsChunks layout.now row gigabyte second runs.now access.now
+        (M.state memory.old) }
+    requires room { chunks_operations runs.now gigabyte ≤ M.room memory.old }
+    ensures underway { EditsChunks layout.now row gigabyte second runs.now access.now
+        (M.state memory.old) (M.state memory.new) }
+    ensures in_step { ChunksInStep layout.now row gigabyte second runs.now access.now
+        (M.state memory.old) (M.state memory.new) }
+    ensures room { M.room memory.old ≤ M.room memory.new + chunks_operations runs.now gigabyte }
 {
     let span = chunk_span(runs, gigabyte);
     for index in span.first..span.end {
         let chunk = 512 * gigabyte + index;
-        if touches(runs, chunk) {
-            edit_chunk(memory, layout, p, row, second, chunk, runs, access);
+        let part = chunk_runs(runs, chunk);
+        if touches(part, chunk) {
+            edit_chunk(memory, layout, p, row, second, chunk, part, access);
         }
     }
 }
@@ -86,7 +80,7 @@ pub(crate) fn find_table<M: TableMem>(
     requires pages { layout.now.pages ≡ page_count (M.state memory.now).memory.quotas }
     requires row { row < layout.now.pages }
     requires gigabyte { gigabyte < 512 }
-    ensures { result ≡ table_at layout.now (words_of (M.state memory.now).memory.words) (Gigabyte row gigabyte) }
+    ensures { result ≡ second_at layout.now row gigabyte (M.state memory.now) }
 {
     table_of(&read_slot(memory, layout, 1, row, gigabyte))
 }
@@ -94,8 +88,8 @@ pub(crate) fn find_table<M: TableMem>(
 /// The index of a word of a table that is not 0.
 fn first_word<M: TableMem>(memory: &M, table: u32) -> Option<u32>
     requires { table < page_count (M.state memory.now).memory.quotas }
-    ensures some { IfSome result (λ x. (x < 512) × (words_of (M.state memory.now).memory.words table x ≢ 0)) }
-    ensures none { IfNone result ((i : ℕ) → i < 512 → words_of (M.state memory.now).memory.words table i ≡ 0) }
+    ensures some { IfSome result (λ x. (x < 512) × (word_in (M.state memory.now) table x ≢ 0)) }
+    ensures none { IfNone result (IsEmpty table (M.state memory.now)) }
 {
     for index in 0..512 {
         if memory.word(table, index) != 0 {
@@ -112,12 +106,10 @@ fn unlink<M: TableMem>(memory: &mut M, p: PartitionId, row: u32, gigabyte: u32, 
     requires gigabyte { gigabyte < 512 }
     requires inside { InShare (M.state memory.old).memory.quotas row second }
     requires taken { taken_of (M.state memory.old).memory.taken second ≡ true }
-    requires empty { (i : ℕ) → i < 512 → words_of (M.state memory.old).memory.words second i ≡ 0 }
+    requires empty { IsEmpty second (M.state memory.old) }
     requires room { 2 ≤ M.room memory.old }
-    ensures pages { pages_of (M.state memory.new).memory ≡ with_mark second false (with_put row gigabyte 0 (pages_of (M.state memory.old).memory)) }
-    ensures in_step { (layout : slots.Layout) (which : ℕ → Bool) (answer : ℕ → Walked) → IsForest layout (words_of (M.state memory.old).memory.words) → row < length layout.ids → row_of layout.ids p ≡ row
-        → ((n : ℕ) → n < 2 ^ 27 → n / 512 / 512 ≡ gigabyte → walk layout (words_of (M.state memory.old).memory.words) row n ≡ Unmapped)
-        → StaysInStep layout row which answer (M.state memory.old) (M.state memory.new) }
+    ensures pages { Unlinks row gigabyte second (M.state memory.old) (M.state memory.new) }
+    ensures in_step { UnlinksInStep p row gigabyte (M.state memory.old) (M.state memory.new) }
     ensures room { M.room memory.old ≤ M.room memory.new + 2 }
 {
     put_word(memory, row, gigabyte, 0);
@@ -137,16 +129,18 @@ fn edit_tabled<M: TableMem>(
     access: &Option<Access>,
 )
     requires canonical { IsCanonical layout.now (pages_of (M.state memory.old).memory) }
-    requires table { table_at layout.now (pages_of (M.state memory.old).memory).words (Gigabyte row gigabyte) ≡ Some second }
+    requires table { second_at layout.now row gigabyte (M.state memory.old) ≡ Some second }
     requires row { row_of layout.now.ids p ≡ row }
     requires partition { row < length layout.now.ids }
     requires gigabyte { gigabyte < 512 }
-    requires free { FitsGigabyte layout.now row gigabyte runs.now access.now (pages_of (M.state memory.old).memory) }
+    requires normal { are_normal runs.now ≡ true }
+    requires free { FitsInGigabyte layout.now row gigabyte runs.now access.now
+        (M.state memory.old) }
     requires room { gigabyte_operations runs.now gigabyte ≤ M.room memory.old }
-    ensures edits { EditsGigabyte layout.now row gigabyte (edited runs.now access.now (answers layout.now (pages_of (M.state memory.old).memory).words row)) (pages_of (M.state memory.old).memory) (pages_of (M.state memory.new).memory) }
-    ensures in_step { let before = answers layout.now (pages_of (M.state memory.old).memory).words row in
-        AreFree (λ n. n / 512 / 512 == gigabyte) runs.now access.now before
-        → StaysInStep layout.now row (λ n. (n / 512 / 512 == gigabyte) && disturbed runs.now before (edited runs.now access.now before) n) (λ n. walked n (edited runs.now access.now before n)) (M.state memory.old) (M.state memory.new) }
+    ensures edits { EditsInGigabyte layout.now row gigabyte runs.now access.now
+        (M.state memory.old) (M.state memory.new) }
+    ensures in_step { GigabyteInStep layout.now row gigabyte runs.now access.now
+        (M.state memory.old) (M.state memory.new) }
     ensures room { M.room memory.old ≤ M.room memory.new + gigabyte_operations runs.now gigabyte }
 {
     edit_chunks(memory, layout, p, row, second, gigabyte, runs, access);
@@ -167,18 +161,20 @@ fn edit_untabled<M: TableMem>(
     access: &Option<Access>,
 )
     requires canonical { IsCanonical layout.now (pages_of (M.state memory.old).memory) }
-    requires none { table_at layout.now (pages_of (M.state memory.old).memory).words (Gigabyte row gigabyte) ≡ None }
+    requires none { second_at layout.now row gigabyte (M.state memory.old) ≡ None }
     requires touched { Touches runs.now gigabyte }
     requires maps { is_some access.now ≡ true }
     requires row { row_of layout.now.ids p ≡ row }
     requires partition { row < length layout.now.ids }
     requires gigabyte { gigabyte < 512 }
-    requires free { FitsGigabyte layout.now row gigabyte runs.now access.now (pages_of (M.state memory.old).memory) }
+    requires normal { are_normal runs.now ≡ true }
+    requires free { FitsInGigabyte layout.now row gigabyte runs.now access.now
+        (M.state memory.old) }
     requires room { gigabyte_operations runs.now gigabyte ≤ M.room memory.old }
-    ensures edits { EditsGigabyte layout.now row gigabyte (edited runs.now access.now (answers layout.now (pages_of (M.state memory.old).memory).words row)) (pages_of (M.state memory.old).memory) (pages_of (M.state memory.new).memory) }
-    ensures in_step { let before = answers layout.now (pages_of (M.state memory.old).memory).words row in
-        AreFree (λ n. n / 512 / 512 == gigabyte) runs.now access.now before
-        → StaysInStep layout.now row (λ n. (n / 512 / 512 == gigabyte) && disturbed runs.now before (edited runs.now access.now before) n) (λ n. walked n (edited runs.now access.now before n)) (M.state memory.old) (M.state memory.new) }
+    ensures edits { EditsInGigabyte layout.now row gigabyte runs.now access.now
+        (M.state memory.old) (M.state memory.new) }
+    ensures in_step { GigabyteInStep layout.now row gigabyte runs.now access.now
+        (M.state memory.old) (M.state memory.new) }
     ensures room { M.room memory.old ≤ M.room memory.new + gigabyte_operations runs.now gigabyte }
 {
     let second = memory.take_page(p);
@@ -201,12 +197,14 @@ pub(crate) fn edit_gigabyte<M: TableMem>(
     requires row { row_of layout.now.ids p ≡ row }
     requires partition { row < length layout.now.ids }
     requires gigabyte { gigabyte < 512 }
-    requires free { FitsGigabyte layout.now row gigabyte runs.now access.now (pages_of (M.state memory.old).memory) }
+    requires normal { are_normal runs.now ≡ true }
+    requires free { FitsInGigabyte layout.now row gigabyte runs.now access.now
+        (M.state memory.old) }
     requires room { gigabyte_operations runs.now gigabyte ≤ M.room memory.old }
-    ensures edits { EditsGigabyte layout.now row gigabyte (edited runs.now access.now (answers layout.now (pages_of (M.state memory.old).memory).words row)) (pages_of (M.state memory.old).memory) (pages_of (M.state memory.new).memory) }
-    ensures in_step { let before = answers layout.now (pages_of (M.state memory.old).memory).words row in
-        AreFree (λ n. n / 512 / 512 == gigabyte) runs.now access.now before
-        → StaysInStep layout.now row (λ n. (n / 512 / 512 == gigabyte) && disturbed runs.now before (edited runs.now access.now before) n) (λ n. walked n (edited runs.now access.now before n)) (M.state memory.old) (M.state memory.new) }
+    ensures edits { EditsInGigabyte layout.now row gigabyte runs.now access.now
+        (M.state memory.old) (M.state memory.new) }
+    ensures in_step { GigabyteInStep layout.now row gigabyte runs.now access.now
+        (M.state memory.old) (M.state memory.new) }
     ensures room { M.room memory.old ≤ M.room memory.new + gigabyte_operations runs.now gigabyte }
 {
     match find_table(memory, layout, row, gigabyte) {

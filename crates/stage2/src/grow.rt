@@ -1,20 +1,21 @@
 //! How many table pages an edit takes.
 
-ghost use Rattle.std.specs.Prelude.{◌≡◌, ℕ, ◌+◌, ◌*◌, ◌<◌, ◌≤◌, ◌&&◌, not, length, is_some};
+ghost use Rattle.std.specs.Prelude.{◌≡◌, ℕ, ◌+◌, ◌*◌, ◌<◌, ◌≤◌, ◌&&◌, true, Some, not, length, is_some};
 ghost use Rattle.base.specs.Manifest.{page_count};
-ghost use Rattle.pool.specs.Pool.{pages_of, words_of};
-ghost use Rattle.base.specs.Counts.{count_below};
-ghost use Rattle.stage2.specs.Slot as slots;
+ghost use Rattle.base.specs.Pages.{are_normal};
+ghost use Rattle.pool.specs.Pool.{pages_of};
 ghost use Rattle.stage2.specs.declared.walked.Slot.TheVariants.{Next};
-ghost use Rattle.stage2.specs.Walk.{next_page, Gigabyte, table_at};
+ghost use Rattle.stage2.specs.Walk.{next_page};
 ghost use Rattle.base.specs.Need.{is_mixed, grow};
-ghost use Rattle.stage2.specs.Orderly.{IsCanonical, answers};
-ghost use Rattle.stage2.specs.Chunks.{edited, answers_at, entry_in};
+ghost use Rattle.stage2.specs.Orderly.{IsCanonical};
+ghost use Rattle.stage2.specs.Chunks.{edited};
+ghost use Rattle.stage2.specs.Clauses.{read_after, view_in, second_in, entry_read, chunks_growth};
 ghost use Rattle.stage2.specs.Gigabytes.{grows_at, gigabyte_growth, Touches};
 
 use crate::chunk::{outcome, table_of};
 use crate::gigabyte::{find_table, touches as touches_chunk};
 use crate::layout::Layout;
+use crate::part::{chunk_runs, gigabyte_runs};
 use crate::read::read_slot;
 use crate::row::touches;
 use crate::span::{chunk_span, gigabyte_span};
@@ -22,12 +23,27 @@ use crate::walked::Slot;
 use base::{Access, Run};
 use pool::TableMem;
 
+/// The level 2 table of a gigabyte of a row, if there are both.
+fn second_at<M: TableMem>(
+    memory: &M,
+    layout: &Layout,
+    row: Option<u32>,
+    gigabyte: u32,
+) -> Option<u32>
+    requires canonical { IsCanonical layout.now (pages_of (M.state memory.now).memory) }
+    requires partition { (r : ℕ) → row ≡ Some r → r < length layout.now.ids }
+    requires gigabyte { gigabyte < 512 }
+    ensures { result ≡ second_in layout.now row gigabyte (M.state memory.now) }
+{
+    find_table(memory, layout, row?, gigabyte)
+}
+
 /// A chunk's level 2 word, in a gigabyte's table, if it has one.
 fn entry_at<M: TableMem>(memory: &M, layout: &Layout, second: &Option<u32>, index: u32) -> Slot
     requires pages { layout.now.pages ≡ page_count (M.state memory.now).memory.quotas }
     requires table { (j : ℕ) → second.now ≡ Some j → j < layout.now.pages }
     requires index { index < 512 }
-    ensures same { result ≡ entry_in layout.now (words_of (M.state memory.now).memory.words) second.now index }
+    ensures same { result ≡ entry_read layout.now second.now index (M.state memory.now) }
     ensures inside { (k : ℕ) → result ≡ Next k → k < layout.now.pages }
 {
     match second {
@@ -48,7 +64,9 @@ fn grows<M: TableMem>(
     requires pages { layout.now.pages ≡ page_count (M.state memory.now).memory.quotas }
     requires table { (k : ℕ) → entry.now ≡ Next k → k < layout.now.pages }
     requires chunk { chunk < 262144 }
-    ensures { result ≡ (is_mixed (edited runs.now access.now (answers_at layout.now (words_of (M.state memory.now).memory.words) entry.now)) chunk && not (is_some (next_page entry.now))) }
+    ensures { let now = M.state memory.now in
+        let after = read_after layout.now runs.now access.now entry.now now in
+        result ≡ (is_mixed after chunk && not (is_some (next_page entry.now))) }
 {
     let is_mixed = outcome(memory, layout, entry, chunk, runs, access).is_none();
     is_mixed && table_of(entry).is_none()
@@ -58,7 +76,7 @@ fn grows<M: TableMem>(
 fn takes<M: TableMem>(
     memory: &M,
     layout: &Layout,
-    row: u32,
+    row: Option<u32>,
     second: &Option<u32>,
     gigabyte: u32,
     index: u32,
@@ -66,38 +84,41 @@ fn takes<M: TableMem>(
     access: &Option<Access>,
 ) -> bool
     requires canonical { IsCanonical layout.now (pages_of (M.state memory.now).memory) }
-    requires partition { row < length layout.now.ids }
+    requires partition { (r : ℕ) → row ≡ Some r → r < length layout.now.ids }
+    requires normal { are_normal runs.now ≡ true }
     requires gigabyte { gigabyte < 512 }
     requires index { index < 512 }
-    requires table { table_at layout.now (pages_of (M.state memory.now).memory).words (Gigabyte row gigabyte) ≡ second.now }
-    ensures { let before = answers layout.now (pages_of (M.state memory.now).memory).words row in
+    requires table { second_in layout.now row gigabyte (M.state memory.now) ≡ second.now }
+    ensures { let before = view_in layout.now row (M.state memory.now) in
         result ≡ grows_at before (edited runs.now access.now before) (512 * gigabyte + index) }
 {
     let _row = row;
     let chunk = 512 * gigabyte + index;
-    if !touches_chunk(runs, chunk) {
+    let part = chunk_runs(runs, chunk);
+    if !touches_chunk(part, chunk) {
         return false;
     }
     let entry = entry_at(memory, layout, second, index);
-    grows(memory, layout, &entry, chunk, runs, access)
+    grows(memory, layout, &entry, chunk, part, access)
 }
 
 /// How many level 3 tables an edit takes in a gigabyte.
 fn grow_chunks<M: TableMem>(
     memory: &M,
     layout: &Layout,
-    row: u32,
+    row: Option<u32>,
     second: &Option<u32>,
     gigabyte: u32,
     runs: &[Run],
     access: &Option<Access>,
 ) -> u32
     requires canonical { IsCanonical layout.now (pages_of (M.state memory.now).memory) }
-    requires partition { row < length layout.now.ids }
+    requires partition { (r : ℕ) → row ≡ Some r → r < length layout.now.ids }
+    requires normal { are_normal runs.now ≡ true }
     requires gigabyte { gigabyte < 512 }
-    requires table { table_at layout.now (pages_of (M.state memory.now).memory).words (Gigabyte row gigabyte) ≡ second.now }
-    ensures same { let before = answers layout.now (pages_of (M.state memory.now).memory).words row in
-        result ≡ count_below (λ x. grows_at before (edited runs.now access.now before) (512 * gigabyte + x)) 512 }
+    requires table { second_in layout.now row gigabyte (M.state memory.now) ≡ second.now }
+    ensures same { let before = view_in layout.now row (M.state memory.now) in
+        result ≡ chunks_growth before (edited runs.now access.now before) gigabyte }
     ensures most { result ≤ 512 }
 {
     let span = chunk_span(runs, gigabyte);
@@ -114,20 +135,21 @@ fn grow_chunks<M: TableMem>(
 fn grow_gigabyte<M: TableMem>(
     memory: &M,
     layout: &Layout,
-    row: u32,
+    row: Option<u32>,
     gigabyte: u32,
     runs: &[Run],
     access: &Option<Access>,
 ) -> u32
     requires canonical { IsCanonical layout.now (pages_of (M.state memory.now).memory) }
     requires touched { Touches runs.now gigabyte }
-    requires partition { row < length layout.now.ids }
+    requires partition { (r : ℕ) → row ≡ Some r → r < length layout.now.ids }
+    requires normal { are_normal runs.now ≡ true }
     requires gigabyte { gigabyte < 512 }
-    ensures same { let before = answers layout.now (pages_of (M.state memory.now).memory).words row in
+    ensures same { let before = view_in layout.now row (M.state memory.now) in
         result ≡ gigabyte_growth before (edited runs.now access.now before) gigabyte }
     ensures most { result ≤ 513 }
 {
-    let second = find_table(memory, layout, row, gigabyte);
+    let second = second_at(memory, layout, row, gigabyte);
     let chunks = grow_chunks(memory, layout, row, &second, gigabyte, runs, access);
     match second {
         Some(_) => chunks,
@@ -139,20 +161,22 @@ fn grow_gigabyte<M: TableMem>(
 pub(crate) fn grow_row<M: TableMem>(
     memory: &M,
     layout: &Layout,
-    row: u32,
+    row: Option<u32>,
     runs: &[Run],
     access: &Option<Access>,
 ) -> u32
     requires canonical { IsCanonical layout.now (pages_of (M.state memory.now).memory) }
-    requires partition { row < length layout.now.ids }
-    ensures { let before = answers layout.now (pages_of (M.state memory.now).memory).words row in
+    requires partition { (r : ℕ) → row ≡ Some r → r < length layout.now.ids }
+    requires normal { are_normal runs.now ≡ true }
+    ensures { let before = view_in layout.now row (M.state memory.now) in
         result ≡ grow before (edited runs.now access.now before) }
 {
     let span = gigabyte_span(runs);
     let mut count = 0;
     for gigabyte in span.first..span.end {
-        if touches(runs, gigabyte) {
-            count += grow_gigabyte(memory, layout, row, gigabyte, runs, access);
+        let part = gigabyte_runs(runs, gigabyte);
+        if touches(part, gigabyte) {
+            count += grow_gigabyte(memory, layout, row, gigabyte, part, access);
         }
     }
     count

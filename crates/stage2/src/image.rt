@@ -34,7 +34,7 @@ fn root_of(manifest: &Manifest, p: PartitionId) -> Option<u32>
 /// What an entry is, with pool pages in place of the addresses of tables.
 fn slot_in(manifest: &Manifest, entry: Entry) -> Slot
     ensures same { result ≡ slot_from (layout_of manifest.now) entry }
-    ensures inside { (j : ℕ) → result ≡ Next j → j < page_count (quotas_of manifest.now.partitions) }
+    ensures inside { (j : ℕ) → result ≡ Next j → j < (layout_of manifest.now).pages }
 {
     match entry {
         Entry::Invalid => Slot::Empty,
@@ -59,8 +59,9 @@ fn image_slot(manifest: &Manifest, image: &Image, level: u8, table: u32, index: 
     requires most { level ≤ 3 }
     requires table { table < image.now.pages }
     requires index { index < 512 }
-    ensures same { result ≡ slots.slot (layout_of manifest.now) level (words_of image.now.words table index) }
-    ensures inside { (j : ℕ) → result ≡ Next j → j < page_count (quotas_of manifest.now.partitions) }
+    ensures same { let word = words_of image.now.words table index in
+        result ≡ slots.slot (layout_of manifest.now) level word }
+    ensures inside { (j : ℕ) → result ≡ Next j → j < (layout_of manifest.now).pages }
 {
     slot_in(manifest, read_entry(level, image.word(table, index)))
 }

@@ -18,7 +18,8 @@ pub(crate) struct Span {
 pub(crate) fn gigabyte_span(runs: &[Run]) -> Span
     ensures ordered { result.first ≤ result.end }
     ensures most { result.end ≤ 512 }
-    ensures within { (n : ℕ) → covers runs.now n ≡ true → (result.first ≤ n / 512 / 512) × (n / 512 / 512 < result.end) }
+    ensures within { (n : ℕ) → covers runs.now n ≡ true
+        → (result.first ≤ n / 512 / 512) × (n / 512 / 512 < result.end) }
 {
     let mut first = 512;
     let mut end = 0;
@@ -37,7 +38,8 @@ pub(crate) fn chunk_span(runs: &[Run], gigabyte: u32) -> Span
     requires { gigabyte < 512 }
     ensures ordered { result.first ≤ result.end }
     ensures most { result.end ≤ 512 }
-    ensures within { (x : ℕ) → x < 512 → touches_chunk (512 * gigabyte + x) runs.now ≡ true → (result.first ≤ x) × (x < result.end) }
+    ensures within { (x : ℕ) → x < 512 → touches_chunk (512 * gigabyte + x) runs.now ≡ true
+        → (result.first ≤ x) × (x < result.end) }
 {
     let start = 512 * gigabyte;
     let mut first = 512;

@@ -1,10 +1,6 @@
 use Rattle.std.proofs.Common.{ap, refl, ◌∙◌}
 use Rattle.rules.specs.Rule.{Edit}
-use Rattle.spm.proofs.QuotaLemmas.{rooted}
 use Rattle.spm.proofs.commit.edit_fits.Goals as goal
-
-pub grow-grown-requires : goal.grow-grown-requires
-grow-grown-requires g c = record { root = rooted c.args.manifest.now c.args.tables.now c.args.p c.requires.layout c.requires.known }
 
 pub returns : goal.returns
 returns g c =

@@ -1,31 +1,34 @@
-use Rattle.std.proofs.Common.{◌+◌, ◌*◌, ◌<◌, not, is_some, ◌&&◌, sym, ap, subst, ◌∙◌}
-use Rattle.base.specs.Manifest.{page_count}
+use Rattle.std.proofs.Common.{ℕ, ◌+◌, ◌*◌, not, is_some, ◌&&◌, sym, ap, ◌∙◌}
+use Rattle.base.specs.Access.{View}
 use Rattle.pool.specs.Pool.{pages_of}
-use Rattle.pool.proofs.Shares.{share_inside}
 use Rattle.stage2.specs.Slot.{Slot}
-use Rattle.stage2.specs.Walk.{next_page, Gigabyte}
+use Rattle.stage2.specs.Walk.{next_page}
 use Rattle.base.specs.Need.{is_mixed}
-use Rattle.stage2.specs.Orderly.{answers}
-use Rattle.stage2.specs.Chunks.{edited, answers_at}
+use Rattle.stage2.specs.Chunks.{edited, answers_at, answers_of}
 use Rattle.stage2.proofs.Underway.{untouched}
-use Rattle.stage2.proofs.Growing.{grows-entry, grows-nothing}
+use Rattle.stage2.proofs.Growing.{grows-entry, grows-nothing, second-inside}
+use Rattle.stage2.proofs.PartRuns.{chunk-covers, chunk-touches, chunk-mixed}
 use Rattle.stage2.proofs.grow.takes.Goals as goal
 
 pub entry_at-entry-requires-clause-table : goal.entry_at-entry-requires-clause-table
 entry_at-entry-requires-clause-table g c = λ j e.
     let m = pages_of (g.M.TableMem.state c.args.memory.now).memory in
-    let inside : j < page_count m.quotas = share_inside m.quotas c.args.row j (c.requires.canonical.orderly.owned (Gigabyte c.args.row c.args.gigabyte) j (c.requires.partition, c.requires.gigabyte) (c.requires.table ∙ e)) in
-    subst (λ x. j < x) (sym c.requires.canonical.orderly.pages) inside
+    second-inside c.args.layout.now m c.requires.canonical c.args.gigabyte c.requires.gigabyte c.args.row c.requires.partition j (c.requires.table ∙ e)
 
 pub returns : goal.returns
 returns g c =
     let m = pages_of (g.M.TableMem.state c.args.memory.now).memory in
+    let part = c.chunk_runs-part.result.now in
+    let chunk = 512 * c.args.gigabyte + c.args.index in
+    let before : ℕ → View = answers_of c.args.layout.now m.words c.args.row in
     c.grows.ensures
-    ∙ ap (λ (s : Slot). is_mixed (edited c.args.runs.now c.args.access.now (answers_at c.args.layout.now m.words s)) (512 * c.args.gigabyte + c.args.index) && not (is_some (next_page s))) c.entry_at-entry.ensures.same
-    ∙ grows-entry c.args.layout.now c.args.row c.args.gigabyte m c.requires.canonical c.requires.partition c.requires.gigabyte c.args.runs.now c.args.access.now c.args.second.now c.args.index c.requires.index c.requires.table
+    ∙ ap (λ (s : Slot). is_mixed (edited part c.args.access.now (answers_at c.args.layout.now m.words s)) chunk && not (is_some (next_page s))) c.entry_at-entry.ensures.same
+    ∙ grows-entry c.args.layout.now m c.requires.canonical c.args.gigabyte c.requires.gigabyte c.args.row c.requires.partition part c.args.access.now c.args.second.now c.args.index c.requires.index c.requires.table
+    ∙ ap (λ b. b && not (is_mixed before chunk)) (chunk-mixed chunk c.args.runs.now part c.args.access.now (chunk-covers chunk c.args.runs.now part c.chunk_runs-part.ensures) before)
 
 pub returns-then-not-touches : goal.returns-then-not-touches
 returns-then-not-touches g c =
     let m = pages_of (g.M.TableMem.state c.args.memory.now).memory in
-    sym (grows-nothing c.args.runs.now c.args.access.now (answers c.args.layout.now m.words c.args.row) (512 * c.args.gigabyte + c.args.index)
-    (λ n at. untouched (512 * c.args.gigabyte + c.args.index) c.args.runs.now n (sym c.touches.ensures ∙ c.if-not-touches.true) at))
+    let chunk = 512 * c.args.gigabyte + c.args.index in
+    sym (grows-nothing c.args.runs.now c.args.access.now (answers_of c.args.layout.now m.words c.args.row) chunk
+    (λ n at. untouched chunk c.args.runs.now n (sym (chunk-touches chunk c.args.runs.now c.chunk_runs-part.result.now c.chunk_runs-part.ensures) ∙ sym c.touches.ensures ∙ c.if-not-touches.true) at))

@@ -1,4 +1,4 @@
-use Rattle.std.proofs.Common.{◌≡◌, ℕ, ◌+◌, ◌-◌, ◌≤◌, subst, inl, inr, arith}
+use Rattle.std.proofs.Common.{◌≡◌, ℕ, ◌+◌, ◌-◌, ◌≤◌, sym, subst, ◌∙◌, inl, inr, arith}
 use Rattle.pool.specs.Pool.{pages_of}
 use Rattle.base.specs.Access.{View}
 use Rattle.stage2.specs.Orderly.{answers}
@@ -8,6 +8,7 @@ use Rattle.stage2.specs.Gigabytes.{sum_below, gigabyte_operations}
 use Rattle.stage2.proofs.Underway.{sum_below-more, sum_below-up}
 use Rattle.stage2.proofs.Rowing.{past-none, past-fits, past-skip, past-edit, past-all}
 use Rattle.stage2.proofs.RunSpans.{AreUncovered, PastAt, past-gap, cross-gap, outside-gigabytes}
+use Rattle.stage2.proofs.PartRuns.{gigabyte-covers, gigabyte-operations, gigabyte-fits, gigabyte-edits, gigabyte-free, gigabyte-stays}
 use Rattle.stage2.proofs.Clearing.{stays-none}
 use Rattle.stage2.specs.Walk.{walked}
 use Rattle.stage2.proofs.row.edit_row.Goals as goal
@@ -15,8 +16,9 @@ use Rattle.stage2.proofs.row.edit_row.Goals.{then-touches, else-touches}
 
 pub edit_gigabyte-requires-clause-free : goal.edit_gigabyte-requires-clause-free
 edit_gigabyte-requires-clause-free g c =
-    past-fits c.args.layout.now c.args.row c.args.runs.now c.args.access.now (pages_of (g.M.TableMem.state c.args.memory.now).memory) c.requires.partition
-    c.loop-gigabyte.gigabyte (omega (arith, c.loop-gigabyte-test.true, c.gigabyte_span-span.ensures.most)) (pages_of (g.M.TableMem.state c.loop-gigabyte.memory).memory) c.loop-gigabyte.invariant.past c.requires.canonical c.requires.free
+    gigabyte-fits c.args.layout.now c.args.row c.loop-gigabyte.gigabyte c.args.runs.now c.gigabyte_runs-part.result.now c.args.access.now c.gigabyte_runs-part.ensures.same (pages_of (g.M.TableMem.state c.loop-gigabyte.memory).memory)
+    (past-fits c.args.layout.now c.args.row c.args.runs.now c.args.access.now (pages_of (g.M.TableMem.state c.args.memory.now).memory) c.requires.partition
+    c.loop-gigabyte.gigabyte (omega (arith, c.loop-gigabyte-test.true, c.gigabyte_span-span.ensures.most)) (pages_of (g.M.TableMem.state c.loop-gigabyte.memory).memory) c.loop-gigabyte.invariant.past c.requires.canonical c.requires.free)
 
 pub edit_gigabyte-requires-clause-room : goal.edit_gigabyte-requires-clause-room
 edit_gigabyte-requires-clause-room g c =
@@ -25,10 +27,11 @@ edit_gigabyte-requires-clause-room g c =
     let up = sum_below-up f (c.loop-gigabyte.gigabyte + 1) 512 (omega (arith, c.loop-gigabyte-test.true, c.gigabyte_span-span.ensures.most)) in
     let room : g.M.TableMem.room c.args.memory.now ≤ g.M.TableMem.room c.loop-gigabyte.memory + sum_below f c.loop-gigabyte.gigabyte = c.loop-gigabyte.invariant.room in
     let all : sum_below f 512 ≤ g.M.TableMem.room c.args.memory.now = c.requires.room in
-    enough (g.M.TableMem.room c.args.memory.now) (g.M.TableMem.room c.loop-gigabyte.memory) (f c.loop-gigabyte.gigabyte) (sum_below f c.loop-gigabyte.gigabyte) (sum_below f (c.loop-gigabyte.gigabyte + 1)) (sum_below f 512) more up room all
+    let part = gigabyte-operations c.loop-gigabyte.gigabyte c.args.runs.now c.gigabyte_runs-part.result.now c.gigabyte_runs-part.ensures.same in
+    enough (g.M.TableMem.room c.args.memory.now) (g.M.TableMem.room c.loop-gigabyte.memory) (gigabyte_operations c.gigabyte_runs-part.result.now c.loop-gigabyte.gigabyte) (f c.loop-gigabyte.gigabyte) part (sum_below f c.loop-gigabyte.gigabyte) (sum_below f (c.loop-gigabyte.gigabyte + 1)) (sum_below f 512) more up room all
   where
-    enough : (r0 r one before next all : ℕ) → next ≡ one + before → next ≤ all → r0 ≤ r + before → all ≤ r0 → one ≤ r
-    enough r0 r one before next all a b c d = omega arith
+    enough : (r0 r part one : ℕ) → part ≡ one → (before next all : ℕ) → next ≡ one + before → next ≤ all → r0 ≤ r + before → all ≤ r0 → part ≤ r
+    enough r0 r part one e before next all a b c d = omega arith
 
 pub loop-gigabyte-preserved : goal.loop-gigabyte-preserved
 loop-gigabyte-preserved g c =
@@ -40,26 +43,33 @@ loop-gigabyte-preserved g c =
     let i = c.loop-gigabyte.gigabyte in
     let r0 = g.M.TableMem.room c.args.memory.now in
     let r1 = g.M.TableMem.room c.loop-gigabyte.memory in
+    let part = c.gigabyte_runs-part.result.now in
+    let is = c.gigabyte_runs-part.ensures.same in
+    let v : ℕ → View = answers c.args.layout.now mid.words c.args.row in
     elim c.if-touches.branch [
       | then-touches w ↦ rw w.memory-is (record {
         past = past-edit c.args.layout.now c.args.row c.args.runs.now c.args.access.now old c.requires.partition i (omega (arith, c.loop-gigabyte-test.true, c.gigabyte_span-span.ensures.most)) mid c.loop-gigabyte.invariant.past
-            (pages_of (g.M.TableMem.state w.edit_gigabyte.new.memory).memory) w.edit_gigabyte.ensures.edits;
+            (pages_of (g.M.TableMem.state w.edit_gigabyte.new.memory).memory)
+            (gigabyte-edits c.args.layout.now c.args.row i c.args.runs.now part c.args.access.now is mid (pages_of (g.M.TableMem.state w.edit_gigabyte.new.memory).memory) w.edit_gigabyte.ensures.edits);
         in_step = λ free. cross-edit c.args.layout.now c.args.row c.args.runs.now c.args.access.now old c.requires.partition i (omega (arith, c.loop-gigabyte-test.true, c.gigabyte_span-span.ensures.most)) mid c.loop-gigabyte.invariant.past
             (g.M.TableMem.state c.args.memory.now) (g.M.TableMem.state c.loop-gigabyte.memory) (g.M.TableMem.state w.edit_gigabyte.new.memory) (c.loop-gigabyte.invariant.in_step free)
-            (w.edit_gigabyte.ensures.in_step (cross-free c.args.layout.now c.args.row c.args.runs.now c.args.access.now old c.requires.partition i (omega (arith, c.loop-gigabyte-test.true, c.gigabyte_span-span.ensures.most)) mid c.loop-gigabyte.invariant.past free));
-        room = less r0 r1 (g.M.TableMem.room w.edit_gigabyte.new.memory) (f i) (sum_below f i) (sum_below f (i + 1)) more c.loop-gigabyte.invariant.room w.edit_gigabyte.ensures.room;
+            (gigabyte-stays c.args.layout.now c.args.row i c.args.runs.now part c.args.access.now is v (g.M.TableMem.state c.loop-gigabyte.memory) (g.M.TableMem.state w.edit_gigabyte.new.memory)
+            (w.edit_gigabyte.ensures.in_step
+            (gigabyte-free c.args.layout.now c.args.row i c.args.runs.now part c.args.access.now is v
+            (cross-free c.args.layout.now c.args.row c.args.runs.now c.args.access.now old c.requires.partition i (omega (arith, c.loop-gigabyte-test.true, c.gigabyte_span-span.ensures.most)) mid c.loop-gigabyte.invariant.past free))));
+        room = less r0 r1 (g.M.TableMem.room w.edit_gigabyte.new.memory) (gigabyte_operations part i) (f i) (gigabyte-operations i c.args.runs.now part is) (sum_below f i) (sum_below f (i + 1)) more c.loop-gigabyte.invariant.room w.edit_gigabyte.ensures.room;
       })
       | else-touches w ↦ rw w.memory-is (record {
         past = past-skip c.args.layout.now c.args.row c.args.runs.now c.args.access.now old c.requires.partition i (omega (arith, c.loop-gigabyte-test.true, c.gigabyte_span-span.ensures.most)) mid c.loop-gigabyte.invariant.past
-            (c.touches.ensures.no w.if-touches.false);
+            (λ n at. sym (gigabyte-covers i c.args.runs.now part is n at) ∙ c.touches.ensures.no w.if-touches.false n at);
         in_step = λ free. cross-skip c.args.layout.now c.args.row i c.args.runs.now (answers c.args.layout.now old.words c.args.row) (edited c.args.runs.now c.args.access.now (answers c.args.layout.now old.words c.args.row))
             (g.M.TableMem.state c.args.memory.now) (g.M.TableMem.state c.loop-gigabyte.memory) (c.loop-gigabyte.invariant.in_step free);
         room = same r0 r1 (sum_below f i) (sum_below f (i + 1)) up c.loop-gigabyte.invariant.room;
       })
     ]
   where
-    less : (r0 r r2 one before next : ℕ) → next ≡ one + before → r0 ≤ r + before → r ≤ r2 + one → r0 ≤ r2 + next
-    less r0 r r2 one before next a b c = omega arith
+    less : (r0 r r2 part one : ℕ) → part ≡ one → (before next : ℕ) → next ≡ one + before → r0 ≤ r + before → r ≤ r2 + part → r0 ≤ r2 + next
+    less r0 r r2 part one e before next a b c = omega arith
 
     same : (r0 r before next : ℕ) → before ≤ next → r0 ≤ r + before → r0 ≤ r + next
     same r0 r before next a b = omega arith

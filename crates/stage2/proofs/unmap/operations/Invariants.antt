@@ -1,9 +1,10 @@
-use Rattle.std.proofs.Common.{◌≡◌, ◌+◌, ◌*◌, ◌≤◌, take, sum_by}
+use Rattle.std.proofs.Common.{◌≡◌, ◌+◌, ◌*◌, take, sum_by}
 use Rattle.base.specs.Pages.{chunks_in}
+use Rattle.stage2.proofs.Normal.{IsCounted}
 use Rattle.stage2.proofs.unmap.operations.Given as goal
 
 abbrev pub invariant-loop-run : goal.invariant-loop-run
 invariant-loop-run l = record {
-  counted : l.operations ≡ 1024 + 516 * sum_by chunks_in (take l.run-index l.runs);
-  most : l.operations ≤ 1024 + 516 * 262144 * l.run-index;
+  operations : l.operations ≡ 1024 + 516 * sum_by chunks_in (take l.run-index l.runs);
+  counted : IsCounted l.runs l.run-index;
 }

@@ -1,17 +1,17 @@
-use Rattle.std.proofs.Common.{◌≡◌, ◌≤◌, false, Some, eqb, sym, ap, subst, ◌∙◌, position, length}
+use Rattle.std.proofs.Common.{◌≡◌, ◌≤◌, false, eqb, sym, ap, subst, ◌∙◌, position, length}
 use Rattle.stage2.specs.Tables.{TablesView, has_root, AreCanonical, Fits, edit_operations}
 use Rattle.stage2.proofs.Rows.{row-found}
-use Rattle.stage2.proofs.TablesLemmas.{view, are-canonical, IsEdited, edited-rooted, edited-rootless, found-none, fits-row, room-row, rootless-map}
-use Rattle.stage2.proofs.tables.Tables.map.Given.{Over}
-use Rattle.stage2.proofs.tables.Tables.map.Goals as goal
+use Rattle.stage2.proofs.TablesLemmas.{view, are-canonical, IsEdited, edited-rooted, edited-rootless, found-none, fits-row, room-row, rootless-edit}
+use Rattle.stage2.proofs.tables.Tables.edit.Given.{Over}
+use Rattle.stage2.proofs.tables.Tables.edit.Goals as goal
 
 pub edit_row-requires-clause-free : goal.edit_row-requires-clause-free
 edit_row-requires-clause-free g c =
     let layout = c.self.inside.layout in
     let row = row-found layout.ids c.args.p c.in-Some.row (sym c.row.ensures ∙ c.in-Some.is) in
     let m = c.self.inside.memory in
-    fits-row (view layout (g.M.TableMem.state m) (g.M.TableMem.room m)) c.args.p c.in-Some.row c.args.runs.now (Some c.args.access) row
-    (subst (λ (t : TablesView). Fits c.args.p c.args.runs.now (Some c.args.access) t) (sym c.self.view_is) c.requires.fits)
+    fits-row (view layout (g.M.TableMem.state m) (g.M.TableMem.room m)) c.args.p c.in-Some.row c.args.runs.now c.args.access.now row
+    (subst (λ (t : TablesView). Fits c.args.p c.args.runs.now c.args.access.now t) (sym c.self.view_is) c.requires.fits)
 
 pub edit_row-requires-clause-room : goal.edit_row-requires-clause-room
 edit_row-requires-clause-room g c =
@@ -22,13 +22,13 @@ edit_row-requires-clause-room g c =
     (subst (λ (t : TablesView). edit_operations c.args.p c.args.runs.now t ≤ t.room) (sym c.self.view_is) c.requires.ready)
 
 -- the edit, where the partition has a root
-edit : (g : Over) (c : goal.After-edit_row g) → IsEdited c.args.p c.args.runs.now (Some c.args.access) c.args.self.now (view c.self.inside.layout (g.M.TableMem.state c.edit_row.new.memory) (g.M.TableMem.room c.edit_row.new.memory))
+edit : (g : Over) (c : goal.After-edit_row g) → IsEdited c.args.p c.args.runs.now c.args.access.now c.args.self.now (view c.self.inside.layout (g.M.TableMem.state c.edit_row.new.memory) (g.M.TableMem.room c.edit_row.new.memory))
 edit g c =
     let layout = c.self.inside.layout in
     let new = c.edit_row.new.memory in
     let row = row-found layout.ids c.args.p c.in-Some.row (sym c.row.ensures ∙ c.in-Some.is) in
-    subst (λ (t : TablesView). IsEdited c.args.p c.args.runs.now (Some c.args.access) t (view layout (g.M.TableMem.state new) (g.M.TableMem.room new))) c.self.view_is
-    (edited-rooted layout (g.M.TableMem.state c.self.inside.memory) (g.M.TableMem.state new) (g.M.TableMem.room c.self.inside.memory) (g.M.TableMem.room new) c.args.p c.in-Some.row c.args.runs.now (Some c.args.access)
+    subst (λ (t : TablesView). IsEdited c.args.p c.args.runs.now c.args.access.now t (view layout (g.M.TableMem.state new) (g.M.TableMem.room new))) c.self.view_is
+    (edited-rooted layout (g.M.TableMem.state c.self.inside.memory) (g.M.TableMem.state new) (g.M.TableMem.room c.self.inside.memory) (g.M.TableMem.room new) c.args.p c.in-Some.row c.args.runs.now c.args.access.now
     row c.self.invariant c.edit_row.ensures.edits c.edit_row.ensures.in_step c.edit_row.ensures.room)
 
 pub returns-in-Some-clause-walks : goal.returns-in-Some-clause-walks
@@ -49,13 +49,13 @@ returns-in-Some-clause-canonical g c =
     are-canonical (view c.self.inside.layout (g.M.TableMem.state new) (g.M.TableMem.room new)) c.edit_row.ensures.edits.canonical (g.met.M.TableMem.free_is_zero new)
 
 -- and where it has none
-no-edit : (g : Over) (c : goal.In_default g) → IsEdited c.args.p c.args.runs.now (Some c.args.access) c.args.self.now c.args.self.now
+no-edit : (g : Over) (c : goal.In_default g) → IsEdited c.args.p c.args.runs.now c.args.access.now c.args.self.now c.args.self.now
 no-edit g c =
     let none = ap (λ (x : TablesView). position (λ id. eqb id c.args.p) x.layout.ids) (sym c.self.view_is) ∙ sym c.row.ensures ∙ c.in_default.is in
     let root : has_root c.args.self.now c.args.p ≡ false = found-none c.args.self.now.layout.ids c.args.p none in
     let rows : length c.args.self.now.layout.ids ≡ length c.args.self.now.pool.memory.quotas = subst (λ (t : TablesView). length t.layout.ids ≡ length t.pool.memory.quotas) c.self.view_is c.self.invariant.orderly.rows in
-    edited-rootless c.args.self.now c.args.p c.args.runs.now (Some c.args.access) root
-    (λ n small covered. let apart = rootless-map c.args.self.now c.args.p n c.args.runs.now c.args.access rows root c.requires.fits small in absurd (cc))
+    edited-rootless c.args.self.now c.args.p c.args.runs.now c.args.access.now root
+    (rootless-edit c.args.self.now c.args.p c.args.runs.now c.args.access.now rows root c.requires.fits)
 
 pub returns-in_default-clause-walks : goal.returns-in_default-clause-walks
 returns-in_default-clause-walks g c = (no-edit g c).walks

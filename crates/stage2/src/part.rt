@@ -1,0 +1,38 @@
+//! The runs that an edit of one gigabyte, or of one chunk, looks at.
+
+ghost use Rattle.std.specs.Prelude.{◌≡◌, ℕ, ◌<◌, ◌≤◌, true};
+ghost use Rattle.base.specs.Pages.{are_normal};
+ghost use Rattle.stage2.specs.Parts as parts;
+
+use base::Run;
+
+/// Those of the runs that have a page from one up to another.
+fn runs_between(runs: &[Run], first: u32, end: u32) -> &[Run]
+    requires { are_normal runs.now ≡ true }
+    ensures same { result.now ≡ parts.runs_between first end runs.now }
+    ensures normal { are_normal result.now ≡ true }
+{
+    let before = runs.partition_point(|run| run.end() <= first);
+    let rest = &runs[before..];
+    let count = rest.partition_point(|run| run.first().number() < end);
+    &rest[..count]
+}
+
+/// Those of the runs that have a page in a chunk.
+pub(crate) fn chunk_runs(runs: &[Run], chunk: u32) -> &[Run]
+    requires normal { are_normal runs.now ≡ true }
+    requires chunk { chunk < 262144 }
+    ensures { result.now ≡ parts.chunk_runs chunk runs.now }
+{
+    runs_between(runs, 512 * chunk, 512 * chunk + 512)
+}
+
+/// Those of the runs that have a page in a gigabyte.
+pub(crate) fn gigabyte_runs(runs: &[Run], gigabyte: u32) -> &[Run]
+    requires normal { are_normal runs.now ≡ true }
+    requires gigabyte { gigabyte < 512 }
+    ensures same { result.now ≡ parts.gigabyte_runs gigabyte runs.now }
+    ensures normal { are_normal result.now ≡ true }
+{
+    runs_between(runs, 262144 * gigabyte, 262144 * gigabyte + 262144)
+}
