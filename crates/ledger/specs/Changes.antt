@@ -4,6 +4,7 @@ use Rattle.base.specs.declared.transaction.Kind.{Kind}
 use Rattle.base.specs.declared.transaction.Kind.TheVariants.{Share, Lend, Donate}
 use Rattle.base.specs.Access.{Access, View}
 use Rattle.base.specs.Transactions.{Receiver, Live, Donation}
+pub use Rattle.base.specs.Transactions.{without}
 
 -- what one of the receivers has retrieved is this now
 abbrev pub with_retrieved : ℕ → View → List Receiver → List Receiver
@@ -18,11 +19,6 @@ with_retrieval p view t = record t { receivers = with_retrieved p view t.receive
 abbrev pub with_retrieval_of : ℕ → ℕ → View → List Live → List Live
 with_retrieval_of h p view [] = []
 with_retrieval_of h p view (t ∷ ts) = if t.handle == h then with_retrieval p view t ∷ ts else t ∷ with_retrieval_of h p view ts
-
--- these without the transaction of a handle
-abbrev pub without : ℕ → List Live → List Live
-without h [] = []
-without h (t ∷ ts) = if t.handle == h then ts else t ∷ without h ts
 
 -- the donation by which a retrieval ends the transaction
 abbrev pub completed : ℕ → Access → Live → Donation

@@ -1,6 +1,7 @@
 -- A live transaction ends: the others stay, and none covers its pages any more.
 use Rattle.std.proofs.Common.{◌≡◌, ◌≢◌, ℕ, Bool, true, false, ◌&&◌, cond, eqb, List, [], ◌∷◌, Option, Some, None, is_some, refl, sym, ap, ◌∙◌, find}
 use Rattle.std.specs.List.{AllByRecursion}
+use Rattle.std.specs.Option.{option_and_then}
 use Rattle.std.proofs.lemmas.Bool.{eqb-true}
 use Rattle.base.specs.Pages.{covers}
 use Rattle.base.specs.Transactions.{Live, without}
@@ -43,6 +44,26 @@ found_first (u ∷ us) h p t others e =
       ] k
       | false ↦ λ is k. found_first us h p t others.1 k
     ] refl e
+
+none_other : (ts : List Live) (h p : ℕ) (u : Live) → AllByRecursion (λ v. u.handle ≢ v.handle) ts → u.handle ≡ h → find (λ v. eqb v.handle h && eqb v.sender p) ts ≡ None
+none_other [] h p u others is = refl
+none_other (v ∷ vs) h p u others is =
+    elim (eqb v.handle h) as (λ b. eqb v.handle h ≡ b → cond (b && eqb v.sender p) (Some v) (find (λ w. eqb w.handle h && eqb w.sender p) vs) ≡ None) [
+      | true ↦ λ e. absurd (others.0 (is ∙ sym (eqb-true _ _ e)))
+      | false ↦ λ e. none_other vs h p u others.1 is
+    ] refl
+
+-- so the sender of the one with the handle decides
+pub found_of : (ts : List Live) (h p : ℕ) → HaveOtherHandles ts → find (λ u. eqb u.handle h && eqb u.sender p) ts ≡ option_and_then (λ u. cond (eqb u.sender p) (Some u) None) (find (λ u. eqb u.handle h) ts)
+found_of [] h p others = refl
+found_of (u ∷ us) h p others =
+    elim (eqb u.handle h) as (λ b. eqb u.handle h ≡ b → cond (b && eqb u.sender p) (Some u) (find (λ v. eqb v.handle h && eqb v.sender p) us) ≡ option_and_then (λ v. cond (eqb v.sender p) (Some v) None) (cond b (Some u) (find (λ v. eqb v.handle h) us))) [
+      | true ↦ λ e. elim (eqb u.sender p) as (λ b. cond b (Some u) (find (λ v. eqb v.handle h && eqb v.sender p) us) ≡ cond b (Some u) None) [
+        | true ↦ refl
+        | false ↦ none_other us h p u others.0 (eqb-true _ _ e)
+      ]
+      | false ↦ λ e. found_of us h p others.1
+    ] refl
 
 -- ---- the others stay
 

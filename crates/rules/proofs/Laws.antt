@@ -7,4 +7,4 @@ pub mod BuffersApart
 pub mod Writers
 pub mod OwnBuffers
 pub mod Isolation
-pub mod SentHomes
+pub mod SentPages

@@ -5,4 +5,4 @@ pub mod Handles
 pub mod BuffersApart
 pub mod Writers
 pub mod Isolation
-pub mod SentHomes
+pub mod SentPages

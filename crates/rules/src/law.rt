@@ -3,7 +3,7 @@ ghost use Rattle.rules.specs.Laws.Handles.{AreHandlesUsedOnce};
 ghost use Rattle.rules.specs.Laws.BuffersApart.{AreBuffersApart};
 ghost use Rattle.rules.specs.Laws.Writers.{AreWritersAllowed};
 ghost use Rattle.rules.specs.Laws.Isolation.{AreAlikeTo, IsIsolated, transactions_of};
-ghost use Rattle.rules.specs.Laws.SentHomes.{AreHomesKept};
+ghost use Rattle.rules.specs.Laws.SentPages.{AreTransactionsKept};
 ghost use Rattle.rules.specs.Laws.EditsTheView.{Passes, EditsTheView};
 ghost use Rattle.rules.specs.Call.{CallWords};
 ghost use Rattle.rules.specs.Run.{IsReached, step};
@@ -37,9 +37,10 @@ pub fn buffers_are_apart()
 {}
 
 /// In every state that some list of calls reaches, the sender of a live transaction owns its pages,
-/// which lie in normal memory with one grant, and their home is that of the transaction.
-pub fn transactions_keep_their_homes()
-    ensures { (s : State) → IsReached s → AreHomesKept s }
+/// which lie in normal memory with one grant, and their home is that of the transaction. No two of its
+/// ranges share a page.
+pub fn transactions_keep_their_pages()
+    ensures { (s : State) → IsReached s → AreTransactionsKept s }
 {}
 
 /// In every state that some list of calls reaches, two partitions write a page only where the manifest

@@ -24,8 +24,8 @@ use Rattle.rules.specs.Laws.EditsTheView.{Passes}
 use Rattle.rules.proofs.Reached.{IsReached-start, IsReached-step, step_is, rule_is}
 use Rattle.rules.proofs.Laws.EditsTheView.{edits_the_view}
 use Rattle.rules.proofs.Laws.ManifestStays.{manifest_stays}
-use Rattle.spm.specs.Granted.{AreSameEdits, is_send_request}
-use Rattle.spm.specs.Machine.{IsConsistent, IsEditedBy, edited, MayNeedMemory}
+use Rattle.spm.specs.Granted.{AreSameEdits}
+use Rattle.spm.specs.Machine.{IsConsistent, IsEditedBy, edited, takes_memory, MayNeedMemory}
 
 -- before any call each partition reaches what the manifest grants it
 pub boot_kept : (m : ManifestRows) (s : State) (layout : Layout) (pool : Pool) → IsTrue (is_valid m) → s ≡ start m → layout ≡ layout_of m → Agrees layout (words_of pool.memory.words) (grant m) → IsConsistent s layout pool
@@ -63,7 +63,7 @@ change_kept s c r layout old new edit t is k same by next kept =
             ∙ by.walks p n small
             ∙ ap (edited edit p n) (ap (λ l. translation l (words_of old.memory.words) p n) kept.layout_of_manifest ∙ kept.agrees.walks p n small)
             ∙ edited_view rule.edit edit (sees s) p n same
-            ∙ ap (walked n) (sym ((edits_the_view s c r k).views p n))
+            ∙ ap (walked n) (sym ((edits_the_view s c r kept.reached k).views p n))
             ∙ ap (λ (u : State). walked n (sees u p n)) (sym next);
       };
       reached = subst IsReached (step_is s c r k ∙ sym next) (IsReached-step s c is kept.reached);
@@ -73,19 +73,10 @@ change_kept s c r layout old new edit t is k same by next kept =
 pub not_edited : (layout : Layout) (old new : Pool) → new ≡ old → IsEditedBy None layout old new
 not_edited layout old new same = record { walks = λ p n small. ap (λ (pool : Pool). translation layout (words_of pool.memory.words) p n) same }
 
--- a request that may need memory is a send
-pub may_need : (s : State) (c : CallWords) (r : Request) → is_partition s.manifest c.caller ≡ true → request_of c.regs ≡ Some r → first_refusal (rule_of s c r).tests ≡ None → is_send_request r ≡ true → MayNeedMemory s c
+-- a request that takes memory
+pub may_need : (s : State) (c : CallWords) (r : Request) → is_partition s.manifest c.caller ≡ true → request_of c.regs ≡ Some r → first_refusal (rule_of s c r).tests ≡ None → takes_memory r ≡ true → MayNeedMemory s c
 unfolding refusal
-may_need s c (Send kind t) known named passed e = record { kind = kind; transfer = t; sends = named; passes = passed }
-may_need s c (Version word) known named passed e = absurd cc
-may_need s c (Features identifier) known named passed e = absurd cc
-may_need s c RxRelease known named passed e = absurd cc
-may_need s c (RxtxMap tx rx count) known named passed e = absurd cc
-may_need s c (RxtxUnmap word) known named passed e = absurd cc
-may_need s c IdGet known named passed e = absurd cc
-may_need s c (Retrieve t) known named passed e = absurd cc
-may_need s c Relinquish known named passed e = absurd cc
-may_need s c (Reclaim handle flags) known named passed e = absurd cc
+may_need s c r known named passed e = record { request = r; named = named; takes = e; passes = passed }
 
 -- the commit of such a change: where memory is wanting, nothing changes
 pub commit_kept : {A B : Type 0} (result : Result A B) (s t : State) (c : CallWords) (r : Request) (layout after : Layout) (old new : Pool) (edit : Option Edit) (next : State)

@@ -1,6 +1,7 @@
 mod Rows
 mod SegmentLemmas
 mod OpenLemmas
+mod ReclaimLemmas
 mod QuotaLemmas
 mod ShownLemmas
 mod ConsistencyLemmas

@@ -14,7 +14,7 @@ use Rattle.stage2.proofs.Seen.{moments-none}
 use Rattle.wire.specs.declared.request.Request.{Request}
 use Rattle.rules.specs.Call.{CallWords}
 use Rattle.rules.specs.Rule.{Edit, with_edit}
-use Rattle.rules.specs.Run.{rule_of}
+use Rattle.rules.specs.Run.{rule_of, IsReached}
 use Rattle.rules.specs.Laws.EditsTheView.{Passes, AreNotReached}
 use Rattle.rules.proofs.Laws.EditsTheView.{edits_the_view}
 use Rattle.spm.specs.Granted.{IsSameEdit, AreSameEdits}
@@ -69,11 +69,11 @@ edit-shown s t old new (Some a) (Some b) placed stays agrees after begun same fr
 -- the commit of a change that is granted
 pub commit-shown : {A B : Type 0} (result : Result A B) (s t next : State) (c : CallWords) (r : Request) (old new : TablesView) (edit : Option Edit)
     → old.layout ≡ layout_of s.manifest → layout_of t.manifest ≡ layout_of s.manifest → WalksAgree s old.pool → WalksAgree t new.pool → old.pool.operations ≡ []
-    → Passes s c r → AreSameEdits (rule_of s c r).edit edit → next ≡ (rule_of s c r).next
+    → IsReached s → Passes s c r → AreSameEdits (rule_of s c r).edit edit → next ≡ (rule_of s c r).next
     → OnOk result (t ≡ next) → OnOk result (ShowsEdit edit old new) → (edit ≡ None → new.pool ≡ old.pool) → OnErr result (t ≡ s) → OnErr result (new.pool ≡ old.pool)
     → Moments (layout_of s.manifest) old.pool new.pool (sees s) (sees t)
-commit-shown (Ok x) s t next c r old new edit placed stays agrees after begun k same is changed shown still err_state err_pool =
-    let law = edits_the_view s c r k in
+commit-shown (Ok x) s t next c r old new edit placed stays agrees after begun reached k same is changed shown still err_state err_pool =
+    let law = edits_the_view s c r reached k in
     edit-shown s t old new (rule_of s c r).edit edit placed stays agrees after begun same law.free (λ p n. ap (λ (u : State). sees u p n) (changed ∙ is) ∙ law.views p n) shown still
-commit-shown (Err x) s t next c r old new edit placed stays agrees after begun k same is changed shown still err_state err_pool =
+commit-shown (Err x) s t next c r old new edit placed stays agrees after begun reached k same is changed shown still err_state err_pool =
     still-shown s t old.pool new.pool agrees after stays begun err_pool

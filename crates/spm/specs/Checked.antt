@@ -1,13 +1,15 @@
--- What the tests of a send find.
-use Rattle.std.specs.Prelude.{◌≡◌, ◌-◌, ◌<◌, ◌^◌, Some, None}
+-- What the tests of a send and of a reclaim find.
+use Rattle.std.specs.Prelude.{◌≡◌, ℕ, ◌-◌, ◌<◌, ◌^◌, Some, None}
 use Rattle.base.specs.declared.transaction.Kind.{Kind}
 use Rattle.base.specs.Access.{Access}
 use Rattle.base.specs.Descriptors.Send as descriptor
-use Rattle.base.specs.Refusals.{first_refusal}
+use Rattle.base.specs.Refusals.{first_refusal, NoneRefuses}
+use Rattle.base.specs.Transactions.{Live}
 use Rattle.base.specs.State.{State, sends_of, common_home}
 use Rattle.wire.specs.declared.request.Transfer.{Transfer}
 use Rattle.rules.specs.Call.{CallWords}
 use Rattle.rules.specs.Calls.Send.{send_tests, sent}
+use Rattle.rules.specs.Calls.Reclaim.{reclaim_tests, sent_with}
 
 -- the tests pass, and this is what the descriptor says, and the home of its pages
 pub record IsChecked (s : State) (c : CallWords) (kind : Kind) (t : Transfer) (desc : descriptor.Send) (home : Access) : Type 0 where
@@ -15,3 +17,8 @@ pub record IsChecked (s : State) (c : CallWords) (kind : Kind) (t : Transfer) (d
   pub said : desc ≡ sent s c t
   pub common : common_home s c.caller desc.ranges ≡ Some home
   pub room : sends_of s.partitions c.caller < 2 ^ 32 - 1
+
+-- the tests of a reclaim pass, and this is the transaction
+pub record IsReclaimed (s : State) (p handle flags : ℕ) (t : Live) : Type 0 where
+  pub passed : NoneRefuses (reclaim_tests s p handle flags)
+  pub found : sent_with s p handle ≡ Some t

@@ -8,7 +8,6 @@ use Rattle.base.specs.Ledger.{live_at}
 use Rattle.base.specs.State.{State, sends_of}
 use Rattle.ledger.specs.Ledger.{found}
 use Rattle.wire.specs.declared.request.Request.{Request}
-use Rattle.wire.specs.declared.request.Request.TheVariants.{Version, Features, RxRelease, RxtxMap, RxtxUnmap, IdGet, Send, Retrieve, Relinquish, Reclaim}
 use Rattle.base.specs.Manifest.{is_partition}
 use Rattle.wire.specs.Requests.{request_of}
 use Rattle.rules.specs.Call.{CallWords}
@@ -17,10 +16,12 @@ use Rattle.rules.specs.Run.{rule_of}
 use Rattle.rules.specs.Calls.Version.{with_version}
 use Rattle.rules.specs.Calls.Buffers.{with_pair, with_rx_released}
 use Rattle.rules.specs.Calls.Send.{with_transaction}
+use Rattle.rules.specs.Calls.Reclaim.{ended}
 use Rattle.spm.specs.declared.change.Update.{Update}
-use Rattle.spm.specs.declared.change.Update.TheVariants.{Nothing, SetVersion, MapBuffers, UnmapBuffers, ReleaseRx, Open}
+use Rattle.spm.specs.declared.change.Update.TheVariants.{Nothing, SetVersion, MapBuffers, UnmapBuffers, ReleaseRx, Open, Close}
 use Rattle.spm.specs.declared.change.Change.{Change}
 use Rattle.spm.specs.declared.change.Stop.{Stop}
+use Rattle.spm.specs.Machine.{takes_memory}
 use Rattle.spm.specs.declared.change.Stop.TheVariants.{Refused, NoMemory}
 
 -- ---- the state
@@ -33,6 +34,7 @@ updated s p (MapBuffers pair) = with_pair s p (Some pair)
 updated s p UnmapBuffers = with_pair s p None
 updated s p ReleaseRx = with_rx_released s p
 updated s p (Open t) = with_transaction s t
+updated s p (Close handle) = ended s handle
 
 -- the transaction can be opened: its sender may make one send more, its handle is new, and no live transaction covers its pages
 pub record CanOpen (s : State) (t : Live) : Type 0 where
@@ -48,14 +50,17 @@ CanUpdate s p (MapBuffers pair) = Unit {0}
 CanUpdate s p UnmapBuffers = first_refusal (pairs.unmap_tests s.mailboxes p) ≡ None
 CanUpdate s p ReleaseRx = first_refusal (pairs.release_tests s.mailboxes p) ≡ None
 CanUpdate s p (Open t) = CanOpen s t
+CanUpdate s p (Close handle) = Unit {0}
 
-abbrev pub opens : Update → Bool
-opens Nothing = false
-opens (SetVersion word) = false
-opens (MapBuffers pair) = false
-opens UnmapBuffers = false
-opens ReleaseRx = false
-opens (Open t) = true
+-- the update takes memory
+abbrev pub needs_room : Update → Bool
+needs_room Nothing = false
+needs_room (SetVersion word) = false
+needs_room (MapBuffers pair) = false
+needs_room UnmapBuffers = false
+needs_room ReleaseRx = false
+needs_room (Open t) = true
+needs_room (Close handle) = true
 
 -- ---- the tables
 
@@ -83,20 +88,8 @@ AreSameEdits (Some a) (Some b) = IsSameEdit a b
 -- ---- the change
 
 -- making the change takes memory
-abbrev pub takes_memory : Change → Bool
-takes_memory change = is_some change.edit || opens change.update
-
-abbrev pub is_send_request : Request → Bool
-is_send_request (Version word) = false
-is_send_request (Features identifier) = false
-is_send_request RxRelease = false
-is_send_request (RxtxMap tx rx count) = false
-is_send_request (RxtxUnmap word) = false
-is_send_request IdGet = false
-is_send_request (Send kind transfer) = true
-is_send_request (Retrieve transfer) = false
-is_send_request Relinquish = false
-is_send_request (Reclaim handle flags) = false
+abbrev pub wants_memory : Change → Bool
+wants_memory change = is_some change.edit || needs_room change.update
 
 -- the tests of a partition's request pass, and the change is its rule's
 pub record IsGranted (s : State) (p : ℕ) (rule : Rule) (memory : Bool) (change : Change) : Type 0 where
@@ -106,14 +99,14 @@ pub record IsGranted (s : State) (p : ℕ) (rule : Rule) (memory : Bool) (change
   pub next : updated s p change.update ≡ rule.next
   pub can : CanUpdate s p change.update
   pub reply : change.reply ≡ rule.reply
-  pub memory_taken : takes_memory change ≡ true → memory ≡ true
+  pub memory_taken : wants_memory change ≡ true → memory ≡ true
 
 -- the request of a partition that a call decodes to, and its change
 pub record IsGrantedCall (s : State) (c : CallWords) (change : Change) : Type 0 where
   pub request : Request
   pub known : is_partition s.manifest c.caller ≡ true
   pub named : request_of c.regs ≡ Some request
-  pub granted : IsGranted s c.caller (rule_of s c request) (is_send_request request) change
+  pub granted : IsGranted s c.caller (rule_of s c request) (takes_memory request) change
 
 -- the request is refused by its rule, or passes its tests and lacks memory
 abbrev pub IsStopped : Rule → Bool → Stop → Type 0

@@ -2,11 +2,13 @@
 
 ghost use Rattle.std.specs.Prelude.{IfOk, IfErr};
 ghost use Rattle.rules.specs.Run.{rule_of, IsReached};
-ghost use Rattle.spm.specs.Granted.{IsGranted, IsStopped, is_send_request};
+ghost use Rattle.spm.specs.Granted.{IsGranted, IsStopped};
+ghost use Rattle.spm.specs.Machine.{takes_memory};
 
 pub(crate) mod buffers;
 pub(crate) mod features;
 pub(crate) mod id_get;
+pub(crate) mod reclaim;
 pub(crate) mod send;
 pub(crate) mod version;
 
@@ -20,9 +22,9 @@ use wire::Request;
 pub(crate) fn check(state: &State, call: &Call, request: Request) -> Result<Change, Stop>
     requires { IsReached state.now }
     ensures granted { IfOk result (λ change. IsGranted state.now call.now.caller
-        (rule_of state.now call.now request) (is_send_request request) change) }
+        (rule_of state.now call.now request) (takes_memory request) change) }
     ensures stopped { IfErr result (λ stop. IsStopped
-        (rule_of state.now call.now request) (is_send_request request) stop) }
+        (rule_of state.now call.now request) (takes_memory request) stop) }
 {
     match request {
         Request::Version(word) => Ok(version::version(word)),
@@ -32,8 +34,7 @@ pub(crate) fn check(state: &State, call: &Call, request: Request) -> Result<Chan
         Request::RxtxUnmap(word) => buffers::unmap(state, call, word),
         Request::IdGet => Ok(id_get::id_get(call)),
         Request::Send(kind, transfer) => send::send(state, call, kind, transfer),
-        Request::Retrieve(_) | Request::Relinquish | Request::Reclaim { .. } => {
-            Err(Stop::Refused(Status::NotSupported))
-        }
+        Request::Reclaim { handle, flags } => reclaim::reclaim(state, call, handle, flags),
+        Request::Retrieve(_) | Request::Relinquish => Err(Stop::Refused(Status::NotSupported)),
     }
 }

@@ -2,7 +2,7 @@
 
 ghost use Rattle.std.specs.Prelude.{◌≡◌, None};
 
-use base::{Access, OutOfMemory, PartitionId, Run, Status};
+use base::{Access, Handle, OutOfMemory, PartitionId, Run, Status};
 use ledger::Live;
 use mailbox::Pair;
 use std::marker::Model;
@@ -40,6 +40,8 @@ pub(crate) enum Update {
     ReleaseRx,
     /// The partition sent this.
     Open(Live),
+    /// The transaction of this handle has ended.
+    Close(Handle),
 }
 
 /// What a call changes, and what it is answered. It has taken the memory that it needs but for the

@@ -5,10 +5,10 @@ ghost use Rattle.base.specs.Manifest.{is_partition};
 ghost use Rattle.base.specs.Pages.{are_normal};
 ghost use Rattle.stage2.specs.Slot.{layout_of};
 ghost use Rattle.stage2.specs.Tables.{Fits, ReachSo, ShowsMoments, edit_operations};
-ghost use Rattle.spm.specs.Granted.{updated, CanUpdate, opens, AreOrderly, IsOrderly, takes_memory};
+ghost use Rattle.spm.specs.Granted.{updated, CanUpdate, needs_room, AreOrderly, IsOrderly, wants_memory};
 ghost use Rattle.spm.specs.Machine.{IsEditedBy, ShowsEdit, fits_in};
 
-use crate::calls::{buffers, send, version};
+use crate::calls::{buffers, reclaim, send, version};
 use crate::change::{Change, Edit, Update};
 use crate::state::State;
 use base::{OutOfMemory, PartitionId};
@@ -73,7 +73,7 @@ pub(crate) fn commit<M: TableMem + Drop>(
     ensures moves_no_page { change.edit ≡ None → tables.new.pool ≡ tables.old.pool }
     ensures err_state { OnErr result (state.new ≡ state.old) }
     ensures err_pool { OnErr result (tables.new.pool ≡ tables.old.pool) }
-    ensures memory { OnErr result (takes_memory change ≡ true) }
+    ensures memory { OnErr result (wants_memory change ≡ true) }
 {
     let Change {
         edit,
@@ -128,12 +128,12 @@ fn edit_tables<M: TableMem + Drop>(tables: &mut Tables<M>, edit: Edit)
     }
 }
 
-/// Changes the state. Only opening a transaction takes memory.
+/// Changes the state. Only opening and ending a transaction take memory.
 fn apply(state: &mut State, p: PartitionId, update: Update) -> Result<(), OutOfMemory>
     requires { CanUpdate state.old p update }
     ensures ok { OnOk result (state.new ≡ updated state.old p update) }
     ensures err { OnErr result (state.new ≡ state.old) }
-    ensures memory { OnErr result (opens update ≡ true) }
+    ensures memory { OnErr result (needs_room update ≡ true) }
 {
     match update {
         Update::Nothing => {}
@@ -142,6 +142,7 @@ fn apply(state: &mut State, p: PartitionId, update: Update) -> Result<(), OutOfM
         Update::UnmapBuffers => buffers::unregister(state, p),
         Update::ReleaseRx => buffers::take_rx_back(state, p),
         Update::Open(transaction) => send::open(state, transaction)?,
+        Update::Close(handle) => reclaim::close(state, handle)?,
     }
     Ok(())
 }

@@ -155,8 +155,8 @@ impl<M: TableMem + Drop> Spm<M> {
         // Want of memory changes nothing,
         ensures err { OnErr result (self.new ≡ unchanged self.old) }
 
-        // and only a send that passes its tests meets it.
-        ensures only_sends_need_memory { OnErr result (MayNeedMemory self.old.state call.now) }
+        // and only a send or a reclaim that passes its tests meets it.
+        ensures memory_after_the_tests { OnErr result (MayNeedMemory self.old.state call.now) }
 
         // What walkers see at every write: the old translation, none, or the new one.
         ensures moments { ShowsCall self.old self.new }
@@ -183,7 +183,7 @@ impl<M: TableMem + Drop> Spm<M> {
         ensures refused { IsSome (rules.refusal self.old.state call.now) → self.new ≡ self.old }
         ensures moves_no_page { (rules.rule self.old.state call.now).edit ≡ None → self.new.pool ≡ self.old.pool }
         ensures err { OnErr result (self.new ≡ self.old) }
-        ensures only_sends_need_memory { OnErr result (MayNeedMemory self.old.state call.now) }
+        ensures memory_after_the_tests { OnErr result (MayNeedMemory self.old.state call.now) }
         ensures moments { ShowsCall self.old self.new }
         ensures agrees { WalksAgree self.new.state self.new.pool }
         ensures reached { rules.IsReached self.new.state }
@@ -204,7 +204,7 @@ impl<M: TableMem + Drop> Spm<M> {
         ensures refused { IsSome (rules.refusal self.old.state call.now) → self.new ≡ self.old }
         ensures moves_no_page { (rules.rule self.old.state call.now).edit ≡ None → self.new.pool ≡ self.old.pool }
         ensures err { OnErr result (self.new ≡ self.old) }
-        ensures only_sends_need_memory { OnErr result (MayNeedMemory self.old.state call.now) }
+        ensures memory_after_the_tests { OnErr result (MayNeedMemory self.old.state call.now) }
         ensures moments { ShowsCall self.old self.new }
         ensures agrees { WalksAgree self.new.state self.new.pool }
         ensures reached { rules.IsReached self.new.state }

@@ -23,13 +23,13 @@ use Rattle.rules.specs.Calls.Reclaim.{sent_with, is_given_back, returned, return
 use Rattle.rules.specs.Run.{rule_of, IsReached}
 use Rattle.rules.specs.Laws.EditsTheView.{Passes, AreNotReached, EditsTheView}
 use Rattle.rules.proofs.Calls.Send.{SendPasses, send_passes, next_is}
-use Rattle.rules.specs.Laws.SentHomes.{IsSentPage, AreSentPages}
+use Rattle.rules.specs.Laws.SentPages.{IsSentPage, AreSentPages}
 use Rattle.rules.proofs.Calls.Reclaim.{ReclaimPasses, reclaim_passes}
 use Rattle.rules.proofs.Ended.{found_in, found_first, covered_live, covered_ended, other_ended}
 use Rattle.rules.proofs.FreePages.{common_at, settled, eqb_sym}
 use Rattle.rules.proofs.Laws.Handles.{handles_used_once}
 use Rattle.rules.proofs.Laws.OneOwner.{owned_once}
-use Rattle.rules.proofs.Laws.SentHomes.{homes_kept}
+use Rattle.rules.proofs.Laws.SentPages.{transactions_kept}
 use Rattle.rules.proofs.ViewLemmas.{IsSeenAlike, seen_alike, opened_view}
 
 send : (s : State) (c : CallWords) (k : Kind) (t : Transfer) → SendPasses s c k t → (q n : ℕ) → sees (send_rule s c k t).next q n ≡ with_edit (send_rule s c k t).edit (sees s) q n
@@ -71,7 +71,7 @@ module _ (s : State) (p handle : ℕ) (r : IsReached s) (k : ReclaimPasses s p h
   first = found_first s.live handle p t (handles_used_once s r).distinct k.found
 
   page : (n : ℕ) → covers t.ranges n ≡ true → IsSentPage s t n
-  page = found_in (AreSentPages s) (λ u. eqb u.handle handle && eqb u.sender p) s.live t k.found (homes_kept s r).pages
+  page = found_in (AreSentPages s) (λ u. eqb u.handle handle && eqb u.sender p) s.live t k.found (transactions_kept s r).pages
 
   -- its sender reaches what it kept, and all others nothing
   lent : (q n : ℕ) → covers t.ranges n ≡ true → sees s q n ≡ cond (eqb q t.sender) (kept t.kind (Some t.home)) None

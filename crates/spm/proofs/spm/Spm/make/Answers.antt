@@ -48,7 +48,7 @@ returns-then-fits-clause-moments g c =
     let placed = c.self.invariant.layout_of_manifest in
     let begun = ap (λ (m : Machine). m.pool.operations) c.self.view_is ∙ c.requires.begun in
     let shown = commit-shown c.commit.result s c.commit.new.state (updated s c.partition-p.result c.args.change.update) c.args.call.now is.request t c.commit.new.tables c.args.change.edit placed (sym kept.layout_of_manifest ∙ c.commit.ensures.layout ∙ placed)
-    c.self.invariant.agrees kept.agrees begun is.passes is.same (next_made g c ∙ is.next) c.commit.ensures.state c.commit.ensures.shown c.commit.ensures.moves_no_page c.commit.ensures.err_state c.commit.ensures.err_pool in
+    c.self.invariant.agrees kept.agrees begun c.self.invariant.reached is.passes is.same (next_made g c ∙ is.next) c.commit.ensures.state c.commit.ensures.shown c.commit.ensures.moves_no_page c.commit.ensures.err_state c.commit.ensures.err_pool in
     subst (λ (m : Machine). ShowsCall m (record { state = c.commit.new.state; pool = c.commit.new.tables.pool })) c.self.view_is shown
 
 pub returns-then-fits-clause-agrees : goal.returns-then-fits-clause-agrees

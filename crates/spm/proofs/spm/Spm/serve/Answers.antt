@@ -27,8 +27,8 @@ returns-in-Err-Refused-clause-moments g c =
     let now = c.args.self.now in
     same-shown now now (subst (λ (m : Machine). WalksAgree m.state m.pool) c.self.view_is c.self.invariant.agrees) c.requires.begun refl
 
-pub returns-in-Err-NoMemory-clause-only_sends_need_memory : goal.returns-in-Err-NoMemory-clause-only_sends_need_memory
-returns-in-Err-NoMemory-clause-only_sends_need_memory g c =
+pub returns-in-Err-NoMemory-clause-memory_after_the_tests : goal.returns-in-Err-NoMemory-clause-memory_after_the_tests
+returns-in-Err-NoMemory-clause-memory_after_the_tests g c =
     let s = c.self.inside.state in
     let call = c.args.call.now in
     let r = c.args.request in

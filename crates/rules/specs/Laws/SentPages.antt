@@ -1,7 +1,7 @@
 -- What a transaction says of its pages stays true while it is live.
 use Rattle.std.specs.Prelude.{◌≡◌, ℕ, true, Some}
 use Rattle.std.specs.List.{AllByRecursion}
-use Rattle.base.specs.Pages.{covers}
+use Rattle.base.specs.Pages.{covers, are_disjoint}
 use Rattle.base.specs.Transactions.{Live}
 use Rattle.base.specs.State.{State, owns, home_of}
 use Rattle.rules.specs.Laws.Isolation.{is_sharable_at}
@@ -14,6 +14,7 @@ IsSentPage s t n =
 abbrev pub AreSentPages : State → Live → Type 0
 AreSentPages s t = (n : ℕ) → covers t.ranges n ≡ true → IsSentPage s t n
 
--- each page of a live transaction
-pub record AreHomesKept (s : State) : Type 0 where
+-- so is each page of a live transaction, and no two of its ranges share a page
+pub record AreTransactionsKept (s : State) : Type 0 where
   pub pages : AllByRecursion (AreSentPages s) s.live
+  pub apart : AllByRecursion (λ t. are_disjoint t.ranges ≡ true) s.live
