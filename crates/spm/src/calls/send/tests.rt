@@ -289,7 +289,8 @@ fn donate_page<M: TableMem + Drop>(rt: &impl Abort, alloc: Global) -> Result<(),
         Some(PartitionId::new(0x8001))
     );
     assert_eq!(rt; spm.ledger().live().len(), 1);
-    assert_eq!(rt; spm.ledger().live()[0].kind, Kind::Donate);
+    let live = &spm.ledger().live()[0];
+    assert_eq!(rt; live.kind, Kind::Donate);
     assert!(rt; spm.ledger().donations().is_empty());
     refuse(rt, &mut spm, &call, DENIED, "the same donation")?;
     let lend = send(rt, alloc, &[])?;
