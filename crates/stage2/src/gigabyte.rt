@@ -33,7 +33,8 @@ pub(crate) fn touches(runs: &[Run], chunk: u32) -> bool
     runs.iter().any(|run| run_touches(*run, chunk))
 }
 
-/// Edits the pages of runs in the chunks of a gigabyte, upward, whose level 2 table may not be linked yet.
+/// Edits the pages of runs in the chunks of a gigabyte, upward, whose level 2 table may not be
+/// linked yet.
 fn edit_chunks<M: TableMem>(
     memory: &mut M,
     layout: &Layout,
