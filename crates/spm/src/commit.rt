@@ -25,8 +25,6 @@ pub(crate) fn fits<M: TableMem + Drop>(
     p: PartitionId,
     edit: &Option<Edit>,
 ) -> bool
-    requires layout { tables.now.layout ≡ layout_of manifest.now }
-    requires known { is_partition manifest.now p ≡ true }
     requires orderly { AreOrderly p edit.now }
     ensures { result ≡ fits_in manifest.now tables.now edit.now }
 {
@@ -42,8 +40,6 @@ fn edit_fits<M: TableMem + Drop>(
     p: PartitionId,
     edit: &Edit,
 ) -> bool
-    requires layout { tables.now.layout ≡ layout_of manifest.now }
-    requires known { is_partition manifest.now p ≡ true }
     requires orderly { IsOrderly p edit.now }
     ensures { result ≡ fits_in manifest.now tables.now (Some edit.now) }
 {

@@ -1,76 +1,11 @@
 -- The runs with pages from one up to another are found by two halvings, as runs stand upward.
 use Rattle.std.proofs.Common.{◌≡◌, ℕ, zero, suc, ◌+◌, ◌<◌, ◌≤◌, true, false, ◌&&◌, leb, ltb, List, [], ◌∷◌, get_or, length, take, drop, refl, arith, ap, sym, ◌∙◌}
-use Rattle.std.specs.List.Sorted.{IsNonDecreasingBy, IsPartitionPoint}
+use Rattle.std.specs.List.Sorted.{IsPartitionPoint}
 use Rattle.std.proofs.lemmas.List.{get_or-drop, length-drop}
-use Rattle.std.proofs.lemmas.Bool.{ltb-true, and_parts}
 use Rattle.std.proofs.lemmas.Bool.Decides.{nat_tests}
-use Rattle.base.specs.Pages.{PageRun, rise_above, are_normal}
+use Rattle.base.specs.Pages.{PageRun}
 use Rattle.stage2.specs.Parts.{runs_between}
-
-abbrev pub end_of : PageRun → ℕ
-end_of run = run.first + run.count
-
-abbrev pub first_of : PageRun → ℕ
-first_of run = run.first
-
--- ---- runs that stand upward
-
-rise-parts : (end : ℕ) (r : PageRun) (runs : List PageRun) → rise_above end (r ∷ runs) ≡ true → (end < r.first) × (rise_above (end_of r) runs ≡ true)
-rise-parts end r runs e = let both = and_parts (ltb end r.first) (rise_above (end_of r) runs) e in (ltb-true _ _ both.0, both.1)
-
-rise-first : (end : ℕ) (runs : List PageRun) (j : ℕ) (d : PageRun) → rise_above end runs ≡ true → j < length runs → end < (get_or runs j d).first
-rise-first end [] j d e below = absurd (omega arith)
-rise-first end (r ∷ runs) zero d e below = (rise-parts end r runs e).0
-rise-first end (r ∷ runs) (suc j) d e below = let h = rise-parts end r runs e in let first = h.0 in let rest = rise-first (end_of r) runs j d h.1 (omega arith) in omega (arith, first, rest)
-
-ends-above : (end : ℕ) (runs : List PageRun) → rise_above end runs ≡ true → IsNonDecreasingBy end_of runs
-ends-above end [] e i j d le below = absurd (omega arith)
-ends-above end (r ∷ runs) e zero zero d le below = omega arith
-ends-above end (r ∷ runs) e zero (suc j) d le below = let rest = rise-first (end_of r) runs j d (rise-parts end r runs e).1 (omega arith) in omega (arith, rest)
-ends-above end (r ∷ runs) e (suc i) zero d le below = absurd (omega arith)
-ends-above end (r ∷ runs) e (suc i) (suc j) d le below = ends-above (end_of r) runs (rise-parts end r runs e).1 i j d (omega arith) (omega arith)
-
-firsts-above : (end : ℕ) (runs : List PageRun) → rise_above end runs ≡ true → IsNonDecreasingBy first_of runs
-firsts-above end [] e i j d le below = absurd (omega arith)
-firsts-above end (r ∷ runs) e zero zero d le below = omega arith
-firsts-above end (r ∷ runs) e zero (suc j) d le below = let rest = rise-first (end_of r) runs j d (rise-parts end r runs e).1 (omega arith) in omega (arith, rest)
-firsts-above end (r ∷ runs) e (suc i) zero d le below = absurd (omega arith)
-firsts-above end (r ∷ runs) e (suc i) (suc j) d le below = firsts-above (end_of r) runs (rise-parts end r runs e).1 i j d (omega arith) (omega arith)
-
-pub ends-rise : (runs : List PageRun) → are_normal runs ≡ true → IsNonDecreasingBy end_of runs
-ends-rise [] e i j d le below = absurd (omega arith)
-ends-rise (r ∷ runs) e zero zero d le below = omega arith
-ends-rise (r ∷ runs) e zero (suc j) d le below = let rest = rise-first (end_of r) runs j d e (omega arith) in omega (arith, rest)
-ends-rise (r ∷ runs) e (suc i) zero d le below = absurd (omega arith)
-ends-rise (r ∷ runs) e (suc i) (suc j) d le below = ends-above (end_of r) runs e i j d (omega arith) (omega arith)
-
-pub firsts-rise : (runs : List PageRun) → are_normal runs ≡ true → IsNonDecreasingBy first_of runs
-firsts-rise [] e i j d le below = absurd (omega arith)
-firsts-rise (r ∷ runs) e zero zero d le below = omega arith
-firsts-rise (r ∷ runs) e zero (suc j) d le below = let rest = rise-first (end_of r) runs j d e (omega arith) in omega (arith, rest)
-firsts-rise (r ∷ runs) e (suc i) zero d le below = absurd (omega arith)
-firsts-rise (r ∷ runs) e (suc i) (suc j) d le below = firsts-above (end_of r) runs e i j d (omega arith) (omega arith)
-
-rise-normal : (end : ℕ) (runs : List PageRun) → rise_above end runs ≡ true → are_normal runs ≡ true
-rise-normal end [] e = refl
-rise-normal end (r ∷ runs) e = (rise-parts end r runs e).1
-
-pub normal-drop : (n : ℕ) (runs : List PageRun) → are_normal runs ≡ true → are_normal (drop n runs) ≡ true
-normal-drop zero runs e = e
-normal-drop (suc n) [] e = refl
-normal-drop (suc n) (r ∷ runs) e = normal-drop n runs (rise-normal (end_of r) runs e)
-
-rise-take : (end n : ℕ) (runs : List PageRun) → rise_above end runs ≡ true → rise_above end (take n runs) ≡ true
-rise-take end zero runs e = refl
-rise-take end (suc n) [] e = refl
-rise-take end (suc n) (r ∷ runs) e = let h = rise-parts end r runs e in let first = h.0 in let rest = rise-take (end_of r) n runs h.1 in rw rest (grind (arith, nat_tests))
-
-pub normal-take : (n : ℕ) (runs : List PageRun) → are_normal runs ≡ true → are_normal (take n runs) ≡ true
-normal-take zero runs e = refl
-normal-take (suc n) [] e = refl
-normal-take (suc n) (r ∷ runs) e = rise-take (end_of r) n runs e
-
--- ---- the two halvings
+use Rattle.stage2.proofs.Normal.{end_of, first_of}
 
 module _ (first end : ℕ) where
   -- those before the n-th end too early

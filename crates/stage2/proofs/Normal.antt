@@ -1,11 +1,72 @@
 -- Maximal runs, which stand upward: how many there are, and how many chunks they touch.
-use Rattle.std.proofs.Common.{◌≡◌, ℕ, zero, suc, ◌+◌, ◌-◌, ◌/◌, ◌^◌, ◌<◌, ◌≤◌, true, ltb, List, [], ◌∷◌, get_or, length, take, sum_by, refl, arith, ap, sym, ◌∙◌}
-use Rattle.std.proofs.lemmas.Bool.{ltb-true, and_parts}
+use Rattle.std.proofs.Common.{◌≡◌, ℕ, zero, suc, ◌+◌, ◌-◌, ◌/◌, ◌^◌, ◌<◌, ◌≤◌, true, ltb, List, [], ◌∷◌, get_or, length, take, drop, inl, inr, sum_by, refl, arith, ap, sym, ◌∙◌}
+use Rattle.std.specs.List.Sorted.{IsNonDecreasingBy}
+use Rattle.std.proofs.lemmas.Bool.{cases_eq, ltb-true, and_parts}
+use Rattle.std.proofs.lemmas.Bool.Decides.{nat_tests}
 use Rattle.std.proofs.lemmas.List.Sums.{sum_by_more}
 use Rattle.base.specs.Pages.{PageRun, IsRun, chunks_in, rise_above, are_normal}
 
-abbrev end_of : PageRun → ℕ
+abbrev pub end_of : PageRun → ℕ
 end_of run = run.first + run.count
+
+abbrev pub first_of : PageRun → ℕ
+first_of run = run.first
+
+-- ---- runs that stand upward
+
+rise-parts : (end : ℕ) (r : PageRun) (runs : List PageRun) → rise_above end (r ∷ runs) ≡ true → (end < r.first) × (rise_above (end_of r) runs ≡ true)
+rise-parts end r runs e = let both = and_parts (ltb end r.first) (rise_above (end_of r) runs) e in (ltb-true _ _ both.0, both.1)
+
+rise-first : (end : ℕ) (runs : List PageRun) (j : ℕ) (d : PageRun) → rise_above end runs ≡ true → j < length runs → end < (get_or runs j d).first
+rise-first end [] j d e below = absurd (omega arith)
+rise-first end (r ∷ runs) zero d e below = (rise-parts end r runs e).0
+rise-first end (r ∷ runs) (suc j) d e below = let h = rise-parts end r runs e in let first = h.0 in let rest = rise-first (end_of r) runs j d h.1 (omega arith) in omega (arith, first, rest)
+
+apart-above : (end : ℕ) (runs : List PageRun) (i j : ℕ) (d : PageRun) → rise_above end runs ≡ true → i < j → j < length runs → end_of (get_or runs i d) < (get_or runs j d).first
+apart-above end [] i j d e lt below = absurd (omega arith)
+apart-above end (r ∷ runs) i zero d e lt below = absurd (omega arith)
+apart-above end (r ∷ runs) zero (suc j) d e lt below = rise-first (end_of r) runs j d (rise-parts end r runs e).1 (omega arith)
+apart-above end (r ∷ runs) (suc i) (suc j) d e lt below = apart-above (end_of r) runs i j d (rise-parts end r runs e).1 (omega arith) (omega arith)
+
+-- between each and a later one there is a page
+normal-apart : (runs : List PageRun) (i j : ℕ) (d : PageRun) → are_normal runs ≡ true → i < j → j < length runs → end_of (get_or runs i d) < (get_or runs j d).first
+normal-apart [] i j d e lt below = absurd (omega arith)
+normal-apart (r ∷ runs) i zero d e lt below = absurd (omega arith)
+normal-apart (r ∷ runs) zero (suc j) d e lt below = rise-first (end_of r) runs j d e (omega arith)
+normal-apart (r ∷ runs) (suc i) (suc j) d e lt below = apart-above (end_of r) runs i j d e (omega arith) (omega arith)
+
+pub ends-rise : (runs : List PageRun) → are_normal runs ≡ true → IsNonDecreasingBy end_of runs
+ends-rise runs e i j d le below = elim (cases_eq i j) [
+  | inl is ↦ rw is (omega arith)
+  | inr other ↦ let apart = normal-apart runs i j d e (omega (arith, le, other)) below in omega (arith, apart)
+]
+
+pub firsts-rise : (runs : List PageRun) → are_normal runs ≡ true → IsNonDecreasingBy first_of runs
+firsts-rise runs e i j d le below = elim (cases_eq i j) [
+  | inl is ↦ rw is (omega arith)
+  | inr other ↦ let apart = normal-apart runs i j d e (omega (arith, le, other)) below in omega (arith, apart)
+]
+
+rise-normal : (end : ℕ) (runs : List PageRun) → rise_above end runs ≡ true → are_normal runs ≡ true
+rise-normal end [] e = refl
+rise-normal end (r ∷ runs) e = (rise-parts end r runs e).1
+
+pub normal-drop : (n : ℕ) (runs : List PageRun) → are_normal runs ≡ true → are_normal (drop n runs) ≡ true
+normal-drop zero runs e = e
+normal-drop (suc n) [] e = refl
+normal-drop (suc n) (r ∷ runs) e = normal-drop n runs (rise-normal (end_of r) runs e)
+
+rise-take : (end n : ℕ) (runs : List PageRun) → rise_above end runs ≡ true → rise_above end (take n runs) ≡ true
+rise-take end zero runs e = refl
+rise-take end (suc n) [] e = refl
+rise-take end (suc n) (r ∷ runs) e = let h = rise-parts end r runs e in let first = h.0 in let rest = rise-take (end_of r) n runs h.1 in rw rest (grind (arith, nat_tests))
+
+pub normal-take : (n : ℕ) (runs : List PageRun) → are_normal runs ≡ true → are_normal (take n runs) ≡ true
+normal-take zero runs e = refl
+normal-take (suc n) [] e = refl
+normal-take (suc n) (r ∷ runs) e = rise-take (end_of r) n runs e
+
+-- ---- how many they are
 
 -- where the last of the runs ends
 abbrev end_from : ℕ → List PageRun → ℕ
@@ -15,10 +76,8 @@ end_from end (run ∷ runs) = end_from (end_of run) runs
 rise-next : (end : ℕ) (runs : List PageRun) (i : ℕ) (run : PageRun) → rise_above end runs ≡ true → i < length runs → run ≡ get_or runs i run
     → (end_from end (take i runs) < run.first) × (end_from end (take (suc i) runs) ≡ end_of run)
 rise-next end [] i run rises lt is = absurd (omega arith)
-rise-next end (r ∷ runs) zero run rises lt is =
-    let first : end < r.first = ltb-true _ _ (and_parts (ltb end r.first) (rise_above (end_of r) runs) rises).0 in
-    rw is (first, refl)
-rise-next end (r ∷ runs) (suc i) run rises lt is = rise-next (end_of r) runs i run (and_parts (ltb end r.first) (rise_above (end_of r) runs) rises).1 (omega arith) is
+rise-next end (r ∷ runs) zero run rises lt is = rw is ((rise-parts end r runs rises).0, refl)
+rise-next end (r ∷ runs) (suc i) run rises lt is = rise-next (end_of r) runs i run (rise-parts end r runs rises).1 (omega arith) is
 
 normal-next : (runs : List PageRun) (i : ℕ) (run : PageRun) → are_normal runs ≡ true → i < length runs → run ≡ get_or runs i run
     → (end_from 0 (take i runs) ≤ run.first) × (end_from 0 (take (suc i) runs) ≡ end_of run)

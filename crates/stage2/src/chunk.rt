@@ -1,6 +1,6 @@
 //! The edit of one chunk: its level 2 word, and its level 3 table.
 
-ghost use Rattle.std.specs.Prelude.{◌≡◌, ℕ, ◌+◌, ◌*◌, ◌/◌, ◌%◌, ◌<◌, ◌≤◌, length, true, Some, None};
+ghost use Rattle.std.specs.Prelude.{◌≡◌, ℕ, ◌+◌, ◌*◌, ◌/◌, ◌%◌, ◌<◌, ◌≤◌, true, Some, None};
 ghost use Rattle.base.specs.Pages.{covers};
 ghost use Rattle.base.specs.Manifest.{page_count, row_of};
 ghost use Rattle.base.specs.Access as permissions;
@@ -29,7 +29,8 @@ fn is_covered(runs: &[Run], page: Page) -> bool
     runs.iter().any(|run| run.contains(page))
 }
 
-/// What is planned for a page: pages of the runs get one answer, and the others another one, or stay.
+/// What is planned for a page: pages of the runs get one answer, and the others another one, or
+/// stay.
 fn plan(
     runs: &[Run],
     access: &Option<Access>,
@@ -224,7 +225,8 @@ fn break_entry<M: TableMem>(memory: &mut M, p: PartitionId, second: u32, chunk: 
     }
 }
 
-/// Writes the level 2 word of a chunk. A valid word is made invalid before, and the chunk invalidated.
+/// Writes the level 2 word of a chunk. A valid word is made invalid before, and the chunk
+/// invalidated.
 fn replace_entry<M: TableMem>(memory: &mut M, p: PartitionId, second: u32, chunk: u32, word: u64)
     requires page_in { second < page_count (M.state memory.old).memory.quotas }
     requires taken { taken_of (M.state memory.old).memory.taken second ≡ true }

@@ -1,6 +1,6 @@
 //! The edit of one gigabyte: its level 2 table, and the chunks under it.
 
-ghost use Rattle.std.specs.Prelude.{◌≡◌, ◌≢◌, ℕ, ◌+◌, ◌*◌, ◌<◌, ◌≤◌, length, true, Some, None, is_some, IfSome, IfNone};
+ghost use Rattle.std.specs.Prelude.{◌≡◌, ◌≢◌, ◌+◌, ◌*◌, ◌<◌, ◌≤◌, length, true, Some, None, is_some, IfSome, IfNone};
 ghost use Rattle.base.specs.Pages.{are_normal};
 ghost use Rattle.base.specs.Manifest.{page_count, row_of};
 ghost use Rattle.pool.specs.Pool.{pages_of, taken_of, row_in, InShare};
@@ -33,7 +33,8 @@ pub(crate) fn touches(runs: &[Run], chunk: u32) -> bool
     runs.iter().any(|run| run_touches(*run, chunk))
 }
 
-/// Edits the pages of runs in the chunks of a gigabyte, upward, whose level 2 table may not be linked yet.
+/// Edits the pages of runs in the chunks of a gigabyte, upward, whose level 2 table may not be
+/// linked yet.
 fn edit_chunks<M: TableMem>(
     memory: &mut M,
     layout: &Layout,

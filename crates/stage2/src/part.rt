@@ -1,6 +1,6 @@
 //! The runs that an edit of one gigabyte, or of one chunk, looks at.
 
-ghost use Rattle.std.specs.Prelude.{◌≡◌, ℕ, ◌<◌, ◌≤◌, true};
+ghost use Rattle.std.specs.Prelude.{◌≡◌, ◌<◌, true};
 ghost use Rattle.base.specs.Pages.{are_normal};
 ghost use Rattle.stage2.specs.Parts as parts;
 

@@ -33,7 +33,8 @@ pub(crate) fn gigabyte_span(runs: &[Run]) -> Span
     }
 }
 
-/// The chunks of a gigabyte, counted from its first, from the first that the runs touch to the last.
+/// The chunks of a gigabyte, counted from its first, from the first that the runs touch to the
+/// last.
 pub(crate) fn chunk_span(runs: &[Run], gigabyte: u32) -> Span
     requires { gigabyte < 512 }
     ensures ordered { result.first ≤ result.end }
