@@ -1,5 +1,5 @@
 -- What the tests of a send find.
-use Rattle.std.specs.Prelude.{◌≡◌, ◌-◌, ◌<◌, ◌^◌, Some, None}
+use Rattle.std.specs.Prelude.{◌≡◌, ℕ, ◌-◌, ◌<◌, ◌^◌, Some, None}
 use Rattle.base.specs.declared.transaction.Kind.{Kind}
 use Rattle.base.specs.Access.{Access}
 use Rattle.base.specs.Descriptors.Send as descriptor
@@ -9,9 +9,10 @@ use Rattle.wire.specs.declared.request.Transfer.{Transfer}
 use Rattle.rules.specs.Call.{CallWords}
 use Rattle.rules.specs.Calls.Send.{send_tests, sent}
 
--- the tests pass, and this is what the descriptor says, and the home of its pages
-pub record IsChecked (s : State) (c : CallWords) (kind : Kind) (t : Transfer) (desc : descriptor.Send) (home : Access) : Type 0 where
+-- the tests pass, and this is what the descriptor says, the home of its pages, and how many of the caller's sends were accepted
+pub record IsChecked (s : State) (c : CallWords) (kind : Kind) (t : Transfer) (desc : descriptor.Send) (home : Access) (sends : ℕ) : Type 0 where
   pub passed : first_refusal (send_tests s c kind t) ≡ None
   pub said : desc ≡ sent s c t
   pub common : common_home s c.caller desc.ranges ≡ Some home
-  pub room : sends_of s.partitions c.caller < 2 ^ 32 - 1
+  pub counted : sends ≡ sends_of s.partitions c.caller
+  pub room : sends < 2 ^ 32 - 1

@@ -81,7 +81,7 @@ impl<M: TableMem + Drop> Spm<M> {
     pub fn version(&self, p: PartitionId) -> Version
         ensures { result ≡ state.version_of self.now.state.partitions p }
     {
-        self.state.version(p)
+        self.state.row(p).version
     }
 
     /// The manifest that the manager was booted from.
