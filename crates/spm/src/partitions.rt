@@ -55,15 +55,3 @@ pub(crate) fn state_of(partitions: &[PartitionState], p: PartitionId) -> Option<
     }
     None
 }
-
-/// Makes this the state of a partition.
-pub(crate) fn put(partitions: &mut [PartitionState], p: PartitionId, new: PartitionState)
-    ensures { partitions.new ≡ spec.with_partition p (λ state. new) partitions.old }
-{
-    for state in partitions.iter_mut() {
-        if state.partition == p {
-            *state = new;
-            return;
-        }
-    }
-}

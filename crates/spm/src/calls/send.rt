@@ -13,7 +13,7 @@ ghost use Rattle.spm.specs.Checked.{IsChecked};
 
 use crate::call::Call;
 use crate::change::{Change, Edit, Stop, Update};
-use crate::partitions::{PartitionState, put, state_of};
+use crate::partitions::PartitionState;
 use crate::state::State;
 use base::limits::{MOST_LIVE, PAGE_SIZE};
 use base::{
@@ -375,18 +375,10 @@ fn count_send(partitions: &mut [PartitionState], p: PartitionId)
     requires { spec.sends_of partitions.old p < 2 ^ 32 - 1 }
     ensures { partitions.new ≡ spec.with_partition p rules.counting partitions.old }
 {
-    if let Some(row) = state_of(partitions, p) {
-        put(partitions, p, counted(row));
-    }
-}
-
-fn counted(row: PartitionState) -> PartitionState
-    requires { row.sends < 2 ^ 32 - 1 }
-    ensures { result ≡ rules.counting row }
-{
-    PartitionState {
-        partition: row.partition,
-        version: row.version,
-        sends: row.sends + 1,
+    for row in partitions.iter_mut() {
+        if row.partition == p {
+            row.sends += 1;
+            return;
+        }
     }
 }
