@@ -23,7 +23,11 @@ impl Model for PartitionState {
 
     ghost view = { λ s. record { partition = s.partition; version = s.version; sends = s.sends } };
 
-    ghost inverse = { λ s. record { partition = s.partition; version = s.version; sends = s.sends } };
+    ghost inverse = { λ s. record {
+      partition = s.partition;
+      version = s.version;
+      sends = s.sends;
+    } };
 }
 
 /// The states of the partitions before any call.

@@ -8,8 +8,8 @@ use std::alloc::Global;
 use std::process::Abort;
 use std::test::Fail;
 
-/// The areas are no pair, or their pages may be no buffers. The areas of a pair may touch, and a second
-/// map is refused before its areas are looked at.
+/// The areas are no pair, or their pages may be no buffers. The areas of a pair may touch, and a
+/// second map is refused before its areas are looked at.
 const MAPS: [MapCase<'static>; 15] = [
     (
         "no page",
