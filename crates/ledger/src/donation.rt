@@ -15,5 +15,10 @@ impl Model for Donation {
 
     ghost Value = { transactions.Donation };
 
-    ghost view = { λ d. record { ranges = d.ranges.items; giver = d.giver; taker = d.taker; access = d.access } };
+    ghost view = { λ d. record {
+      ranges = d.ranges.items;
+      giver = d.giver;
+      taker = d.taker;
+      access = d.access;
+    } };
 }

@@ -29,7 +29,8 @@ impl Segment {
     /// normal memory with exactly one grant, and no live transaction covers them.
     pub fn idle_home(&self, p: PartitionId) -> Option<Access>
         ensures { (m : _) → (donations : _) → (live : _) → (n : ℕ)
-            → spec.IsAlike m donations live self.now n → spec.idle_home m donations live p n ≡ result }
+            → spec.IsAlike m donations live self.now n
+            → spec.idle_home m donations live p n ≡ result }
     {
         if self.is_idle_for(p) { self.home } else { None }
     }
@@ -62,7 +63,8 @@ impl Ledger {
 
     /// Whether a page is normal memory with exactly one grant in the manifest.
     fn is_sharable(&self, page: Page) -> bool
-        ensures { result ≡ option_map_or rows.is_sharable (rows.region_at self.now.manifest page) false }
+        ensures { result
+            ≡ option_map_or rows.is_sharable (rows.region_at self.now.manifest page) false }
     {
         match self.manifest().region_at(page) {
             Some(region) => is_sharable(region),

@@ -238,8 +238,8 @@ impl Ledger {
         requires { (t : _) → spec.found self.old.live handle ≡ Some t
             → spec.IsReady (length t.ranges) self.old.room }
         ensures manifest { self.new.manifest ≡ self.old.manifest }
-        ensures donations { self.new.donations
-            ≡ changes.donations_after p access (spec.found self.old.live handle) self.old.donations }
+        ensures donations { self.new.donations ≡ changes.donations_after p access
+            (spec.found self.old.live handle) self.old.donations }
         ensures live { self.new.live
             ≡ changes.live_after handle p access (spec.found self.old.live handle) self.old.live }
     {

@@ -21,7 +21,11 @@ impl Model for Receiver {
 
     ghost view = { λ r. record { partition = r.partition; cap = r.cap; retrieved = r.retrieved } };
 
-    ghost inverse = { λ r. record { partition = r.partition; cap = r.cap; retrieved = r.retrieved } };
+    ghost inverse = { λ r. record {
+      partition = r.partition;
+      cap = r.cap;
+      retrieved = r.retrieved;
+    } };
 }
 
 /// A transaction that was sent and has not ended. Its ranges stand in the order sent.
@@ -41,7 +45,15 @@ impl Model for Live {
 
     ghost Value = { transactions.Live };
 
-    ghost view = { λ t. record { handle = t.handle; kind = t.kind; sender = t.sender; tag = t.tag; ranges = t.ranges.items; receivers = t.receivers.items; home = t.home } };
+    ghost view = { λ t. record {
+      handle = t.handle;
+      kind = t.kind;
+      sender = t.sender;
+      tag = t.tag;
+      ranges = t.ranges.items;
+      receivers = t.receivers.items;
+      home = t.home;
+    } };
 }
 
 /// What the receiver has retrieved is this now.

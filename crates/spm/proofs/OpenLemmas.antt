@@ -40,18 +40,20 @@ none : {A : Type 0} (o : Option A) → is_some o ≡ false → o ≡ None
 none None e = refl
 none (Some a) e = absurd cc
 
-pub can_open : (s : State) (c : CallWords) (kind : Kind) (transfer : Transfer) (desc : descriptor.Send) (home : Access) → IsReached s → IsChecked s c kind transfer desc home → CanOpen s (opened s c.caller kind desc home)
-can_open s c kind transfer desc home reached checked = record {
-  room = checked.room;
-  new = new_handle s c.caller reached checked.room;
-  apart = λ n is. none _ (common_at s c.caller desc.ranges home checked.common n is).free.idle;
-}
+pub can_open : (s : State) (c : CallWords) (kind : Kind) (transfer : Transfer) (desc : descriptor.Send) (home : Access) (sends : ℕ) → IsReached s → IsChecked s c kind transfer desc home sends → CanOpen s (opened s c.caller kind desc home)
+can_open s c kind transfer desc home sends reached checked =
+    let room : sends_of s.partitions c.caller < 2 ^ 32 - 1 = rw (← checked.counted) checked.room in
+    record {
+      room = room;
+      new = new_handle s c.caller reached room;
+      apart = λ n is. none _ (common_at s c.caller desc.ranges home checked.common n is).free.idle;
+    }
 
 -- the change of a send that passes its tests is its rule's
-pub send_granted : (s : State) (c : CallWords) (kind : Kind) (transfer : Transfer) (desc : descriptor.Send) (home : Access) (t : Live) (edit : Option Edit) (reply : ReplyWords) → IsReached s → IsChecked s c kind transfer desc home
+pub send_granted : (s : State) (c : CallWords) (kind : Kind) (transfer : Transfer) (desc : descriptor.Send) (home : Access) (sends : ℕ) (t : Live) (edit : Option Edit) (reply : ReplyWords) → IsReached s → IsChecked s c kind transfer desc home sends
     → t ≡ opened s c.caller kind desc home → AreSameEdits (sender_edit kind c.caller t.ranges) edit → AreOrderly c.caller edit → reply ≡ success (low_half t.handle) (high_half t.handle)
     → IsGranted s c.caller (send_rule s c kind transfer) true (record { edit = edit; update = Open t; reply = reply })
-send_granted s c kind transfer desc home t edit reply reached checked is same orderly replied =
+send_granted s c kind transfer desc home sends t edit reply reached checked is same orderly replied =
     let v = sent s c transfer in
     let ranges : t.ranges ≡ v.ranges = ap (λ (u : Live). u.ranges) is ∙ ap (λ (d : descriptor.Send). d.ranges) checked.said in
     let common : common_home s c.caller v.ranges ≡ Some home = ap (λ (d : descriptor.Send). common_home s c.caller d.ranges) (sym checked.said) ∙ checked.common in
@@ -61,7 +63,7 @@ send_granted s c kind transfer desc home t edit reply reached checked is same or
       edit = subst (λ (rs : List PageRun). AreSameEdits (sender_edit kind c.caller rs) edit) ranges same;
       orderly = orderly;
       next = ap (with_transaction s) transaction ∙ sym (ap (λ (o : View). option_map_or (λ (a : Access). with_transaction s (opened s c.caller kind v a)) o s) common);
-      can = subst (CanOpen s) (sym is) (can_open s c kind transfer desc home reached checked);
+      can = subst (CanOpen s) (sym is) (can_open s c kind transfer desc home sends reached checked);
       reply = replied ∙ ap (λ (h : ℕ). success (low_half h) (high_half h)) (ap (λ (u : Live). u.handle) is);
       memory_taken = λ e. refl;
     }

@@ -11,12 +11,13 @@ use Rattle.rules.specs.Call.{CallWords}
 use Rattle.rules.specs.Calls.Send.{send_tests, sent}
 use Rattle.rules.specs.Calls.Reclaim.{reclaim_tests, sent_with}
 
--- the tests pass, and this is what the descriptor says, and the home of its pages
-pub record IsChecked (s : State) (c : CallWords) (kind : Kind) (t : Transfer) (desc : descriptor.Send) (home : Access) : Type 0 where
+-- the tests pass, and this is what the descriptor says, the home of its pages, and how many of the caller's sends were accepted
+pub record IsChecked (s : State) (c : CallWords) (kind : Kind) (t : Transfer) (desc : descriptor.Send) (home : Access) (sends : ℕ) : Type 0 where
   pub passed : first_refusal (send_tests s c kind t) ≡ None
   pub said : desc ≡ sent s c t
   pub common : common_home s c.caller desc.ranges ≡ Some home
-  pub room : sends_of s.partitions c.caller < 2 ^ 32 - 1
+  pub counted : sends ≡ sends_of s.partitions c.caller
+  pub room : sends < 2 ^ 32 - 1
 
 -- the tests of a reclaim pass, and this is the transaction
 pub record IsReclaimed (s : State) (p handle flags : ℕ) (t : Live) : Type 0 where

@@ -6,7 +6,7 @@ ghost use Rattle.base.specs.Pages.{are_normal};
 ghost use Rattle.stage2.specs.Slot.{layout_of};
 ghost use Rattle.stage2.specs.Tables.{Fits, ReachSo, ShowsMoments, edit_operations};
 ghost use Rattle.spm.specs.Granted.{updated, CanUpdate, needs_room, AreOrderly, IsOrderly, wants_memory};
-ghost use Rattle.spm.specs.Machine.{IsEditedBy, ShowsEdit, fits_in};
+ghost use Rattle.spm.specs.Machine.{AreEditedBy, ShowsEdit, fits_in};
 
 use crate::calls::{buffers, reclaim, send, version};
 use crate::change::{Change, Edit, Update};
@@ -64,7 +64,7 @@ pub(crate) fn commit<M: TableMem + Drop>(
     ensures reply { IfOk result (λ reply. reply ≡ change.reply) }
     ensures state { OnOk result (state.new ≡ updated state.old p change.update) }
     ensures layout { tables.new.layout ≡ tables.old.layout }
-    ensures edited { OnOk result (IsEditedBy change.edit tables.old.layout tables.old.pool tables.new.pool) }
+    ensures edited { OnOk result (AreEditedBy change.edit tables.old tables.new) }
     ensures shown { OnOk result (ShowsEdit change.edit tables.old tables.new) }
     ensures moves_no_page { change.edit ≡ None → tables.new.pool ≡ tables.old.pool }
     ensures err_state { OnErr result (state.new ≡ state.old) }
@@ -98,7 +98,7 @@ fn edit_and_apply<M: TableMem + Drop>(
     requires fits { fits_in state.old.manifest tables.old (Some edit) ≡ true }
     ensures state { OnOk result (state.new ≡ updated state.old p update) }
     ensures layout { tables.new.layout ≡ tables.old.layout }
-    ensures edited { OnOk result (IsEditedBy (Some edit) tables.old.layout tables.old.pool tables.new.pool) }
+    ensures edited { OnOk result (AreEditedBy (Some edit) tables.old tables.new) }
     ensures shown { OnOk result (ShowsEdit (Some edit) tables.old tables.new) }
     ensures err_state { OnErr result (state.new ≡ state.old) }
     ensures err_pool { OnErr result (tables.new.pool ≡ tables.old.pool) }

@@ -23,7 +23,11 @@ impl Model for PartitionState {
 
     ghost view = { λ s. record { partition = s.partition; version = s.version; sends = s.sends } };
 
-    ghost inverse = { λ s. record { partition = s.partition; version = s.version; sends = s.sends } };
+    ghost inverse = { λ s. record {
+      partition = s.partition;
+      version = s.version;
+      sends = s.sends;
+    } };
 }
 
 /// The states of the partitions before any call.
@@ -54,16 +58,4 @@ pub(crate) fn state_of(partitions: &[PartitionState], p: PartitionId) -> Option<
         }
     }
     None
-}
-
-/// Makes this the state of a partition.
-pub(crate) fn put(partitions: &mut [PartitionState], p: PartitionId, new: PartitionState)
-    ensures { partitions.new ≡ spec.with_partition p (λ state. new) partitions.old }
-{
-    for state in partitions.iter_mut() {
-        if state.partition == p {
-            *state = new;
-            return;
-        }
-    }
 }

@@ -3,14 +3,14 @@
 ghost use Rattle.std.specs.Prelude.{◌≡◌, Some, None, [], reverse, IfOk, OnOk, OnErr, IsSome, true};
 ghost use Rattle.base.specs.Manifest as rows;
 ghost use Rattle.base.specs.State as state;
-ghost use Rattle.pool.specs.Pool.{words_of, emptied, image_of};
+ghost use Rattle.pool.specs.Pool.{emptied, image_of};
 ghost use Rattle.stage2.specs.Slot.{layout_of};
-ghost use Rattle.stage2.specs.Walk.{translation, walked};
+ghost use Rattle.stage2.specs.Walk.{walked};
 ghost use Rattle.wire.specs.Requests.{request_of};
 ghost use Rattle.rules.specs.Run as rules;
 ghost use Rattle.rules.specs.Laws.OneOwner.{IsOwnedOnce};
 ghost use Rattle.spm.specs.Granted.{IsGrantedCall};
-ghost use Rattle.spm.specs.Machine.{WalksAgree, ShowsCall, MayNeedMemory, unchanged};
+ghost use Rattle.spm.specs.Machine.{WalksAgree, ShowsCall, MayNeedMemory, translated, unchanged};
 
 use crate::call::Call;
 use crate::calls::check;
@@ -62,7 +62,7 @@ impl<M: TableMem + Drop> Spm<M> {
 
     /// What a partition reaches of a page, by a walk of its translation tables.
     pub fn translate(&self, p: PartitionId, page: Page) -> Option<Access>
-        ensures walk { translation (layout_of self.now.state.manifest) (words_of self.now.pool.memory.words) p page ≡ walked page result }
+        ensures walk { translated self.now p page ≡ walked page result }
         ensures view { result ≡ state.sees self.now.state p page }
     {
         self.tables.walk(p, page)
@@ -81,7 +81,7 @@ impl<M: TableMem + Drop> Spm<M> {
     pub fn version(&self, p: PartitionId) -> Version
         ensures { result ≡ state.version_of self.now.state.partitions p }
     {
-        self.state.version(p)
+        self.state.row(p).version
     }
 
     /// The manifest that the manager was booted from.
@@ -181,7 +181,8 @@ impl<M: TableMem + Drop> Spm<M> {
         ensures reply { IfOk result (λ reply. reply ≡ rules.answer self.old.state call.now) }
         ensures state { OnOk result (self.new.state ≡ rules.step self.old.state call.now) }
         ensures refused { IsSome (rules.refusal self.old.state call.now) → self.new ≡ self.old }
-        ensures moves_no_page { (rules.rule self.old.state call.now).edit ≡ None → self.new.pool ≡ self.old.pool }
+        ensures moves_no_page { (rules.rule self.old.state call.now).edit ≡ None →
+            self.new.pool ≡ self.old.pool }
         ensures err { OnErr result (self.new ≡ self.old) }
         ensures memory_after_the_tests { OnErr result (MayNeedMemory self.old.state call.now) }
         ensures moments { ShowsCall self.old self.new }
@@ -202,7 +203,8 @@ impl<M: TableMem + Drop> Spm<M> {
         ensures reply { IfOk result (λ reply. reply ≡ rules.answer self.old.state call.now) }
         ensures state { OnOk result (self.new.state ≡ rules.step self.old.state call.now) }
         ensures refused { IsSome (rules.refusal self.old.state call.now) → self.new ≡ self.old }
-        ensures moves_no_page { (rules.rule self.old.state call.now).edit ≡ None → self.new.pool ≡ self.old.pool }
+        ensures moves_no_page { (rules.rule self.old.state call.now).edit ≡ None →
+            self.new.pool ≡ self.old.pool }
         ensures err { OnErr result (self.new ≡ self.old) }
         ensures memory_after_the_tests { OnErr result (MayNeedMemory self.old.state call.now) }
         ensures moments { ShowsCall self.old self.new }

@@ -17,6 +17,20 @@ pub(crate) const NO_MEMORY: u64 = 0xffff_fffd;
 
 pub(crate) const DENIED: u64 = 0xffff_fffa;
 
+/// FFA_MEM_DONATE, FFA_MEM_LEND and FFA_MEM_SHARE.
+pub(crate) const DONATE_ID: u64 = 0x8400_0071;
+
+pub(crate) const LEND_ID: u64 = 0x8400_0072;
+
+pub(crate) const SHARE_ID: u64 = 0x8400_0073;
+
+/// Why, the areas of a pair, and whether the map is granted or refused with a status.
+pub(crate) type MapCase<'a> = (&'a str, [u64; 3], Result<(), u64>);
+
+/// Why, the function, the bytes of the descriptor that are changed, each named by its offset, and the low
+/// half of the handle that the send is answered or the status.
+pub(crate) type SendCase<'a> = (&'a str, u64, &'a [(usize, u8)], Result<u64, u64>);
+
 /// A page for each buffer of 0x8001, and of 0x8002.
 pub(crate) const FIRST_PAIR: [u64; 3] = [0x9000_0000, 0x9000_1000, 1];
 
@@ -89,19 +103,40 @@ pub(crate) fn lend(words: [u64; 4], tx: Vec<u8>) -> Call {
     let [total, fragment, address, pages] = words;
     Call {
         caller: 0x8001,
-        regs: [0x8400_0072, total, fragment, address, pages, 0, 0, 0],
+        regs: [LEND_ID, total, fragment, address, pages, 0, 0, 0],
         tx,
     }
 }
 
-/// The same of the descriptor with some bytes changed.
+/// A send by 0x8001 with the descriptor, of which some bytes are changed.
 pub(crate) fn send(
     rt: &impl Abort,
     alloc: Global,
+    function: u64,
     changes: &[(usize, u8)],
 ) -> Result<Call, OutOfMemory> {
     let tx = changed(rt, alloc, changes)?;
-    Ok(lend([0x60, 0x60, 0, 0], tx))
+    let mut call = lend([0x60, 0x60, 0, 0], tx);
+    call.regs[0] = function;
+    Ok(call)
+}
+
+/// How many transactions are live, how many operations the last call made, and how many were made.
+pub(crate) fn counts<M: TableMem + Drop>(spm: &Spm<M>) -> [u64; 3] {
+    let live = spm.ledger().live().len() as u64;
+    let last = spm.last_ops().len() as u64;
+    [live, last, spm.made()]
+}
+
+/// The registers that a call is answered. Nothing is written to an RX buffer.
+pub(crate) fn registers<M: TableMem + Drop>(
+    rt: &impl Abort,
+    spm: &mut Spm<M>,
+    call: &Call,
+) -> Result<[u64; 8], OutOfMemory> {
+    let reply = spm.handle(call)?;
+    assert!(rt; reply.rx.is_none());
+    Ok(reply.regs)
 }
 
 /// The call is answered FFA_SUCCESS with two words.
@@ -110,11 +145,11 @@ pub(crate) fn grant<M: TableMem + Drop>(
     spm: &mut Spm<M>,
     call: &Call,
     words: [u64; 2],
+    why: &str,
 ) -> Result<(), OutOfMemory> {
     let [w2, w3] = words;
-    let reply = spm.handle(call)?;
-    assert_eq!(rt; reply.regs, [0x8400_0061, 0, w2, w3, 0, 0, 0, 0]);
-    assert!(rt; reply.rx.is_none());
+    let regs = registers(rt, spm, call)?;
+    assert_eq!(rt; regs, [0x8400_0061, 0, w2, w3, 0, 0, 0, 0], "{why}");
     Ok(())
 }
 
@@ -126,45 +161,43 @@ pub(crate) fn refuse<M: TableMem + Drop>(
     status: u64,
     why: &str,
 ) -> Result<(), OutOfMemory> {
-    let live = spm.ledger().live().len();
-    let made = spm.tables().memory().made();
-    let reply = spm.handle(call)?;
-    assert_eq!(rt;
-        reply.regs,
-        [0x8400_0060, 0, status, 0, 0, 0, 0, 0],
-        "{why}"
-    );
-    assert!(rt; reply.rx.is_none(), "{why}");
-    assert_eq!(rt; spm.ledger().live().len(), live, "{why}");
-    assert!(rt; spm.tables().memory().ops().is_empty(), "{why}");
-    assert_eq!(rt; spm.tables().memory().made(), made, "{why}");
+    let [live, _, made] = counts(spm);
+    let regs = registers(rt, spm, call)?;
+    assert_eq!(rt; regs, [0x8400_0060, 0, status, 0, 0, 0, 0, 0], "{why}");
+    assert_eq!(rt; counts(spm), [live, 0, made], "{why}");
     Ok(())
 }
 
-/// Each map of 0x8001 is refused with a status.
-pub(crate) fn refuse_maps<M: TableMem + Drop>(
+/// 0x8001 registers pairs in order, and each map is answered so.
+pub(crate) fn answer_maps<M: TableMem + Drop>(
     rt: &impl Abort,
     alloc: Global,
     spm: &mut Spm<M>,
-    status: u64,
-    maps: &[(&str, [u64; 3])],
+    maps: &[MapCase<'_>],
 ) -> Result<(), OutOfMemory> {
-    for (why, areas) in maps {
-        refuse(rt, spm, &map(alloc, 0x8001, *areas), status, why)?;
+    for (why, areas, reply) in maps {
+        let call = map(alloc, 0x8001, *areas);
+        match *reply {
+            Ok(()) => grant(rt, spm, &call, [0, 0], why)?,
+            Err(status) => refuse(rt, spm, &call, status, why)?,
+        }
     }
     Ok(())
 }
 
-/// Each send is refused with a status.
-pub(crate) fn refuse_sends<M: TableMem + Drop>(
+/// 0x8001 sends in order, and each send is answered so.
+pub(crate) fn answer_sends<M: TableMem + Drop>(
     rt: &impl Abort,
     alloc: Global,
     spm: &mut Spm<M>,
-    status: u64,
-    sends: &[(&str, &[(usize, u8)])],
+    sends: &[SendCase<'_>],
 ) -> Result<(), OutOfMemory> {
-    for (why, changes) in sends {
-        refuse(rt, spm, &send(rt, alloc, changes)?, status, why)?;
+    for (why, function, changes, reply) in sends {
+        let call = send(rt, alloc, *function, changes)?;
+        match *reply {
+            Ok(handle) => grant(rt, spm, &call, [handle, 0x8001], why)?,
+            Err(status) => refuse(rt, spm, &call, status, why)?,
+        }
     }
     Ok(())
 }
@@ -180,7 +213,13 @@ pub(crate) fn with_pair<M: TableMem + Drop>(
     alloc: Global,
 ) -> Result<Spm<M>, OutOfMemory> {
     let mut spm = booted(alloc)?;
-    grant(rt, &mut spm, &map(alloc, 0x8001, FIRST_PAIR), [0, 0])?;
+    grant(
+        rt,
+        &mut spm,
+        &map(alloc, 0x8001, FIRST_PAIR),
+        [0, 0],
+        "a pair",
+    )?;
     Ok(spm)
 }
 

@@ -13,7 +13,7 @@ ghost use Rattle.spm.specs.Checked.{IsChecked};
 
 use crate::call::Call;
 use crate::change::{Change, Edit, Stop, Update};
-use crate::partitions::{PartitionState, put, state_of};
+use crate::partitions::PartitionState;
 use crate::state::State;
 use base::limits::{MOST_LIVE, PAGE_SIZE};
 use base::{
@@ -28,11 +28,13 @@ use wire::{Reply, Transfer};
 #[cfg(test)]
 mod tests;
 
-/// What the tests of a send found: what its descriptor says, and the home of its pages.
+/// What the tests of a send found: what its descriptor says, the home of its pages, and how many of its
+/// sender's sends were accepted.
 #[derive(Drop)]
 pub(crate) struct Checked<'a> {
     pub(crate) desc: SendDesc<'a>,
     pub(crate) home: Access,
+    pub(crate) sends: u32,
 }
 
 /// The caller sends the memory that its descriptor in TX names.
@@ -68,15 +70,16 @@ fn check<'a>(
 ) -> Result<Checked<'a>, Status>
     ensures refused { IfErr result (λ status. first_refusal
         (rules.send_tests state.now call.now kind transfer) ≡ Some status) }
-    ensures passed { IfOk result
-        (λ checked. IsChecked state.now call.now kind transfer checked.desc checked.home) }
+    ensures passed { IfOk result (λ checked. IsChecked state.now call.now kind transfer
+        checked.desc checked.home checked.sends) }
 {
     let p = call.partition();
+    let row = state.row(p);
     if !state.pairs.has_pair(p) || !names_tx(transfer) || !has_lengths(state, call, transfer) {
         return Err(Status::InvalidParameters);
     }
     let bytes = &call.tx[..transfer.total as usize];
-    let Some(desc) = read_send(bytes, state.version(p)) else {
+    let Some(desc) = read_send(bytes, row.version) else {
         return Err(Status::InvalidParameters);
     };
     if !are_parties(state, p, &desc) || !suits(kind, &desc) {
@@ -88,10 +91,14 @@ fn check<'a>(
     if !are_capped(kind, home, &desc.receivers) {
         return Err(Status::Denied);
     }
-    if !has_room(state, p) {
+    if !has_room(state, p, row.sends) {
         return Err(Status::NoMemory);
     }
-    Ok(Checked { desc, home })
+    Ok(Checked {
+        desc,
+        home,
+        sends: row.sends,
+    })
 }
 
 /// Whether registers 3 and 4 name no other buffer.
@@ -241,20 +248,12 @@ fn are_capped(kind: Kind, home: Access, endpoints: &[Endpoint]) -> bool
 
 /// Whether a partition may have one more live transaction and one more handle.
 #[tactic(auto, unfolding(rules::specs::Calls::Send::has_room))]
-fn has_room(state: &State, p: PartitionId) -> bool
+fn has_room(state: &State, p: PartitionId, sends: u32) -> bool
+    requires { sends ≡ spec.sends_of state.now.partitions p }
     ensures value { result ≡ rules.has_room state.now p }
-    ensures room { result ≡ true → spec.sends_of state.now.partitions p < 2 ^ 32 - 1 }
+    ensures room { result ≡ true → sends < 2 ^ 32 - 1 }
 {
-    state.ledger.live_of(p) < MOST_LIVE && sends(state, p) < u32::MAX
-}
-
-fn sends(state: &State, p: PartitionId) -> u32
-    ensures { result ≡ spec.sends_of state.now.partitions p }
-{
-    match state_of(&state.partitions, p) {
-        Some(row) => row.sends,
-        None => 0,
-    }
+    state.ledger.live_of(p) < MOST_LIVE && sends < u32::MAX
 }
 
 // ---- the change
@@ -268,7 +267,8 @@ fn change(
     checked: &Checked<'_>,
 ) -> Result<Change, OutOfMemory>
     requires reached { IsReached state.now }
-    requires checked { IsChecked state.now call.now kind transfer checked.now.desc checked.now.home }
+    requires checked { IsChecked state.now call.now kind transfer
+        checked.now.desc checked.now.home checked.now.sends }
     ensures { IfOk result (λ change. IsGranted state.now call.now.caller
         (rules.send_rule state.now call.now kind transfer) true change) }
 {
@@ -290,12 +290,13 @@ fn transaction(
     kind: Kind,
     checked: &Checked<'_>,
 ) -> Result<Live, OutOfMemory>
-    requires { spec.sends_of state.now.partitions p < 2 ^ 32 - 1 }
+    requires counted { checked.now.sends ≡ spec.sends_of state.now.partitions p }
+    requires room { checked.now.sends < 2 ^ 32 - 1 }
     ensures opened { IfOk result (λ t. t
         ≡ rules.opened state.now p kind checked.now.desc checked.now.home) }
     ensures at_most_512 { IfOk result (λ t. length t.ranges ≤ 512) }
 {
-    let handle = next_handle(state, p);
+    let handle = Handle::new(p, checked.sends + 1);
     let ranges = checked.desc.ranges().collect(state.alloc)?;
     let receivers = receivers_of(state.alloc, kind, checked.home, &checked.desc.receivers)?;
     Ok(Live {
@@ -307,14 +308,6 @@ fn transaction(
         receivers,
         home: checked.home,
     })
-}
-
-/// The handle of a partition's next accepted send.
-fn next_handle(state: &State, p: PartitionId) -> Handle
-    requires { spec.sends_of state.now.partitions p < 2 ^ 32 - 1 }
-    ensures { result ≡ rules.next_handle state.now p }
-{
-    Handle::new(p, sends(state, p) + 1)
 }
 
 /// The receivers of a transaction that nobody has retrieved.
@@ -382,18 +375,10 @@ fn count_send(partitions: &mut [PartitionState], p: PartitionId)
     requires { spec.sends_of partitions.old p < 2 ^ 32 - 1 }
     ensures { partitions.new ≡ spec.with_partition p rules.counting partitions.old }
 {
-    if let Some(row) = state_of(partitions, p) {
-        put(partitions, p, counted(row));
-    }
-}
-
-fn counted(row: PartitionState) -> PartitionState
-    requires { row.sends < 2 ^ 32 - 1 }
-    ensures { result ≡ rules.counting row }
-{
-    PartitionState {
-        partition: row.partition,
-        version: row.version,
-        sends: row.sends + 1,
+    for row in partitions.iter_mut() {
+        if row.partition == p {
+            row.sends += 1;
+            return;
+        }
     }
 }

@@ -7,7 +7,7 @@ ghost use Rattle.rules.specs.Calls.Version as rules;
 ghost use Rattle.spm.specs.Granted.{IsGranted};
 
 use crate::change::{Change, Update};
-use crate::partitions::{PartitionState, put, state_of};
+use crate::partitions::PartitionState;
 use crate::state::State;
 use base::{PartitionId, Version};
 use wire::Reply;
@@ -43,18 +43,11 @@ pub(crate) fn set_version(state: &mut State, p: PartitionId, word: u32)
 fn name_version(partitions: &mut [PartitionState], p: PartitionId, word: u32)
     ensures { partitions.new ≡ spec.with_partition p (rules.naming word) partitions.old }
 {
-    if let Some(row) = state_of(partitions, p) {
-        put(partitions, p, named(row, word));
-    }
-}
-
-fn named(row: PartitionState, word: u32) -> PartitionState
-    ensures { result ≡ rules.naming word row }
-{
-    PartitionState {
-        partition: row.partition,
-        version: version_after(word, row.version),
-        sends: row.sends,
+    for row in partitions.iter_mut() {
+        if row.partition == p {
+            row.version = version_after(word, row.version);
+            return;
+        }
     }
 }
 

@@ -1,15 +1,16 @@
-use Rattle.std.proofs.Common.{sym, ap, ◌∙◌}
+use Rattle.std.proofs.Common.{sym, ap, ◌∙◌, arith}
+use Rattle.std.proofs.lemmas.Bool.{eqb-true}
+use Rattle.std.proofs.Math.ListN.{set}
+use Rattle.base.specs.declared.partition.Version.{Version}
 use Rattle.base.specs.State.{PartitionState, with_partition}
 use Rattle.rules.specs.Calls.Version.{naming}
-use Rattle.spm.proofs.Rows.{with_row, with_no_row}
+use Rattle.spm.proofs.Rows.{with_partition_at}
 use Rattle.spm.proofs.calls.version.name_version.Goals as goal
 
-pub returns-in-Some : goal.returns-in-Some
-returns-in-Some c =
-    let found = sym c.state_of.ensures ∙ c.in-Some.is in
-    c.put.ensures
-    ∙ ap (λ (new : PartitionState). with_partition c.args.p (λ (state : PartitionState). new) c.args.partitions.now) c.named.ensures
-    ∙ with_row c.args.p (naming c.args.word) c.args.partitions.now c.in-Some.row found
-
-pub returns-in_default : goal.returns-in_default
-returns-in_default c = sym (with_no_row c.args.p (naming c.args.word) c.args.partitions.now (sym c.state_of.ensures ∙ c.in_default.is))
+pub returns-then-eq : goal.returns-then-eq
+returns-then-eq c =
+    let row : Version → PartitionState = λ v. record { partition = c.row.inside.partition; version = v; sends = c.row.inside.sends } in
+    let so_far = c.loop-row.invariant.rest ∙ ap (with_partition c.args.p (naming c.args.word)) c.loop-row.invariant.same in
+    let here = eqb-true c.row.inside.partition c.args.p (sym c.eq.ensures ∙ c.if-eq.true) in
+    ap (λ (v : Version). set c.loop-row.partitions c.loop-row.row-index (row v)) c.version_after-row-inside.ensures
+    ∙ with_partition_at c.args.p (naming c.args.word) c.loop-row.partitions _ c.loop-row.row-index _ c.row-item.result (omega arith) c.row.view_is here so_far
