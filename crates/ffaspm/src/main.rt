@@ -1,44 +1,69 @@
-//! `ffaspm run SCRIPT`: runs a script of calls from the common manifest on, and writes its text.
+//! `ffaspm run MANIFEST SCRIPT` runs a script of calls from a manifest on, and writes its text.
+//! `ffaspm check MANIFEST` writes the table pages that each partition's grants need. With `--explain`
+//! a fault of the manifest is followed by a line that says where it is and which rule is broken.
 #![tactic(auto)]
 
-use arguments::script_of;
-use fault::{Fault, RunFault};
-use manifest::common_manifest;
+use arguments::{Task, read_arguments, words_of};
+use fault::Fault;
+use files::{read_manifest, read_script};
+use needs::write_needs;
 use pool::ListPool;
 use script::run_script;
 use std::io::{self, Write};
 use std::process::ExitCode;
-use std::{env, fs};
 
 mod arguments;
 mod fault;
+mod files;
 mod maps;
+mod needs;
 mod operations;
 mod script;
 mod tables;
 
-fn run(rt: &HostRuntime) -> Result<(), Fault> {
+/// The manifest is read and judged before the script is opened.
+fn perform(rt: &HostRuntime, task: &Task<'_>) -> Result<(), Fault> {
     let alloc = rt.alloc();
-    let words = env::args(rt)
-        .map_err(|_| Fault::Run(RunFault::Memory))?
-        .collect::<Vec<String>>(alloc)?;
-    let path = script_of(alloc, &words)?;
-    let script = fs::read(rt, path).map_err(|_| Fault::Script)?;
-    let manifest = common_manifest(alloc)?;
-    let mut text = String::new(alloc);
-    let outcome = run_script::<ListPool>(alloc, manifest, &script, &mut text);
+    match task {
+        Task::Run { manifest, script } => {
+            let manifest = read_manifest(rt, manifest)?;
+            let script = read_script(rt, script)?;
+            let mut text = String::new(alloc);
+            let outcome = run_script::<ListPool>(alloc, manifest, &script, &mut text);
+            write_text(rt, &text)?;
+            Ok(outcome?)
+        }
+        Task::Check { manifest } => {
+            let mut text = String::new(alloc);
+            write_needs(&read_manifest(rt, manifest)?, &mut text)?;
+            write_text(rt, &text)
+        }
+    }
+}
+
+fn write_text(rt: &HostRuntime, text: &str) -> Result<(), Fault> {
     io::writer(rt)
         .write_all(text.as_bytes())
-        .map_err(|_| Fault::Output)?;
-    Ok(outcome?)
+        .map_err(|_| Fault::Output)
+}
+
+/// Does what the program's words ask for. A fault comes with whether it is to be explained.
+fn start(rt: &HostRuntime) -> Result<(), (Fault, bool)> {
+    let alloc = rt.alloc();
+    let words = words_of(alloc, rt).map_err(|fault| (fault, false))?;
+    let arguments = read_arguments(alloc, &words).map_err(|fault| (fault, false))?;
+    perform(rt, &arguments.task).map_err(|fault| (fault, arguments.explains))
 }
 
 fn main(rt: HostRuntime) -> ExitCode {
-    match run(&rt) {
+    match start(&rt) {
         Ok(()) => ExitCode::SUCCESS,
-        Err(fault) => {
+        Err((fault, explains)) => {
             let _ = eprintln!(rt; "{fault}");
-            ExitCode::FAILURE
+            if let (Fault::Manifest(cause), true) = (fault, explains) {
+                let _ = eprintln!(rt; "{cause}");
+            }
+            ExitCode::from(fault.status())
         }
     }
 }

@@ -6,7 +6,7 @@ use crate::fault::RunFault;
 use crate::maps::write_maps;
 use crate::operations::write_operations;
 use crate::tables::write_tables;
-use base::{Handle, Kind, MemoryAttributes, PartitionId};
+use base::{Handle, Kind, MemoryAttributes, OutOfMemory, PartitionId};
 use descw::{HeaderFields, SendFields, write_send};
 use lines::{Line, SendLine, read_line};
 use manifest::Manifest;
@@ -36,11 +36,7 @@ pub(crate) fn run_script<M: TableMem + Drop>(
     script: &[u8],
     text: &mut String,
 ) -> Result<(), RunFault> {
-    let mut run: Run<M> = Run {
-        alloc,
-        spm: Spm::boot(alloc, manifest)?,
-        kept: BTreeMap::new(alloc),
-    };
+    let mut run: Run<M> = Run::boot(alloc, manifest)?;
     let mut number = 0u32;
     for bytes in script.split(|byte| *byte == b'\n') {
         number = number.saturating_add(1);
@@ -53,6 +49,15 @@ pub(crate) fn run_script<M: TableMem + Drop>(
 }
 
 impl<M: TableMem + Drop> Run<M> {
+    /// The manager before any call, and empty TX buffers.
+    fn boot(alloc: Global, manifest: Manifest) -> Result<Self, OutOfMemory> {
+        Ok(Run {
+            alloc,
+            spm: Spm::boot(alloc, manifest)?,
+            kept: BTreeMap::new(alloc),
+        })
+    }
+
     fn line(&mut self, line: Line, text: &mut String) -> Result<(), RunFault>
         requires { HasParts line }
     {

@@ -1,14 +1,17 @@
 use super::run_script;
 use crate::fault::RunFault;
-use manifest::{Manifest, common_manifest};
+use documents::common_document;
+use manifest::read;
 use pool::{ListPool, TableMem};
 use std::alloc::Global;
 use std::process::Abort;
 use std::test::Fail;
 
+mod documents;
 mod operations;
 mod quotas;
 mod tables;
+mod walkers;
 
 /// What a script writes, from the common manifest on, and the fault that ends it.
 fn expect_text<M: TableMem + Drop>(
@@ -18,20 +21,21 @@ fn expect_text<M: TableMem + Drop>(
     fault: Option<RunFault>,
     wanted: &str,
 ) -> Result<(), Fail> {
-    let manifest = common_manifest(alloc)?;
-    expect_text_from::<M>(rt, alloc, manifest, script, fault, wanted)
+    let document = common_document(alloc, 16, 16)?;
+    expect_text_from::<M>(rt, alloc, &document, script, fault, wanted)
 }
 
 /// What a script writes, from a manifest on, and the fault that ends it.
 fn expect_text_from<M: TableMem + Drop>(
     rt: &impl Abort,
     alloc: Global,
-    manifest: Manifest,
+    document: &str,
     script: &str,
     fault: Option<RunFault>,
     wanted: &str,
 ) -> Result<(), Fail> {
     let mut text = String::new(alloc);
+    let manifest = read(alloc, document.as_bytes())?;
     let outcome = run_script::<M>(alloc, manifest, script.as_bytes(), &mut text);
     if outcome == Err(RunFault::Memory) {
         return Err(Fail::from(RunFault::Memory));

@@ -1,6 +1,7 @@
 //! The operations of calls, in order.
 
-use super::{expect_after_pairs, expect_text};
+use super::documents::sparse_document;
+use super::{expect_after_pairs, expect_text, expect_text_from};
 use pool::ListPool;
 use std::alloc::Global;
 use std::test::Fail;
@@ -60,10 +61,11 @@ fn invalidates_a_block(rt: HostRuntime) -> Result<(), Fail> {
     expect_after_pairs::<ListPool>(&rt, alloc, lines, &wanted)
 }
 
-/// The split of a block that begins at an address, at an index of the level 2 table in pool page 5: the
+/// The split of a block that begins at an address, at an index of the level 2 table in a pool page: the
 /// words of the new table without one of them, and then the block's word, in two steps.
 fn push_split(
     text: &mut String,
+    second: u32,
     table: u32,
     index: u32,
     begin: u32,
@@ -75,10 +77,10 @@ fn push_split(
             writeln!(text, "set {table} {page} {word:016x}")?;
         }
     }
-    writeln!(text, "set 5 {index} 0000000000000000")?;
+    writeln!(text, "set {second} {index} 0000000000000000")?;
     writeln!(text, "inv 8001 {begin:010x} 512")?;
     let word = 0x4000_0000 + 0x1000 * u64::from(table) + 3;
-    writeln!(text, "set 5 {index} {word:016x}")?;
+    writeln!(text, "set {second} {index} {word:016x}")?;
     Ok(())
 }
 
@@ -87,7 +89,7 @@ fn splits_a_block(rt: HostRuntime) -> Result<(), Fail> {
     let alloc = rt.alloc();
     let mut wanted = String::new(alloc);
     write!(&mut wanted, "{FIRST}ops 514\n")?;
-    push_split(&mut wanted, 9, 0, 0x8000_0000, 1)?;
+    push_split(&mut wanted, 5, 9, 0, 0x8000_0000, 1)?;
     let lines = "lend 8001 0 8002:02 80001000+1\nops\n";
     expect_after_pairs::<ListPool>(&rt, alloc, lines, &wanted)
 }
@@ -97,8 +99,8 @@ fn splits_two_blocks(rt: HostRuntime) -> Result<(), Fail> {
     let alloc = rt.alloc();
     let mut wanted = String::new(alloc);
     write!(&mut wanted, "{FIRST}ops 1028\n")?;
-    push_split(&mut wanted, 9, 0, 0x8000_0000, 511)?;
-    push_split(&mut wanted, 10, 1, 0x8020_0000, 0)?;
+    push_split(&mut wanted, 5, 9, 0, 0x8000_0000, 511)?;
+    push_split(&mut wanted, 5, 10, 1, 0x8020_0000, 0)?;
     let lines = "lend 8001 0 8002:02 801ff000+2\nops\n";
     expect_after_pairs::<ListPool>(&rt, alloc, lines, &wanted)
 }
@@ -136,4 +138,32 @@ fn unlinks_a_table(rt: HostRuntime) -> Result<(), Fail> {
         writeln!(&mut wanted, "set 9 {page} 0000000000000000")?;
     }
     expect_after_pairs::<ListPool>(&rt, alloc, lines, &wanted)
+}
+
+/// A lend of all pages of a gigabyte, and of one page of a block behind it.
+pub(super) const GIVEN_BACK: &str = "call 8001 84000066 90000000 90001000 1\n\
+    lend 8001 0 8002:02 8000000+2,80001000+1\n";
+
+/// The level 2 table of the gigabyte is unlinked and given back, and its page is the lowest free one
+/// when the block is split: in one call it is a level 2 table first, and then a level 3 table.
+#[test]
+fn splits_into_a_page_given_back(rt: HostRuntime) -> Result<(), Fail> {
+    let alloc = rt.alloc();
+    let document = sparse_document(alloc)?;
+    let script = format!(in alloc; "{GIVEN_BACK}ops\n")?;
+    let mut wanted = String::new(alloc);
+    wanted.push_str(
+        "reply 84000061 00000000 00000000 00000000 00000000 00000000 00000000 00000000\n",
+    )?;
+    write!(&mut wanted, "{FIRST}ops 520\n")?;
+    wanted.push_str(
+        "set 2 64 0000000000000000\n\
+        inv 8001 0008000000 512\n\
+        set 3 0 0000000000000000\n\
+        set 3 1 0000000000000000\n\
+        set 0 0 0000000000000000\n\
+        inv 8001 0000000000 262144\n",
+    )?;
+    push_split(&mut wanted, 4, 2, 0, 0x8000_0000, 1)?;
+    expect_text_from::<ListPool>(&rt, alloc, &document, &script, None, &wanted)
 }

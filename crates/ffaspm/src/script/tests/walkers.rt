@@ -1,0 +1,396 @@
+//! What walkers see at every write of a call.
+
+ghost use Rattle.std.specs.Prelude.{◌<◌};
+ghost use Rattle.lines.specs.Lines.{HasParts};
+
+use super::super::Run;
+use super::PAIRS;
+use super::documents::sparse_document;
+use super::operations::GIVEN_BACK;
+use base::{Access, OutOfMemory, Page, PartitionId};
+use lines::{Line, read_line};
+use manifest::{Manifest, Region, common_manifest, read};
+use pool::{Image, ListPool, Op, TableMem};
+use spm::Spm;
+use stage2::{Walked, walk_image};
+use std::alloc::Global;
+use std::process::Abort;
+use std::test::Fail;
+
+/// How many pages the level 3 table of a chunk maps.
+const CHUNK: u32 = 512;
+
+/// What a partition reaches of the pages of a chunk.
+#[derive(Drop)]
+struct Part {
+    who: PartitionId,
+    chunk: u32,
+    before: Vec<Option<Access>>,
+    after: Vec<Option<Access>>,
+    /// How many pages are looked at between two operations.
+    looks: u32,
+}
+
+/// The words before a call, and what each partition reached of each chunk that a region touches.
+#[derive(Drop)]
+struct Watch {
+    image: Image,
+    parts: Vec<Part>,
+}
+
+fn page_of(chunk: u32, index: u32) -> Page {
+    Page::new(chunk.wrapping_mul(CHUNK).wrapping_add(index) % Page::COUNT)
+}
+
+/// What a partition reaches of the pages of a chunk.
+fn views<M: TableMem + Drop>(
+    alloc: Global,
+    spm: &Spm<M>,
+    who: PartitionId,
+    chunk: u32,
+) -> Result<Vec<Option<Access>>, OutOfMemory> {
+    let mut views = Vec::new(alloc);
+    for index in 0..CHUNK {
+        views.push(spm.translate(who, page_of(chunk, index)))?;
+    }
+    Ok(views)
+}
+
+fn push_chunks(chunks: &mut Vec<u32>, region: &Region) -> Result<(), OutOfMemory> {
+    let pages = region.pages();
+    for chunk in pages.first().number() / CHUNK..pages.end().div_ceil(CHUNK) {
+        if !chunks.contains(&chunk) {
+            chunks.push(chunk)?;
+        }
+    }
+    Ok(())
+}
+
+/// The chunks that regions touch.
+fn chunks_of(alloc: Global, manifest: &Manifest) -> Result<Vec<u32>, OutOfMemory> {
+    let mut chunks = Vec::new(alloc);
+    for region in manifest.regions() {
+        push_chunks(&mut chunks, region)?;
+    }
+    Ok(chunks)
+}
+
+fn push_parts<M: TableMem + Drop>(
+    alloc: Global,
+    spm: &Spm<M>,
+    who: PartitionId,
+    chunks: &[u32],
+    parts: &mut Vec<Part>,
+) -> Result<(), OutOfMemory> {
+    for chunk in chunks {
+        parts.push(Part {
+            who,
+            chunk: *chunk,
+            before: views(alloc, spm, who, *chunk)?,
+            after: Vec::new(alloc),
+            looks: 1,
+        })?;
+    }
+    Ok(())
+}
+
+/// What is there before a call.
+fn take_watch<M: TableMem + Drop>(alloc: Global, spm: &Spm<M>) -> Result<Watch, OutOfMemory> {
+    let chunks = chunks_of(alloc, spm.manifest())?;
+    let mut parts = Vec::new(alloc);
+    for row in spm.manifest().partitions() {
+        push_parts(alloc, spm, row.id, &chunks, &mut parts)?;
+    }
+    let image = spm.image(alloc)?;
+    Ok(Watch { image, parts })
+}
+
+/// Looks up what is reached after the call, and notes the chunks that it touched.
+fn look_again<M: TableMem + Drop>(
+    alloc: Global,
+    spm: &Spm<M>,
+    parts: &mut [Part],
+) -> Result<Vec<u32>, OutOfMemory> {
+    let mut touched = Vec::new(alloc);
+    for part in parts {
+        part.after = views(alloc, spm, part.who, part.chunk)?;
+        if part.after != part.before {
+            touched.push(part.chunk)?;
+        }
+    }
+    Ok(touched)
+}
+
+/// All pages of a touched chunk are looked at, for each partition.
+fn look_closely(touched: &[u32], parts: &mut [Part]) {
+    for part in parts {
+        if touched.contains(&part.chunk) {
+            part.looks = CHUNK;
+        }
+    }
+}
+
+fn apply(rt: &impl Abort, image: &mut Image, operation: &Op) {
+    if let Op::Set { page, index, .. } = operation {
+        assert!(rt; (*page as usize) < image.pages() && *index < CHUNK);
+    }
+    image.apply(operation);
+}
+
+/// A walk gives what it gave before the call or gives after it, or nothing where the call touches the
+/// chunk.
+fn expect_walk(rt: &impl Abort, part: &Part, index: u32, walked: Walked) {
+    let page = page_of(part.chunk, index);
+    let before = part.before.get(index as usize);
+    let after = part.after.get(index as usize);
+    let seen = match walked {
+        Walked::None => None,
+        Walked::Leaf(found, access) => {
+            assert_eq!(rt; found, page);
+            Some(access)
+        }
+        Walked::Wrong => {
+            assert!(rt; false, "{page:?}");
+            None
+        }
+    };
+    let is_broken = seen.is_none() && part.before != part.after;
+    assert!(rt;
+        is_broken || before == Some(&seen) || after == Some(&seen),
+        "{page:?}"
+    );
+}
+
+/// Looks at a chunk in a copy of the words.
+fn expect_part(rt: &impl Abort, manifest: &Manifest, image: &Image, part: &Part) {
+    assert_eq!(rt; image.pages(), manifest.table_pages() as usize);
+    for index in 0..part.looks {
+        let page = page_of(part.chunk, index);
+        expect_walk(rt, part, index, walk_image(manifest, image, part.who, page));
+    }
+}
+
+fn expect_parts(rt: &impl Abort, manifest: &Manifest, image: &Image, parts: &[Part]) {
+    for part in parts {
+        expect_part(rt, manifest, image, part);
+    }
+}
+
+/// From the last operation on, all is as after the call.
+fn settle(parts: &mut [Part]) -> Result<(), OutOfMemory> {
+    for part in parts {
+        part.before = part.after.clone()?;
+    }
+    Ok(())
+}
+
+fn expect_page(rt: &impl Abort, page: u32, one: &Image, other: &Image) {
+    assert!(rt; (page as usize) < one.pages() && one.pages() == other.pages());
+    for index in 0..CHUNK {
+        assert_eq!(rt; one.word(page, index), other.word(page, index));
+    }
+}
+
+fn expect_image(rt: &impl Abort, pages: u32, one: &Image, other: &Image) {
+    for page in 0..pages {
+        expect_page(rt, page, one, other);
+    }
+}
+
+/// Replays the operations of a call on the words before it.
+fn expect_replay<M: TableMem + Drop>(
+    rt: &impl Abort,
+    alloc: Global,
+    spm: &Spm<M>,
+    watch: Watch,
+) -> Result<(), OutOfMemory> {
+    let Watch {
+        mut image,
+        mut parts,
+    } = watch;
+    let touched = look_again(alloc, spm, &mut parts)?;
+    look_closely(&touched, &mut parts);
+    for operation in spm.last_ops() {
+        apply(rt, &mut image, operation);
+        expect_parts(rt, spm.manifest(), &image, &parts);
+    }
+    settle(&mut parts)?;
+    expect_parts(rt, spm.manifest(), &image, &parts);
+    let pages = spm.manifest().table_pages();
+    expect_image(rt, pages, &image, &spm.image(alloc)?);
+    Ok(())
+}
+
+/// Runs a line, and looks at what walkers see during its call, if it is one. Answers whether tables
+/// changed.
+fn watch_line<M: TableMem + Drop>(
+    rt: &impl Abort,
+    run: &mut Run<M>,
+    line: Line,
+    text: &mut String,
+) -> Result<bool, Fail>
+    requires { HasParts line }
+{
+    match line {
+        Line::Call(..) | Line::Send(..) => {
+            let watch = take_watch(run.alloc, &run.spm)?;
+            run.line(line, text)?;
+            expect_replay(rt, run.alloc, &run.spm, watch)?;
+            Ok(!run.spm.last_ops().is_empty())
+        }
+        _ => {
+            run.line(line, text)?;
+            Ok(false)
+        }
+    }
+}
+
+/// Runs a script up to its first bad line, and looks at what walkers see at every write. Answers how
+/// many calls changed tables.
+fn watch_script<M: TableMem + Drop>(
+    rt: &impl Abort,
+    alloc: Global,
+    manifest: Manifest,
+    script: &str,
+) -> Result<u32, Fail> {
+    let mut run: Run<M> = Run::boot(alloc, manifest)?;
+    let mut text = String::new(alloc);
+    let mut changes = 0u32;
+    for bytes in script.as_bytes().split(|byte| *byte == b'\n') {
+        let Some(line) = read_line(alloc, bytes)? else {
+            break;
+        };
+        if watch_line(rt, &mut run, line, &mut text)? {
+            changes = changes.saturating_add(1);
+        }
+    }
+    Ok(changes)
+}
+
+/// Numbers from a fixed seed, by a linear congruential generator.
+#[derive(Drop)]
+struct Draw {
+    state: u64,
+}
+
+impl Draw {
+    /// A number below a limit.
+    fn below(&mut self, limit: u32) -> u32
+        requires { 0 < limit }
+        ensures { result < limit }
+    {
+        self.state = self
+            .state
+            .wrapping_mul(6_364_136_223_846_793_005)
+            .wrapping_add(1_442_695_040_888_963_407);
+        (self.state >> 33) as u32 % limit
+    }
+
+    /// Appends a lend of one to three ranges of the pages from an address on.
+    fn push_lend(
+        &mut self,
+        text: &mut String,
+        from: &str,
+        base: u32,
+        pages: u32,
+    ) -> Result<(), Fail>
+        requires { 0 < pages }
+    {
+        write!(text, "lend {from} 0 8003:02 ")?;
+        for i in 0..=self.below(3) {
+            let comma = if i == 0 { "" } else { "," };
+            let (first, count) = self.range(pages);
+            let address = u64::from(base) + 0x1000 * u64::from(first);
+            write!(text, "{comma}{address:x}+{count}")?;
+        }
+        writeln!(text)?;
+        Ok(())
+    }
+
+    /// A few pages of so many, or now and then a whole chunk of them.
+    fn range(&mut self, pages: u32) -> (u32, u32)
+        requires { 0 < pages }
+    {
+        let first = self.below(pages);
+        if self.below(16) == 0 {
+            (first - first % CHUNK, CHUNK)
+        } else {
+            (first, 1 + self.below(4))
+        }
+    }
+
+    /// A script of lends by two partitions, after which neither has 32 live transactions.
+    fn script(&mut self, alloc: Global) -> Result<String, Fail> {
+        let mut text = String::from_str(alloc, PAIRS)?;
+        for i in 0..50 {
+            if i % 2 == 0 {
+                self.push_lend(&mut text, "8002", 0xa000_0000, 512)?;
+            } else {
+                self.push_lend(&mut text, "8001", 0x8000_0000, 1024)?;
+            }
+        }
+        Ok(text)
+    }
+}
+
+/// Sends after the buffer pairs are there, and how many of them change tables.
+const ROWS: [(&str, u32); 9] = [
+    ("lend 8001 0 8002:02 80001000+1\n", 1),
+    (
+        "share 8001 5 8002:01 80000000+1\nlend 8001 0 8002:02 d0000000+1\n",
+        0,
+    ),
+    (
+        "lend 8001 0 8002:02 80000000+512\nlend 8001 0 8002:02 80000000+1\n",
+        1,
+    ),
+    ("lend 8001 0 8002:02 801ff000+2\n", 1),
+    ("lend 8001 0 8002:02,8003:01 80300000+1\n", 1),
+    ("lend 8001 7 8002:01 80000000+256,80100000+255\n", 1),
+    ("lend 8002 0 8003:02 a0000000+512\n", 1),
+    (
+        "lend 8001 0 8002:02 80001000+1\nlend 8001 0 8002:02 80003000+2,80006000+1\n",
+        2,
+    ),
+    (
+        "lend 8001 0 8002:02 80000000+256\nlend 8001 0 8002:02 80100000+256\n",
+        2,
+    ),
+];
+
+/// The sends whose operations other tests list.
+#[test]
+fn sees_old_new_or_none_in_rows(rt: HostRuntime) -> Result<(), Fail> {
+    let alloc = rt.alloc();
+    for (lines, wanted) in ROWS {
+        let script = format!(in alloc; "{PAIRS}{lines}")?;
+        let changes = watch_script::<ListPool>(&rt, alloc, common_manifest(alloc)?, &script)?;
+        assert_eq!(rt; changes, wanted, "{lines}");
+    }
+    Ok(())
+}
+
+/// In one call a table page is a level 2 table first, and then a level 3 table.
+#[test]
+fn sees_no_table_that_was_given_back(rt: HostRuntime) -> Result<(), Fail> {
+    let alloc = rt.alloc();
+    let manifest = read(alloc, sparse_document(alloc)?.as_bytes())?;
+    let changes = watch_script::<ListPool>(&rt, alloc, manifest, GIVEN_BACK)?;
+    assert_eq!(rt; changes, 1);
+    Ok(())
+}
+
+/// A thousand drawn lends, of which some are refused.
+#[test]
+fn sees_old_new_or_none_in_drawn_lends(rt: HostRuntime) -> Result<(), Fail> {
+    let alloc = rt.alloc();
+    let mut draw = Draw { state: 1 };
+    let mut changes = 0u32;
+    for _ in 0..20 {
+        let script = draw.script(alloc)?;
+        let changed = watch_script::<ListPool>(&rt, alloc, common_manifest(alloc)?, &script)?;
+        changes = changes.saturating_add(changed);
+    }
+    assert!(rt; 600 < changes && changes < 950, "{changes}");
+    Ok(())
+}
