@@ -13,7 +13,7 @@ use Rattle.manifest.specs.Boundaries.{is_boundary}
 
 -- ---- searches over the first numbers
 
-any_below-some : (f : ℕ → Bool) (n k : ℕ) → k < n → f k ≡ true → any_below f n ≡ true
+pub any_below-some : (f : ℕ → Bool) (n k : ℕ) → k < n → f k ≡ true → any_below f n ≡ true
 unfolding any_below
 any_below-some f zero k below is_true = absurd (omega arith)
 any_below-some f (suc n) k below is_true = elim (cases_eq k n) [
@@ -25,13 +25,13 @@ any_below-some f (suc n) k below is_true = elim (cases_eq k n) [
     or-true true = refl
     or-true false = refl
 
-any_below-none : (f : ℕ → Bool) (n k : ℕ) → any_below f n ≡ false → k < n → f k ≡ false
+pub any_below-none : (f : ℕ → Bool) (n k : ℕ) → any_below f n ≡ false → k < n → f k ≡ false
 any_below-none f n k none below = elim (cases_Bool (f k)) [
   | inl t ↦ let found = any_below-some f n k below t in absurd (cc)
   | inr f ↦ f
 ]
 
-any_below-no : (f : ℕ → Bool) (n : ℕ) → ((k : ℕ) → k < n → f k ≡ false) → any_below f n ≡ false
+pub any_below-no : (f : ℕ → Bool) (n : ℕ) → ((k : ℕ) → k < n → f k ≡ false) → any_below f n ≡ false
 unfolding any_below
 any_below-no f zero none = refl
 any_below-no f (suc n) none =

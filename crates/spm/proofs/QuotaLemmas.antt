@@ -16,7 +16,7 @@ use Rattle.stage2.specs.Orderly.{answer_of}
 use Rattle.stage2.specs.Slot.{Layout, layout_of}
 use Rattle.stage2.specs.Tables.{TablesView, walk_in, view_of, Fits, quota_in}
 use Rattle.stage2.specs.Walk.{walked}
-use Rattle.stage2.proofs.Needs.{mixed-same, reached-same}
+use Rattle.stage2.proofs.Counting.Needs.{mixed-same, reached-same}
 use Rattle.rules.specs.Rule.{Edit, fits}
 use Rattle.rules.specs.Call.{CallWords}
 use Rattle.rules.specs.Run.{rule_of}

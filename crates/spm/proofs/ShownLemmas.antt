@@ -10,7 +10,7 @@ use Rattle.stage2.specs.Walk.{Agrees}
 use Rattle.stage2.specs.Moments.{Moments}
 use Rattle.stage2.specs.Steps.{with_pages}
 use Rattle.stage2.specs.Tables.{TablesView, AreFreeFor}
-use Rattle.stage2.proofs.Seen.{moments-none}
+use Rattle.stage2.proofs.Walkers.WholeEdit.{moments-none}
 use Rattle.wire.specs.declared.request.Request.{Request}
 use Rattle.rules.specs.Call.{CallWords}
 use Rattle.rules.specs.Rule.{Edit, with_edit}

@@ -6,8 +6,8 @@ use Rattle.pool.specs.Pool.{Pool, pages_of}
 use Rattle.stage2.specs.Boot.{PendingPages}
 use Rattle.stage2.specs.Gigabytes.{FitsRow, row_operations}
 use Rattle.stage2.specs.Parts.{operations_for}
-use Rattle.stage2.proofs.Booting.{pending-fits}
-use Rattle.stage2.proofs.RunChunks.{row-operations}
+use Rattle.stage2.proofs.Editing.BootRegions.{pending-fits}
+use Rattle.stage2.proofs.Runs.ChunkCounts.{row-operations}
 use Rattle.stage2.proofs.boot.map_pending.Goals as goal
 
 -- the access and the run of the pending pages

@@ -3,7 +3,7 @@ use Rattle.base.specs.Manifest.{RegionRow, grant}
 use Rattle.base.specs.Pages.{PageRun, IsRun}
 use Rattle.pool.specs.Pool.{pages_of}
 use Rattle.stage2.specs.Boot.{PendingPages, IsMapping, follows}
-use Rattle.stage2.proofs.Booting.{rest-at, region-skip, region-joins, region-waits, pending-edge}
+use Rattle.stage2.proofs.Editing.BootRegions.{rest-at, region-skip, region-joins, region-waits, pending-edge}
 use Rattle.stage2.proofs.boot.map_region.Goals as goal
 
 pub map_pending-requires-clause-edge : goal.map_pending-requires-clause-edge

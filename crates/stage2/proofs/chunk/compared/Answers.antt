@@ -2,7 +2,7 @@ use Rattle.std.proofs.Common.{◌≡◌, Some, sym, ap, ap₂, subst, ◌∙◌,
 use Rattle.pool.specs.Pool.{words_of}
 use Rattle.base.specs.Need.{is_alike}
 use Rattle.stage2.specs.Chunks.{edited, answers_at, AreAlike, IsOutcome}
-use Rattle.stage2.proofs.Needs.{alike-none, alike-more, outcome-mixed, outcome-one}
+use Rattle.stage2.proofs.Counting.Needs.{alike-none, alike-more, outcome-mixed, outcome-one}
 use Rattle.stage2.proofs.chunk.compared.Goals as goal
 
 pub loop-index-init : goal.loop-index-init

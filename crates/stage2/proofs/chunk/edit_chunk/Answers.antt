@@ -3,11 +3,11 @@ use Rattle.base.specs.Pages.{covers}
 use Rattle.base.specs.Access.{View}
 use Rattle.stage2.specs.declared.walked.Walked.TheVariants.{None as Unmapped}
 use Rattle.stage2.specs.Walk.{walked}
-use Rattle.stage2.proofs.Clearing.{stays-cleared}
-use Rattle.stage2.proofs.Disturbing.{stays-whole, stays-covered, unmixed-after, unmixed-before}
+use Rattle.stage2.proofs.Walkers.ZeroedTables.{stays-cleared}
+use Rattle.stage2.proofs.Walkers.Disturbed.{stays-whole, stays-covered, unmixed-after, unmixed-before}
 use Rattle.pool.specs.Pool.{Memory, pages_of}
 use Rattle.stage2.specs.Chunks.{edited, answers_in, block_answer, Redoes_in}
-use Rattle.stage2.proofs.Sites.{second-inside, outcome-read, unhung, growing, before-block}
+use Rattle.stage2.proofs.Editing.FourChunkEdits.{second-inside, outcome-read, unhung, growing, before-block}
 use Rattle.stage2.proofs.chunk.edit_chunk.Goals as goal
 
 pub read_slot-entry-requires-clause-table : goal.read_slot-entry-requires-clause-table

@@ -3,8 +3,8 @@ use Rattle.base.specs.Manifest.{row_of, page_count}
 use Rattle.words.specs.Words.{table_word_of}
 use Rattle.pool.specs.Pool.{Pages, Pool, Words, pages_of, words_of, put, with_put, row_in, InShare, IsLowestFree}
 use Rattle.pool.proofs.Words.{mark-same, mark-kept}
-use Rattle.stage2.proofs.Sites.{second-inside, second-taken, does-hang}
-use Rattle.stage2.proofs.Taking.{pages_of-take}
+use Rattle.stage2.proofs.Editing.FourChunkEdits.{second-inside, second-taken, does-hang}
+use Rattle.stage2.proofs.Tree.TakenPages.{pages_of-take}
 use Rattle.base.specs.Access.{View}
 use Rattle.pool.proofs.Shares.{share_inside}
 use Rattle.stage2.specs.declared.walked.Walked.{Walked}
@@ -12,11 +12,11 @@ use Rattle.stage2.specs.Slot.{Next, slot}
 use Rattle.stage2.specs.Walk.{at_2, walked}
 use Rattle.stage2.specs.Chunks.{planned, edited, answers_in}
 use Rattle.stage2.specs.Moments.{StaysInStep}
-use Rattle.stage2.proofs.Edits.{put-same, IsUnheld}
-use Rattle.stage2.proofs.Linking.{slot-table}
-use Rattle.stage2.proofs.Clearing.{stays-after, stays-taken}
-use Rattle.stage2.proofs.Steps.{IsHung, stays-replaced, stays-filled}
-use Rattle.stage2.proofs.Seats.{hung-seen, hung-outside, unheld-free, unheld-outside, gives-after}
+use Rattle.stage2.proofs.Tree.WalkFrame.{put-same, IsUnheld}
+use Rattle.stage2.proofs.Tree.LinkTable.{slot-table}
+use Rattle.stage2.proofs.Walkers.ZeroedTables.{stays-after, stays-taken}
+use Rattle.stage2.proofs.Walkers.StepLists.{IsHung, stays-replaced, stays-filled}
+use Rattle.stage2.proofs.Walkers.SeatedChunks.{hung-seen, hung-outside, unheld-free, unheld-outside, gives-after}
 use Rattle.stage2.proofs.chunk.hang_table.Goals as goal
 
 pub write_table-requires-clause-taken : goal.write_table-requires-clause-taken

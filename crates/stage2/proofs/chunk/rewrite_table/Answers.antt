@@ -1,15 +1,15 @@
 use Rattle.std.proofs.Common.{◌≡◌, ℕ, ◌+◌, ◌*◌, ◌/◌, Bool, true, false, ◌&&◌, eqb, is_some, List, None, arith, ap, subst, ◌⊎◌, inl, inr}
-use Rattle.stage2.proofs.Seen.{both-true}
 use Rattle.base.specs.Pages.{PageRun, covers}
 use Rattle.base.specs.Access.{View}
 use Rattle.pool.specs.Pool.{pages_of}
 use Rattle.stage2.specs.Walk.{walked}
 use Rattle.stage2.specs.Chunks.{planned, answers_in}
-use Rattle.stage2.proofs.Steps.{stays-filled}
-use Rattle.stage2.proofs.Seats.{level_3-seen, invalid-word, unheld-third}
-use Rattle.stage2.proofs.Rewriting.{PlansOnly, plans-runs, stays-made, clears-made, clears-filled}
-use Rattle.stage2.proofs.Sites.{third-inside, third-taken, does-rewrite}
+use Rattle.stage2.proofs.Walkers.StepLists.{stays-filled}
+use Rattle.stage2.proofs.Walkers.SeatedChunks.{level_3-seen, invalid-word, unheld-third}
+use Rattle.stage2.proofs.Walkers.Level3Rewrite.{PlansOnly, plans-runs, stays-made, clears-made, clears-filled}
+use Rattle.stage2.proofs.Editing.FourChunkEdits.{third-inside, third-taken, does-rewrite}
 use Rattle.stage2.proofs.chunk.rewrite_table.Goals as goal
+use Rattle.base.proofs.Booleans.{both}
 
 pub write_table-requires-clause-page_in : goal.write_table-requires-clause-page_in
 write_table-requires-clause-page_in g c = third-inside c.args.layout.now c.args.row c.args.chunk c.args.second (pages_of (g.M.TableMem.state c.args.memory.now).memory) c.requires.site c.args.third c.requires.table
@@ -39,12 +39,12 @@ returns-clause-makes g c = λ seated free maps.
     elim seated [
       | inl e ↦
           stays-made layout row k chunk (planned runs access None) which access x y c.write_table.ensures.filled (plans-runs chunk runs access) (level_3-seen layout row chunk j m site e k c.requires.table)
-          (λ i small w. invalid-word layout row chunk j m site k i c.requires.table small (unmapped runs access (answers_in layout row chunk j m) (512 * chunk + i) (eqb ((512 * chunk + i) / 512) chunk) maps (free (512 * chunk + i) (let below = site.chunk in omega (arith, small, below)) (both-true (covers runs (512 * chunk + i)) (eqb ((512 * chunk + i) / 512) chunk) w).1) w))
+          (λ i small w. invalid-word layout row chunk j m site k i c.requires.table small (unmapped runs access (answers_in layout row chunk j m) (512 * chunk + i) (eqb ((512 * chunk + i) / 512) chunk) maps (free (512 * chunk + i) (let below = site.chunk in omega (arith, small, below)) (both (covers runs (512 * chunk + i)) (eqb ((512 * chunk + i) / 512) chunk) w).1) w))
       | inr e ↦ stays-filled layout row k chunk 512 (planned runs access None) which (λ n. walked n access) x y c.write_table.ensures.filled (unheld-third layout row chunk j m site e k c.requires.table)
     ]
   where
     unmapped : (runs : List PageRun) (access : View) (view : ℕ → View) (n : ℕ) (here : Bool) → is_some access ≡ true → (covers runs n ≡ true → (access ≡ None) ⊎ (view n ≡ None)) → (covers runs n && here) ≡ true → view n ≡ None
-    unmapped runs access view n here maps free w = elim (free (both-true (covers runs n) here w).0) [
+    unmapped runs access view n here maps free w = elim (free (both (covers runs n) here w).0) [
       | inl none ↦ let bad : is_some access ≡ false = ap (λ a. is_some a) none in absurd (cc)
       | inr none ↦ none
     ]

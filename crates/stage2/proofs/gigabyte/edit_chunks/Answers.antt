@@ -8,11 +8,11 @@ use Rattle.stage2.specs.Steps.{disturbed_below}
 use Rattle.pool.specs.Pool.{pages_of}
 use Rattle.stage2.specs.Parts.{part_count, chunk_runs}
 use Rattle.stage2.specs.Gigabytes.{sum_below, touches_chunk, chunk_operations}
-use Rattle.stage2.proofs.Marching.{march-edit, march-skip, march-seated, march-free}
-use Rattle.stage2.proofs.Underway.{sum_below-more, sum_below-up, underway-start, underway-skip, underway-edit, has-free, untouched}
-use Rattle.stage2.proofs.RunSpans.{AreUntouched, UnderwayAt, StaysAt, underway-gap, stays-gap, outside-chunks}
-use Rattle.stage2.proofs.PartRuns.{chunk-covers, chunk-touches, chunk-count, chunk-growing, chunk-redoes, chunk-free, chunk-stays}
-use Rattle.stage2.proofs.Clearing.{stays-none}
+use Rattle.stage2.proofs.Walkers.ChunkSteps.{march-edit, march-skip, march-seated, march-free}
+use Rattle.stage2.proofs.Editing.ChunkByChunk.{sum_below-more, sum_below-up, underway-start, underway-skip, underway-edit, has-free, untouched}
+use Rattle.stage2.proofs.Runs.Spans.{AreUntouched, UnderwayAt, StaysAt, underway-gap, stays-gap, outside-chunks}
+use Rattle.stage2.proofs.Runs.OwnRuns.{chunk-covers, chunk-touches, chunk-count, chunk-growing, chunk-redoes, chunk-free, chunk-stays}
+use Rattle.stage2.proofs.Walkers.ZeroedTables.{stays-none}
 use Rattle.stage2.proofs.gigabyte.edit_chunks.Goals as goal
 use Rattle.stage2.proofs.gigabyte.edit_chunks.Goals.{then-touches, else-touches}
 

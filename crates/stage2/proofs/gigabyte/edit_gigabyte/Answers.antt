@@ -4,7 +4,7 @@ use Rattle.pool.specs.Pool.{pages_of}
 use Rattle.stage2.specs.Orderly.{answers}
 use Rattle.stage2.specs.Chunks.{edited}
 use Rattle.stage2.specs.Gigabytes.{EditsGigabyte}
-use Rattle.stage2.proofs.Gigabytes.{is-none, finish-none}
+use Rattle.stage2.proofs.Editing.Gigabyte.{is-none, finish-none}
 use Rattle.stage2.proofs.gigabyte.edit_gigabyte.Goals as goal
 
 pub returns-else-is_some-clause-edits : goal.returns-else-is_some-clause-edits

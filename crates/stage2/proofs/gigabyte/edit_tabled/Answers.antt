@@ -5,13 +5,13 @@ use Rattle.pool.proofs.Shares.{share_inside}
 use Rattle.base.specs.Access.{View}
 use Rattle.stage2.specs.declared.walked.Walked.{Walked}
 use Rattle.stage2.specs.Steps.{disturbed}
-use Rattle.stage2.proofs.Clearing.{stays-after}
-use Rattle.stage2.proofs.Roots.{stays-tabled, zero-unmapped, seated-linked}
+use Rattle.stage2.proofs.Walkers.ZeroedTables.{stays-after}
+use Rattle.stage2.proofs.Walkers.RootWrites.{stays-tabled, zero-unmapped, seated-linked}
 use Rattle.stage2.specs.Walk.{walked, Gigabyte, table_at}
 use Rattle.stage2.specs.Orderly.{IsOrderly, answers, linked}
 use Rattle.stage2.specs.Chunks.{edited}
 use Rattle.stage2.specs.Gigabytes.{IsUnderway}
-use Rattle.stage2.proofs.Gigabytes.{linked-same, finish-kept, finish-zero, fits-tabled}
+use Rattle.stage2.proofs.Editing.Gigabyte.{linked-same, finish-kept, finish-zero, fits-tabled}
 use Rattle.stage2.proofs.gigabyte.edit_tabled.Goals as goal
 
 pub edit_chunks-requires-clause-orderly : goal.edit_chunks-requires-clause-orderly

@@ -7,15 +7,15 @@ use Rattle.base.specs.Access.{View}
 use Rattle.stage2.specs.declared.walked.Walked.{Walked}
 use Rattle.stage2.specs.Moments.{StaysInStep}
 use Rattle.stage2.specs.Steps.{IsSeated, AreFree, disturbed, disturbed_below}
-use Rattle.stage2.proofs.Clearing.{stays-after, stays-taken}
-use Rattle.stage2.proofs.Roots.{stays-linked, stays-root, root-zero, forest-unlinked, gives-new}
+use Rattle.stage2.proofs.Walkers.ZeroedTables.{stays-after, stays-taken}
+use Rattle.stage2.proofs.Walkers.RootWrites.{stays-linked, stays-root, root-zero, forest-unlinked, gives-new}
 use Rattle.stage2.specs.Walk.{walk, walked, Gigabyte, table_at}
 use Rattle.stage2.specs.Orderly.{IsOrderly, answers, answer_of, linked}
 use Rattle.stage2.specs.Chunks.{edited}
 use Rattle.stage2.specs.Gigabytes.{Fits, IsUnderway}
-use Rattle.stage2.proofs.Rooting.{IsLink, untabled, link-table, link-rooted, rooted}
-use Rattle.stage2.proofs.Taking.{pages_of-take}
-use Rattle.stage2.proofs.Gigabytes.{link-has-free, link-fits, same-answers, finish-link}
+use Rattle.stage2.proofs.Editing.RootLinks.{IsLink, untabled, link-table, link-rooted, rooted}
+use Rattle.stage2.proofs.Tree.TakenPages.{pages_of-take}
+use Rattle.stage2.proofs.Editing.Gigabyte.{link-has-free, link-fits, same-answers, finish-link}
 use Rattle.stage2.proofs.gigabyte.edit_untabled.Goals as goal
 
 pub take_page-second-requires : goal.take_page-second-requires

@@ -4,9 +4,9 @@ use Rattle.base.specs.Counts.{count_below}
 use Rattle.pool.proofs.Count.{count_below-none, count_below-tail, count_below-more, count_below-le}
 use Rattle.stage2.specs.Chunks.{edited, answers_of}
 use Rattle.stage2.specs.Gigabytes.{grows_at}
-use Rattle.stage2.proofs.Growing.{grows-nothing}
-use Rattle.stage2.proofs.RunSpans.{outside-chunks}
-use Rattle.stage2.proofs.Underway.{untouched}
+use Rattle.stage2.proofs.Counting.Growth.{grows-nothing}
+use Rattle.stage2.proofs.Runs.Spans.{outside-chunks}
+use Rattle.stage2.proofs.Editing.ChunkByChunk.{untouched}
 use Rattle.stage2.proofs.grow.grow_chunks.Goals as goal
 use Rattle.stage2.proofs.grow.grow_chunks.Goals.{then-takes, else-takes}
 

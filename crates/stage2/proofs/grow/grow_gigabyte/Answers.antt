@@ -4,8 +4,8 @@ use Rattle.pool.specs.Pool.{pages_of}
 use Rattle.base.specs.Counts.{count_below}
 use Rattle.stage2.specs.Chunks.{edited, answers_of}
 use Rattle.stage2.specs.Gigabytes.{grows_at, gigabyte_growth}
-use Rattle.stage2.proofs.Gigabytes.{is-none}
-use Rattle.stage2.proofs.Growing.{growth-tabled, growth-mapped, growth-unmapped}
+use Rattle.stage2.proofs.Editing.Gigabyte.{is-none}
+use Rattle.stage2.proofs.Counting.Growth.{growth-tabled, growth-mapped, growth-unmapped}
 use Rattle.stage2.proofs.grow.grow_gigabyte.Goals as goal
 
 pub returns-in-Some-clause-same : goal.returns-in-Some-clause-same

@@ -5,9 +5,9 @@ use Rattle.stage2.specs.Slot.{Slot}
 use Rattle.stage2.specs.Walk.{next_page}
 use Rattle.base.specs.Need.{is_mixed}
 use Rattle.stage2.specs.Chunks.{edited, answers_at, answers_of}
-use Rattle.stage2.proofs.Underway.{untouched}
-use Rattle.stage2.proofs.Growing.{grows-entry, grows-nothing, second-inside}
-use Rattle.stage2.proofs.PartRuns.{chunk-covers, chunk-touches, chunk-mixed}
+use Rattle.stage2.proofs.Editing.ChunkByChunk.{untouched}
+use Rattle.stage2.proofs.Counting.Growth.{grows-entry, grows-nothing, second-inside}
+use Rattle.stage2.proofs.Runs.OwnRuns.{chunk-covers, chunk-touches, chunk-mixed}
 use Rattle.stage2.proofs.grow.takes.Goals as goal
 
 pub entry_at-entry-requires-clause-table : goal.entry_at-entry-requires-clause-table

@@ -1,6 +1,6 @@
 use Rattle.std.proofs.Common.{List, eqb, position, sym, ap, ◌∙◌}
 use Rattle.base.specs.Manifest.{PartitionRow}
-use Rattle.stage2.proofs.Rows.{position-ids}
+use Rattle.stage2.proofs.Tree.Rows.{position-ids}
 use Rattle.stage2.proofs.image.root_of.Goals as goal
 
 pub returns-in-Some : goal.returns-in-Some

@@ -1,7 +1,7 @@
 use Rattle.std.proofs.Common.{sym, ◌∙◌}
 use Rattle.pool.specs.Pool.{words_of}
 use Rattle.stage2.specs.Slot.{layout_of}
-use Rattle.stage2.proofs.Rows.{no-row}
+use Rattle.stage2.proofs.Tree.Rows.{no-row}
 use Rattle.stage2.proofs.image.walk_image.Goals as goal
 
 pub returns-in-None : goal.returns-in-None

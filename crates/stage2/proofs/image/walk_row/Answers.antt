@@ -1,7 +1,7 @@
 use Rattle.std.proofs.Common.{◌/◌, ◌%◌, sym, ◌∙◌}
 use Rattle.pool.specs.Pool.{words_of}
 use Rattle.stage2.specs.Slot.{layout_of}
-use Rattle.stage2.proofs.Entries.{block-page}
+use Rattle.stage2.proofs.Tree.EntryWords.{block-page}
 use Rattle.stage2.proofs.image.walk_row.Goals as goal
 
 pub block_page-requires : goal.block_page-requires

@@ -3,8 +3,8 @@ use Rattle.std.specs.List.Sorted.{IsPartitionPoint}
 use Rattle.std.proofs.lemmas.List.{take_rest}
 use Rattle.std.proofs.lemmas.List.Sorted.{IsPartitionPoint-from_clause, IsPartitionedBy-leb, IsPartitionedBy-ltb}
 use Rattle.base.specs.Pages.{PageRun, are_normal}
-use Rattle.stage2.proofs.Normal.{end_of, first_of, ends-rise, firsts-rise, normal-drop, normal-take}
-use Rattle.stage2.proofs.Between.{between-halved}
+use Rattle.stage2.proofs.Runs.Normal.{end_of, first_of, ends-rise, firsts-rise, normal-drop, normal-take}
+use Rattle.stage2.proofs.Runs.Between.{between-halved}
 use Rattle.stage2.proofs.part.runs_between.Goals as goal
 
 pub returns-clause-same : goal.returns-clause-same

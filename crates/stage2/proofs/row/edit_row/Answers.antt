@@ -3,13 +3,13 @@ use Rattle.pool.specs.Pool.{pages_of}
 use Rattle.base.specs.Access.{View}
 use Rattle.stage2.specs.Orderly.{answers}
 use Rattle.stage2.specs.Chunks.{edited}
-use Rattle.stage2.proofs.Crossing.{disturbed_before, cross-edit, cross-free, cross-skip, cross-all}
+use Rattle.stage2.proofs.Walkers.GigabyteSteps.{disturbed_before, cross-edit, cross-free, cross-skip, cross-all}
 use Rattle.stage2.specs.Gigabytes.{sum_below, gigabyte_operations}
-use Rattle.stage2.proofs.Underway.{sum_below-more, sum_below-up}
-use Rattle.stage2.proofs.Rowing.{past-none, past-fits, past-skip, past-edit, past-all}
-use Rattle.stage2.proofs.RunSpans.{AreUncovered, PastAt, past-gap, cross-gap, outside-gigabytes}
-use Rattle.stage2.proofs.PartRuns.{gigabyte-covers, gigabyte-operations, gigabyte-fits, gigabyte-edits, gigabyte-free, gigabyte-stays}
-use Rattle.stage2.proofs.Clearing.{stays-none}
+use Rattle.stage2.proofs.Editing.ChunkByChunk.{sum_below-more, sum_below-up}
+use Rattle.stage2.proofs.Editing.GigabyteByGigabyte.{past-none, past-fits, past-skip, past-edit, past-all}
+use Rattle.stage2.proofs.Runs.Spans.{AreUncovered, PastAt, past-gap, cross-gap, outside-gigabytes}
+use Rattle.stage2.proofs.Runs.OwnRuns.{gigabyte-covers, gigabyte-operations, gigabyte-fits, gigabyte-edits, gigabyte-free, gigabyte-stays}
+use Rattle.stage2.proofs.Walkers.ZeroedTables.{stays-none}
 use Rattle.stage2.specs.Walk.{walked}
 use Rattle.stage2.proofs.row.edit_row.Goals as goal
 use Rattle.stage2.proofs.row.edit_row.Goals.{then-touches, else-touches}

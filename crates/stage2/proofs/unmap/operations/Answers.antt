@@ -1,7 +1,7 @@
 use Rattle.std.proofs.Common.{◌≡◌, ℕ, ◌+◌, ◌-◌, ◌*◌, ◌/◌, ◌<◌, take, sum_by, sym, ap, ◌∙◌, arith}
 use Rattle.std.proofs.lemmas.List.Sums.{sum_by_more}
 use Rattle.base.specs.Pages.{chunks_in}
-use Rattle.stage2.proofs.Normal.{counted-next}
+use Rattle.stage2.proofs.Runs.Normal.{counted-next}
 use Rattle.stage2.proofs.unmap.operations.Goals as goal
 
 pub loop-run-preserved : goal.loop-run-preserved

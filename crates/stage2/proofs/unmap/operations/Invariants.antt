@@ -1,6 +1,6 @@
 use Rattle.std.proofs.Common.{◌≡◌, ◌+◌, ◌*◌, take, sum_by}
 use Rattle.base.specs.Pages.{chunks_in}
-use Rattle.stage2.proofs.Normal.{IsCounted}
+use Rattle.stage2.proofs.Runs.Normal.{IsCounted}
 use Rattle.stage2.proofs.unmap.operations.Given as goal
 
 abbrev pub invariant-loop-run : goal.invariant-loop-run

@@ -2,7 +2,7 @@ use Rattle.std.proofs.Common.{sym, subst}
 use Rattle.pool.specs.Pool.{Pool, pages_of}
 use Rattle.stage2.specs.Orderly.{IsCanonical}
 use Rattle.stage2.specs.Tables.{TablesView, ClearsInStep}
-use Rattle.stage2.proofs.TablesLemmas.{view, are-canonical, cleared-in_step}
+use Rattle.stage2.proofs.Editing.WholeTables.{view, are-canonical, cleared-in_step}
 use Rattle.stage2.proofs.tables.Tables.clear.Goals as goal
 
 pub returns-clause-canonical : goal.returns-clause-canonical

@@ -1,7 +1,7 @@
 use Rattle.std.proofs.Common.{◌≡◌, ◌≤◌, false, eqb, sym, ap, subst, ◌∙◌, position, length}
 use Rattle.stage2.specs.Tables.{TablesView, has_root, AreCanonical, Fits, edit_operations}
-use Rattle.stage2.proofs.Rows.{row-found}
-use Rattle.stage2.proofs.TablesLemmas.{view, are-canonical, IsEdited, edited-rooted, edited-rootless, found-none, fits-row, room-row, rootless-edit}
+use Rattle.stage2.proofs.Tree.Rows.{row-found}
+use Rattle.stage2.proofs.Editing.WholeTables.{view, are-canonical, IsEdited, edited-rooted, edited-rootless, found-none, fits-row, room-row, rootless-edit}
 use Rattle.stage2.proofs.tables.Tables.edit.Given.{Over}
 use Rattle.stage2.proofs.tables.Tables.edit.Goals as goal
 

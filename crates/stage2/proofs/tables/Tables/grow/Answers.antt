@@ -3,8 +3,8 @@ use Rattle.base.specs.Need.{grow}
 use Rattle.stage2.specs.Chunks.{edited}
 use Rattle.stage2.specs.Sound.{TablesView}
 use Rattle.stage2.specs.Tables.{view_of}
-use Rattle.stage2.proofs.Rows.{row-found}
-use Rattle.stage2.proofs.TablesLemmas.{view, grow-found}
+use Rattle.stage2.proofs.Tree.Rows.{row-found}
+use Rattle.stage2.proofs.Editing.WholeTables.{view, grow-found}
 use Rattle.stage2.proofs.tables.Tables.grow.Goals as goal
 
 pub grow_row-requires-clause-partition : goal.grow_row-requires-clause-partition

@@ -1,6 +1,6 @@
 use Rattle.std.proofs.Common.{subst}
 use Rattle.stage2.specs.Tables.{TablesView, AreCanonical}
-use Rattle.stage2.proofs.TablesLemmas.{view, are-canonical}
+use Rattle.stage2.proofs.Editing.WholeTables.{view, are-canonical}
 use Rattle.stage2.proofs.tables.Tables.memory.Goals as goal
 
 pub returns-clause-canonical : goal.returns-clause-canonical

@@ -3,7 +3,7 @@ use Rattle.std.specs.Option.{option_map}
 use Rattle.base.specs.Need.{need}
 use Rattle.pool.specs.Pool.{pages_of, quota_of}
 use Rattle.stage2.specs.Tables.{TablesView, view_of}
-use Rattle.stage2.proofs.TablesLemmas.{IsQuota, quota-found, quota-none, used-found, free-found, rootless-need}
+use Rattle.stage2.proofs.Editing.WholeTables.{IsQuota, quota-found, quota-none, used-found, free-found, rootless-need}
 use Rattle.stage2.proofs.tables.Tables.used.Given.{Over}
 use Rattle.stage2.proofs.tables.Tables.used.Goals as goal
 

@@ -1,0 +1,136 @@
+-- What an edit takes, read from the words.
+use Rattle.std.proofs.Common.{◌≡◌, ℕ, ◌+◌, ◌-◌, ◌*◌, ◌/◌, ◌%◌, ◌<◌, Bool, true, false, not, ◌&&◌, cond, is_some, List, Option, Some, None, length, refl, arith, ap, ap₂, sym, subst, ◌∙◌}
+use Rattle.base.specs.Pages.{PageRun, covers}
+use Rattle.base.specs.Access.{View}
+use Rattle.base.specs.Manifest.{page_count}
+use Rattle.pool.specs.Pool.{Pages}
+use Rattle.pool.proofs.Shares.{share_inside}
+use Rattle.base.specs.Counts.{count_below}
+use Rattle.pool.proofs.Count.{count_below-none}
+use Rattle.stage2.specs.Slot.{Layout, slot}
+use Rattle.stage2.specs.Walk.{at_2, next_page, chunk_table, Gigabyte, Chunk, table_at}
+use Rattle.base.specs.Need.{is_mixed, is_reached}
+use Rattle.stage2.specs.Orderly.{IsCanonical, answers, answer_of}
+use Rattle.stage2.specs.Chunks.{edited, answers_at, answers_of, second_of, entry_in}
+use Rattle.stage2.specs.Gigabytes.{grows_at, gigabyte_growth, Touches}
+use Rattle.stage2.proofs.Tree.WalkFrame.{walk-gigabyte}
+use Rattle.stage2.proofs.Counting.Needs.{mixed-same, mixed-none, reached-same, reached-none, reached-some}
+use Rattle.stage2.proofs.Editing.RootLinks.{untabled}
+
+module _ (layout : Layout) (row g : ℕ) (m : Pages) (canonical : IsCanonical layout m) (inside : row < length layout.ids) (below : g < 512) where
+  table_in : (second : Option ℕ) (i : ℕ) → i < 512 → table_at layout m.words (Gigabyte row g) ≡ second → table_at layout m.words (Chunk row (512 * g + i)) ≡ next_page (entry_in layout m.words second i)
+  unfolding table_at
+  table_in None i lt e =
+      let q : (512 * g + i) / 512 ≡ g = omega (arith, lt) in
+      ap (λ x. chunk_table layout m.words (512 * g + i) (next_page (slot layout 1 (m.words row x)))) q ∙ ap (chunk_table layout m.words (512 * g + i)) e
+  table_in (Some j) i lt e =
+      let q : (512 * g + i) / 512 ≡ g = omega (arith, lt) in
+      let r : (512 * g + i) % 512 ≡ i = omega (arith, lt) in
+      ap (λ x. chunk_table layout m.words (512 * g + i) (next_page (slot layout 1 (m.words row x)))) q ∙ ap (chunk_table layout m.words (512 * g + i)) e ∙ ap (λ x. next_page (slot layout 2 (m.words j x))) r
+
+  answers_entry : (second : Option ℕ) (i n : ℕ) → i < 512 → table_at layout m.words (Gigabyte row g) ≡ second → n / 512 ≡ 512 * g + i → answers layout m.words row n ≡ answers_at layout m.words (entry_in layout m.words second i) n
+  answers_entry None i n lt e at =
+      let q : n / 512 / 512 ≡ g = omega (arith, lt, at) in
+      ap answer_of (untabled layout m row n canonical.orderly inside (omega (arith, lt, at, below)) (ap (λ x. table_at layout m.words (Gigabyte row x)) q ∙ e))
+  answers_entry (Some j) i n lt e at =
+      let q : n / 512 / 512 ≡ g = omega (arith, lt, at) in
+      let r : n / 512 % 512 ≡ i = omega (arith, lt, at) in
+      ap answer_of (walk-gigabyte layout m.words row n j inside (ap (λ x. table_at layout m.words (Gigabyte row x)) q ∙ e) ∙ ap (λ x. at_2 layout m.words n (slot layout 2 (m.words j x))) r)
+
+  tabled-reached : is_some (table_at layout m.words (Gigabyte row g)) ≡ is_reached (answers layout m.words row) g
+  tabled-reached = canonical.reached row g inside below
+
+  untabled-none : table_at layout m.words (Gigabyte row g) ≡ None → (n : ℕ) → n / 512 / 512 ≡ g → answers layout m.words row n ≡ None
+  untabled-none none n at = ap answer_of (untabled layout m row n canonical.orderly inside (omega (arith, at, below)) (ap (λ x. table_at layout m.words (Gigabyte row x)) at ∙ none))
+
+-- a partition that may have no root
+module _ (layout : Layout) (m : Pages) (canonical : IsCanonical layout m) (g : ℕ) (below : g < 512) where
+  -- a chunk that grows, read from its word on
+  pub grows-entry : (row : Option ℕ) → ((r : ℕ) → row ≡ Some r → r < length layout.ids) → (runs : List PageRun) (access : View) (second : Option ℕ) (i : ℕ) → i < 512 → second_of layout m.words row g ≡ second
+      → (is_mixed (edited runs access (answers_at layout m.words (entry_in layout m.words second i))) (512 * g + i) && not (is_some (next_page (entry_in layout m.words second i))))
+      ≡ grows_at (answers_of layout m.words row) (edited runs access (answers_of layout m.words row)) (512 * g + i)
+  grows-entry None inside runs access (Some j) i lt e = absurd (cc)
+  grows-entry None inside runs access None i lt e =
+      let nothing : ℕ → View = answers_of layout m.words None in
+      ap (λ b. is_mixed (edited runs access nothing) (512 * g + i) && not b) (sym (mixed-none nothing (512 * g + i) (λ x small. refl)))
+  grows-entry (Some row) inside runs access second i lt e =
+      let here = inside row refl in
+      ap₂ (λ a b. a && not b)
+      (mixed-same (edited runs access (answers layout m.words row)) (edited runs access (answers_at layout m.words (entry_in layout m.words second i))) (512 * g + i)
+      (λ x small. ap (λ a. cond (covers runs (512 * (512 * g + i) + x)) access a) (sym (answers_entry layout row g m canonical here below second i (512 * (512 * g + i) + x) lt e (omega (arith, small))))))
+      (ap (λ o. is_some o) (sym (table_in layout row g m canonical here below second i lt e)) ∙ canonical.orderly.mixed row (512 * g + i) here (omega (arith, lt, below)))
+
+  reached-second : (row : Option ℕ) → ((r : ℕ) → row ≡ Some r → r < length layout.ids) → is_some (second_of layout m.words row g) ≡ is_reached (answers_of layout m.words row) g
+  reached-second None inside = let nothing : ℕ → View = answers_of layout m.words None in sym (reached-none nothing g (λ i small. refl))
+  reached-second (Some row) inside = tabled-reached layout row g m canonical (inside row refl) below
+
+  nothing-there : (row : Option ℕ) → ((r : ℕ) → row ≡ Some r → r < length layout.ids) → second_of layout m.words row g ≡ None → (n : ℕ) → n / 512 / 512 ≡ g → answers_of layout m.words row n ≡ None
+  nothing-there None inside none n at = refl
+  nothing-there (Some row) inside none n at = untabled-none layout row g m canonical (inside row refl) below none n at
+
+  -- the level 2 table is a page of the pool
+  pub second-inside : (row : Option ℕ) → ((r : ℕ) → row ≡ Some r → r < length layout.ids) → (j : ℕ) → second_of layout m.words row g ≡ Some j → j < layout.pages
+  second-inside None inside j e = absurd (cc)
+  second-inside (Some row) inside j e =
+      let within : j < page_count m.quotas = share_inside m.quotas row j (canonical.orderly.owned (Gigabyte row g) j (inside row refl, below) e) in
+      subst (λ x. j < x) (sym canonical.orderly.pages) within
+
+  -- of a gigabyte
+  module _ (row : Option ℕ) (inside : (r : ℕ) → row ≡ Some r → r < length layout.ids) (runs : List PageRun) where
+    abbrev before : ℕ → View
+    before = answers_of layout m.words row
+
+    -- that has its table, none is taken for itself
+    pub growth-tabled : (access : View) (j : ℕ) → second_of layout m.words row g ≡ Some j
+        → gigabyte_growth (answers_of layout m.words row) (edited runs access (answers_of layout m.words row)) g ≡ count_below (λ x. grows_at (answers_of layout m.words row) (edited runs access (answers_of layout m.words row)) (512 * g + x)) 512
+    growth-tabled access j table =
+        let was : is_reached before g ≡ true = sym (reached-second row inside) ∙ ap (λ o. is_some o) table in
+        rw was (off (is_reached (edited runs access before) g) (count_below (λ x. grows_at before (edited runs access before) (512 * g + x)) 512))
+      where
+        off : (b : Bool) (n : ℕ) → cond (b && false) 1 0 + n ≡ n
+        off true n = omega arith
+        off false n = omega arith
+
+    -- that has none, one is taken where pages are mapped
+    pub growth-mapped : (access : View) → Touches runs g → second_of layout m.words row g ≡ None → is_some access ≡ true
+        → gigabyte_growth (answers_of layout m.words row) (edited runs access (answers_of layout m.words row)) g ≡ count_below (λ x. grows_at (answers_of layout m.words row) (edited runs access (answers_of layout m.words row)) (512 * g + x)) 512 + 1
+    growth-mapped access touches none maps =
+        let place : 262144 * g + (touches.page - 262144 * g) ≡ touches.page = let a = touches.here in omega arith in
+        let covered : edited runs access before touches.page ≡ access = let c = touches.covered in rw c refl in
+        let now : is_reached (edited runs access before) g ≡ true =
+        reached-some (edited runs access before) g (touches.page - 262144 * g) (let a = touches.here in omega arith) (ap (λ n. is_some (edited runs access before n)) place ∙ ap (λ a. is_some a) covered ∙ maps) in
+        let was : is_reached before g ≡ false = sym (reached-second row inside) ∙ ap (λ o. is_some o) none in
+        rw (now, was) (omega arith)
+
+    -- and none where pages are unmapped
+    pub growth-unmapped : second_of layout m.words row g ≡ None
+        → gigabyte_growth (answers_of layout m.words row) (edited runs None (answers_of layout m.words row)) g ≡ count_below (λ x. grows_at (answers_of layout m.words row) (edited runs None (answers_of layout m.words row)) (512 * g + x)) 512
+    growth-unmapped none =
+        let same : is_reached (edited runs None before) g ≡ is_reached before g =
+        reached-same before (edited runs None before) g (λ i small. let n = nothing-there row inside none (262144 * g + i) (omega (arith, small)) in both (covers runs (262144 * g + i)) (before (262144 * g + i)) n) in
+        rw same (off (is_reached before g) (count_below (λ x. grows_at before (edited runs None before) (512 * g + x)) 512))
+      where
+        both : (b : Bool) (a : View) → a ≡ None → cond b None a ≡ a
+        both true a e = sym e
+        both false a e = refl
+
+        off : (b : Bool) (n : ℕ) → cond (b && not b) 1 0 + n ≡ n
+        off true n = omega arith
+        off false n = omega arith
+
+-- ---- what the runs leave alone takes nothing
+
+and-not : (b : Bool) → (b && not b) ≡ false
+and-not true = refl
+and-not false = refl
+
+pub grows-nothing : (runs : List PageRun) (access : View) (v : ℕ → View) (c : ℕ) → ((n : ℕ) → n / 512 ≡ c → covers runs n ≡ false) → grows_at v (edited runs access v) c ≡ false
+grows-nothing runs access v c none =
+    let same : is_mixed (edited runs access v) c ≡ is_mixed v c = mixed-same v (edited runs access v) c (λ i small. let f = none (512 * c + i) (omega (arith, small)) in rw f refl) in
+    rw same (and-not (is_mixed v c))
+
+pub growth-nothing : (runs : List PageRun) (access : View) (v : ℕ → View) (g : ℕ) → ((n : ℕ) → n / 512 / 512 ≡ g → covers runs n ≡ false) → gigabyte_growth v (edited runs access v) g ≡ 0
+growth-nothing runs access v g none =
+    let same : is_reached (edited runs access v) g ≡ is_reached v g = reached-same v (edited runs access v) g (λ i small. let f = none (262144 * g + i) (omega (arith, small)) in rw f refl) in
+    let chunks : count_below (λ x. grows_at v (edited runs access v) (512 * g + x)) 512 ≡ 0 = count_below-none (λ x. grows_at v (edited runs access v) (512 * g + x)) 512 (λ x lt. grows-nothing runs access v (512 * g + x) (λ n at. none n (omega (arith, lt, at)))) in
+    ap₂ (λ a b. cond a 1 0 + b) (ap (λ b. b && not (is_reached v g)) same ∙ and-not (is_reached v g)) chunks

@@ -1,0 +1,120 @@
+-- What a chunk and a gigabyte need depends on their pages alone.
+use Rattle.std.proofs.Common.{◌≡◌, ℕ, zero, suc, ◌+◌, ◌*◌, ◌/◌, ◌%◌, ◌<◌, Bool, true, false, not, ◌&&◌, ◌||◌, cond, leb, ltb, List, [], ◌∷◌, Some, None, is_some, refl, ap, ap₂, sym, ◌∙◌, arith, add-one, inl, inr}
+use Rattle.std.proofs.lemmas.Bool.{cases_eq, cases_Bool}
+use Rattle.std.proofs.lemmas.Bool.Decides.{nat_tests}
+use Rattle.base.specs.Access.{View, Access}
+use Rattle.base.specs.Need.{is_alike, is_mixed, is_reached}
+use Rattle.base.specs.Counts.{any_below}
+use Rattle.base.specs.Pages.{PageRun, in_run, covers}
+use Rattle.manifest.proofs.Tables.{alike-same, alike-refl, any_below-some, any_below-none, any_below-no}
+use Rattle.stage2.specs.Chunks.{edited, covers_chunk, IsOutcome, AreAlike}
+
+pub any_below-same : (f g : ℕ → Bool) (n : ℕ) → ((k : ℕ) → k < n → g k ≡ f k) → any_below g n ≡ any_below f n
+unfolding any_below
+any_below-same f g zero same = refl
+any_below-same f g (suc n) same = ap₂ (λ a b. a || b) (same n (omega arith)) (any_below-same f g n (λ k below. same k (omega arith)))
+
+pub mixed-same : (v w : ℕ → View) (c : ℕ) → ((i : ℕ) → i < 512 → w (512 * c + i) ≡ v (512 * c + i)) → is_mixed w c ≡ is_mixed v c
+unfolding is_mixed
+mixed-same v w c same =
+    let first : w (512 * c) ≡ v (512 * c) = ap w (zeroth c) ∙ same 0 (omega arith) ∙ ap v (sym (zeroth c)) in
+    any_below-same (λ i. not (is_alike (v (512 * c + i)) (v (512 * c)))) (λ i. not (is_alike (w (512 * c + i)) (w (512 * c)))) 512
+    (λ i below. ap₂ (λ a b. not (is_alike a b)) (same i below) first)
+  where
+    zeroth : (c : ℕ) → 512 * c ≡ 512 * c + 0
+    zeroth c = omega arith
+
+pub reached-same : (v w : ℕ → View) (g : ℕ) → ((i : ℕ) → i < 262144 → w (262144 * g + i) ≡ v (262144 * g + i)) → is_reached w g ≡ is_reached v g
+unfolding is_reached
+reached-same v w g same = any_below-same (λ i. is_some (v (262144 * g + i))) (λ i. is_some (w (262144 * g + i))) 262144 (λ i below. ap (λ a. is_some a) (same i below))
+
+pub any_below-more : (f : ℕ → Bool) (n : ℕ) → any_below f n ≡ false → f n ≡ false → any_below f (n + 1) ≡ false
+unfolding any_below
+any_below-more f n before here = rw add-one (rw (here, before) refl)
+
+pub any_below-zero : (f : ℕ → Bool) → any_below f 0 ≡ false
+unfolding any_below
+any_below-zero f = refl
+
+pub alike-self : (x : View) (a : Access) → x ≡ Some a → is_alike x (Some a) ≡ true
+alike-self x a e = rw e (alike-refl (Some a))
+
+-- ---- the one answer of a chunk
+
+pub alike-none : (answer : ℕ → View) (c : ℕ) → AreAlike answer c 0
+alike-none answer c = record { alike = any_below-zero (λ i. not (is_alike (answer (512 * c + i)) (answer (512 * c)))) }
+
+pub alike-more : (answer : ℕ → View) (c i : ℕ) → AreAlike answer c i → is_alike (answer (512 * c + i)) (answer (512 * c)) ≡ true → AreAlike answer c (i + 1)
+alike-more answer c i so here = record { alike = any_below-more (λ i. not (is_alike (answer (512 * c + i)) (answer (512 * c)))) i so.alike (ap not here) }
+
+pub outcome-mixed : (answer : ℕ → View) (c i : ℕ) → i < 512 → is_alike (answer (512 * c + i)) (answer (512 * c)) ≡ false → IsOutcome c answer None
+unfolding is_mixed
+outcome-mixed answer c i small differs = record {
+  same = λ one e. absurd (cc);
+  mixed = sym (any_below-some (λ i. not (is_alike (answer (512 * c + i)) (answer (512 * c)))) 512 i small (ap not differs));
+}
+
+not-false : (b : Bool) → not b ≡ false → b ≡ true
+not-false true e = refl
+not-false false e = absurd (cc)
+
+pub outcome-one : (answer : ℕ → View) (c : ℕ) → AreAlike answer c 512 → IsOutcome c answer (Some (answer (512 * c)))
+unfolding is_mixed
+outcome-one answer c so = record {
+  same = λ one e n at.
+      let is : answer (512 * c) ≡ one = cc in
+      let place : 512 * c + n % 512 ≡ n = omega (arith, at) in
+      let b = any_below-none (λ i. not (is_alike (answer (512 * c + i)) (answer (512 * c)))) 512 (n % 512) so.alike (omega arith) in
+      ap answer (sym place) ∙ alike-same (answer (512 * c + n % 512)) (answer (512 * c)) (not-false (is_alike (answer (512 * c + n % 512)) (answer (512 * c))) b) ∙ is;
+  mixed = sym so.alike;
+}
+
+-- ---- nothing is reached
+
+pub mixed-none : (v : ℕ → View) (c : ℕ) → ((i : ℕ) → i < 512 → v (512 * c + i) ≡ None) → is_mixed v c ≡ false
+unfolding is_mixed
+mixed-none v c none =
+    let first : v (512 * c) ≡ None = ap v (zeroth c) ∙ none 0 (omega arith) in
+    any_below-no (λ i. not (is_alike (v (512 * c + i)) (v (512 * c)))) 512 (λ i below. ap₂ (λ a b. not (is_alike a b)) (none i below) first)
+  where
+    zeroth : (c : ℕ) → 512 * c ≡ 512 * c + 0
+    zeroth c = omega arith
+
+pub reached-none : (v : ℕ → View) (g : ℕ) → ((i : ℕ) → i < 262144 → v (262144 * g + i) ≡ None) → is_reached v g ≡ false
+unfolding is_reached
+reached-none v g none = any_below-no (λ i. is_some (v (262144 * g + i))) 262144 (λ i below. ap (λ a. is_some a) (none i below))
+
+pub reached-some : (v : ℕ → View) (g i : ℕ) → i < 262144 → is_some (v (262144 * g + i)) ≡ true → is_reached v g ≡ true
+unfolding is_reached
+reached-some v g i below some = any_below-some (λ i. is_some (v (262144 * g + i))) 262144 i below some
+
+-- ---- a chunk that one run fills
+
+filled-page : (runs : List PageRun) (c n : ℕ) → covers_chunk c runs ≡ true → n / 512 ≡ c → covers runs n ≡ true
+filled-page [] c n filled at = absurd (cc)
+filled-page (run ∷ runs) c n filled at = elim (cases_Bool (leb run.first (512 * c) && leb (512 * c + 512) (run.first + run.count))) [
+  | inl t ↦ let here : in_run run n ≡ true = inside run.first run.count c n t at in rw here refl
+  | inr f ↦ let rest = filled-page runs c n (rw f at filled) at in rw rest (either (in_run run n))
+]
+  where
+    inside : (first count c n : ℕ) → (leb first (512 * c) && leb (512 * c + 512) (first + count)) ≡ true → n / 512 ≡ c → (leb first n && ltb n (first + count)) ≡ true
+    inside first count c n t at = grind (arith, nat_tests)
+
+    either : (x : Bool) → (x || true) ≡ true
+    either true = refl
+    either false = refl
+
+same-unmixed : (answer : ℕ → View) (c : ℕ) (one : View) → ((n : ℕ) → n / 512 ≡ c → answer n ≡ one) → is_mixed answer c ≡ false
+unfolding is_mixed
+same-unmixed answer c one same =
+    any_below-no (λ i. not (is_alike (answer (512 * c + i)) (answer (512 * c)))) 512
+    (λ i below. ap₂ (λ a b. not (is_alike a b)) (same (512 * c + i) (omega (arith, below))) (same (512 * c) (omega arith)) ∙ ap not (alike-all one))
+  where
+    alike-all : (a : View) → is_alike a a ≡ true
+    alike-all None = refl
+    alike-all (Some a) = alike-self (Some a) a refl
+
+pub outcome-filled : (runs : List PageRun) (access : View) (before : ℕ → View) (c : ℕ) → covers_chunk c runs ≡ true → IsOutcome c (edited runs access before) (Some access)
+outcome-filled runs access before c filled =
+    let same = λ (n : ℕ) (at : n / 512 ≡ c). ap (λ b. cond b access (before n)) (filled-page runs c n filled at) in
+    record { same = λ one is n at. same n at ∙ (let e : access ≡ one = cc in e); mixed = sym (same-unmixed (edited runs access before) c access same) }

@@ -1,0 +1,13 @@
+pub mod OneAfterAnother
+pub mod ChunkEdit
+pub mod Trades
+pub mod ChunkKeeps
+pub mod Level3Words
+pub mod FourChunkEdits
+pub mod RootLinks
+pub mod ChunkByChunk
+pub mod Gigabyte
+pub mod GigabyteByGigabyte
+pub mod RowOfPartition
+pub mod BootRegions
+pub mod WholeTables

@@ -1,0 +1,255 @@
+-- One chunk of a gigabyte after another.
+use Rattle.std.proofs.Common.{◌≡◌, ◌≢◌, ℕ, zero, suc, ◌+◌, ◌*◌, ◌/◌, ◌^◌, ◌<◌, ◌≤◌, Bool, true, false, not, ◌&&◌, ◌||◌, cond, eqb, ltb, is_some, List, [], ◌∷◌, Some, length, refl, arith, ap, sym, subst, ◌∙◌, inl, inr, add-one}
+use Rattle.std.proofs.lemmas.Bool.{cases_eq}
+use Rattle.std.proofs.lemmas.Bool.Decides.{nat_tests}
+use Rattle.base.specs.Pages.{PageRun, in_run, covers}
+use Rattle.base.specs.Access.{View}
+use Rattle.pool.specs.Pool.{Pages, used_by, quota_of}
+use Rattle.base.specs.Counts.{count_below}
+use Rattle.pool.proofs.Count.{count_below-same, count_below-more}
+use Rattle.stage2.specs.declared.walked.Walked.{Walked}
+use Rattle.stage2.specs.Slot.{Layout}
+use Rattle.stage2.specs.Walk.{walk, walked, Gigabyte, Chunk, table_at}
+use Rattle.base.specs.Need.{is_mixed}
+use Rattle.stage2.specs.Orderly.{IsOrderly, answers, answer_of, linked}
+use Rattle.stage2.specs.Chunks.{edited, answers_in, Redoes, Redoes_in, IsSite, IsGrowing}
+use Rattle.stage2.specs.Gigabytes.{sum_below, touches_run, touches_chunk, grows_at, IsUnderway}
+use Rattle.stage2.proofs.Counting.Needs.{mixed-same}
+use Rattle.stage2.proofs.Editing.FourChunkEdits.{tidy-answer}
+use Rattle.stage2.proofs.Editing.ChunkKeeps.{answer-walked}
+
+-- ---- counts
+
+abbrev pub bit : Bool → ℕ
+bit b = cond b 1 0
+
+-- two counts that differ at one number
+pub count_below-at : (f g : ℕ → Bool) (n x : ℕ) → x < n → ((k : ℕ) → k < n → k ≢ x → g k ≡ f k) → count_below g n + bit (f x) ≡ count_below f n + bit (g x)
+unfolding count_below
+count_below-at f g zero x below same = absurd (omega arith)
+count_below-at f g (suc n) x below same = elim (cases_eq n x) [
+  | inl is ↦
+      let rest = count_below-same f g n (λ k lt. same k (omega arith) (λ e. omega arith)) in
+      let here : f n ≡ f x = ap f is in
+      let there : g n ≡ g x = ap g is in
+      rw (here, there, rest) (omega arith)
+  | inr other ↦
+      let rest = count_below-at f g n x (omega arith) (λ k lt differs. same k (omega arith) differs) in
+      let here : g n ≡ f n = same n (omega arith) other in
+      rw here (omega (arith, rest))
+]
+
+pub count_below-up : (f : ℕ → Bool) (n m : ℕ) → n ≤ m → count_below f n ≤ count_below f m
+unfolding count_below
+count_below-up f n zero le = let e : n ≡ 0 = omega arith in rw e (omega arith)
+count_below-up f n (suc m) le = elim (cases_eq n (suc m)) [
+  | inl e ↦ rw e (omega arith)
+  | inr e ↦ let rest = count_below-up f n m (omega arith) in omega (arith, rest)
+]
+
+pub sum_below-more : (f : ℕ → ℕ) (n : ℕ) → sum_below f (n + 1) ≡ f n + sum_below f n
+unfolding sum_below
+sum_below-more f n = rw add-one refl
+
+pub sum_below-up : (f : ℕ → ℕ) (n m : ℕ) → n ≤ m → sum_below f n ≤ sum_below f m
+unfolding sum_below
+sum_below-up f n zero le = let e : n ≡ 0 = omega arith in rw e (omega arith)
+sum_below-up f n (suc m) le = elim (cases_eq n (suc m)) [
+  | inl e ↦ rw e (omega arith)
+  | inr e ↦ let rest = sum_below-up f n m (omega arith) in omega (arith, rest)
+]
+
+-- ---- the pages that the edit of a chunk takes
+
+pub redoes-used : (layout : Layout) (row c : ℕ) (answer : ℕ → View) (old new : Pages) → row < length layout.ids → c < 262144 → IsOrderly layout old → Redoes layout row c answer old new
+    → used_by new row + bit (is_mixed (answers layout old.words row) c) ≡ used_by old row + bit (is_mixed answer c)
+redoes-used layout row c answer old new inside below orderly h =
+    let at = count_below-at (λ d. is_some (table_at layout old.words (Chunk row d))) (λ d. is_some (table_at layout new.words (Chunk row d))) 262144 c below
+    (λ d lt differs. ap (λ o. is_some o) (h.tables (Chunk row d) (inside, lt) (λ e. differs (cc)))) in
+    let gigabytes = count_below-same (λ g. is_some (table_at layout old.words (Gigabyte row g))) (λ g. is_some (table_at layout new.words (Gigabyte row g))) 512
+    (λ g lt. ap (λ o. is_some o) (h.tables (Gigabyte row g) (inside, lt) (λ e. cc))) in
+    let was : bit (is_some (table_at layout old.words (Chunk row c))) ≡ bit (is_mixed (answers layout old.words row) c) = ap bit (orderly.mixed row c inside below) in
+    let same : is_mixed (answers layout new.words row) c ≡ is_mixed answer c = mixed-same answer (answers layout new.words row) c (λ i small. ap answer_of (h.walks row (512 * c + i) (omega arith) ∙ chosen c i small) ∙ answer-walked (512 * c + i) (answer (512 * c + i))) in
+    let now : bit (is_some (table_at layout new.words (Chunk row c))) ≡ bit (is_mixed answer c) = ap bit (h.orderly.mixed row c inside below ∙ same) in
+    let used_old = orderly.used row inside in
+    let used_new = h.orderly.used row inside in
+    omega (arith, at, gigabytes, was, now, used_old, used_new)
+  where
+    chosen : (c i : ℕ) → i < 512 → cond (eqb row row && eqb ((512 * c + i) / 512) c) (walked (512 * c + i) (answer (512 * c + i))) (walk layout old.words row (512 * c + i)) ≡ walked (512 * c + i) (answer (512 * c + i))
+    chosen c i small = let q : (512 * c + i) / 512 ≡ c = omega arith in grind (arith, nat_tests)
+
+-- ---- from chunk to chunk
+
+module _ (layout : Layout) (row g j : ℕ) (runs : List PageRun) (access : View) (old : Pages) (inside : row < length layout.ids) (below : g < 512) where
+  abbrev pub before : ℕ → View
+  before = answers layout (linked layout row g j old).words row
+
+  abbrev pub after : ℕ → View
+  after = edited runs access (answers layout (linked layout row g j old).words row)
+
+  pub underway-start : IsOrderly layout (linked layout row g j old) → table_at layout (linked layout row g j old).words (Gigabyte row g) ≡ Some j → IsUnderway layout row g j 0 after old old
+  underway-start orderly second = record {
+    orderly = orderly;
+    second = second;
+    ids = refl;
+    quotas = refl;
+    root = λ x. refl;
+    walks = λ q n small. none q n (walked n (after n)) (walk layout (linked layout row g j old).words q n);
+    others = λ r x in_r lt. refl;
+    used = omega arith;
+  }
+    where
+      none : (q n : ℕ) (a b : Walked) → b ≡ cond (eqb q row && (eqb (n / 512 / 512) g && ltb (n / 512) (512 * g + 0))) a b
+      none q n a b = let no : (eqb (n / 512 / 512) g && ltb (n / 512) (512 * g + 0)) ≡ false = grind (arith, nat_tests) in rw no (both (eqb q row))
+        where
+          both : (x : Bool) → b ≡ cond (x && false) a b
+          both true = refl
+          both false = refl
+
+  module _ (i : ℕ) (lt : i < 512) (mid : Pages) (h : IsUnderway layout row g j i after old mid) where
+    pub quotient : (512 * g + i) / 512 ≡ g
+    quotient = omega (arith, lt)
+
+    pub site : IsSite layout row (512 * g + i) j mid
+    site = record {
+      orderly = rw quotient h.orderly;
+      partition = inside;
+      chunk = omega (arith, lt, below);
+      second = rw quotient h.second;
+    }
+
+    -- the chunk's pages are reached as at first
+    pub still : (n : ℕ) → n < 2 ^ 27 → n / 512 ≡ 512 * g + i → walk layout (linked layout row g j mid).words row n ≡ walk layout (linked layout row g j old).words row n
+    still n small at = h.walks row n small ∙ (let no : ltb (n / 512) (512 * g + i) ≡ false = grind (arith, nat_tests) in rw no (both (eqb row row) (eqb (n / 512 / 512) g)))
+      where
+        both : (x y : Bool) → cond (x && (y && false)) (walked n (after n)) (walk layout (linked layout row g j old).words row n) ≡ walk layout (linked layout row g j old).words row n
+        both true true = refl
+        both true false = refl
+        both false y = refl
+
+    pub still-answers : (n : ℕ) → n < 2 ^ 27 → n / 512 ≡ 512 * g + i → answers_in layout row (512 * g + i) j mid n ≡ before n
+    still-answers n small at = ap (λ x. answers layout (linked layout row x j mid).words row n) quotient ∙ ap answer_of (still n small at)
+
+    pub still-mixed : is_mixed (answers_in layout row (512 * g + i) j mid) (512 * g + i) ≡ is_mixed before (512 * g + i)
+    still-mixed = mixed-same before (answers_in layout row (512 * g + i) j mid) (512 * g + i) (λ x small. still-answers (512 * (512 * g + i) + x) (omega (arith, small, lt, below)) (omega (arith, small)))
+
+    pub now-mixed : is_mixed (edited runs access (answers_in layout row (512 * g + i) j mid)) (512 * g + i) ≡ is_mixed after (512 * g + i)
+    now-mixed = mixed-same after (edited runs access (answers_in layout row (512 * g + i) j mid)) (512 * g + i)
+        (λ x small. ap (λ a. cond (covers runs (512 * (512 * g + i) + x)) access a) (still-answers (512 * (512 * g + i) + x) (omega (arith, small, lt, below)) (omega (arith, small))))
+
+    -- there is a page for a chunk that grows
+    pub has-free : used_by old row + count_below (λ x. grows_at before after (512 * g + x)) 512 ≤ quota_of old.quotas row → IsGrowing (answers_in layout row (512 * g + i) j mid) (edited runs access (answers_in layout row (512 * g + i) j mid)) (512 * g + i)
+        → used_by mid row < quota_of mid.quotas row
+    has-free fits grows =
+        let now : is_mixed after (512 * g + i) ≡ true = sym now-mixed ∙ grows.now in
+        let was : is_mixed before (512 * g + i) ≡ false = sym still-mixed ∙ grows.was in
+        let one : grows_at before after (512 * g + i) ≡ true = rw (now, was) refl in
+        let more = count_below-more (λ x. grows_at before after (512 * g + x)) i in
+        let here : bit (grows_at before after (512 * g + i)) ≡ 1 = ap bit one in
+        let up = count_below-up (λ x. grows_at before after (512 * g + x)) (i + 1) 512 (omega arith) in
+        let quota : quota_of mid.quotas row ≡ quota_of old.quotas row = ap (λ q. quota_of q row) h.quotas in
+        let used = h.used in
+        omega (arith, more, here, up, quota, fits, used)
+
+    -- the pages of the next chunk are not in the runs
+    pub underway-skip : ((n : ℕ) → n < 2 ^ 27 → n / 512 ≡ 512 * g + i → covers runs n ≡ false) → IsUnderway layout row g j (i + 1) after old mid
+    underway-skip untouched = record {
+      orderly = h.orderly;
+      second = h.second;
+      ids = h.ids;
+      quotas = h.quotas;
+      root = h.root;
+      walks = λ q n small. elim (cases_eq (n / 512) (512 * g + i)) [
+        | inl at ↦ elim (cases_eq q row) [
+          | inl e ↦ rw e (still n small at ∙ tidy-answer n (walk layout (linked layout row g j old).words row n) (rw (sym (still n small at)) (h.orderly.tidy row n inside small))
+              ∙ ap (walked n) (sym (ap (λ b. cond b access (before n)) (untouched n small at))) ∙ chosen n (walked n (after n)) (walk layout (linked layout row g j old).words row n) at)
+          | inr e ↦ h.walks q n small ∙ off q n e (walked n (after n)) (walk layout (linked layout row g j old).words q n)
+        ]
+        | inr at ↦ h.walks q n small ∙ later q n at (walked n (after n)) (walk layout (linked layout row g j old).words q n)
+      ];
+      others = h.others;
+      used = let up = count_below-up (λ x. grows_at before after (512 * g + x)) i (i + 1) (omega arith) in let used = h.used in omega (arith, up, used);
+    }
+      where
+        chosen : (n : ℕ) (a b : Walked) → n / 512 ≡ 512 * g + i → a ≡ cond (eqb row row && (eqb (n / 512 / 512) g && ltb (n / 512) (512 * g + (i + 1)))) a b
+        chosen n a b at = let q : n / 512 / 512 ≡ g = omega (arith, at, lt) in grind (arith, nat_tests)
+
+        off : (q n : ℕ) → q ≢ row → (a b : Walked) → cond (eqb q row && (eqb (n / 512 / 512) g && ltb (n / 512) (512 * g + i))) a b ≡ cond (eqb q row && (eqb (n / 512 / 512) g && ltb (n / 512) (512 * g + (i + 1)))) a b
+        off q n e a b = let no : eqb q row ≡ false = grind (arith, nat_tests, e) in rw no refl
+
+        later : (q n : ℕ) → n / 512 ≢ 512 * g + i → (a b : Walked) → cond (eqb q row && (eqb (n / 512 / 512) g && ltb (n / 512) (512 * g + i))) a b ≡ cond (eqb q row && (eqb (n / 512 / 512) g && ltb (n / 512) (512 * g + (i + 1)))) a b
+        later q n at a b = let same : ltb (n / 512) (512 * g + i) ≡ ltb (n / 512) (512 * g + (i + 1)) = grind (arith, nat_tests, at) in rw same refl
+
+    -- the next chunk is edited
+    pub underway-edit : (new : Pages) → Redoes_in layout row (512 * g + i) j (edited runs access (answers_in layout row (512 * g + i) j mid)) mid new → IsUnderway layout row g j (i + 1) after old new
+    underway-edit new e =
+        let r : Redoes layout row (512 * g + i) (edited runs access (answers_in layout row (512 * g + i) j mid)) (linked layout row g j mid) (linked layout row g j new) =
+        subst (λ x. Redoes layout row (512 * g + i) (edited runs access (answers_in layout row (512 * g + i) j mid)) (linked layout row x j mid) (linked layout row x j new)) quotient e.redoes in
+        record {
+          orderly = r.orderly;
+          second = r.tables (Gigabyte row g) (inside, below) (λ f. cc) ∙ h.second;
+          ids = r.ids ∙ h.ids;
+          quotas = r.quotas ∙ h.quotas;
+          root = λ x. e.root x ∙ h.root x;
+          walks = λ q n small. r.walks q n small ∙ elim (cases_eq (n / 512) (512 * g + i)) [
+            | inl at ↦ elim (cases_eq q row) [
+              | inl f ↦ rw f (here n (walked n (edited runs access (answers_in layout row (512 * g + i) j mid) n)) (walk layout (linked layout row g j mid).words row n) at
+                  ∙ ap (walked n) (ap (λ a. cond (covers runs n) access a) (still-answers n small at)) ∙ chosen n (walked n (after n)) (walk layout (linked layout row g j old).words row n) at)
+              | inr f ↦ off q n f (walked n (edited runs access (answers_in layout row (512 * g + i) j mid) n)) (walk layout (linked layout row g j mid).words q n) ∙ h.walks q n small
+                  ∙ off2 q n f (walked n (after n)) (walk layout (linked layout row g j old).words q n)
+            ]
+            | inr at ↦ elsewhere q n at (walked n (edited runs access (answers_in layout row (512 * g + i) j mid) n)) (walk layout (linked layout row g j mid).words q n) ∙ h.walks q n small
+                ∙ later q n at (walked n (after n)) (walk layout (linked layout row g j old).words q n)
+          ];
+          others = λ s x in_s lt_x. r.tables (Gigabyte s x) (in_s, lt_x) (λ f. cc) ∙ h.others s x in_s lt_x;
+          used =
+              let one = redoes-used layout row (512 * g + i) (edited runs access (answers_in layout row (512 * g + i) j mid)) (linked layout row g j mid) (linked layout row g j new) inside (omega (arith, lt, below)) h.orderly r in
+              let was : bit (is_mixed (answers layout (linked layout row g j mid).words row) (512 * g + i)) ≡ bit (is_mixed before (512 * g + i)) = ap bit (ap (λ x. is_mixed (answers layout (linked layout row x j mid).words row) (512 * g + i)) (sym quotient) ∙ still-mixed) in
+              let now : bit (is_mixed (edited runs access (answers_in layout row (512 * g + i) j mid)) (512 * g + i)) ≡ bit (is_mixed after (512 * g + i)) = ap bit now-mixed in
+              let more = count_below-more (λ x. grows_at before after (512 * g + x)) i in
+              let bits = grown (is_mixed after (512 * g + i)) (is_mixed before (512 * g + i)) in
+              let used = h.used in
+              omega (arith, one, was, now, more, bits, used);
+        }
+      where
+        grown : (now was : Bool) → bit now ≤ bit was + bit (now && not was)
+        grown true true = omega arith
+        grown true false = omega arith
+        grown false was = omega arith
+
+        here : (n : ℕ) (a b : Walked) → n / 512 ≡ 512 * g + i → cond (eqb row row && eqb (n / 512) (512 * g + i)) a b ≡ a
+        here n a b at = grind (arith, nat_tests)
+
+        chosen : (n : ℕ) (a b : Walked) → n / 512 ≡ 512 * g + i → a ≡ cond (eqb row row && (eqb (n / 512 / 512) g && ltb (n / 512) (512 * g + (i + 1)))) a b
+        chosen n a b at = let q : n / 512 / 512 ≡ g = omega (arith, at, lt) in grind (arith, nat_tests)
+
+        off : (q n : ℕ) → q ≢ row → (a b : Walked) → cond (eqb q row && eqb (n / 512) (512 * g + i)) a b ≡ b
+        off q n e a b = let no : eqb q row ≡ false = grind (arith, nat_tests, e) in rw no refl
+
+        off2 : (q n : ℕ) → q ≢ row → (a b : Walked) → cond (eqb q row && (eqb (n / 512 / 512) g && ltb (n / 512) (512 * g + i))) a b ≡ cond (eqb q row && (eqb (n / 512 / 512) g && ltb (n / 512) (512 * g + (i + 1)))) a b
+        off2 q n e a b = let no : eqb q row ≡ false = grind (arith, nat_tests, e) in rw no refl
+
+        elsewhere : (q n : ℕ) → n / 512 ≢ 512 * g + i → (a b : Walked) → cond (eqb q row && eqb (n / 512) (512 * g + i)) a b ≡ b
+        elsewhere q n at a b = let no : eqb (n / 512) (512 * g + i) ≡ false = grind (arith, nat_tests, at) in rw no (both (eqb q row))
+          where
+            both : (x : Bool) → cond (x && false) a b ≡ b
+            both true = refl
+            both false = refl
+
+        later : (q n : ℕ) → n / 512 ≢ 512 * g + i → (a b : Walked) → cond (eqb q row && (eqb (n / 512 / 512) g && ltb (n / 512) (512 * g + i))) a b ≡ cond (eqb q row && (eqb (n / 512 / 512) g && ltb (n / 512) (512 * g + (i + 1)))) a b
+        later q n at a b = let same : ltb (n / 512) (512 * g + i) ≡ ltb (n / 512) (512 * g + (i + 1)) = grind (arith, nat_tests, at) in rw same refl
+
+-- ---- chunks that the runs leave alone
+
+pub untouched : (c : ℕ) (runs : List PageRun) (n : ℕ) → touches_chunk c runs ≡ false → n / 512 ≡ c → covers runs n ≡ false
+untouched c [] n none at = refl
+untouched c (run ∷ runs) n none at =
+    let rest : touches_chunk c runs ≡ false → covers runs n ≡ false = λ e. untouched c runs n e at in
+    one (touches_run c run) (touches_chunk c runs) (in_run run n) (covers runs n) none (out c run n at) rest
+  where
+    out : (c : ℕ) (run : PageRun) (n : ℕ) → n / 512 ≡ c → touches_run c run ≡ false → in_run run n ≡ false
+    out c run n at e = grind (arith, nat_tests)
+
+    one : (a b x y : Bool) → (a || b) ≡ false → (a ≡ false → x ≡ false) → (b ≡ false → y ≡ false) → (x || y) ≡ false
+    one true b x y e f h = absurd (cc)
+    one false b x y e f h = let k = f refl in let l = h e in rw (k, l) refl

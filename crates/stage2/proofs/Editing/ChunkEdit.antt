@@ -1,0 +1,89 @@
+-- An edit of one chunk: the level 2 word of the chunk, its level 3 table, and pages that hang nowhere.
+use Rattle.std.proofs.Common.{◌≡◌, ◌≢◌, ℕ, ◌/◌, ◌%◌, ◌^◌, ◌<◌, Some, length, arith, ap, sym, ◌∙◌, ap₂, ◌⊎◌, inl, inr}
+use Rattle.pool.specs.Pool.{Words}
+use Rattle.stage2.specs.Slot.{Layout, slot}
+use Rattle.stage2.specs.Walk.{index_1, index_3, at_2, walk, walk_across, Place, Root, Gigabyte, Chunk, next_page, table_at, IsPlace, IsForest}
+use Rattle.stage2.proofs.Tree.WalkFrame.{walk-same, walk-gigabyte, table_at-gigabyte, table_at-chunk, table_at-chunk_in, table_at-root, IsUnheld}
+use Rattle.stage2.proofs.Tree.RootWrites.{is_chunk}
+
+-- the tables of all other places keep their words, but for the chunk's own word in its level 2 table j
+pub record IsChunkEdit (layout : Layout) (row c j : ℕ) (old new : Words) : Type 0 where
+  pub forest : IsForest layout old
+  pub partition : row < length layout.ids
+  pub chunk : c < 262144
+  pub second : table_at layout old (Gigabyte row (c / 512)) ≡ Some j
+  pub same : (b : Place) (q i : ℕ) → IsPlace layout b → b ≢ Chunk row c → table_at layout old b ≡ Some q → (q ≡ j → i ≡ c % 512 → ⊥) → new q i ≡ old q i
+
+module _ (layout : Layout) (row c j : ℕ) (old new : Words) (h : IsChunkEdit layout row c j old new) where
+  place : IsPlace layout (Gigabyte row (c / 512))
+  place = (h.partition, omega (arith, h.chunk))
+
+  pub root-kept : (r x : ℕ) → r < length layout.ids → new r x ≡ old r x
+  root-kept r x inside = h.same (Root r) r x inside (λ e. cc) (table_at-root layout old r) (λ e _. let f : Root r ≡ Gigabyte row (c / 512) = h.forest (Root r) (Gigabyte row (c / 512)) j inside place (table_at-root layout old r ∙ ap Some e) h.second in cc)
+
+  pub second-kept : (r d k : ℕ) → r < length layout.ids → d < 262144 → (r ≡ row → d ≡ c → ⊥) → table_at layout old (Gigabyte r (d / 512)) ≡ Some k → new k (d % 512) ≡ old k (d % 512)
+  second-kept r d k inside below other at =
+      h.same (Gigabyte r (d / 512)) k (d % 512) (inside, omega arith) (λ e. cc) at (λ e i.
+      let f : Gigabyte r (d / 512) ≡ Gigabyte row (c / 512) = h.forest (Gigabyte r (d / 512)) (Gigabyte row (c / 512)) j (inside, omega arith) place (at ∙ ap Some e) h.second in
+      let e_r : r ≡ row = cc in
+      let e_g : d / 512 ≡ c / 512 = cc in
+      other e_r (omega arith))
+
+  pub third-kept : (r d k i : ℕ) → r < length layout.ids → d < 262144 → (r ≡ row → d ≡ c → ⊥) → table_at layout old (Chunk r d) ≡ Some k → new k i ≡ old k i
+  third-kept r d k i inside below other at =
+      h.same (Chunk r d) k i (inside, below) (λ e. let e_r : r ≡ row = cc in let e_d : d ≡ c = cc in other e_r e_d) at
+      (λ e _. let f : Chunk r d ≡ Gigabyte row (c / 512) = h.forest (Chunk r d) (Gigabyte row (c / 512)) j (inside, below) place (at ∙ ap Some e) h.second in cc)
+
+  -- all but the chunk's table hang where they did
+  pub table-other : (b : Place) → IsPlace layout b → b ≢ Chunk row c → table_at layout new b ≡ table_at layout old b
+  table-other (Root r) inside other = table_at-root layout new r ∙ sym (table_at-root layout old r)
+  table-other (Gigabyte r g) inside other = table_at-gigabyte layout old new r g (root-kept r g inside.0)
+  table-other (Chunk r d) inside other =
+      table_at-chunk layout old new r d (record {
+        first = root-kept r (d / 512) inside.0;
+        second = λ k at. second-kept r d k inside.0 inside.1 (λ e f. other (ap₂ Chunk e f)) at;
+      })
+
+  pub second-stays : table_at layout new (Gigabyte row (c / 512)) ≡ Some j
+  second-stays = table-other (Gigabyte row (c / 512)) place (λ e. cc) ∙ h.second
+
+  -- the chunk's table is the one that its word points at
+  pub table-here : table_at layout new (Chunk row c) ≡ next_page (slot layout 2 (new j (c % 512)))
+  table-here = table_at-chunk_in layout new row c j second-stays
+
+  -- the chunk's pages are translated as its word says
+  pub walk-here : (n : ℕ) → n / 512 ≡ c → walk layout new row n ≡ at_2 layout new n (slot layout 2 (new j (c % 512)))
+  walk-here n e =
+      let at : table_at layout new (Gigabyte row (n / 512 / 512)) ≡ Some j = ap (λ x. table_at layout new (Gigabyte row (x / 512))) e ∙ second-stays in
+      walk-gigabyte layout new row n j h.partition at ∙ ap (λ x. at_2 layout new n (slot layout 2 (new j (x % 512)))) e
+
+  pub forest-here : ((k : ℕ) → table_at layout new (Chunk row c) ≡ Some k → IsUnheld layout old k ⊎ (table_at layout old (Chunk row c) ≡ Some k)) → IsForest layout new
+  forest-here fresh a b q in_a in_b at_a at_b =
+      elim (is_chunk a row c) [
+        | inl e ↦ elim (is_chunk b row c) [
+          | inl f ↦ e ∙ sym f
+          | inr f ↦ absurd (elsewhere b in_b f q (ap (table_at layout new) (sym e) ∙ at_a) at_b)
+        ]
+        | inr e ↦ elim (is_chunk b row c) [
+          | inl f ↦ absurd (elsewhere a in_a e q (ap (table_at layout new) (sym f) ∙ at_b) at_a)
+          | inr f ↦ h.forest a b q in_a in_b (sym (table-other a in_a e) ∙ at_a) (sym (table-other b in_b f) ∙ at_b)
+        ]
+      ]
+    where
+      elsewhere : (x : Place) → IsPlace layout x → x ≢ Chunk row c → (q : ℕ) → table_at layout new (Chunk row c) ≡ Some q → table_at layout new x ≡ Some q → ⊥
+      elsewhere x in_x differs q here there =
+          let was : table_at layout old x ≡ Some q = sym (table-other x in_x differs) ∙ there in
+          elim (fresh q here) [
+            | inl free ↦ free x in_x was
+            | inr held ↦ differs (h.forest x (Chunk row c) q in_x (h.partition, h.chunk) was held)
+          ]
+
+-- every other page is translated as before, also by a walk that reads its words from three such edits
+pub walk-apart : (layout : Layout) (row c j : ℕ) (old new1 new2 new3 : Words) → IsChunkEdit layout row c j old new1 → IsChunkEdit layout row c j old new2 → IsChunkEdit layout row c j old new3
+    → (r n : ℕ) → n < 2 ^ 27 → (r ≡ row → n / 512 ≡ c → ⊥) → walk_across layout new1 new2 new3 r n ≡ walk layout old r n
+walk-apart layout row c j old new1 new2 new3 h1 h2 h3 r n small other =
+    walk-same layout old new1 new2 new3 r n (λ inside. record {
+      first = root-kept layout row c j old new1 h1 r (index_1 n) inside;
+      second = λ k at. second-kept layout row c j old new2 h2 r (n / 512) k inside (omega arith) other at;
+      third = λ k at. third-kept layout row c j old new3 h3 r (n / 512) k (index_3 n) inside (omega arith) other at;
+    })

@@ -1,0 +1,135 @@
+-- An edit of a chunk, whichever of its kinds, keeps the tables orderly.
+use Rattle.std.proofs.Common.{◌≡◌, ◌≢◌, ℕ, ◌+◌, ◌*◌, ◌/◌, ◌%◌, ◌^◌, ◌<◌, is_some, Some, None, length, refl, arith, ap, ap₂, sym, ◌∙◌, ◌⊎◌, inl, inr}
+use Rattle.std.proofs.lemmas.Bool.{cases_eq}
+use Rattle.std.proofs.lemmas.Bool.Decides.{nat_tests}
+use Rattle.base.specs.Access.{View}
+use Rattle.pool.specs.Pool.{Pages}
+use Rattle.stage2.specs.Slot.{Layout, slot, Empty}
+use Rattle.stage2.specs.Walk.{walk, walked, Place, Gigabyte, Chunk, table_at, IsPlace}
+use Rattle.stage2.specs.Sound.{IsTidy}
+use Rattle.base.specs.Need.{is_mixed}
+use Rattle.stage2.specs.Orderly.{IsOrderly, answers, answer_of, level_at}
+use Rattle.stage2.specs.Chunks.{Redoes}
+use Rattle.stage2.proofs.Tree.RootWrites.{is_chunk}
+use Rattle.stage2.proofs.Editing.ChunkEdit.{IsChunkEdit, table-other, walk-apart}
+use Rattle.stage2.proofs.Counting.Needs.{mixed-same}
+use Rattle.stage2.proofs.Editing.Trades.{Trade, IsTrade, trade-forest, trade-taken, trade-owned, trade-hangs, trade-used}
+
+pub in_chunk : (row c r n : ℕ) → ((r ≡ row) × (n / 512 ≡ c)) ⊎ (r ≡ row → n / 512 ≡ c → ⊥)
+in_chunk row c r n = elim (cases_eq r row) [
+  | inl e ↦ elim (cases_eq (n / 512) c) [ inl f ↦ inl (e, f) | inr f ↦ inr (λ _ x. f x) ]
+  | inr e ↦ inr (λ x _. e x)
+]
+
+pub tidy-walked : (n : ℕ) (a : View) → IsTidy n (walked n a)
+tidy-walked n None = tt
+tidy-walked n (Some a) = refl
+
+pub answer-walked : (n : ℕ) (a : View) → answer_of (walked n a) ≡ a
+answer-walked n None = refl
+answer-walked n (Some a) = refl
+
+-- what the edit has to show: which words it wrote, what became of the chunk's table, and what the chunk's pages answer
+pub record IsRedone (layout : Layout) (row c j : ℕ) (answer : ℕ → View) (old new : Pages) : Type 0 where
+  pub orderly : IsOrderly layout old
+  pub edit : IsChunkEdit layout row c j old.words new.words
+  pub ids : new.ids ≡ old.ids
+  pub quotas : new.quotas ≡ old.quotas
+  pub trade : Trade layout row (Chunk row c) old new
+  pub here : (n : ℕ) → n < 2 ^ 27 → n / 512 ≡ c → walk layout new.words row n ≡ walked n (answer n)
+  pub mixed : is_some (table_at layout new.words (Chunk row c)) ≡ is_mixed answer c
+  pub clean_entry : slot layout 2 (new.words j (c % 512)) ≡ Empty → new.words j (c % 512) ≡ 0
+  pub clean_table : (k i : ℕ) → table_at layout new.words (Chunk row c) ≡ Some k → i < 512 → slot layout 3 (new.words k i) ≡ Empty → new.words k i ≡ 0
+
+module _ (layout : Layout) (row c j : ℕ) (answer : ℕ → View) (old new : Pages) (h : IsRedone layout row c j answer old new) where
+  apart : (r n : ℕ) → n < 2 ^ 27 → (r ≡ row → n / 512 ≡ c → ⊥) → walk layout new.words r n ≡ walk layout old.words r n
+  apart = walk-apart layout row c j old.words new.words new.words new.words h.edit h.edit h.edit
+
+  tidy : (r n : ℕ) → r < length layout.ids → n < 2 ^ 27 → IsTidy n (walk layout new.words r n)
+  tidy r n inside small = elim (in_chunk row c r n) [
+    | inl f ↦ rw (f.0, h.here n small f.1) (tidy-walked n (answer n))
+    | inr f ↦ rw (apart r n small f) (h.orderly.tidy r n inside small)
+  ]
+
+  mixed_other : (r d : ℕ) → r < length layout.ids → d < 262144 → Chunk r d ≢ Chunk row c → is_some (table_at layout new.words (Chunk r d)) ≡ is_mixed (answers layout new.words r) d
+  mixed_other r d inside below differs =
+      ap (λ o. is_some o) (table-other layout row c j old.words new.words h.edit (Chunk r d) (inside, below) differs)
+      ∙ h.orderly.mixed r d inside below
+      ∙ sym (mixed-same (answers layout old.words r) (answers layout new.words r) d (λ i small. ap answer_of (apart r (512 * d + i) (omega arith) (λ e f. differs (ap₂ Chunk e (quotient d i small ∙ f))))))
+    where
+      quotient : (d i : ℕ) → i < 512 → d ≡ (512 * d + i) / 512
+      quotient d i small = omega arith
+
+  mixed_here : is_some (table_at layout new.words (Chunk row c)) ≡ is_mixed (answers layout new.words row) c
+  mixed_here =
+      let below : c < 262144 = h.edit.chunk in
+      h.mixed ∙ sym (mixed-same answer (answers layout new.words row) c (λ i small. ap answer_of (h.here (512 * c + i) (omega arith) (omega arith)) ∙ answer-walked (512 * c + i) (answer (512 * c + i))))
+
+  mixed : (r d : ℕ) → r < length layout.ids → d < 262144 → is_some (table_at layout new.words (Chunk r d)) ≡ is_mixed (answers layout new.words r) d
+  mixed r d inside below = elim (is_chunk (Chunk r d) row c) [
+    | inl f ↦ let e_r : r ≡ row = cc in let e_d : d ≡ c = cc in rw (e_r, e_d) mixed_here
+    | inr f ↦ mixed_other r d inside below f
+  ]
+
+  -- which of the words it is
+  is_entry : (q i : ℕ) → ((q ≡ j) × (i ≡ c % 512)) ⊎ (q ≡ j → i ≡ c % 512 → ⊥)
+  is_entry q i = elim (cases_eq q j) [
+    | inl e ↦ elim (cases_eq i (c % 512)) [ inl f ↦ inl (e, f) | inr f ↦ inr (λ _ x. f x) ]
+    | inr e ↦ inr (λ x _. e x)
+  ]
+
+  clean : (a : Place) (q i : ℕ) → IsPlace layout a → table_at layout new.words a ≡ Some q → i < 512 → slot layout (level_at a) (new.words q i) ≡ Empty → new.words q i ≡ 0
+  clean a q i inside at below none = elim (is_chunk a row c) [
+    | inl f ↦ h.clean_table q i (ap (table_at layout new.words) (sym f) ∙ at) below (rw f at none)
+    | inr f ↦
+        let was : table_at layout old.words a ≡ Some q = sym (table-other layout row c j old.words new.words h.edit a inside f) ∙ at in
+        elim (is_entry q i) [
+          | inl e ↦
+              let here : a ≡ Gigabyte row (c / 512) = h.orderly.forest a (Gigabyte row (c / 512)) j inside (h.edit.partition, omega (arith, h.edit.chunk)) (was ∙ ap Some e.0) h.edit.second in
+              rw (e.0, e.1) (h.clean_entry (rw (here, e.0, e.1) at none))
+          | inr e ↦
+              let same : new.words q i ≡ old.words q i = h.edit.same a q i inside f was e in
+              same ∙ h.orderly.clean a q i inside was below (rw same at none)
+        ]
+  ]
+
+  is_trade : IsTrade layout row (Chunk row c) old new
+  is_trade = record {
+    orderly = h.orderly;
+    at = (h.edit.partition, h.edit.chunk);
+    partition = h.edit.partition;
+    of_row = inr (c, refl);
+    is_x = λ b. is_chunk b row c;
+    kept = λ b inside other. table-other layout row c j old.words new.words h.edit b inside other;
+    quotas = h.quotas;
+    trade = h.trade;
+  }
+
+  orderly : IsOrderly layout new
+  orderly = record {
+    ids = h.orderly.ids ∙ sym h.ids;
+    quotas = h.orderly.quotas ∙ sym h.quotas;
+    pages = rw h.quotas h.orderly.pages;
+    rows = rw h.quotas h.orderly.rows;
+    fits = h.orderly.fits;
+    forest = trade-forest layout row (Chunk row c) old new is_trade;
+    taken = trade-taken layout row (Chunk row c) old new is_trade;
+    owned = trade-owned layout row (Chunk row c) old new is_trade;
+    hangs = trade-hangs layout row (Chunk row c) old new is_trade;
+    used = trade-used layout row (Chunk row c) old new is_trade;
+    clean = clean;
+    tidy = tidy;
+    mixed = mixed;
+  }
+
+  pub redone : Redoes layout row c answer old new
+  redone = record {
+    orderly = orderly;
+    ids = h.ids;
+    quotas = h.quotas;
+    walks = λ r n small. elim (in_chunk row c r n) [
+      | inl f ↦ let here = h.here n small f.1 in rw (f.0, f.1) (here ∙ grind (arith, nat_tests))
+      | inr f ↦ apart r n small f ∙ grind (arith, nat_tests, f)
+    ];
+    tables = λ b inside other. table-other layout row c j old.words new.words h.edit b inside other;
+  }

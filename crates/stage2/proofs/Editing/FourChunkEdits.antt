@@ -1,0 +1,337 @@
+-- The four edits of a chunk.
+use Rattle.std.proofs.Common.{◌≡◌, ◌≢◌, ℕ, ◌+◌, ◌*◌, ◌/◌, ◌%◌, ◌<◌, Bool, true, false, cond, List, [], is_some, Option, Some, None, refl, arith, ap, sym, subst, ◌∙◌, ◌⊎◌, inl, inr}
+use Rattle.base.specs.Pages.{PageRun, covers}
+use Rattle.base.specs.Access.{View}
+use Rattle.base.specs.Manifest.{page_count}
+use Rattle.words.specs.Words.{entry_of, table_word_of}
+use Rattle.pool.specs.Pool.{Words, Pages, InShare, put, mark, with_put, with_mark, IsLowestFree}
+use Rattle.pool.proofs.Shares.{share_inside}
+use Rattle.stage2.specs.declared.walked.Walked.{Walked}
+use Rattle.stage2.specs.declared.walked.Walked.TheVariants.{None as Unmapped, Leaf as Mapped, Wrong}
+use Rattle.stage2.specs.Slot.{Layout, Slot, Empty, Next, Maps, Bad, slot, slot_from}
+use Rattle.stage2.specs.Walk.{index_3, at_2, at_3, walk, walked, Place, Root, Gigabyte, Chunk, next_page, table_at, IsPlace}
+use Rattle.stage2.specs.Sound.{IsTidy}
+use Rattle.stage2.specs.Change.{entry_for}
+use Rattle.stage2.specs.Orderly.{answer_of, answers, linked}
+use Rattle.stage2.specs.Chunks.{edited, Redoes, Redoes_in, IsWordFor, planned, Writes, answers_at, IsOutcome, IsEntryFor, IsSite, IsGrowing, block_answer}
+use Rattle.stage2.proofs.Tree.WalkFrame.{put-other, put-same, walk-chunk, walk-gigabyte, table_at-root, table_at-chunk_in}
+use Rattle.stage2.proofs.Walkers.Level3Write.{at_3-word}
+use Rattle.stage2.proofs.Tree.LinkTable.{slot-table}
+use Rattle.stage2.proofs.Counting.Needs.{mixed-same}
+use Rattle.stage2.proofs.Editing.ChunkEdit.{IsChunkEdit, table-here, walk-here}
+use Rattle.stage2.proofs.Editing.Trades.{Trade, Stay, Hang, Drop}
+use Rattle.stage2.proofs.Editing.ChunkKeeps.{redone}
+
+-- ---- words for an answer
+
+-- the slot of a word that was written for an answer
+pub slot-word : (layout : Layout) (level n word : ℕ) (answer : View) → entry_of level word ≡ entry_for n answer → slot layout level word ≡ slot_from layout (entry_for n answer)
+unfolding slot
+slot-word layout level n word answer e = ap (slot_from layout) e
+
+answer-none : (layout : Layout) (n : ℕ) (answer : View) → slot_from layout (entry_for n answer) ≡ Empty → answer ≡ None
+answer-none layout n None e = refl
+answer-none layout n (Some a) e = absurd (cc)
+
+pub no-table : (layout : Layout) (n : ℕ) (answer : View) → next_page (slot_from layout (entry_for n answer)) ≡ None
+no-table layout n None = refl
+no-table layout n (Some a) = refl
+
+pub at_2-block : (layout : Layout) (words : Words) (c n : ℕ) (answer : View) → n / 512 ≡ c → at_2 layout words n (slot_from layout (entry_for (512 * c) answer)) ≡ walked n answer
+at_2-block layout words c n None e = refl
+at_2-block layout words c n (Some a) e = let place : 512 * c + n % 512 ≡ n = omega (arith, e) in ap (λ x. Mapped x a) place
+
+put-alike : (row g t : ℕ) (old new : Words) (q i : ℕ) → new q i ≡ old q i → put row g t new q i ≡ put row g t old q i
+unfolding put
+put-alike row g t old new q i e = rw e refl
+
+pub tidy-answer : (n : ℕ) (w : Walked) → IsTidy n w → w ≡ walked n (answer_of w)
+tidy-answer n Unmapped h = refl
+tidy-answer n (Mapped m a) h = rw h refl
+tidy-answer n Wrong h = absurd h
+
+module _ (layout : Layout) (row c j : ℕ) (m : Pages) (h : IsSite layout row c j m) where
+  abbrev pub old : Words
+  old = (linked layout row (c / 512) j m).words
+
+  pub in_gigabyte : IsPlace layout (Gigabyte row (c / 512))
+  in_gigabyte = (h.partition, omega (arith, h.chunk))
+
+  pub in_chunk : IsPlace layout (Chunk row c)
+  in_chunk = (h.partition, h.chunk)
+
+  -- a table that hangs, and is no root
+  no_root : (b : Place) (q : ℕ) → IsPlace layout b → b ≢ Root row → table_at layout old b ≡ Some q → q ≢ row
+  no_root b q inside differs at same = differs (h.orderly.forest b (Root row) q inside h.partition at (table_at-root layout old row ∙ ap Some (sym same)))
+
+  -- the words of other pages than the root are seen as they are
+  pub seen : (q i : ℕ) → q ≢ row → old q i ≡ m.words q i
+  seen q i differs = put-other m.words row (c / 512) (table_word_of (layout.base + j)) q i (λ same _. differs same)
+
+  pub second-seen : (i : ℕ) → old j i ≡ m.words j i
+  second-seen i = seen j i (no_root (Gigabyte row (c / 512)) j in_gigabyte (λ e. cc) h.second)
+
+  -- the chunk's word
+  abbrev pub entry : Slot
+  entry = slot layout 2 (m.words j (c % 512))
+
+  pub table-entry : table_at layout old (Chunk row c) ≡ next_page entry
+  table-entry = table_at-chunk_in layout old row c j h.second ∙ ap (λ w. next_page (slot layout 2 w)) (second-seen (c % 512))
+
+  third-seen : (k i : ℕ) → table_at layout old (Chunk row c) ≡ Some k → old k i ≡ m.words k i
+  third-seen k i at = seen k i (no_root (Chunk row c) k in_chunk (λ e. cc) at)
+
+  pub walk-entry : (n : ℕ) → n / 512 ≡ c → walk layout old row n ≡ at_2 layout old n entry
+  walk-entry n e =
+      let at : table_at layout old (Gigabyte row (n / 512 / 512)) ≡ Some j = ap (λ x. table_at layout old (Gigabyte row (x / 512))) e ∙ h.second in
+      walk-gigabyte layout old row n j h.partition at ∙ ap (λ x. at_2 layout old n (slot layout 2 (old j (x % 512)))) e ∙ ap (λ w. at_2 layout old n (slot layout 2 w)) (second-seen (c % 512))
+
+  pub at_2-seen : (n : ℕ) (s : Slot) → next_page s ≡ table_at layout old (Chunk row c) → at_2 layout old n s ≡ at_2 layout m.words n s
+  at_2-seen n Empty e = refl
+  at_2-seen n (Maps x a) e = refl
+  at_2-seen n (Next k) e = ap (λ w. at_3 (slot layout 3 w)) (third-seen k (index_3 n) (sym e))
+  at_2-seen n Bad e = refl
+
+  -- what the chunk's pages answer is read from its word on
+  pub answers-entry : (n : ℕ) → n / 512 ≡ c → answers layout old row n ≡ answers_at layout m.words entry n
+  answers-entry n e = ap answer_of (walk-entry n e ∙ at_2-seen n entry (sym table-entry))
+
+  -- ---- what an edit comes to
+
+  pub place-second : j ≢ row
+  place-second = no_root (Gigabyte row (c / 512)) j in_gigabyte (λ e. cc) h.second
+
+  after : Pages → Words
+  after new = (linked layout row (c / 512) j new).words
+
+  -- the words that the edit leaves: those of tables that hang elsewhere, but for the chunk's own
+  abbrev pub LeavesOthers : Pages → Type 0
+  LeavesOthers new = (b : Place) (q i : ℕ) → IsPlace layout b → b ≢ Chunk row c → table_at layout old b ≡ Some q → (q ≡ j → i ≡ c % 512 → ⊥) → new.words q i ≡ m.words q i
+
+  pub edit-seen : (new : Pages) → LeavesOthers new → IsChunkEdit layout row c j old (linked layout row (c / 512) j new).words
+  edit-seen new leaves = record {
+    forest = h.orderly.forest;
+    partition = h.partition;
+    chunk = h.chunk;
+    second = h.second;
+    same = λ b q i inside other at apart. put-alike row (c / 512) (table_word_of (layout.base + j)) m.words new.words q i (leaves b q i inside other at apart);
+  }
+
+  seen-so : (answer : ℕ → View) (new : Pages) → LeavesOthers new → Redoes layout row c answer (linked layout row (c / 512) j m) (linked layout row (c / 512) j new) → Redoes_in layout row c j answer m new
+  seen-so answer new leaves redoes = record {
+    redoes = redoes;
+    root = λ i. leaves (Root row) row i h.partition (λ e. cc) (table_at-root layout old row) (λ same _. place-second (sym same));
+  }
+
+  pub seen-after : (new : Pages) (q i : ℕ) → q ≢ row → (linked layout row (c / 512) j new).words q i ≡ new.words q i
+  seen-after new q i differs = put-other new.words row (c / 512) (table_word_of (layout.base + j)) q i (λ same _. differs same)
+
+  -- what becomes of the table: there was none, or it is given back
+  abbrev pub Given : Pages → Type 0
+  Given new = ((next_page entry ≡ None) × (new.taken ≡ m.taken)) ⊎ ((k : ℕ) × (next_page entry ≡ Some k) × (new.taken ≡ mark k false m.taken))
+
+  given : (new : Pages) → table_at layout (linked layout row (c / 512) j new).words (Chunk row c) ≡ None → Given new → Trade layout row (Chunk row c) (linked layout row (c / 512) j m) (linked layout row (c / 512) j new)
+  given new none (inl t) = Stay (record { taken = t.1; table = none ∙ sym (table-entry ∙ t.0) })
+  given new none (inr t) = Drop t.0 (record { was = table-entry ∙ t.1; now = none; taken = t.2 })
+
+  -- the chunk is one block, or nothing
+  pub blocked : (answer : ℕ → View) (one : View) (word : ℕ) (new : Pages) → new.ids ≡ m.ids → new.quotas ≡ m.quotas → LeavesOthers new → new.words j (c % 512) ≡ word → IsEntryFor c one word → Given new → IsOutcome c answer (Some one)
+      → Redoes_in layout row c j answer m new
+  blocked answer one word new ids quotas leaves read is trade outcome =
+      let e = edit-seen new leaves in
+      let words = (linked layout row (c / 512) j new).words in
+      let now : words j (c % 512) ≡ word = seen-after new j (c % 512) place-second ∙ read in
+      let is_slot : slot layout 2 (words j (c % 512)) ≡ slot_from layout (entry_for (512 * c) one) = ap (slot layout 2) now ∙ slot-word layout 2 (512 * c) word one is.entry in
+      let none : table_at layout words (Chunk row c) ≡ None = table-here layout row c j old words e ∙ ap next_page is_slot ∙ no-table layout (512 * c) one in
+      seen-so answer new leaves (redone layout row c j answer (linked layout row (c / 512) j m) (linked layout row (c / 512) j new) (record {
+        orderly = h.orderly;
+        edit = e;
+        ids = ids;
+        quotas = quotas;
+        trade = given new none trade;
+        here = λ n small at. walk-here layout row c j old words e n at ∙ ap (at_2 layout words n) is_slot ∙ at_2-block layout words c n one at ∙ ap (walked n) (sym (outcome.same one refl n at));
+        mixed = ap (λ o. is_some o) none ∙ outcome.mixed;
+        clean_entry = λ empty. now ∙ is.zero (answer-none layout (512 * c) one (sym is_slot ∙ empty));
+        clean_table = λ k i at small empty. absurd (cc);
+      }))
+
+  -- what becomes of the table: it stays, or page k is the new one
+  abbrev pub Held : Pages → ℕ → Type 0
+  Held new k = ((next_page entry ≡ Some k) × (new.taken ≡ m.taken)) ⊎ ((next_page entry ≡ None) × InShare m.quotas row k × (m.taken k ≡ false) × (new.taken ≡ mark k true m.taken))
+
+  held : (new : Pages) (k : ℕ) → table_at layout (linked layout row (c / 512) j new).words (Chunk row c) ≡ Some k → Held new k → Trade layout row (Chunk row c) (linked layout row (c / 512) j m) (linked layout row (c / 512) j new)
+  held new k some (inl t) = Stay (record { taken = t.1; table = some ∙ sym (table-entry ∙ t.0) })
+  held new k some (inr t) = Hang k (record { inside = t.1; free = t.2; none = table-entry ∙ t.0; now = some; taken = t.3 })
+
+  -- a level 3 word that stands for an answer
+  abbrev pub Stands : (ℕ → View) → Pages → ℕ → Type 0
+  Stands answer new k = (i : ℕ) → i < 512 → (at_3 (slot layout 3 (new.words k i)) ≡ walked (512 * c + i) (answer (512 * c + i))) × (slot layout 3 (new.words k i) ≡ Empty → new.words k i ≡ 0)
+
+  -- the chunk has the table k
+  pub tabled : (answer : ℕ → View) (k : ℕ) (new : Pages) → new.ids ≡ m.ids → new.quotas ≡ m.quotas → LeavesOthers new → slot layout 2 (new.words j (c % 512)) ≡ Next k → k ≢ row → Stands answer new k → Held new k → IsOutcome c answer None
+      → Redoes_in layout row c j answer m new
+  tabled answer k new ids quotas leaves read differs stands trade outcome =
+      let e = edit-seen new leaves in
+      let words = (linked layout row (c / 512) j new).words in
+      let is_slot : slot layout 2 (words j (c % 512)) ≡ Next k = ap (slot layout 2) (seen-after new j (c % 512) place-second) ∙ read in
+      let some : table_at layout words (Chunk row c) ≡ Some k = table-here layout row c j old words e ∙ ap next_page is_slot in
+      seen-so answer new leaves (redone layout row c j answer (linked layout row (c / 512) j m) (linked layout row (c / 512) j new) (record {
+        orderly = h.orderly;
+        edit = e;
+        ids = ids;
+        quotas = quotas;
+        trade = held new k some trade;
+        here = λ n small at.
+            let place : 512 * c + n % 512 ≡ n = omega (arith, at) in
+            let stand : at_3 (slot layout 3 (new.words k (n % 512))) ≡ walked n (answer n) = subst (λ x. at_3 (slot layout 3 (new.words k (n % 512))) ≡ walked x (answer x)) place (stands (n % 512) (omega arith)).0 in
+            walk-here layout row c j old words e n at ∙ ap (at_2 layout words n) is_slot ∙ ap (λ w. at_3 (slot layout 3 w)) (seen-after new k (n % 512) differs) ∙ stand;
+        mixed = ap (λ o. is_some o) some ∙ outcome.mixed;
+        clean_entry = λ empty. absurd (let bad : Next k ≡ Empty = sym is_slot ∙ empty in cc);
+        clean_table = λ x i at small empty.
+            let same : x ≡ k = cc in
+            let read_x : words x i ≡ new.words k i = ap (λ y. words y i) same ∙ seen-after new k i differs in
+            read_x ∙ (stands i small).1 (sym (ap (slot layout 3) read_x) ∙ empty);
+      }))
+
+  -- ---- where the tables lie
+
+  pub second-inside : j < page_count m.quotas
+  second-inside = share_inside m.quotas row j (h.orderly.owned (Gigabyte row (c / 512)) j in_gigabyte h.second)
+
+  pub second-taken : m.taken j ≡ true
+  second-taken = h.orderly.taken (Gigabyte row (c / 512)) j in_gigabyte h.second
+
+  pub third-at : (k : ℕ) → entry ≡ Next k → table_at layout old (Chunk row c) ≡ Some k
+  third-at k e = table-entry ∙ ap next_page e
+
+  pub third-share : (k : ℕ) → entry ≡ Next k → InShare m.quotas row k
+  third-share k e = h.orderly.owned (Chunk row c) k in_chunk (third-at k e)
+
+  pub third-inside : (k : ℕ) → entry ≡ Next k → k < page_count m.quotas
+  third-inside k e = share_inside m.quotas row k (third-share k e)
+
+  pub third-taken : (k : ℕ) → entry ≡ Next k → m.taken k ≡ true
+  third-taken k e = h.orderly.taken (Chunk row c) k in_chunk (third-at k e)
+
+  not-third : (k : ℕ) → entry ≡ Next k → (b : Place) (q : ℕ) → IsPlace layout b → b ≢ Chunk row c → table_at layout old b ≡ Some q → q ≢ k
+  not-third k e b q inside other at same = other (h.orderly.forest b (Chunk row c) q inside in_chunk at (third-at k e ∙ ap Some (sym same)))
+
+  -- ---- the four edits
+
+  pub does-set : (answer : ℕ → View) (one : View) (word : ℕ) (new : Pages) → next_page entry ≡ None → IsEntryFor c one word → new ≡ with_put j (c % 512) word m → IsOutcome c answer (Some one) → Redoes_in layout row c j answer m new
+  does-set answer one word new none is e outcome =
+      blocked answer one word new (ap (λ (x : Pages). x.ids) e) (ap (λ (x : Pages). x.quotas) e)
+      (λ b q i inside other at apart. ap (λ (x : Pages). x.words q i) e ∙ put-other m.words j (c % 512) word q i apart)
+      (ap (λ (x : Pages). x.words j (c % 512)) e ∙ put-same m.words j (c % 512) word)
+      is (inl (none, ap (λ (x : Pages). x.taken) e)) outcome
+
+  pub does-drop : (answer : ℕ → View) (one : View) (word k : ℕ) (m1 m2 new : Pages) → entry ≡ Next k → IsEntryFor c one word → m1 ≡ with_put j (c % 512) word m → Writes k c (planned [] None (Some None)) m1 m2 → new ≡ with_mark k false m2 → IsOutcome c answer (Some one)
+      → Redoes_in layout row c j answer m new
+  does-drop answer one word k m1 m2 new is_table is e1 writes e outcome =
+      blocked answer one word new (ap (λ (x : Pages). x.ids) e ∙ writes.ids ∙ ap (λ (x : Pages). x.ids) e1) (ap (λ (x : Pages). x.quotas) e ∙ writes.quotas ∙ ap (λ (x : Pages). x.quotas) e1)
+      (λ b q i inside other at apart. ap (λ (x : Pages). x.words q i) e ∙ writes.others q i (not-third k is_table b q inside other at) ∙ ap (λ (x : Pages). x.words q i) e1 ∙ put-other m.words j (c % 512) word q i apart)
+      (ap (λ (x : Pages). x.words j (c % 512)) e ∙ writes.others j (c % 512) (not-third k is_table (Gigabyte row (c / 512)) j in_gigabyte (λ f. cc) h.second) ∙ ap (λ (x : Pages). x.words j (c % 512)) e1 ∙ put-same m.words j (c % 512) word)
+      is (inr (k, ap next_page is_table, ap (λ (x : Pages). x.taken) e ∙ ap (mark k false) (writes.taken ∙ ap (λ (x : Pages). x.taken) e1))) outcome
+
+  -- the table of the chunk is all 0, once it is written so
+  pub drop-zero : (k : ℕ) (m1 m2 : Pages) → Writes k c (planned [] None (Some None)) m1 m2 → (i : ℕ) → i < 512 → m2.words k i ≡ 0
+  drop-zero k m1 m2 writes i small = (writes.here i None small refl).zero refl
+
+  pub does-rewrite : (runs : List PageRun) (access : View) (k : ℕ) (new : Pages) → entry ≡ Next k → Writes k c (planned runs access None) m new → IsOutcome c (edited runs access (answers layout old row)) None
+      → Redoes_in layout row c j (edited runs access (answers layout old row)) m new
+  does-rewrite runs access k new is_table writes outcome =
+      tabled (edited runs access (answers layout old row)) k new writes.ids writes.quotas
+      (λ b q i inside other at apart. writes.others q i (not-third k is_table b q inside other at))
+      (ap (slot layout 2) (writes.others j (c % 512) (not-third k is_table (Gigabyte row (c / 512)) j in_gigabyte (λ f. cc) h.second)) ∙ is_table)
+      (λ same. not-third k is_table (Root row) row h.partition (λ f. cc) (table_at-root layout old row) (sym same))
+      (λ i small. stands i small (covers runs (512 * c + i)) refl)
+      (inl (ap next_page is_table, writes.taken)) outcome
+    where
+      stands : (i : ℕ) → i < 512 → (b : Bool) → covers runs (512 * c + i) ≡ b
+          → (at_3 (slot layout 3 (new.words k i)) ≡ walked (512 * c + i) (edited runs access (answers layout old row) (512 * c + i))) × (slot layout 3 (new.words k i) ≡ Empty → new.words k i ≡ 0)
+      stands i small true e =
+          let is = writes.here i access small (rw e refl) in
+          (at_3-word layout (512 * c + i) (new.words k i) access is.entry ∙ rw e refl, λ empty. is.zero (answer-none layout (512 * c + i) access (sym (slot-word layout 3 (512 * c + i) (new.words k i) access is.entry) ∙ empty)))
+      stands i small false e =
+          let n = 512 * c + i in
+          let below : c < 262144 = h.chunk in
+          let chunk : n / 512 ≡ c = omega (arith, small) in
+          let index : n % 512 ≡ i = omega (arith, small) in
+          let read : new.words k i ≡ old k i = writes.stays i small (rw e refl) ∙ sym (third-seen k i (third-at k is_table)) in
+          let here : table_at layout old (Chunk row (n / 512)) ≡ Some k = ap (λ x. table_at layout old (Chunk row x)) chunk ∙ third-at k is_table in
+          let was : walk layout old row n ≡ at_3 (slot layout 3 (old k i)) = walk-chunk layout old row n k h.partition here ∙ ap (λ x. at_3 (slot layout 3 (old k x))) index in
+          let tidy : IsTidy n (walk layout old row n) = h.orderly.tidy row n h.partition (omega (arith, small, below)) in (
+            ap (λ w. at_3 (slot layout 3 w)) read ∙ sym was ∙ tidy-answer n (walk layout old row n) tidy ∙ rw e refl,
+            λ empty. read ∙ h.orderly.clean (Chunk row c) k i in_chunk (third-at k is_table) small (sym (ap (slot layout 3) read) ∙ empty),
+          )
+
+  pub does-hang : (runs : List PageRun) (access before : View) (k : ℕ) (m1 m2 new : Pages) → next_page entry ≡ None → IsLowestFree m row k → ((n : ℕ) → n / 512 ≡ c → answers layout old row n ≡ before) → m1 ≡ with_mark k true m
+      → Writes k c (planned runs access (Some before)) m1 m2 → new ≡ with_put j (c % 512) (table_word_of (layout.base + k)) m2 → IsOutcome c (edited runs access (answers layout old row)) None
+      → Redoes_in layout row c j (edited runs access (answers layout old row)) m new
+  does-hang runs access before k m1 m2 new none lowest was e1 writes e outcome =
+      tabled (edited runs access (answers layout old row)) k new (ap (λ (x : Pages). x.ids) e ∙ writes.ids ∙ ap (λ (x : Pages). x.ids) e1) (ap (λ (x : Pages). x.quotas) e ∙ writes.quotas ∙ ap (λ (x : Pages). x.quotas) e1)
+      (λ b q i inside other at apart. read q i apart ∙ writes.others q i (not-fresh b q inside at) ∙ ap (λ (x : Pages). x.words q i) e1)
+      (ap (slot layout 2) (ap (λ (x : Pages). x.words j (c % 512)) e ∙ put-same m2.words j (c % 512) (table_word_of (layout.base + k)))
+      ∙ slot-table layout 2 k (omega arith) (let inside : k < page_count m.quotas = share_inside m.quotas row k lowest.inside in rw h.orderly.pages inside) h.orderly.fits)
+      (λ same. not-fresh (Root row) row h.partition (table_at-root layout old row) (sym same))
+      (λ i small. stands i small (covers runs (512 * c + i)) refl)
+      (inr (none, lowest.inside, lowest.free, ap (λ (x : Pages). x.taken) e ∙ writes.taken ∙ ap (λ (x : Pages). x.taken) e1)) outcome
+    where
+      not-fresh : (b : Place) (q : ℕ) → IsPlace layout b → table_at layout old b ≡ Some q → q ≢ k
+      not-fresh b q inside at same = let held : m.taken q ≡ true = h.orderly.taken b q inside at in let free : m.taken q ≡ false = ap m.taken same ∙ lowest.free in absurd (cc)
+
+      read : (q i : ℕ) → (q ≡ j → i ≡ c % 512 → ⊥) → new.words q i ≡ m2.words q i
+      read q i apart = ap (λ (x : Pages). x.words q i) e ∙ put-other m2.words j (c % 512) (table_word_of (layout.base + k)) q i apart
+
+      read_k : (i : ℕ) → new.words k i ≡ m2.words k i
+      read_k i = read k i (λ same _. not-fresh (Gigabyte row (c / 512)) j in_gigabyte h.second (sym same))
+
+      stand : (i : ℕ) (x : View) → IsWordFor (512 * c + i) x (m2.words k i) → edited runs access (answers layout old row) (512 * c + i) ≡ x
+          → (at_3 (slot layout 3 (new.words k i)) ≡ walked (512 * c + i) (edited runs access (answers layout old row) (512 * c + i))) × (slot layout 3 (new.words k i) ≡ Empty → new.words k i ≡ 0)
+      stand i x is same = (
+        ap (λ w. at_3 (slot layout 3 w)) (read_k i) ∙ at_3-word layout (512 * c + i) (m2.words k i) x is.entry ∙ ap (walked (512 * c + i)) (sym same),
+        λ empty. read_k i ∙ is.zero (answer-none layout (512 * c + i) x (sym (slot-word layout 3 (512 * c + i) (m2.words k i) x is.entry) ∙ sym (ap (slot layout 3) (read_k i)) ∙ empty)),
+      )
+
+      stands : (i : ℕ) → i < 512 → (b : Bool) → covers runs (512 * c + i) ≡ b
+          → (at_3 (slot layout 3 (new.words k i)) ≡ walked (512 * c + i) (edited runs access (answers layout old row) (512 * c + i))) × (slot layout 3 (new.words k i) ≡ Empty → new.words k i ≡ 0)
+      stands i small true f = stand i access (writes.here i access small (rw f refl)) (rw f refl)
+      stands i small false f = stand i before (writes.here i before small (rw f refl)) (rw f (was (512 * c + i) (omega (arith, small))))
+
+  -- ---- what the code reads
+
+  -- the answer of a chunk, read from its word on, is that of its pages
+  outcome-entry : (runs : List PageRun) (access : View) (o : Option View) → IsOutcome c (edited runs access (answers_at layout m.words entry)) o → IsOutcome c (edited runs access (answers layout old row)) o
+  outcome-entry runs access o outcome = record {
+    same = λ one e n at. ap (λ a. cond (covers runs n) access a) (answers-entry n at) ∙ outcome.same one e n at;
+    mixed = outcome.mixed ∙ mixed-same (edited runs access (answers layout old row)) (edited runs access (answers_at layout m.words entry)) c (λ i small. ap (λ a. cond (covers runs (512 * c + i)) access a) (sym (answers-entry (512 * c + i) (omega (arith, small)))));
+  }
+
+  pub outcome-read : (runs : List PageRun) (access : View) (read : Slot) (o found : Option View) → read ≡ entry → o ≡ found → IsOutcome c (edited runs access (answers_at layout m.words read)) o → IsOutcome c (edited runs access (answers layout old row)) found
+  outcome-read runs access read o found is e outcome =
+      subst (IsOutcome c (edited runs access (answers layout old row))) e (outcome-entry runs access o (subst (λ (s : Slot). IsOutcome c (edited runs access (answers_at layout m.words s)) o) is outcome))
+
+  -- a chunk that has no table, as read
+  pub unhung : (read : Slot) (table : Option ℕ) → read ≡ entry → table ≡ next_page read → table ≡ None → next_page entry ≡ None
+  unhung read table is e none = ap next_page (sym is) ∙ sym e ∙ none
+
+  pub growing : (new : ℕ → View) → next_page entry ≡ None → IsOutcome c new None → IsGrowing (answers layout old row) new c
+  growing new none outcome = record {
+    now = sym outcome.mixed;
+    was = sym (h.orderly.mixed row c h.partition h.chunk) ∙ ap (λ o. is_some o) (table-entry ∙ none);
+  }
+
+  at-block : (n : ℕ) (s : Slot) → next_page s ≡ None → answers_at layout m.words s n ≡ block_answer s
+  at-block n Empty e = refl
+  at-block n (Maps x a) e = refl
+  at-block n (Next k) e = absurd (cc)
+  at-block n Bad e = refl
+
+  pub before-block : next_page entry ≡ None → (n : ℕ) → n / 512 ≡ c → answers layout old row n ≡ block_answer entry
+  before-block none n at = answers-entry n at ∙ at-block n entry none
+
+pub is-next : (s : Slot) (k : ℕ) → next_page s ≡ Some k → s ≡ Next k
+is-next Empty k e = absurd (cc)
+is-next (Maps m a) k e = absurd (cc)
+is-next (Next x) k e = let same : x ≡ k = cc in ap Next same
+is-next Bad k e = absurd (cc)

@@ -1,0 +1,339 @@
+-- The edit of a gigabyte, from its chunks and its link.
+use Rattle.std.proofs.Common.{◌≡◌, ◌≢◌, ℕ, ◌+◌, ◌-◌, ◌*◌, ◌/◌, ◌%◌, ◌^◌, ◌<◌, ◌≤◌, Bool, true, false, not, ◌&&◌, cond, eqb, leb, ltb, is_some, List, Some, None, length, refl, arith, ap, ap₂, sym, subst, ◌∙◌, ◌⊎◌, inl, inr}
+use Rattle.std.proofs.lemmas.Bool.{cases_eq, cases_Bool}
+use Rattle.std.proofs.lemmas.Bool.Decides.{nat_tests}
+use Rattle.base.specs.Pages.{PageRun, covers}
+use Rattle.base.specs.Access.{View}
+use Rattle.words.specs.Words.{table_word_of, entry_of}
+use Rattle.words.specs.declared.word.Entry.{Entry}
+use Rattle.words.specs.declared.word.Entry.TheVariants.{Invalid, Table, Leaf, Wrong as WrongWord}
+use Rattle.words.proofs.RoundTrip.{word-table}
+use Rattle.pool.specs.Pool.{Pages, with_put, with_mark, used_by, quota_of}
+use Rattle.base.specs.Counts.{count_below}
+use Rattle.pool.proofs.Count.{count_below-same}
+use Rattle.pool.proofs.Shares.{used_by-take, used_by-give}
+use Rattle.stage2.specs.declared.walked.Walked.TheVariants.{None as Unmapped, Wrong}
+use Rattle.stage2.specs.Slot.{Layout, Slot, Empty, Next, Maps, Bad, slot, slot_from}
+use Rattle.stage2.specs.Walk.{at_2, walk, walked, Root, Gigabyte, Chunk, next_page, table_at}
+use Rattle.stage2.specs.Sound.{IsTidy}
+use Rattle.base.specs.Need.{is_mixed, is_reached}
+use Rattle.stage2.specs.Orderly.{IsOrderly, IsCanonical, answers, answer_of, linked}
+use Rattle.stage2.specs.Chunks.{edited}
+use Rattle.stage2.specs.Gigabytes.{grows_at, gigabyte_growth, IsUnderway, EditsGigabyte, Touches, Fits, FitsGigabyte}
+use Rattle.stage2.proofs.Tree.WalkFrame.{put-other, walk-gigabyte, table_at-root, table_at-chunk_in}
+use Rattle.stage2.proofs.Counting.Needs.{mixed-same, reached-same, reached-some, reached-none, mixed-none}
+use Rattle.manifest.proofs.Tables.{any_below-none}
+use Rattle.stage2.proofs.Tree.PutTwice.{with_put-twice, with_put-there}
+use Rattle.stage2.proofs.Editing.RootLinks.{IsLink, IsUnlink, IsRooted, rooted, same-walk, kept, link-rooted, unlink-rooted, unlink-table, unlink-unmapped, untabled}
+use Rattle.stage2.proofs.Editing.ChunkKeeps.{answer-walked}
+use Rattle.stage2.proofs.Editing.FourChunkEdits.{is-next}
+
+-- ---- a table word
+
+abbrev in_pool : Layout → ℕ → Bool
+in_pool layout page = leb layout.base page && ltb page (layout.base + layout.pages)
+
+table-entry : (layout : Layout) (k : ℕ) (e : Entry) → slot_from layout e ≡ Next k → (page : ℕ) × (e ≡ Table page) × (page ≡ layout.base + k)
+table-entry layout k Invalid e = absurd (cc)
+table-entry layout k (Table page) e = elim (cases_Bool (in_pool layout page)) [
+  | inl t ↦ let same : Next (page - layout.base) ≡ Next k = rw t at e in let at : page - layout.base ≡ k = cc in (page, refl, from page at t)
+  | inr f ↦ let bad : Bad ≡ Next k = rw f at e in absurd (cc)
+]
+  where
+    from : (page : ℕ) → page - layout.base ≡ k → in_pool layout page ≡ true → page ≡ layout.base + k
+    from page at t = grind (arith, nat_tests)
+table-entry layout k (Leaf page a) e = absurd (cc)
+table-entry layout k WrongWord e = absurd (cc)
+
+pub table-word : (layout : Layout) (level word k : ℕ) → slot layout level word ≡ Next k → word ≡ table_word_of (layout.base + k)
+unfolding slot
+table-word layout level word k e =
+    let f = table-entry layout k (entry_of level word) e in
+    (word-table level word f.0 f.1).spelled ∙ ap table_word_of f.2
+
+-- ---- canonical again
+
+pub canonical-from : (layout : Layout) (row g : ℕ) (old new : Pages) → IsCanonical layout old → IsOrderly layout new
+    → ((r x : ℕ) → r < length layout.ids → x < 512 → (r ≡ row → x ≡ g → ⊥) → table_at layout new.words (Gigabyte r x) ≡ table_at layout old.words (Gigabyte r x))
+    → ((r n : ℕ) → n < 2 ^ 27 → (r ≡ row → n / 512 / 512 ≡ g → ⊥) → walk layout new.words r n ≡ walk layout old.words r n)
+    → is_some (table_at layout new.words (Gigabyte row g)) ≡ is_reached (answers layout new.words row) g → IsCanonical layout new
+canonical-from layout row g old new canonical orderly others apart here = record {
+  orderly = orderly;
+  reached = λ r x inside below. elim (which r x) [
+    | inl e ↦ rw (e.0, e.1) here
+    | inr e ↦
+        ap (λ o. is_some o) (others r x inside below e) ∙ canonical.reached r x inside below
+        ∙ sym (reached-same (answers layout old.words r) (answers layout new.words r) x (λ i small. ap answer_of (apart r (262144 * x + i) (omega (arith, small, below)) (λ f h. e f (quotient x i small ∙ h)))))
+  ];
+}
+  where
+    quotient : (x i : ℕ) → i < 262144 → x ≡ (262144 * x + i) / 512 / 512
+    quotient x i small = omega arith
+
+    which : (r x : ℕ) → ((r ≡ row) × (x ≡ g)) ⊎ (r ≡ row → x ≡ g → ⊥)
+    which r x = elim (cases_eq r row) [
+      | inl e ↦ elim (cases_eq x g) [ inl f ↦ inl (e, f) | inr f ↦ inr (λ _ h. f h) ]
+      | inr e ↦ inr (λ h _. e h)
+    ]
+
+-- ---- after the last chunk
+
+module _ (layout : Layout) (row g j : ℕ) (answer : ℕ → View) (old new : Pages) (below : g < 512) (h : IsUnderway layout row g j 512 answer old new) where
+  all-chunks : (n : ℕ) → n / 512 / 512 ≡ g → ltb (n / 512) (512 * g + 512) ≡ true
+  all-chunks n e = grind (arith, nat_tests)
+
+  pub done-here : (n : ℕ) → n < 2 ^ 27 → n / 512 / 512 ≡ g → walk layout (linked layout row g j new).words row n ≡ walked n (answer n)
+  done-here n small e = h.walks row n small ∙ (let a = all-chunks n e in let b : eqb (n / 512 / 512) g ≡ true = grind (arith, nat_tests) in let r : eqb row row ≡ true = grind (arith, nat_tests) in rw (r, b, a) refl)
+
+  pub done-apart : (q n : ℕ) → n < 2 ^ 27 → (q ≡ row → n / 512 / 512 ≡ g → ⊥) → walk layout (linked layout row g j new).words q n ≡ walk layout (linked layout row g j old).words q n
+  done-apart q n small other = h.walks q n small ∙ off (eqb q row) (eqb (n / 512 / 512) g) (ltb (n / 512) (512 * g + 512)) (apart q n other)
+    where
+      apart : (q n : ℕ) → (q ≡ row → n / 512 / 512 ≡ g → ⊥) → (eqb q row && eqb (n / 512 / 512) g) ≡ false
+      apart q n other = elim (cases_Bool (eqb q row && eqb (n / 512 / 512) g)) [
+        | inl t ↦ absurd (grind (arith, nat_tests, other))
+        | inr f ↦ f
+      ]
+
+      off : (x y z : Bool) → (x && y) ≡ false → cond (x && (y && z)) (walked n (answer n)) (walk layout (linked layout row g j old).words q n) ≡ walk layout (linked layout row g j old).words q n
+      off true true z e = absurd (cc)
+      off true false z e = refl
+      off false y z e = refl
+
+  pub done-walks : (q n : ℕ) → n < 2 ^ 27 → walk layout (linked layout row g j new).words q n ≡ cond (eqb q row && eqb (n / 512 / 512) g) (walked n (answer n)) (walk layout (linked layout row g j old).words q n)
+  done-walks q n small = elim (cases_eq q row) [
+    | inl e ↦ elim (cases_eq (n / 512 / 512) g) [
+      | inl f ↦ rw e (done-here n small f ∙ (let b : eqb (n / 512 / 512) g ≡ true = grind (arith, nat_tests) in let r : eqb row row ≡ true = grind (arith, nat_tests) in rw (r, b) refl))
+      | inr f ↦ done-apart q n small (λ _ x. f x) ∙ (let b : eqb (n / 512 / 512) g ≡ false = grind (arith, nat_tests, f) in rw b (both (eqb q row)))
+    ]
+    | inr e ↦ done-apart q n small (λ x _. e x) ∙ (let b : eqb q row ≡ false = grind (arith, nat_tests, e) in rw b refl)
+  ]
+    where
+      both : (x : Bool) → walk layout (linked layout row g j old).words q n ≡ cond (x && false) (walked n (answer n)) (walk layout (linked layout row g j old).words q n)
+      both true = refl
+      both false = refl
+
+pub is-none : (a : View) → is_some a ≡ false → a ≡ None
+is-none None e = refl
+is-none (Some x) e = absurd (cc)
+
+pub not-reached : (v : ℕ → View) (g i : ℕ) → is_reached v g ≡ false → i < 262144 → v (262144 * g + i) ≡ None
+unfolding is_reached
+not-reached v g i e below = is-none (v (262144 * g + i)) (any_below-none (λ i. is_some (v (262144 * g + i))) 262144 i e below)
+
+-- a level 2 table that has a valid word reaches a page
+pub word-reaches : (layout : Layout) (row g k x : ℕ) (m : Pages) → IsOrderly layout m → row < length layout.ids → g < 512 → table_at layout m.words (Gigabyte row g) ≡ Some k → x < 512 → m.words k x ≢ 0 → is_reached (answers layout m.words row) g ≡ true
+word-reaches layout row g k x m orderly inside below table lt nonzero = elim (cases_Bool (is_reached (answers layout m.words row) g)) [
+  | inl t ↦ t
+  | inr f ↦ absurd (by-slot (slot layout 2 (m.words k x)) refl (λ i small. not-reached (answers layout m.words row) g i f small))
+]
+  where
+    n : ℕ
+    n = 512 * (512 * g + x)
+
+    place : 512 * (512 * g + x) ≡ 262144 * g + 512 * x
+    place = omega arith
+
+    walk-n : walk layout m.words row (512 * (512 * g + x)) ≡ at_2 layout m.words (512 * (512 * g + x)) (slot layout 2 (m.words k x))
+    walk-n =
+        let q : 512 * (512 * g + x) / 512 / 512 ≡ g = omega (arith, lt) in
+        let r : 512 * (512 * g + x) / 512 % 512 ≡ x = omega (arith, lt) in
+        walk-gigabyte layout m.words row (512 * (512 * g + x)) k inside (ap (λ y. table_at layout m.words (Gigabyte row y)) q ∙ table) ∙ ap (λ y. at_2 layout m.words (512 * (512 * g + x)) (slot layout 2 (m.words k y))) r
+
+    none-n : ((i : ℕ) → i < 262144 → answers layout m.words row (262144 * g + i) ≡ None) → answer_of (at_2 layout m.words (512 * (512 * g + x)) (slot layout 2 (m.words k x))) ≡ None
+    none-n none = sym (ap answer_of walk-n) ∙ ap (answers layout m.words row) place ∙ none (512 * x) (omega (arith, lt))
+
+    by-slot : (s : Slot) → slot layout 2 (m.words k x) ≡ s → ((i : ℕ) → i < 262144 → answers layout m.words row (262144 * g + i) ≡ None) → ⊥
+    by-slot Empty e none = nonzero (orderly.clean (Gigabyte row g) k x (inside, below) table lt e)
+    by-slot (Maps p a) e none = let some : Some a ≡ None = sym (ap (λ s. answer_of (at_2 layout m.words (512 * (512 * g + x)) s)) e) ∙ none-n none in cc
+    by-slot (Next q) e none =
+        let c : (512 * g + x) / 512 ≡ g = omega (arith, lt) in
+        let r : (512 * g + x) % 512 ≡ x = omega (arith, lt) in
+        let hangs : table_at layout m.words (Chunk row (512 * g + x)) ≡ Some q =
+        table_at-chunk_in layout m.words row (512 * g + x) k (ap (λ y. table_at layout m.words (Gigabyte row y)) c ∙ table) ∙ ap (λ y. next_page (slot layout 2 (m.words k y))) r ∙ ap next_page e in
+        let mixed : true ≡ is_mixed (answers layout m.words row) (512 * g + x) = sym (ap (λ o. is_some o) hangs) ∙ orderly.mixed row (512 * g + x) inside (omega (arith, lt, below)) in
+        let unmixed : is_mixed (answers layout m.words row) (512 * g + x) ≡ false = mixed-none (answers layout m.words row) (512 * g + x) (λ i small. ap (answers layout m.words row) (spot i) ∙ none (512 * x + i) (omega (arith, lt, small))) in
+        absurd (cc)
+      where
+        spot : (i : ℕ) → 512 * (512 * g + x) + i ≡ 262144 * g + (512 * x + i)
+        spot i = omega arith
+    by-slot Bad e none =
+        let wrong : walk layout m.words row (512 * (512 * g + x)) ≡ Wrong = walk-n ∙ ap (at_2 layout m.words (512 * (512 * g + x))) e in
+        let tidy : IsTidy (512 * (512 * g + x)) (walk layout m.words row (512 * (512 * g + x))) = orderly.tidy row (512 * (512 * g + x)) inside (omega (arith, lt, below)) in
+        rw wrong at tidy
+
+-- ---- a gigabyte that has its level 2 table
+
+module _ (layout : Layout) (row g k : ℕ) (m : Pages) (canonical : IsCanonical layout m) (inside : row < length layout.ids) (below : g < 512) (table : table_at layout m.words (Gigabyte row g) ≡ Some k) where
+  root-word : m.words row g ≡ table_word_of (layout.base + k)
+  unfolding table_at
+  root-word = table-word layout 1 (m.words row g) k (is-next (slot layout 1 (m.words row g)) k table)
+
+  pub linked-same : linked layout row g k m ≡ m
+  linked-same = with_put-there m row g (table_word_of (layout.base + k)) root-word
+
+  pub finish-kept : (answer : ℕ → View) (new : Pages) → IsUnderway layout row g k 512 answer m new → (x : ℕ) → x < 512 → new.words k x ≢ 0 → EditsGigabyte layout row g answer m new
+  finish-kept answer new u x lt nonzero =
+      let same : linked layout row g k new ≡ new = with_put-there new row g (table_word_of (layout.base + k)) (u.root g ∙ root-word) in
+      let orderly : IsOrderly layout new = subst (λ (y : Pages). IsOrderly layout y) same u.orderly in
+      let now : table_at layout new.words (Gigabyte row g) ≡ Some k = sym (ap (λ (y : Pages). table_at layout y.words (Gigabyte row g)) same) ∙ u.second in
+      record {
+        canonical = canonical-from layout row g m new canonical orderly
+            (λ r y in_r lt_y _. sym (ap (λ (z : Pages). table_at layout z.words (Gigabyte r y)) same) ∙ u.others r y in_r lt_y ∙ ap (λ (z : Pages). table_at layout z.words (Gigabyte r y)) linked-same)
+            (λ r n small apart. sym (ap (λ (z : Pages). walk layout z.words r n) same) ∙ done-apart layout row g k answer m new below u r n small apart ∙ ap (λ (z : Pages). walk layout z.words r n) linked-same)
+            (ap (λ o. is_some o) now ∙ sym (word-reaches layout row g k x new orderly inside below now lt nonzero));
+        ids = u.ids;
+        quotas = u.quotas;
+        walks = λ q n small.
+            sym (ap (λ (z : Pages). walk layout z.words q n) same) ∙ done-walks layout row g k answer m new below u q n small
+            ∙ ap (λ (z : Pages). cond (eqb q row && eqb (n / 512 / 512) g) (walked n (answer n)) (walk layout z.words q n)) linked-same;
+        used = let used = subst (λ (z : Pages). used_by new row ≤ used_by m row + count_below (λ x. grows_at (answers layout z.words row) answer (512 * g + x)) 512) linked-same u.used in omega (arith, used);
+      }
+
+  pub second-no-root : (new : Pages) → IsOrderly layout (linked layout row g k new) → table_at layout (linked layout row g k new).words (Gigabyte row g) ≡ Some k → k ≢ row
+  second-no-root new orderly at same =
+      let e : Gigabyte row g ≡ Root row = orderly.forest (Gigabyte row g) (Root row) k (inside, below) inside at (table_at-root layout (linked layout row g k new).words row ∙ ap Some (sym same)) in
+      cc
+
+  pub finish-zero : (answer : ℕ → View) (mid new : Pages) → IsUnderway layout row g k 512 answer m mid → ((i : ℕ) → i < 512 → mid.words k i ≡ 0) → new ≡ with_mark k false (with_put row g 0 mid) → EditsGigabyte layout row g answer m new
+  finish-zero answer mid new u empty is =
+      let differs = second-no-root mid u.orderly u.second in
+      let h : IsUnlink layout row g k (linked layout row g k mid) = record {
+        orderly = u.orderly;
+        partition = inside;
+        gigabyte = below;
+        table = u.second;
+        zero = λ i lt. put-other mid.words row g (table_word_of (layout.base + k)) k i (λ e _. differs e) ∙ empty i lt;
+      } in
+      let to : Pages = with_mark k false (with_put row g 0 (linked layout row g k mid)) in
+      let r : IsRooted layout row g 0 (linked layout row g k mid) to = unlink-rooted layout row g k (linked layout row g k mid) h in
+      let same : to ≡ new = ap (with_mark k false) (with_put-twice mid row g (table_word_of (layout.base + k)) 0) ∙ sym is in
+      let made : EditsGigabyte layout row g answer m to = record {
+        canonical = canonical-from layout row g m to canonical (rooted layout row g 0 (linked layout row g k mid) to r)
+            (λ s y in_s lt_y apart. kept layout row g 0 (linked layout row g k mid) to r (Gigabyte s y) (in_s, lt_y) (λ e. apart (cc) (cc)) ∙ u.others s y in_s lt_y ∙ ap (λ (z : Pages). table_at layout z.words (Gigabyte s y)) linked-same)
+            (λ s n small apart. same-walk layout row g 0 (linked layout row g k mid) to r s n small ∙ done-apart layout row g k answer m mid below u s n small apart ∙ ap (λ (z : Pages). walk layout z.words s n) linked-same)
+            (ap (λ o. is_some o) (unlink-table layout row g k (linked layout row g k mid) h)
+            ∙ sym (reached-none (answers layout to.words row) g (λ i small. ap answer_of (same-walk layout row g 0 (linked layout row g k mid) to r row (262144 * g + i) (omega (arith, small, below)) ∙ unlink-unmapped layout row g k (linked layout row g k mid) h (262144 * g + i) (quotient i small)))));
+        ids = u.ids;
+        quotas = u.quotas;
+        walks = λ q n small.
+            same-walk layout row g 0 (linked layout row g k mid) to r q n small ∙ done-walks layout row g k answer m mid below u q n small
+            ∙ ap (λ (z : Pages). cond (eqb q row && eqb (n / 512 / 512) g) (walked n (answer n)) (walk layout z.words q n)) linked-same;
+        used =
+            let used = subst (λ (z : Pages). used_by mid row ≤ used_by m row + count_below (λ x. grows_at (answers layout z.words row) answer (512 * g + x)) 512) linked-same u.used in
+            let less = used_by-give mid row k (u.orderly.owned (Gigabyte row g) k (inside, below) u.second) (u.orderly.taken (Gigabyte row g) k (inside, below) u.second) in
+            omega (arith, used, less);
+      } in
+      subst (λ (z : Pages). EditsGigabyte layout row g answer m z) same made
+    where
+      quotient : (i : ℕ) → i < 262144 → (262144 * g + i) / 512 / 512 ≡ g
+      quotient i small = omega arith
+
+-- ---- a gigabyte that gets its level 2 table
+
+module _ (layout : Layout) (row g k : ℕ) (runs : List PageRun) (access : View) (m : Pages) (canonical : IsCanonical layout m) (below : g < 512) (h : IsLink layout row g k m) (touches : Touches runs g) (maps : is_some access ≡ true) where
+  abbrev first : Pages
+  first = linked layout row g k (with_mark k true m)
+
+  r : IsRooted layout row g (table_word_of (layout.base + k)) m (linked layout row g k (with_mark k true m))
+  r = link-rooted layout row g k m h
+
+  pub same-answers : (n : ℕ) → n < 2 ^ 27 → answers layout (linked layout row g k (with_mark k true m)).words row n ≡ answers layout m.words row n
+  same-answers n small = ap answer_of (same-walk layout row g (table_word_of (layout.base + k)) m (linked layout row g k (with_mark k true m)) r row n small)
+
+  pub same-edited : (n : ℕ) → n < 2 ^ 27 → edited runs access (answers layout (linked layout row g k (with_mark k true m)).words row) n ≡ edited runs access (answers layout m.words row) n
+  same-edited n small = ap (λ a. cond (covers runs n) access a) (same-answers n small)
+
+  same-growth : count_below (λ x. grows_at (answers layout (linked layout row g k (with_mark k true m)).words row) (edited runs access (answers layout (linked layout row g k (with_mark k true m)).words row)) (512 * g + x)) 512
+      ≡ count_below (λ x. grows_at (answers layout m.words row) (edited runs access (answers layout m.words row)) (512 * g + x)) 512
+  same-growth = count_below-same (λ x. grows_at (answers layout m.words row) (edited runs access (answers layout m.words row)) (512 * g + x))
+      (λ x. grows_at (answers layout (linked layout row g k (with_mark k true m)).words row) (edited runs access (answers layout (linked layout row g k (with_mark k true m)).words row)) (512 * g + x)) 512
+      (λ x lt. ap₂ (λ a b. a && not b)
+      (mixed-same (edited runs access (answers layout m.words row)) (edited runs access (answers layout (linked layout row g k (with_mark k true m)).words row)) (512 * g + x) (λ i small. same-edited (512 * (512 * g + x) + i) (omega (arith, lt, small, below))))
+      (mixed-same (answers layout m.words row) (answers layout (linked layout row g k (with_mark k true m)).words row) (512 * g + x) (λ i small. same-answers (512 * (512 * g + x) + i) (omega (arith, lt, small, below)))))
+
+  page-place : 262144 * g + (touches.page - 262144 * g) ≡ touches.page
+  page-place = let a = touches.here in omega arith
+
+  reaches : (v : ℕ → View) → v touches.page ≡ access → is_reached v g ≡ true
+  reaches v e = reached-some v g (touches.page - 262144 * g) (let a = touches.here in omega arith) (ap (λ n. is_some (v n)) page-place ∙ ap (λ a. is_some a) e ∙ maps)
+
+  covered-page : edited runs access (answers layout m.words row) touches.page ≡ access
+  covered-page = let c = touches.covered in rw c refl
+
+  growth : gigabyte_growth (answers layout m.words row) (edited runs access (answers layout m.words row)) g
+      ≡ 1 + count_below (λ x. grows_at (answers layout m.words row) (edited runs access (answers layout m.words row)) (512 * g + x)) 512
+  growth =
+      let now : is_reached (edited runs access (answers layout m.words row)) g ≡ true = reaches (edited runs access (answers layout m.words row)) covered-page in
+      let was : is_reached (answers layout m.words row) g ≡ false = sym (canonical.reached row g h.partition below) ∙ ap (λ o. is_some o) h.none in
+      rw (now, was) refl
+
+  took : used_by (with_mark k true m) row ≡ used_by m row + 1
+  took = used_by-take m row k h.inside h.free
+
+  pub link-fits : used_by m row + gigabyte_growth (answers layout m.words row) (edited runs access (answers layout m.words row)) g ≤ quota_of m.quotas row
+      → used_by (with_mark k true m) row + count_below (λ x. grows_at (answers layout (linked layout row g k (with_mark k true m)).words row) (edited runs access (answers layout (linked layout row g k (with_mark k true m)).words row)) (512 * g + x)) 512 ≤ quota_of m.quotas row
+  link-fits fits = omega (arith, fits, growth, took, same-growth)
+
+  pub finish-link : (mid new : Pages) → IsUnderway layout row g k 512 (edited runs access (answers layout (linked layout row g k (with_mark k true m)).words row)) (with_mark k true m) mid → new ≡ with_put row g (table_word_of (layout.base + k)) mid
+      → EditsGigabyte layout row g (edited runs access (answers layout m.words row)) m new
+  finish-link mid new u is =
+      let to : Pages = linked layout row g k mid in
+      let w = edited runs access (answers layout (linked layout row g k (with_mark k true m)).words row) in
+      let walk-here : walk layout to.words row touches.page ≡ walked touches.page access =
+      done-here layout row g k w (with_mark k true m) mid below u touches.page touches.small touches.here ∙ ap (walked touches.page) (same-edited touches.page touches.small ∙ covered-page) in
+      let made : EditsGigabyte layout row g (edited runs access (answers layout m.words row)) m to = record {
+        canonical = canonical-from layout row g m to canonical u.orderly
+            (λ s y in_s lt_y apart. u.others s y in_s lt_y ∙ kept layout row g (table_word_of (layout.base + k)) m (linked layout row g k (with_mark k true m)) r (Gigabyte s y) (in_s, lt_y) (λ e. apart (cc) (cc)))
+            (λ s n small apart. done-apart layout row g k w (with_mark k true m) mid below u s n small apart ∙ same-walk layout row g (table_word_of (layout.base + k)) m (linked layout row g k (with_mark k true m)) r s n small)
+            (ap (λ o. is_some o) u.second ∙ sym (reaches (answers layout to.words row) (ap answer_of walk-here ∙ answer-walked touches.page access)));
+        ids = u.ids;
+        quotas = u.quotas;
+        walks = λ q n small.
+            done-walks layout row g k w (with_mark k true m) mid below u q n small
+            ∙ ap₂ (λ a b. cond (eqb q row && eqb (n / 512 / 512) g) (walked n a) b) (same-edited n small) (same-walk layout row g (table_word_of (layout.base + k)) m (linked layout row g k (with_mark k true m)) r q n small);
+        used = let used = u.used in omega (arith, used, growth, took, same-growth);
+      } in
+      subst (λ (z : Pages). EditsGigabyte layout row g (edited runs access (answers layout m.words row)) m z) (sym is) made
+
+-- ---- nothing is mapped, and nothing is to be
+
+pub finish-none : (layout : Layout) (row g : ℕ) (runs : List PageRun) (m : Pages) → IsCanonical layout m → row < length layout.ids → table_at layout m.words (Gigabyte row g) ≡ None → EditsGigabyte layout row g (edited runs None (answers layout m.words row)) m m
+finish-none layout row g runs m canonical inside none = record {
+  canonical = canonical;
+  ids = refl;
+  quotas = refl;
+  walks = λ q n small. elim (cases_Bool (eqb q row && eqb (n / 512 / 512) g)) [
+    | inl t ↦
+        let at : (q ≡ row) × (n / 512 / 512 ≡ g) = grind (arith, nat_tests, t) in
+        let unmapped : walk layout m.words row n ≡ Unmapped = untabled layout m row n canonical.orderly inside small (rw at.1 none) in
+        rw t (ap (λ r. walk layout m.words r n) at.0 ∙ unmapped ∙ sym (ap (walked n) (nothing n unmapped)))
+    | inr f ↦ rw f refl
+  ];
+  used = omega arith;
+}
+  where
+    same : (b : Bool) → cond {A = View} b None None ≡ None
+    same true = refl
+    same false = refl
+
+    nothing : (n : ℕ) → walk layout m.words row n ≡ Unmapped → edited runs None (answers layout m.words row) n ≡ None
+    nothing n unmapped = ap (λ w. cond (covers runs n) None (answer_of w)) unmapped ∙ same (covers runs n)
+
+-- there is a page for its level 2 table
+pub link-has-free : (layout : Layout) (row g : ℕ) (runs : List PageRun) (access : View) (m : Pages) → IsCanonical layout m → row < length layout.ids → g < 512 → table_at layout m.words (Gigabyte row g) ≡ None → Touches runs g → is_some access ≡ true
+    → used_by m row + gigabyte_growth (answers layout m.words row) (edited runs access (answers layout m.words row)) g ≤ quota_of m.quotas row → used_by m row < quota_of m.quotas row
+link-has-free layout row g runs access m canonical inside below none touches maps fits =
+    let place : 262144 * g + (touches.page - 262144 * g) ≡ touches.page = let a = touches.here in omega arith in
+    let covered : edited runs access (answers layout m.words row) touches.page ≡ access = let c = touches.covered in rw c refl in
+    let now : is_reached (edited runs access (answers layout m.words row)) g ≡ true =
+    reached-some (edited runs access (answers layout m.words row)) g (touches.page - 262144 * g) (let a = touches.here in omega arith) (ap (λ n. is_some (edited runs access (answers layout m.words row) n)) place ∙ ap (λ a. is_some a) covered ∙ maps) in
+    let was : is_reached (answers layout m.words row) g ≡ false = sym (canonical.reached row g inside below) ∙ ap (λ o. is_some o) none in
+    let growth : gigabyte_growth (answers layout m.words row) (edited runs access (answers layout m.words row)) g
+    ≡ 1 + count_below (λ x. grows_at (answers layout m.words row) (edited runs access (answers layout m.words row)) (512 * g + x)) 512 = rw (now, was) refl in
+    omega (arith, growth, fits)
+
+pub fits-tabled : (layout : Layout) (row g k : ℕ) (m : Pages) → IsCanonical layout m → row < length layout.ids → g < 512 → table_at layout m.words (Gigabyte row g) ≡ Some k
+    → (runs : List PageRun) (access : View) → FitsGigabyte layout row g runs access m → Fits layout row g k runs access m
+fits-tabled layout row g k m canonical inside below table runs access h =
+    let fits : used_by m row + count_below (λ x. grows_at (answers layout m.words row) (edited runs access (answers layout m.words row)) (512 * g + x)) 512 ≤ quota_of m.quotas row = omega (arith, h.fits) in
+    record { fits = subst (λ (z : Pages). used_by m row + count_below (λ x. grows_at (answers layout z.words row) (edited runs access (answers layout z.words row)) (512 * g + x)) 512 ≤ quota_of m.quotas row) (sym (linked-same layout row g k m canonical inside below table)) fits }

@@ -1,0 +1,236 @@
+-- One gigabyte after another, and what a row needs.
+use Rattle.std.proofs.Common.{◌≡◌, ◌≢◌, ℕ, zero, suc, ◌+◌, ◌*◌, ◌/◌, ◌^◌, ◌<◌, ◌≤◌, max, Bool, true, false, not, ◌&&◌, ◌||◌, cond, eqb, ltb, leb, is_some, List, [], ◌∷◌, get_or, length, refl, arith, ap, ap₂, sym, subst, ◌∙◌, inl, inr, add-one}
+use Rattle.std.proofs.lemmas.Bool.{cases_eq}
+use Rattle.std.proofs.lemmas.Bool.Decides.{nat_tests}
+use Rattle.base.specs.Pages.{PageRun, IsRun, in_run, covers}
+use Rattle.base.specs.Access.{View}
+use Rattle.pool.specs.Pool.{Pages, used_by, quota_of}
+use Rattle.base.specs.Counts.{count_below}
+use Rattle.pool.proofs.Count.{count_below-same, count_below-more}
+use Rattle.stage2.specs.declared.walked.Walked.{Walked}
+use Rattle.stage2.specs.Slot.{Layout}
+use Rattle.stage2.specs.Walk.{walk, walked, Gigabyte, Chunk, table_at}
+use Rattle.base.specs.Need.{is_mixed, is_reached, need, grow}
+use Rattle.stage2.specs.Orderly.{IsCanonical, answers, answer_of}
+use Rattle.stage2.specs.Chunks.{edited}
+use Rattle.stage2.specs.Gigabytes.{sum_below, grows_at, gigabyte_growth, EditsGigabyte, FitsGigabyte, IsPast, EditsRow, FitsRow, Touches}
+use Rattle.stage2.proofs.Counting.Needs.{mixed-same, reached-same}
+use Rattle.stage2.proofs.Editing.ChunkByChunk.{sum_below-more, sum_below-up}
+use Rattle.stage2.proofs.Editing.FourChunkEdits.{tidy-answer}
+
+-- ---- used is need
+
+pub used-need : (layout : Layout) (m : Pages) (row : ℕ) → IsCanonical layout m → row < length layout.ids → used_by m row ≡ need (answers layout m.words row)
+unfolding need
+used-need layout m row h inside =
+    h.orderly.used row inside
+    ∙ ap₂ (λ a b. a + b)
+    (count_below-same (is_reached (answers layout m.words row)) (λ g. is_some (table_at layout m.words (Gigabyte row g))) 512 (λ g below. h.reached row g inside below))
+    (count_below-same (is_mixed (answers layout m.words row)) (λ c. is_some (table_at layout m.words (Chunk row c))) 262144 (λ c below. h.orderly.mixed row c inside below))
+
+-- ---- grow, gigabyte by gigabyte
+
+count_below-add : (f : ℕ → Bool) (a b : ℕ) → count_below f (a + b) ≡ count_below f a + count_below (λ k. f (a + k)) b
+unfolding count_below
+count_below-add f a zero = let e : a + 0 ≡ a = omega arith in rw e (omega arith)
+count_below-add f a (suc b) =
+    let e : a + suc b ≡ suc (a + b) = omega arith in
+    let rest = count_below-add f a b in
+    rw (e, rest) (omega arith)
+
+sum-none : (v w : ℕ → View) → sum_below (gigabyte_growth v w) 0 ≡ count_below (λ x. is_reached w x && not (is_reached v x)) 0 + count_below (grows_at v w) (512 * 0)
+unfolding sum_below count_below
+sum-none v w = refl
+
+sum-step : (v w : ℕ → View) (g : ℕ) → sum_below (gigabyte_growth v w) g ≡ count_below (λ x. is_reached w x && not (is_reached v x)) g + count_below (grows_at v w) (512 * g)
+    → sum_below (gigabyte_growth v w) (g + 1) ≡ count_below (λ x. is_reached w x && not (is_reached v x)) (g + 1) + count_below (grows_at v w) (512 * (g + 1))
+sum-step v w g rest =
+    let f : ℕ → Bool = λ x. is_reached w x && not (is_reached v x) in
+    let sum = sum_below-more (gigabyte_growth v w) g in
+    let one = count_below-more f g in
+    let e : 512 * (g + 1) ≡ 512 * g + 512 = omega arith in
+    let all : count_below (grows_at v w) (512 * (g + 1)) ≡ count_below (grows_at v w) (512 * g) + count_below (λ k. grows_at v w (512 * g + k)) 512 = ap (count_below (grows_at v w)) e ∙ count_below-add (grows_at v w) (512 * g) 512 in
+    sum ∙ ap (λ x. gigabyte_growth v w g + x) rest
+    ∙ regroup (cond (is_reached w g && not (is_reached v g)) 1 0) (count_below (λ k. grows_at v w (512 * g + k)) 512) (count_below f g) (count_below (grows_at v w) (512 * g))
+    ∙ sym (ap₂ (λ x y. x + y) one all)
+  where
+    regroup : (a b c d : ℕ) → (a + b) + (c + d) ≡ (a + c) + (d + b)
+    regroup a b c d = omega arith
+
+sum-growth : (v w : ℕ → View) (g : ℕ) → sum_below (gigabyte_growth v w) g ≡ count_below (λ x. is_reached w x && not (is_reached v x)) g + count_below (grows_at v w) (512 * g)
+sum-growth v w zero = sum-none v w
+sum-growth v w (suc g) =
+    subst (λ n. sum_below (gigabyte_growth v w) n ≡ count_below (λ x. is_reached w x && not (is_reached v x)) n + count_below (grows_at v w) (512 * n)) (add-one g) (sum-step v w g (sum-growth v w g))
+
+pub grow-sum : (v w : ℕ → View) → sum_below (gigabyte_growth v w) 512 ≡ grow v w
+unfolding grow
+grow-sum v w = sum-growth v w 512
+
+growth-same : (v w x y : ℕ → View) (g : ℕ) → ((n : ℕ) → n / 512 / 512 ≡ g → x n ≡ v n) → ((n : ℕ) → n / 512 / 512 ≡ g → y n ≡ w n) → gigabyte_growth x y g ≡ gigabyte_growth v w g
+growth-same v w x y g same also =
+    ap₂ (λ a b. a + b)
+    (ap₂ (λ a b. cond (a && not b) 1 0) (reached-same w y g (λ i small. also (262144 * g + i) (omega (arith, small)))) (reached-same v x g (λ i small. same (262144 * g + i) (omega (arith, small)))))
+    (count_below-same (λ i. grows_at v w (512 * g + i)) (λ i. grows_at x y (512 * g + i)) 512
+    (λ i lt. ap₂ (λ a b. a && not b) (mixed-same w y (512 * g + i) (λ z small. also (512 * (512 * g + i) + z) (omega (arith, lt, small)))) (mixed-same v x (512 * g + i) (λ z small. same (512 * (512 * g + i) + z) (omega (arith, lt, small))))))
+
+-- ---- from gigabyte to gigabyte
+
+module _ (layout : Layout) (row : ℕ) (runs : List PageRun) (access : View) (old : Pages) (inside : row < length layout.ids) where
+  abbrev before : ℕ → View
+  before = answers layout old.words row
+
+  abbrev after : ℕ → View
+  after = edited runs access (answers layout old.words row)
+
+  pub past-none : IsCanonical layout old → IsPast layout row 0 (edited runs access (answers layout old.words row)) old old
+  past-none canonical = record {
+    canonical = canonical;
+    ids = refl;
+    quotas = refl;
+    walks = λ q n small. (let no : ltb (n / 512 / 512) 0 ≡ false = grind (arith, nat_tests) in rw no (both (eqb q row) (walked n (after n)) (walk layout old.words q n)));
+    used = omega arith;
+  }
+    where
+      both : (x : Bool) (a b : Walked) → b ≡ cond (x && false) a b
+      both true a b = refl
+      both false a b = refl
+
+  module _ (g : ℕ) (lt : g < 512) (mid : Pages) (h : IsPast layout row g (edited runs access (answers layout old.words row)) old mid) where
+    still : (n : ℕ) → n < 2 ^ 27 → n / 512 / 512 ≡ g → walk layout mid.words row n ≡ walk layout old.words row n
+    still n small at = h.walks row n small ∙ (let no : ltb (n / 512 / 512) g ≡ false = grind (arith, nat_tests) in rw no (both (eqb row row)))
+      where
+        both : (x : Bool) → cond (x && false) (walked n (after n)) (walk layout old.words row n) ≡ walk layout old.words row n
+        both true = refl
+        both false = refl
+
+    below : (n : ℕ) → n / 512 / 512 ≡ g → n < 2 ^ 27
+    below n at = omega (arith, lt, at)
+
+    pub still-answers : (n : ℕ) → n / 512 / 512 ≡ g → answers layout mid.words row n ≡ before n
+    still-answers n at = ap answer_of (still n (below n at) at)
+
+    pub still-edited : (n : ℕ) → n / 512 / 512 ≡ g → edited runs access (answers layout mid.words row) n ≡ after n
+    still-edited n at = ap (λ a. cond (covers runs n) access a) (still-answers n at)
+
+    growth : gigabyte_growth (answers layout mid.words row) (edited runs access (answers layout mid.words row)) g ≡ gigabyte_growth before after g
+    growth = growth-same before after (answers layout mid.words row) (edited runs access (answers layout mid.words row)) g still-answers still-edited
+
+    pub past-fits : IsCanonical layout old → FitsRow layout row runs access old → FitsGigabyte layout row g runs access mid
+    past-fits canonical f = record {
+      fits =
+          let need_is = used-need layout old row canonical inside in
+          let all = grow-sum before after in
+          let more = sum_below-more (gigabyte_growth before after) g in
+          let up = sum_below-up (gigabyte_growth before after) (g + 1) 512 (omega (arith, lt)) in
+          let quota : quota_of mid.quotas row ≡ quota_of old.quotas row = ap (λ q. quota_of q row) h.quotas in
+          let used = h.used in
+          let fits = f.fits in
+          omega (arith, need_is, all, more, up, quota, used, fits, growth);
+    }
+
+    pub past-skip : ((n : ℕ) → n / 512 / 512 ≡ g → covers runs n ≡ false) → IsPast layout row (g + 1) (edited runs access (answers layout old.words row)) old mid
+    past-skip none = record {
+      canonical = h.canonical;
+      ids = h.ids;
+      quotas = h.quotas;
+      walks = λ q n small. elim (cases_eq (n / 512 / 512) g) [
+        | inl at ↦ elim (cases_eq q row) [
+          | inl e ↦ rw e (still n small at ∙ tidy-answer n (walk layout old.words row n) (rw (sym (still n small at)) (h.canonical.orderly.tidy row n inside small))
+              ∙ ap (walked n) (sym (ap (λ b. cond b access (before n)) (none n at))) ∙ chosen n (walked n (after n)) (walk layout old.words row n) at)
+          | inr e ↦ h.walks q n small ∙ off q n e (walked n (after n)) (walk layout old.words q n)
+        ]
+        | inr at ↦ h.walks q n small ∙ later q n at (walked n (after n)) (walk layout old.words q n)
+      ];
+      used = let up = sum_below-up (gigabyte_growth before after) g (g + 1) (omega arith) in let used = h.used in omega (arith, up, used);
+    }
+      where
+        chosen : (n : ℕ) (a b : Walked) → n / 512 / 512 ≡ g → a ≡ cond (eqb row row && ltb (n / 512 / 512) (g + 1)) a b
+        chosen n a b at = grind (arith, nat_tests)
+
+        off : (q n : ℕ) → q ≢ row → (a b : Walked) → cond (eqb q row && ltb (n / 512 / 512) g) a b ≡ cond (eqb q row && ltb (n / 512 / 512) (g + 1)) a b
+        off q n e a b = let no : eqb q row ≡ false = grind (arith, nat_tests, e) in rw no refl
+
+        later : (q n : ℕ) → n / 512 / 512 ≢ g → (a b : Walked) → cond (eqb q row && ltb (n / 512 / 512) g) a b ≡ cond (eqb q row && ltb (n / 512 / 512) (g + 1)) a b
+        later q n at a b = let same : ltb (n / 512 / 512) g ≡ ltb (n / 512 / 512) (g + 1) = grind (arith, nat_tests, at) in rw same refl
+
+    pub past-edit : (new : Pages) → EditsGigabyte layout row g (edited runs access (answers layout mid.words row)) mid new → IsPast layout row (g + 1) (edited runs access (answers layout old.words row)) old new
+    past-edit new e = record {
+      canonical = e.canonical;
+      ids = e.ids ∙ h.ids;
+      quotas = e.quotas ∙ h.quotas;
+      walks = λ q n small. e.walks q n small ∙ elim (cases_eq (n / 512 / 512) g) [
+        | inl at ↦ elim (cases_eq q row) [
+          | inl f ↦ rw f (here n (walked n (edited runs access (answers layout mid.words row) n)) (walk layout mid.words row n) at ∙ ap (walked n) (still-edited n at) ∙ chosen n (walked n (after n)) (walk layout old.words row n) at)
+          | inr f ↦ off q n f (walked n (edited runs access (answers layout mid.words row) n)) (walk layout mid.words q n) ∙ h.walks q n small ∙ off2 q n f (walked n (after n)) (walk layout old.words q n)
+        ]
+        | inr at ↦ elsewhere q n at (walked n (edited runs access (answers layout mid.words row) n)) (walk layout mid.words q n) ∙ h.walks q n small ∙ later q n at (walked n (after n)) (walk layout old.words q n)
+      ];
+      used = let more = sum_below-more (gigabyte_growth before after) g in let used = h.used in let one = e.used in omega (arith, more, used, one, growth);
+    }
+      where
+        here : (n : ℕ) (a b : Walked) → n / 512 / 512 ≡ g → cond (eqb row row && eqb (n / 512 / 512) g) a b ≡ a
+        here n a b at = grind (arith, nat_tests)
+
+        chosen : (n : ℕ) (a b : Walked) → n / 512 / 512 ≡ g → a ≡ cond (eqb row row && ltb (n / 512 / 512) (g + 1)) a b
+        chosen n a b at = grind (arith, nat_tests)
+
+        off : (q n : ℕ) → q ≢ row → (a b : Walked) → cond (eqb q row && eqb (n / 512 / 512) g) a b ≡ b
+        off q n e a b = let no : eqb q row ≡ false = grind (arith, nat_tests, e) in rw no refl
+
+        off2 : (q n : ℕ) → q ≢ row → (a b : Walked) → cond (eqb q row && ltb (n / 512 / 512) g) a b ≡ cond (eqb q row && ltb (n / 512 / 512) (g + 1)) a b
+        off2 q n e a b = let no : eqb q row ≡ false = grind (arith, nat_tests, e) in rw no refl
+
+        elsewhere : (q n : ℕ) → n / 512 / 512 ≢ g → (a b : Walked) → cond (eqb q row && eqb (n / 512 / 512) g) a b ≡ b
+        elsewhere q n at a b = let no : eqb (n / 512 / 512) g ≡ false = grind (arith, nat_tests, at) in rw no (both (eqb q row))
+          where
+            both : (x : Bool) → cond (x && false) a b ≡ b
+            both true = refl
+            both false = refl
+
+        later : (q n : ℕ) → n / 512 / 512 ≢ g → (a b : Walked) → cond (eqb q row && ltb (n / 512 / 512) g) a b ≡ cond (eqb q row && ltb (n / 512 / 512) (g + 1)) a b
+        later q n at a b = let same : ltb (n / 512 / 512) g ≡ ltb (n / 512 / 512) (g + 1) = grind (arith, nat_tests, at) in rw same refl
+
+  pub past-all : (new : Pages) → IsPast layout row 512 (edited runs access (answers layout old.words row)) old new → EditsRow layout row (edited runs access (answers layout old.words row)) old new
+  past-all new h = record {
+    canonical = h.canonical;
+    ids = h.ids;
+    quotas = h.quotas;
+    walks = λ q n small. h.walks q n small ∙ (let all : ltb (n / 512 / 512) 512 ≡ true = grind (arith, nat_tests) in rw all (both (eqb q row) (walked n (after n)) (walk layout old.words q n)));
+  }
+    where
+      both : (x : Bool) (a b : Walked) → cond (x && true) a b ≡ cond x a b
+      both true a b = refl
+      both false a b = refl
+
+-- ---- the gigabytes that runs touch
+
+covers-at : (runs : List PageRun) (i n : ℕ) (run : PageRun) → i < length runs → run ≡ get_or runs i run → in_run run n ≡ true → covers runs n ≡ true
+covers-at [] i n run lt is here = absurd (omega arith)
+covers-at (r ∷ runs) zero n run lt is here = rw (sym is, here) refl
+covers-at (r ∷ runs) (suc i) n run lt is here = rw (covers-at runs i n run (omega arith) is here) (either (in_run r n))
+  where
+    either : (x : Bool) → (x || true) ≡ true
+    either true = refl
+    either false = refl
+
+pub touched : (runs : List PageRun) (i g : ℕ) (run : PageRun) → i < length runs → run ≡ get_or runs i run → IsRun run → run.first / 512 / 512 ≤ g → g < ((run.first + run.count + 511) / 512 + 511) / 512 → Touches runs g
+touched runs i g run lt is some from to =
+    let a = some.0 in
+    let b = some.1 in
+    let inside : in_run run (max run.first (262144 * g)) ≡ true = in_part run.first run.count g a from to in
+    record {
+      page = max run.first (262144 * g);
+      small = omega (arith, a, b, from, to);
+      covered = covers-at runs i (max run.first (262144 * g)) run lt is inside;
+      here = omega (arith, a, from, to);
+    }
+  where
+    in_part : (first count g : ℕ) → 0 < count → first / 512 / 512 ≤ g → g < ((first + count + 511) / 512 + 511) / 512 → (leb first (max first (262144 * g)) && ltb (max first (262144 * g)) (first + count)) ≡ true
+    in_part first count g a from to = grind (arith, nat_tests)
+
+pub outside : (first count g n : ℕ) → n / 512 / 512 ≡ g → (first / 512 / 512 ≤ g → g < ((first + count + 511) / 512 + 511) / 512 → ⊥) → (leb first n && ltb n (first + count)) ≡ false
+outside first count g n at apart = grind (arith, nat_tests, apart)
+
+pub sum_below-zero : (f : ℕ → ℕ) → sum_below f 0 ≡ 0
+unfolding sum_below
+sum_below-zero f = refl

@@ -1,0 +1,208 @@
+-- A level 2 table without valid words is linked in a root, or its link is taken away: all walks stay, and the tables are orderly.
+use Rattle.std.proofs.Common.{◌≡◌, ◌≢◌, ℕ, ◌+◌, ◌*◌, ◌/◌, ◌^◌, ◌<◌, true, false, is_some, Option, Some, None, length, refl, arith, ap, ap₂, sym, ◌∙◌, ◌⊎◌, inl, inr}
+use Rattle.std.proofs.lemmas.Bool.{cases_eq}
+use Rattle.base.specs.Manifest.{page_count}
+use Rattle.words.specs.Words.{table_word_of}
+use Rattle.pool.specs.Pool.{Pages, InShare, put, with_put, with_mark}
+use Rattle.pool.proofs.Shares.{share_inside}
+use Rattle.stage2.specs.declared.walked.Walked.TheVariants.{None as Unmapped}
+use Rattle.stage2.specs.Slot.{Layout, Empty, Next, slot}
+use Rattle.stage2.specs.Walk.{index_1, index_2, at_2, walk, Place, Root, Gigabyte, Chunk, next_page, table_at, IsPlace}
+use Rattle.base.specs.Need.{is_mixed}
+use Rattle.stage2.specs.Orderly.{IsOrderly, answers, answer_of, level_at, linked}
+use Rattle.stage2.proofs.Tree.WalkFrame.{put-other, put-same, walk-gigabyte, table_at-root, IsUnheld}
+use Rattle.stage2.proofs.Tree.RootWrites.{IsRootWrite, is_gigabyte, table_at-root_write, table_at-root_write-gigabyte, table_at-root_write-chunk, table_at-root_write-below, walk-root_write}
+use Rattle.stage2.proofs.Walkers.Level3Write.{slot-zero}
+use Rattle.stage2.proofs.Tree.LinkTable.{slot-table, walk-inside, untabled_1}
+use Rattle.stage2.proofs.Counting.Needs.{mixed-same, mixed-none}
+use Rattle.stage2.proofs.Editing.Trades.{Trade, Hang, Drop, IsTrade, trade-forest, trade-taken, trade-owned, trade-hangs, trade-used}
+
+pub record IsRooted (layout : Layout) (row g word : ℕ) (old new : Pages) : Type 0 where
+  pub orderly : IsOrderly layout old
+  pub write : IsRootWrite layout old.words row g word
+  pub ids : new.ids ≡ old.ids
+  pub quotas : new.quotas ≡ old.quotas
+  pub words : new.words ≡ put row g word old.words
+  pub trade : Trade layout row (Gigabyte row g) old new
+  pub zero : slot layout 1 word ≡ Empty → word ≡ 0
+  pub empty : (k i : ℕ) → next_page (slot layout 1 word) ≡ Some k → i < 512 → old.words k i ≡ 0
+
+module _ (layout : Layout) (row g word : ℕ) (old new : Pages) (h : IsRooted layout row g word old new) where
+  pub same-walk : (r n : ℕ) → n < 2 ^ 27 → walk layout new.words r n ≡ walk layout old.words r n
+  same-walk r n small = ap (λ w. walk layout w r n) h.words ∙ walk-root_write layout old.words row g word h.write r n small
+
+  none-below : (c : ℕ) → c < 262144 → c / 512 ≡ g → table_at layout old.words (Chunk row c) ≡ None
+  none-below c below e =
+      let unmapped : is_mixed (answers layout old.words row) c ≡ false = mixed-none (answers layout old.words row) c (λ i small. ap answer_of (h.write.unmapped (512 * c + i) (omega arith) (let q : (512 * c + i) / 512 ≡ c = omega arith in ap (λ x. x / 512) q ∙ e))) in
+      no-table (table_at layout old.words (Chunk row c)) (h.orderly.mixed row c h.write.partition below ∙ unmapped)
+    where
+      no-table : (o : Option ℕ) → is_some o ≡ false → o ≡ None
+      no-table None e = refl
+      no-table (Some k) e = absurd (cc)
+
+  kept_put : (b : Place) → IsPlace layout b → b ≢ Gigabyte row g → table_at layout (put row g word old.words) b ≡ table_at layout old.words b
+  kept_put (Root r) inside other = table_at-root layout (put row g word old.words) r ∙ sym (table_at-root layout old.words r)
+  kept_put (Gigabyte r x) inside other = table_at-root_write-gigabyte layout old.words row g word h.write r x inside.0 inside.1 (λ e f. other (ap₂ Gigabyte e f))
+  kept_put (Chunk r c) inside other = elim (cases_eq r row) [
+    | inl e ↦ elim (cases_eq (c / 512) g) [
+      | inl f ↦ rw e (table_at-root_write-below layout old.words row g word h.write c f ∙ sym (none-below c inside.1 f))
+      | inr f ↦ table_at-root_write-chunk layout old.words row g word h.write r c inside.0 inside.1 (λ _ x. f x)
+    ]
+    | inr e ↦ table_at-root_write-chunk layout old.words row g word h.write r c inside.0 inside.1 (λ x _. e x)
+  ]
+
+  pub kept : (b : Place) → IsPlace layout b → b ≢ Gigabyte row g → table_at layout new.words b ≡ table_at layout old.words b
+  kept b inside other = ap (λ w. table_at layout w b) h.words ∙ kept_put b inside other
+
+  is_trade : IsTrade layout row (Gigabyte row g) old new
+  is_trade = record {
+    orderly = h.orderly;
+    at = (h.write.partition, h.write.gigabyte);
+    partition = h.write.partition;
+    of_row = inl (g, refl);
+    is_x = λ b. is_gigabyte b row g;
+    kept = kept;
+    quotas = h.quotas;
+    trade = h.trade;
+  }
+
+  here : (q : ℕ) → table_at layout new.words (Gigabyte row g) ≡ Some q → next_page (slot layout 1 word) ≡ Some q
+  here q at = sym (table_at-root_write layout old.words row g word h.write) ∙ sym (ap (λ w. table_at layout w (Gigabyte row g)) h.words) ∙ at
+
+  read : (q i : ℕ) → (q ≡ row → i ≡ g → ⊥) → new.words q i ≡ old.words q i
+  read q i apart = ap (λ w. w q i) h.words ∙ put-other old.words row g word q i apart
+
+  is_entry : (q i : ℕ) → ((q ≡ row) × (i ≡ g)) ⊎ (q ≡ row → i ≡ g → ⊥)
+  is_entry q i = elim (cases_eq q row) [
+    | inl e ↦ elim (cases_eq i g) [ inl f ↦ inl (e, f) | inr f ↦ inr (λ _ x. f x) ]
+    | inr e ↦ inr (λ x _. e x)
+  ]
+
+  clean : (a : Place) (q i : ℕ) → IsPlace layout a → table_at layout new.words a ≡ Some q → i < 512 → slot layout (level_at a) (new.words q i) ≡ Empty → new.words q i ≡ 0
+  clean a q i inside at below none = elim (is_gigabyte a row g) [
+    | inl f ↦
+        let hangs = here q (ap (table_at layout new.words) (sym f) ∙ at) in
+        read q i (λ same _. h.write.fresh q hangs (Root row) h.write.partition (table_at-root layout old.words row ∙ ap Some (sym same))) ∙ h.empty q i hangs below
+    | inr f ↦
+        let was : table_at layout old.words a ≡ Some q = sym (kept a inside f) ∙ at in
+        elim (is_entry q i) [
+          | inl e ↦
+              let root : a ≡ Root row = h.orderly.forest a (Root row) row inside h.write.partition (was ∙ ap Some e.0) (table_at-root layout old.words row) in
+              let now : new.words row g ≡ word = ap (λ w. w row g) h.words ∙ put-same old.words row g word in
+              rw (e.0, e.1) (now ∙ h.zero (sym (ap (slot layout 1) now) ∙ (rw (root, e.0, e.1) at none)))
+          | inr e ↦
+              let same : new.words q i ≡ old.words q i = read q i e in
+              same ∙ h.orderly.clean a q i inside was below (rw same at none)
+        ]
+  ]
+
+  pub rooted : IsOrderly layout new
+  rooted = record {
+    ids = h.orderly.ids ∙ sym h.ids;
+    quotas = h.orderly.quotas ∙ sym h.quotas;
+    pages = rw h.quotas h.orderly.pages;
+    rows = rw h.quotas h.orderly.rows;
+    fits = h.orderly.fits;
+    forest = trade-forest layout row (Gigabyte row g) old new is_trade;
+    taken = trade-taken layout row (Gigabyte row g) old new is_trade;
+    owned = trade-owned layout row (Gigabyte row g) old new is_trade;
+    hangs = trade-hangs layout row (Gigabyte row g) old new is_trade;
+    used = trade-used layout row (Gigabyte row g) old new is_trade;
+    clean = clean;
+    tidy = λ r n inside small. rw (same-walk r n small) (h.orderly.tidy r n inside small);
+    mixed = λ r c inside below.
+        ap (λ o. is_some o) (kept (Chunk r c) (inside, below) (λ e. cc)) ∙ h.orderly.mixed r c inside below
+        ∙ sym (mixed-same (answers layout old.words r) (answers layout new.words r) c (λ i small. ap answer_of (same-walk r (512 * c + i) (omega arith))));
+  }
+
+-- ---- a free page is linked
+
+-- nothing is mapped in a gigabyte without a table
+pub untabled : (layout : Layout) (m : Pages) (row n : ℕ) → IsOrderly layout m → row < length layout.ids → n < 2 ^ 27 → table_at layout m.words (Gigabyte row (n / 512 / 512)) ≡ None → walk layout m.words row n ≡ Unmapped
+unfolding table_at
+untabled layout m row n orderly inside small none =
+    let read = walk-inside layout m.words row n inside in
+    read ∙ untabled_1 layout m.words n (slot layout 1 (m.words row (index_1 n))) none (rw (sym read) (orderly.tidy row n inside small))
+
+pub record IsLink (layout : Layout) (row g k : ℕ) (m : Pages) : Type 0 where
+  pub orderly : IsOrderly layout m
+  pub partition : row < length layout.ids
+  pub gigabyte : g < 512
+  pub none : table_at layout m.words (Gigabyte row g) ≡ None
+  pub inside : InShare m.quotas row k
+  pub free : m.taken k ≡ false
+  pub zero : (i : ℕ) → m.words k i ≡ 0
+
+module _ (layout : Layout) (row g k : ℕ) (m : Pages) (h : IsLink layout row g k m) where
+  is_slot : slot layout 1 (table_word_of (layout.base + k)) ≡ Next k
+  is_slot = slot-table layout 1 k (omega arith) (let inside : k < page_count m.quotas = share_inside m.quotas row k h.inside in rw h.orderly.pages inside) h.orderly.fits
+
+  unheld : IsUnheld layout m.words k
+  unheld b inside at = let held : m.taken k ≡ true = h.orderly.taken b k inside at in let free : m.taken k ≡ false = h.free in absurd (cc)
+
+  link-write : IsRootWrite layout m.words row g (table_word_of (layout.base + k))
+  link-write = record {
+    forest = h.orderly.forest;
+    partition = h.partition;
+    gigabyte = h.gigabyte;
+    fresh = λ j e. let same : j ≡ k = let s = is_slot in cc in rw same unheld;
+    empty = λ j x e _. let same : j ≡ k = let s = is_slot in cc in rw (same, h.zero x) (slot-zero layout 2);
+    unmapped = λ n small e. untabled layout m row n h.orderly h.partition small (rw e h.none);
+    clean = inr (k, is_slot);
+  }
+
+  pub link-table : table_at layout (linked layout row g k (with_mark k true m)).words (Gigabyte row g) ≡ Some k
+  link-table = table_at-root_write layout m.words row g (table_word_of (layout.base + k)) link-write ∙ ap next_page is_slot
+
+  pub link-rooted : IsRooted layout row g (table_word_of (layout.base + k)) m (linked layout row g k (with_mark k true m))
+  link-rooted = record {
+    orderly = h.orderly;
+    write = link-write;
+    ids = refl;
+    quotas = refl;
+    words = refl;
+    trade = Hang k (record { inside = h.inside; free = h.free; none = h.none; now = link-table; taken = refl });
+    zero = λ empty. absurd (let s : Next k ≡ Empty = sym is_slot ∙ empty in cc);
+    empty = λ j i e below. let same : j ≡ k = let s = is_slot in cc in rw same (h.zero i);
+  }
+
+-- ---- a table without valid words is taken away
+
+pub record IsUnlink (layout : Layout) (row g k : ℕ) (m : Pages) : Type 0 where
+  pub orderly : IsOrderly layout m
+  pub partition : row < length layout.ids
+  pub gigabyte : g < 512
+  pub table : table_at layout m.words (Gigabyte row g) ≡ Some k
+  pub zero : (i : ℕ) → i < 512 → m.words k i ≡ 0
+
+module _ (layout : Layout) (row g k : ℕ) (m : Pages) (h : IsUnlink layout row g k m) where
+  pub unlink-unmapped : (n : ℕ) → n / 512 / 512 ≡ g → walk layout m.words row n ≡ Unmapped
+  unlink-unmapped n e =
+      walk-gigabyte layout m.words row n k h.partition (ap (λ x. table_at layout m.words (Gigabyte row x)) e ∙ h.table)
+      ∙ ap (at_2 layout m.words n) (ap (slot layout 2) (h.zero (index_2 n) (omega arith)) ∙ slot-zero layout 2)
+
+  unlink-write : IsRootWrite layout m.words row g 0
+  unlink-write = record {
+    forest = h.orderly.forest;
+    partition = h.partition;
+    gigabyte = h.gigabyte;
+    fresh = λ j e. let s : next_page (slot layout 1 0) ≡ None = ap next_page (slot-zero layout 1) in absurd (cc);
+    empty = λ j x e _. let s : next_page (slot layout 1 0) ≡ None = ap next_page (slot-zero layout 1) in absurd (cc);
+    unmapped = λ n small e. unlink-unmapped n e;
+    clean = inl (slot-zero layout 1);
+  }
+
+  pub unlink-table : table_at layout (put row g 0 m.words) (Gigabyte row g) ≡ None
+  unlink-table = table_at-root_write layout m.words row g 0 unlink-write ∙ ap next_page (slot-zero layout 1)
+
+  pub unlink-rooted : IsRooted layout row g 0 m (with_mark k false (with_put row g 0 m))
+  unlink-rooted = record {
+    orderly = h.orderly;
+    write = unlink-write;
+    ids = refl;
+    quotas = refl;
+    words = refl;
+    trade = Drop k (record { was = h.table; now = unlink-table; taken = refl });
+    zero = λ empty. refl;
+    empty = λ j i e below. let s : next_page (slot layout 1 0) ≡ None = ap next_page (slot-zero layout 1) in absurd (cc);
+  }

@@ -1,0 +1,73 @@
+-- The edit of a row is one of its partition.
+use Rattle.std.proofs.Common.{◌≡◌, ℕ, ◌+◌, ◌-◌, ◌*◌, ◌^◌, ◌<◌, ◌≤◌, Bool, true, false, ◌&&◌, cond, eqb, List, length, is_some, refl, sym, ap, ◌∙◌, arith, inl, inr}
+use Rattle.std.proofs.lemmas.Bool.{cases_Bool, eqb-true}
+use Rattle.base.specs.Pages.{PageRun, covers}
+use Rattle.base.specs.Access.{View}
+use Rattle.base.specs.Manifest.{row_of, page_count}
+use Rattle.pool.specs.Pool.{Pages, InShare, used_by, share_start, quota_of}
+use Rattle.pool.proofs.Count.{count_below-none, count_below-some}
+use Rattle.stage2.specs.Slot.{Layout}
+use Rattle.stage2.specs.Walk.{walk, walked, translation, Gigabyte, Chunk, table_at}
+use Rattle.stage2.specs.Orderly.{IsOrderly, IsCanonical, answers, answer_of}
+use Rattle.stage2.specs.Chunks.{edited}
+use Rattle.stage2.specs.Gigabytes.{EditsRow}
+use Rattle.stage2.proofs.Tree.Rows.{IsRow, same_row}
+use Rattle.stage2.proofs.Editing.FourChunkEdits.{tidy-answer}
+use Rattle.stage2.proofs.Counting.Needs.{mixed-none, reached-none}
+use Rattle.stage2.proofs.Tree.EmptyTables.{no_gigabyte, no_chunk, unmapped, sound_zero}
+
+pub edited-walks : (layout : Layout) (p row : ℕ) (runs : List PageRun) (access : View) (old new : Pages) → IsRow layout.ids p row → IsOrderly layout old → EditsRow layout row (edited runs access (answers layout old.words row)) old new
+    → (q n : ℕ) → n < 2 ^ 27 → translation layout new.words q n ≡ cond (eqb q p && covers runs n) (walked n access) (translation layout old.words q n)
+edited-walks layout p row runs access old new is orderly h q n small =
+    h.walks (row_of layout.ids q) n small
+    ∙ ap (λ b. cond b (walked n (edited runs access (answers layout old.words row) n)) (walk layout old.words (row_of layout.ids q) n)) (same_row layout.ids p q row is)
+    ∙ elim (cases_Bool (eqb q p)) [
+      | inl t ↦
+          let same : q ≡ p = eqb-true _ _ t in
+          let at : row_of layout.ids q ≡ row = ap (row_of layout.ids) same ∙ sym is.is in
+          rw t (at-row at (covers runs n))
+      | inr f ↦ rw f refl
+    ]
+  where
+    at-row : row_of layout.ids q ≡ row → (b : Bool) → walked n (cond b access (answers layout old.words row n)) ≡ cond b (walked n access) (walk layout old.words (row_of layout.ids q) n)
+    at-row at true = refl
+    at-row at false = sym (tidy-answer n (walk layout old.words row n) (orderly.tidy row n is.inside small)) ∙ ap (λ r. walk layout old.words r n) (sym at)
+
+-- ---- tables that map nothing
+
+pub canonical_zero : (layout : Layout) (m : Pages) → ((page index : ℕ) → m.words page index ≡ 0) → layout.ids ≡ m.ids → layout.quotas ≡ m.quotas → layout.pages ≡ page_count m.quotas → length layout.ids ≡ length m.quotas → layout.base + layout.pages ≤ 2 ^ 27
+    → ((row : ℕ) → row < length m.quotas → m.taken row ≡ true) → ((row q : ℕ) → InShare m.quotas row q → m.taken q ≡ false) → ((row : ℕ) → used_by m row ≡ 0) → IsCanonical layout m
+canonical_zero layout m zeros ids quotas pages rows fits roots free none =
+    let s = sound_zero layout m zeros ids pages rows fits roots in
+    record {
+      orderly = record {
+        ids = s.ids;
+        quotas = quotas;
+        pages = s.pages;
+        rows = s.rows;
+        fits = s.fits;
+        forest = s.forest;
+        taken = s.taken;
+        owned = s.owned;
+        hangs = λ row q inside held. let f = free row q inside in absurd (cc);
+        used = λ row inside.
+            let gigabytes = count_below-none (λ g. is_some (table_at layout m.words (Gigabyte row g))) 512 (λ g lt. ap (λ o. is_some o) (no_gigabyte layout m zeros row g)) in
+            let chunks = count_below-none (λ c. is_some (table_at layout m.words (Chunk row c))) 262144 (λ c lt. ap (λ o. is_some o) (no_chunk layout m zeros row c)) in
+            let zero_used = none row in
+            omega (arith, gigabytes, chunks, zero_used);
+        clean = λ a q i inside at lt empty. zeros q i;
+        tidy = s.tidy;
+        mixed = λ row c inside below. ap (λ o. is_some o) (no_chunk layout m zeros row c) ∙ sym (mixed-none (answers layout m.words row) c (λ i small. ap answer_of (unmapped layout m zeros row (512 * c + i))));
+      };
+      reached = λ row g inside below. ap (λ o. is_some o) (no_gigabyte layout m zeros row g) ∙ sym (reached-none (answers layout m.words row) g (λ i small. ap answer_of (unmapped layout m zeros row (262144 * g + i))));
+    }
+
+-- where no page of a share is used, none is taken
+pub not-taken : (m : Pages) (row q : ℕ) → InShare m.quotas row q → used_by m row ≡ 0 → m.taken q ≡ false
+not-taken m row q inside none = elim (cases_Bool (m.taken q)) [
+  | inl t ↦
+      let at : share_start m.quotas row + (q - share_start m.quotas row) ≡ q = omega (arith, inside.from) in
+      let some = count_below-some (λ k. m.taken (share_start m.quotas row + k)) (quota_of m.quotas row) (q - share_start m.quotas row) (omega (arith, inside.from, inside.to)) (ap m.taken at ∙ t) in
+      absurd (omega (arith, some, none))
+  | inr f ↦ f
+]

@@ -1,0 +1,209 @@
+-- A table is hung at one place, or given back there, or stays: the tables of all other places stay.
+use Rattle.std.proofs.Common.{◌≡◌, ◌≢◌, ℕ, ◌+◌, ◌<◌, Bool, true, false, is_some, Some, None, length, arith, ap, ap₂, sym, subst, ◌∙◌, ◌⊎◌, inl, inr}
+use Rattle.std.proofs.lemmas.Bool.{cases_eq}
+use Rattle.pool.specs.Pool.{Words, Pages, InShare, mark, with_mark, used_by}
+use Rattle.base.specs.Counts.{count_below}
+use Rattle.pool.proofs.Words.{mark-same, mark-other, mark-kept}
+use Rattle.pool.proofs.Count.{count_below-same, count_below-one}
+use Rattle.pool.proofs.Shares.{used_by-take, used_by-give, used_by-other}
+use Rattle.stage2.specs.Slot.{Layout}
+use Rattle.stage2.specs.Walk.{Place, Gigabyte, Chunk, table_at, IsPlace, IsForest}
+use Rattle.stage2.specs.Sound.{Owns}
+use Rattle.stage2.specs.Orderly.{IsOrderly, Hangs, hung}
+use Rattle.stage2.proofs.Tree.WalkFrame.{IsUnheld}
+use Rattle.stage2.proofs.Editing.OneAfterAnother.{used_by-same}
+
+-- the place's table stays, or there is none before and after
+pub record Stays (layout : Layout) (x : Place) (old new : Pages) : Type 0 where
+  pub taken : new.taken ≡ old.taken
+  pub table : table_at layout new.words x ≡ table_at layout old.words x
+
+-- page k was free, and is the place's table
+pub record IsHung (layout : Layout) (row : ℕ) (x : Place) (k : ℕ) (old new : Pages) : Type 0 where
+  pub inside : InShare old.quotas row k
+  pub free : old.taken k ≡ false
+  pub none : table_at layout old.words x ≡ None
+  pub now : table_at layout new.words x ≡ Some k
+  pub taken : new.taken ≡ mark k true old.taken
+
+-- page k was the place's table, and is free
+pub record IsDropped (layout : Layout) (x : Place) (k : ℕ) (old new : Pages) : Type 0 where
+  pub was : table_at layout old.words x ≡ Some k
+  pub now : table_at layout new.words x ≡ None
+  pub taken : new.taken ≡ mark k false old.taken
+
+pub data Trade (layout : Layout) (row : ℕ) (x : Place) (old new : Pages) : Type 0 where
+  Stay : Stays layout x old new → Trade layout row x old new
+  Hang : (k : ℕ) → IsHung layout row x k old new → Trade layout row x old new
+  Drop : (k : ℕ) → IsDropped layout x k old new → Trade layout row x old new
+
+-- a place of a row, and the tables of all others
+pub record IsTrade (layout : Layout) (row : ℕ) (x : Place) (old new : Pages) : Type 0 where
+  pub orderly : IsOrderly layout old
+  pub at : IsPlace layout x
+  pub partition : row < length layout.ids
+  pub of_row : ((g : ℕ) × (x ≡ Gigabyte row g)) ⊎ ((c : ℕ) × (x ≡ Chunk row c))
+  pub is_x : (b : Place) → (b ≡ x) ⊎ (b ≢ x)
+  pub kept : (b : Place) → IsPlace layout b → b ≢ x → table_at layout new.words b ≡ table_at layout old.words b
+  pub quotas : new.quotas ≡ old.quotas
+  pub trade : Trade layout row x old new
+
+module _ (layout : Layout) (row : ℕ) (x : Place) (old new : Pages) (h : IsTrade layout row x old new) where
+  o : IsOrderly layout old
+  o = h.orderly
+
+  fresh_in : Trade layout row x old new → (k : ℕ) → table_at layout new.words x ≡ Some k → IsUnheld layout old.words k ⊎ (table_at layout old.words x ≡ Some k)
+  fresh_in (Stay t) k here = inr (sym t.table ∙ here)
+  fresh_in (Hang y t) k here = inl (λ b inside held. let same : k ≡ y = let now = t.now in cc in let taken : old.taken k ≡ true = h.orderly.taken b k inside held in let free : old.taken k ≡ false = ap old.taken same ∙ t.free in absurd (cc))
+  fresh_in (Drop y t) k here = let now = t.now in absurd (cc)
+
+  pub fresh : (k : ℕ) → table_at layout new.words x ≡ Some k → IsUnheld layout old.words k ⊎ (table_at layout old.words x ≡ Some k)
+  fresh = fresh_in h.trade
+
+  elsewhere : (b : Place) → IsPlace layout b → b ≢ x → (q : ℕ) → table_at layout new.words x ≡ Some q → table_at layout new.words b ≡ Some q → ⊥
+  elsewhere b in_b differs q here there =
+      let was : table_at layout old.words b ≡ Some q = sym (h.kept b in_b differs) ∙ there in
+      elim (fresh q here) [
+        | inl free ↦ free b in_b was
+        | inr held ↦ differs (h.orderly.forest b x q in_b h.at was held)
+      ]
+
+  pub trade-forest : IsForest layout new.words
+  trade-forest a b q in_a in_b at_a at_b =
+      elim (h.is_x a) [
+        | inl e ↦ elim (h.is_x b) [
+          | inl f ↦ e ∙ sym f
+          | inr f ↦ absurd (elsewhere b in_b f q (ap (table_at layout new.words) (sym e) ∙ at_a) at_b)
+        ]
+        | inr e ↦ elim (h.is_x b) [
+          | inl f ↦ absurd (elsewhere a in_a e q (ap (table_at layout new.words) (sym f) ∙ at_b) at_a)
+          | inr f ↦ h.orderly.forest a b q in_a in_b (sym (h.kept a in_a e) ∙ at_a) (sym (h.kept b in_b f) ∙ at_b)
+        ]
+      ]
+
+  taken-here : Trade layout row x old new → (q : ℕ) → table_at layout new.words x ≡ Some q → new.taken q ≡ true
+  taken-here (Stay t) q here = ap (λ f. f q) t.taken ∙ h.orderly.taken x q h.at (sym t.table ∙ here)
+  taken-here (Hang k t) q here = let same : q ≡ k = let now = t.now in cc in ap (λ f. f q) t.taken ∙ ap (mark k true old.taken) same ∙ mark-same old.taken k true
+  taken-here (Drop k t) q here = let now = t.now in absurd (cc)
+
+  taken-other : Trade layout row x old new → (b : Place) (q : ℕ) → IsPlace layout b → b ≢ x → table_at layout old.words b ≡ Some q → new.taken q ≡ true
+  taken-other (Stay t) b q inside other was = ap (λ f. f q) t.taken ∙ h.orderly.taken b q inside was
+  taken-other (Hang k t) b q inside other was = ap (λ f. f q) t.taken ∙ mark-kept old.taken k q (h.orderly.taken b q inside was)
+  taken-other (Drop k t) b q inside other was = ap (λ f. f q) t.taken ∙ mark-other old.taken k q false (λ same. other (h.orderly.forest b x k inside h.at (was ∙ ap Some same) t.was)) ∙ h.orderly.taken b q inside was
+
+  pub trade-taken : (b : Place) (q : ℕ) → IsPlace layout b → table_at layout new.words b ≡ Some q → new.taken q ≡ true
+  trade-taken b q inside now = elim (h.is_x b) [
+    | inl f ↦ taken-here h.trade q (ap (table_at layout new.words) (sym f) ∙ now)
+    | inr f ↦ taken-other h.trade b q inside f (sym (h.kept b inside f) ∙ now)
+  ]
+
+  own : (q : ℕ) → InShare old.quotas row q → Owns old.quotas x q
+  own q share = elim h.of_row [ inl f ↦ rw f.1 share | inr f ↦ rw f.1 share ]
+
+  share : (q : ℕ) → Owns old.quotas x q → InShare old.quotas row q
+  share q owns = elim h.of_row [ inl f ↦ subst (λ (y : Place). Owns old.quotas y q) f.1 owns | inr f ↦ subst (λ (y : Place). Owns old.quotas y q) f.1 owns ]
+
+  owned-here : Trade layout row x old new → (q : ℕ) → table_at layout new.words x ≡ Some q → Owns old.quotas x q
+  owned-here (Stay t) q here = h.orderly.owned x q h.at (sym t.table ∙ here)
+  owned-here (Hang k t) q here = let same : k ≡ q = let now = t.now in cc in own q (subst (InShare old.quotas row) same t.inside)
+  owned-here (Drop k t) q here = let now = t.now in absurd (cc)
+
+  pub trade-owned : (b : Place) (q : ℕ) → IsPlace layout b → table_at layout new.words b ≡ Some q → Owns new.quotas b q
+  trade-owned b q inside now = rw h.quotas (elim (h.is_x b) [
+    | inl f ↦ rw f (owned-here h.trade q (ap (table_at layout new.words) (sym f) ∙ now))
+    | inr f ↦ h.orderly.owned b q inside (sym (h.kept b inside f) ∙ now)
+  ])
+
+  hangs_in : Trade layout row x old new → (r q : ℕ) → InShare old.quotas r q → new.taken q ≡ true → Hangs layout new.words q
+  hangs_in (Stay t) r q inside held =
+      let was = h.orderly.hangs r q inside (sym (ap (λ f. f q) t.taken) ∙ held) in
+      elim (h.is_x was.0) [
+        | inl f ↦ (x, h.at, t.table ∙ ap (table_at layout old.words) (sym f) ∙ was.2)
+        | inr f ↦ (was.0, was.1, h.kept was.0 was.1 f ∙ was.2)
+      ]
+  hangs_in (Hang k t) r q inside held = elim (cases_eq q k) [
+    | inl same ↦ (x, h.at, t.now ∙ ap Some (sym same))
+    | inr differs ↦
+        let was = h.orderly.hangs r q inside (sym (mark-other old.taken k q true differs) ∙ sym (ap (λ f. f q) t.taken) ∙ held) in
+        (was.0, was.1, h.kept was.0 was.1 (λ f. let bad : table_at layout old.words x ≡ Some q = ap (table_at layout old.words) (sym f) ∙ was.2 in let none = t.none in absurd (cc)) ∙ was.2)
+  ]
+  hangs_in (Drop k t) r q inside held = elim (cases_eq q k) [
+    | inl same ↦
+        let free : new.taken q ≡ false = ap (λ f. f q) t.taken ∙ ap (mark k false old.taken) same ∙ mark-same old.taken k false in
+        absurd (cc)
+    | inr differs ↦
+        let was = h.orderly.hangs r q inside (sym (mark-other old.taken k q false differs) ∙ sym (ap (λ f. f q) t.taken) ∙ held) in
+        (was.0, was.1, h.kept was.0 was.1 (λ f. differs (let bad : table_at layout old.words x ≡ Some q = ap (table_at layout old.words) (sym f) ∙ was.2 in let here = t.was in cc)) ∙ was.2)
+  ]
+
+  pub trade-hangs : (r q : ℕ) → InShare new.quotas r q → new.taken q ≡ true → Hangs layout new.words q
+  trade-hangs r q inside = hangs_in h.trade r q (subst (λ qs. InShare qs r q) h.quotas inside)
+
+  -- ---- as many pages are taken as tables hang
+
+  abbrev hangs_at : Words → Place → Bool
+  hangs_at words b = is_some (table_at layout words b)
+
+  -- a place whose table stays
+  same-at : (b : Place) → IsPlace layout b → (b ≡ x → table_at layout new.words x ≡ table_at layout old.words x) → hangs_at new.words b ≡ hangs_at old.words b
+  same-at b inside same = ap (λ t. is_some t) (elim (h.is_x b) [
+    | inl f ↦ ap (table_at layout new.words) f ∙ same f ∙ ap (table_at layout old.words) (sym f)
+    | inr f ↦ h.kept b inside f
+  ])
+
+  gigabytes : (r : ℕ) → r < length layout.ids → ((g : ℕ) → Gigabyte r g ≡ x → table_at layout new.words x ≡ table_at layout old.words x)
+      → count_below (λ g. hangs_at new.words (Gigabyte r g)) 512 ≡ count_below (λ g. hangs_at old.words (Gigabyte r g)) 512
+  gigabytes r inside same = count_below-same (λ g. hangs_at old.words (Gigabyte r g)) (λ g. hangs_at new.words (Gigabyte r g)) 512 (λ g below. same-at (Gigabyte r g) (inside, below) (same g))
+
+  chunks : (r : ℕ) → r < length layout.ids → ((c : ℕ) → Chunk r c ≡ x → table_at layout new.words x ≡ table_at layout old.words x)
+      → count_below (λ c. hangs_at new.words (Chunk r c)) 262144 ≡ count_below (λ c. hangs_at old.words (Chunk r c)) 262144
+  chunks r inside same = count_below-same (λ c. hangs_at old.words (Chunk r c)) (λ c. hangs_at new.words (Chunk r c)) 262144 (λ c below. same-at (Chunk r c) (inside, below) (same c))
+
+  hung-kept : (r : ℕ) → r < length layout.ids → (r ≡ row → table_at layout new.words x ≡ table_at layout old.words x) → hung layout new.words r ≡ hung layout old.words r
+  hung-kept r inside same = elim h.of_row [
+    | inl f ↦ ap₂ (λ a b. a + b) (gigabytes r inside (λ g e. let e_r : r ≡ row = let z = f.1 in cc in same e_r)) (chunks r inside (λ c e. let z = f.1 in absurd (cc)))
+    | inr f ↦ ap₂ (λ a b. a + b) (gigabytes r inside (λ g e. let z = f.1 in absurd (cc))) (chunks r inside (λ c e. let e_r : r ≡ row = let z = f.1 in cc in same e_r))
+  ]
+
+  -- one table more in words b than in words a
+  hung-one : (a b : Words) → ((y : Place) → IsPlace layout y → y ≢ x → hangs_at b y ≡ hangs_at a y) → hangs_at a x ≡ false → hangs_at b x ≡ true → hung layout b row ≡ hung layout a row + 1
+  hung-one a b same off on = elim h.of_row [
+    | inl f ↦
+        let inside : IsPlace layout (Gigabyte row f.0) = subst (IsPlace layout) f.1 h.at in
+        let one = count_below-one (λ g. hangs_at a (Gigabyte row g)) (λ g. hangs_at b (Gigabyte row g)) 512 f.0 inside.1 (ap (hangs_at a) (sym f.1) ∙ off) (ap (hangs_at b) (sym f.1) ∙ on)
+        (λ g below differs. same (Gigabyte row g) (h.partition, below) (λ e. differs (let z = f.1 in cc))) in
+        let rest = count_below-same (λ c. hangs_at a (Chunk row c)) (λ c. hangs_at b (Chunk row c)) 262144 (λ c below. same (Chunk row c) (h.partition, below) (λ e. let z = f.1 in absurd (cc))) in
+        omega (arith, one, rest)
+    | inr f ↦
+        let inside : IsPlace layout (Chunk row f.0) = subst (IsPlace layout) f.1 h.at in
+        let one = count_below-one (λ c. hangs_at a (Chunk row c)) (λ c. hangs_at b (Chunk row c)) 262144 f.0 inside.1 (ap (hangs_at a) (sym f.1) ∙ off) (ap (hangs_at b) (sym f.1) ∙ on)
+        (λ c below differs. same (Chunk row c) (h.partition, below) (λ e. differs (let z = f.1 in cc))) in
+        let rest = count_below-same (λ g. hangs_at a (Gigabyte row g)) (λ g. hangs_at b (Gigabyte row g)) 512 (λ g below. same (Gigabyte row g) (h.partition, below) (λ e. let z = f.1 in absurd (cc))) in
+        omega (arith, one, rest)
+  ]
+
+  used_in : Trade layout row x old new → (r : ℕ) → r < length layout.ids → used_by new r ≡ hung layout new.words r
+  used_in (Stay t) r inside = used_by-same old new r t.taken h.quotas ∙ h.orderly.used r inside ∙ sym (hung-kept r inside (λ _. t.table))
+  used_in (Hang k t) r inside =
+      let now = used_by-same (with_mark k true old) new r t.taken h.quotas in
+      elim (cases_eq r row) [
+        | inl same ↦
+            let more = hung-one old.words new.words (λ y in_y differs. ap (λ z. is_some z) (h.kept y in_y differs)) (ap (λ z. is_some z) t.none) (ap (λ z. is_some z) t.now) in
+            rw same (rw same at now ∙ used_by-take old row k t.inside t.free ∙ ap (λ z. z + 1) (h.orderly.used row h.partition) ∙ sym more)
+        | inr differs ↦ now ∙ used_by-other old row r k true t.inside differs ∙ h.orderly.used r inside ∙ sym (hung-kept r inside (λ same. absurd (differs same)))
+      ]
+  used_in (Drop k t) r inside =
+      let now = used_by-same (with_mark k false old) new r t.taken h.quotas in
+      let owns : InShare old.quotas row k = share k (h.orderly.owned x k h.at t.was) in
+      elim (cases_eq r row) [
+        | inl same ↦
+            let here : used_by new row ≡ used_by (with_mark k false old) row = rw same at now in
+            let given = used_by-give old row k owns (h.orderly.taken x k h.at t.was) in
+            let less = hung-one new.words old.words (λ y in_y differs. ap (λ z. is_some z) (sym (h.kept y in_y differs))) (ap (λ z. is_some z) t.now) (ap (λ z. is_some z) t.was) in
+            let was = h.orderly.used row h.partition in
+            rw same (omega (arith, here, given, less, was))
+        | inr differs ↦ now ∙ used_by-other old row r k false owns differs ∙ h.orderly.used r inside ∙ sym (hung-kept r inside (λ same. absurd (differs same)))
+      ]
+
+  pub trade-used : (r : ℕ) → r < length layout.ids → used_by new r ≡ hung layout new.words r
+  trade-used = used_in h.trade

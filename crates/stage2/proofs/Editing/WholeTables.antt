@@ -1,0 +1,255 @@
+-- What clauses say of the tables: canonical tables, and an edit of a partition that has a root or has none.
+use Rattle.std.proofs.Common.{◌≡◌, ℕ, ◌+◌, ◌-◌, ◌*◌, ◌/◌, ◌%◌, ◌^◌, ◌<◌, ◌≤◌, Bool, true, false, not, ◌&&◌, cond, eqb, ltb, List, length, position, Option, Some, None, is_some, refl, sym, ap, ap₂, subst, ◌∙◌, arith, inl, inr}
+use Rattle.std.specs.Option.{option_map}
+use Rattle.std.proofs.lemmas.Bool.{cases_Bool, ltb-true, eqb-true}
+use Rattle.std.proofs.lemmas.Bool.Decides.{nat_tests}
+use Rattle.base.specs.Access.{Access, View}
+use Rattle.base.specs.Manifest.{row_of}
+use Rattle.base.specs.Need.{is_mixed, is_reached, need, grow}
+use Rattle.base.specs.Pages.{PageRun, in_run, covers}
+use Rattle.pool.specs.declared.operation.Op.TheVariants.{Clear}
+use Rattle.pool.specs.Pool.{Pool, Pages, pages_of, words_of, taken_of, used_by, quota_of, free_of, after_clear}
+use Rattle.pool.proofs.Count.{count_below-same, count_below-none, count_below-some}
+use Rattle.pool.proofs.Shares.{quota_of-none, used_by-le}
+use Rattle.stage2.specs.declared.walked.Walked.{Walked}
+use Rattle.stage2.specs.declared.walked.Walked.TheVariants.{None as Unmapped}
+use Rattle.stage2.specs.Chunks.{edited, answers_of}
+use Rattle.stage2.specs.Gigabytes.{EditsRow, FitsRow, row_operations}
+use Rattle.stage2.specs.Moments.{StaysInStep}
+use Rattle.stage2.specs.Orderly.{IsOrderly, IsCanonical, answers, answer_of}
+use Rattle.stage2.specs.Parts.{operations_for}
+use Rattle.stage2.specs.Slot.{Layout}
+use Rattle.stage2.specs.Steps.{AreFree, disturbed, with_pages}
+use Rattle.stage2.specs.Tables.{TablesView, walk_in, view_of, has_root, AreCanonical, Fits, edit_operations, ReachSo, ShowsMoments, EditsInStep, ClearsInStep}
+use Rattle.stage2.specs.Walk.{walk, walk_across, walked}
+use Rattle.stage2.proofs.Walkers.WholeCall.{moments-edited}
+use Rattle.stage2.proofs.Walkers.ZeroedTables.{counted-op, stays-none}
+use Rattle.stage2.proofs.Editing.RowOfPartition.{edited-walks}
+use Rattle.stage2.proofs.Tree.EntryWords.{entries}
+use Rattle.stage2.proofs.Walkers.InStep.{orderly-clearing}
+use Rattle.stage2.proofs.Counting.Needs.{mixed-same, mixed-none, reached-same, reached-none, reached-some}
+use Rattle.stage2.proofs.Editing.GigabyteByGigabyte.{used-need}
+use Rattle.stage2.proofs.Runs.ChunkCounts.{row-operations}
+use Rattle.stage2.proofs.Tree.Rows.{IsRow, row-found}
+use Rattle.stage2.proofs.Walkers.WholeEdit.{moments-none}
+use Rattle.base.proofs.Booleans.{both}
+
+pub are-canonical : (t : TablesView) → IsCanonical t.layout (pages_of t.pool.memory) → ((q i : ℕ) → taken_of t.pool.memory.taken q ≡ false → words_of t.pool.memory.words q i ≡ 0) → AreCanonical t
+are-canonical t trees free = record {
+  trees = trees;
+  words = entries t.layout (pages_of t.pool.memory) trees.orderly;
+  used = λ p root. used-need t.layout (pages_of t.pool.memory) (row_of t.layout.ids p) trees (ltb-true _ _ root);
+  free = free;
+}
+
+-- ---- a partition that has no root
+
+-- a row past the last has no walks
+pub rootless : (t : TablesView) (p n : ℕ) → has_root t p ≡ false → walk_in t p n ≡ Unmapped
+unfolding walk_across
+rootless t p n none = rw none refl
+
+pub found-none : (ids : List ℕ) (p : ℕ) → position (λ id. eqb id p) ids ≡ None → ltb (row_of ids p) (length ids) ≡ false
+found-none ids p is = elim (cases_Bool (ltb (row_of ids p) (length ids))) [
+  | inl t ↦ let some : Some (row_of ids p) ≡ None = rw t at is in absurd (cc)
+  | inr f ↦ f
+]
+
+-- nothing reached needs no table
+need-none : (v : ℕ → View) → ((n : ℕ) → v n ≡ None) → need v ≡ 0
+unfolding need
+need-none v none =
+    let gigabytes = count_below-none (is_reached v) 512 (λ g below. reached-none v g (λ i small. none (262144 * g + i))) in
+    let chunks = count_below-none (is_mixed v) 262144 (λ c below. mixed-none v c (λ i small. none (512 * c + i))) in
+    omega (arith, gigabytes, chunks)
+
+-- the same views grow alike
+grow-same : (v w : ℕ → View) (runs : List PageRun) (access : View) → ((n : ℕ) → w n ≡ v n) → grow w (edited runs access w) ≡ grow v (edited runs access v)
+unfolding grow
+grow-same v w runs access same =
+    let after : (n : ℕ) → edited runs access w n ≡ edited runs access v n = λ n. ap (cond (covers runs n) access) (same n) in
+    ap₂ (λ x y. x + y)
+    (count_below-same (λ g. is_reached (edited runs access v) g && not (is_reached v g)) (λ g. is_reached (edited runs access w) g && not (is_reached w g)) 512
+    (λ g below. ap₂ (λ x y. x && not y) (reached-same (edited runs access v) (edited runs access w) g (λ i small. after (262144 * g + i))) (reached-same v w g (λ i small. same (262144 * g + i)))))
+    (count_below-same (λ c. is_mixed (edited runs access v) c && not (is_mixed v c)) (λ c. is_mixed (edited runs access w) c && not (is_mixed w c)) 262144
+    (λ c below. ap₂ (λ x y. x && not y) (mixed-same (edited runs access v) (edited runs access w) c (λ i small. after (512 * c + i))) (mixed-same v w c (λ i small. same (512 * c + i)))))
+
+-- the views of a partition, whether it has a root or not
+pub grow-found : (t : TablesView) (p : ℕ) (runs : List PageRun) (access : View) (row : Option ℕ) → row ≡ position (λ id. eqb id p) t.layout.ids
+    → grow (answers_of t.layout (words_of t.pool.memory.words) row) (edited runs access (answers_of t.layout (words_of t.pool.memory.words) row)) ≡ grow (view_of t p) (edited runs access (view_of t p))
+grow-found t p runs access None e =
+    grow-same (view_of t p) (answers_of t.layout (words_of t.pool.memory.words) None) runs access (λ n. sym (ap answer_of (rootless t p n (found-none t.layout.ids p (sym e)))))
+grow-found t p runs access (Some row) e =
+    let is = row-found t.layout.ids p row (sym e) in
+    ap (λ r. grow (answers t.layout (words_of t.pool.memory.words) r) (edited runs access (answers t.layout (words_of t.pool.memory.words) r))) is.is
+
+pub rootless-need : (t : TablesView) (p : ℕ) → has_root t p ≡ false → need (view_of t p) ≡ 0
+rootless-need t p none = need-none (view_of t p) (λ n. ap answer_of (rootless t p n none))
+
+-- a page that is reached where none was takes a table
+grow-some : (v w : ℕ → View) (n : ℕ) → n < 2 ^ 27 → ((x : ℕ) → v x ≡ None) → is_some (w n) ≡ true → 0 < grow v w
+unfolding grow
+grow-some v w n small none some =
+    let place : 262144 * (n / 262144) + n % 262144 ≡ n = omega arith in
+    let now : is_reached w (n / 262144) ≡ true = reached-some w (n / 262144) (n % 262144) (omega arith) (ap (λ x. is_some (w x)) place ∙ some) in
+    let was : is_reached v (n / 262144) ≡ false = reached-none v (n / 262144) (λ i _. none (262144 * (n / 262144) + i)) in
+    let one = count_below-some (λ g. is_reached w g && not (is_reached v g)) 512 (n / 262144) (omega (arith, small)) (rw (now, was) refl) in
+    omega (arith, one)
+
+nothing-there : (t : TablesView) (p n : ℕ) → has_root t p ≡ false → view_of t p n ≡ None
+nothing-there t p n none = ap answer_of (rootless t p n none)
+
+no-quota : (t : TablesView) (p : ℕ) → length t.layout.ids ≡ length t.pool.memory.quotas → has_root t p ≡ false → quota_of t.pool.memory.quotas (row_of t.layout.ids p) ≡ 0
+no-quota t p rows none = quota_of-none t.pool.memory.quotas (row_of t.layout.ids p) (grind (arith, nat_tests, none, rows))
+
+-- so a map that fits has no page
+rootless-map : (t : TablesView) (p n : ℕ) (runs : List PageRun) (a : Access) → length t.layout.ids ≡ length t.pool.memory.quotas → has_root t p ≡ false → Fits p runs (Some a) t → n < 2 ^ 27 → covers runs n ≡ false
+rootless-map t p n runs a rows none fits small = elim (cases_Bool (covers runs n)) [
+  | inl t' ↦
+      let some = grow-some (view_of t p) (edited runs (Some a) (view_of t p)) n small (λ x. nothing-there t p x none) (rw t' refl) in
+      let quota = no-quota t p rows none in
+      absurd (omega (arith, some, quota, fits))
+  | inr f ↦ f
+]
+
+-- an edit that changes no walk
+kept-walk : (b : Bool) (a x : Walked) → (b ≡ true → a ≡ x) → x ≡ cond b a x
+kept-walk true a x same = sym (same refl)
+kept-walk false a x same = refl
+
+kept-view : (b : Bool) (a x : View) → (b ≡ true → a ≡ x) → x ≡ cond b a x
+kept-view true a x same = sym (same refl)
+kept-view false a x same = refl
+
+-- a partition that has no root: the pages of the runs, if there are any, are not reached, and stay so
+abbrev pub StaysOut : ℕ → List PageRun → View → Type 0
+StaysOut p runs access = (n : ℕ) → n < 2 ^ 27 → covers runs n ≡ true → access ≡ None
+
+pub rootless-edit : (t : TablesView) (p : ℕ) (runs : List PageRun) (access : View) → length t.layout.ids ≡ length t.pool.memory.quotas → has_root t p ≡ false → Fits p runs access t → StaysOut p runs access
+rootless-edit t p runs None rows none fits n small covered = refl
+rootless-edit t p runs (Some a) rows none fits n small covered = let apart = rootless-map t p n runs a rows none fits small in absurd (cc)
+
+pub rootless-walks : (t : TablesView) (p : ℕ) (runs : List PageRun) (access : View) → has_root t p ≡ false → StaysOut p runs access → ReachSo p runs access t t
+rootless-walks t p runs access none out q n small =
+    kept-walk (eqb q p && covers runs n) (walked n access) (walk_in t q n)
+    (λ e. let both = both (eqb q p) (covers runs n) e in
+    let same : q ≡ p = eqb-true _ _ both.0 in
+    ap (walked n) (out n small both.1) ∙ sym (ap (λ x. walk_in t x n) same ∙ rootless t p n none))
+
+view-none : (n : ℕ) (a : View) → walked n a ≡ Unmapped → a ≡ None
+view-none n None e = refl
+view-none n (Some a) e = absurd (cc)
+
+pub rootless-moments : (t : TablesView) (p : ℕ) (runs : List PageRun) (access : View) → has_root t p ≡ false → StaysOut p runs access → ShowsMoments p runs access t t
+rootless-moments t p runs access none out begun before starts free =
+    moments-none t.layout t.pool t.pool before (with_pages p runs access before) starts
+    (λ q n small. starts q n small ∙ ap (walked n) (kept-view (eqb q p && covers runs n) access (before q n)
+    (λ e. let both = both (eqb q p) (covers runs n) e in
+    let same : q ≡ p = eqb-true _ _ both.0 in
+    out n small both.1 ∙ sym (view-none n (before q n) (sym (starts q n small) ∙ ap (λ x. walk_in t x n) same ∙ rootless t p n none)))))
+    refl begun refl
+
+-- ---- an edit
+
+-- what the clauses say of it
+pub record IsEdited (p : ℕ) (runs : List PageRun) (access : View) (old new : TablesView) : Type 0 where
+  pub walks : ReachSo p runs access old new
+  pub moments : ShowsMoments p runs access old new
+  pub in_step : EditsInStep p runs access old new
+  pub room : old.room ≤ new.room + edit_operations p runs old
+
+-- the view of these tables
+abbrev pub view : Layout → Pool → ℕ → TablesView
+view layout pool room = record { layout = layout; pool = pool; room = room }
+
+pub edited-rooted : (layout : Layout) (old new : Pool) (room left p row : ℕ) (runs : List PageRun) (access : View) → IsRow layout.ids p row → IsCanonical layout (pages_of old.memory)
+    → EditsRow layout row (edited runs access (answers layout (pages_of old.memory).words row)) (pages_of old.memory) (pages_of new.memory)
+    → (AreFree (λ n. true) runs access (answers layout (words_of old.memory.words) row)
+    → StaysInStep layout row (disturbed runs (answers layout (words_of old.memory.words) row) (edited runs access (answers layout (words_of old.memory.words) row))) (λ n. walked n (edited runs access (answers layout (words_of old.memory.words) row) n)) old new)
+    → room ≤ left + row_operations runs → IsEdited p runs access (view layout old room) (view layout new left)
+edited-rooted layout old new room left p row runs access is canonical edits stays enough =
+    let walks = edited-walks layout p row runs access (pages_of old.memory) (pages_of new.memory) is canonical.orderly edits in
+    record {
+      walks = walks;
+      moments = λ begun before starts free. moments-edited layout old new before p row runs access is starts begun free stays walks;
+      in_step = subst (λ r. AreFree (λ n. true) runs access (answers layout (words_of old.memory.words) r)
+          → StaysInStep layout r (disturbed runs (answers layout (words_of old.memory.words) r) (edited runs access (answers layout (words_of old.memory.words) r))) (λ n. walked n (edited runs access (answers layout (words_of old.memory.words) r) n)) old new) is.is stays;
+      room = let root : has_root (view layout old room) p ≡ true = below-root layout.ids p row is in let most = row-operations runs in let all : room ≤ left + operations_for runs = omega (arith, most, enough) in rw root all;
+    }
+  where
+    below-root : (ids : List ℕ) (p row : ℕ) → IsRow ids p row → ltb (row_of ids p) (length ids) ≡ true
+    below-root ids p row is = let a = is.is in let b = is.inside in grind (arith, nat_tests)
+
+pub edited-rootless : (t : TablesView) (p : ℕ) (runs : List PageRun) (access : View) → has_root t p ≡ false → StaysOut p runs access → IsEdited p runs access t t
+edited-rootless t p runs access none out = record {
+  walks = rootless-walks t p runs access none out;
+  moments = rootless-moments t p runs access none out;
+  in_step = λ free. stays-none t.layout (row_of t.layout.ids p) (disturbed runs (view_of t p) (edited runs access (view_of t p))) (λ n. walked n (edited runs access (view_of t p) n)) t.pool;
+  room = omega arith;
+}
+
+-- ---- a clear
+
+pub cleared-in_step : (t : TablesView) (run : PageRun) (new : Pool) (left : ℕ) → new ≡ after_clear run t.pool → ClearsInStep run t (view t.layout new left)
+cleared-in_step t run new left is none e same o = record {
+  orderly = rw is (orderly-clearing e (words_of t.pool.memory.words) t.pool.operations run o.orderly
+      (subst (λ (l : Layout). (row n : ℕ) → row < length l.ids → n < 2 ^ 27 → in_run run n ≡ true → walk l (words_of t.pool.memory.words) row n ≡ Unmapped) (sym same) none));
+  counted = counted-op e (Clear run) t.pool new (record { operations = ap (λ (x : Pool). x.operations) is; made = ap (λ (x : Pool). x.made) is }) o.counted;
+}
+
+-- ---- how many pages are taken
+
+-- the quota of a partition that has a root
+pub record IsQuota (layout : Layout) (m : Pages) (p quota : ℕ) : Type 0 where
+  pub root : ltb (row_of layout.ids p) (length layout.ids) ≡ true
+  pub is : quota ≡ quota_of m.quotas (row_of m.ids p)
+
+pub quota-found : (layout : Layout) (m : Pages) (p quota : ℕ) → IsOrderly layout m → option_map (quota_of layout.quotas) (position (λ id. eqb id p) layout.ids) ≡ Some quota → IsQuota layout m p quota
+quota-found layout m p quota h found = elim (cases_Bool (ltb (row_of layout.ids p) (length layout.ids))) [
+  | inl t ↦
+      let some : Some (quota_of layout.quotas (row_of layout.ids p)) ≡ Some quota = rw t at found in
+      let same : quota_of layout.quotas (row_of layout.ids p) ≡ quota = cc in
+      record { root = t; is = sym same ∙ ap₂ (λ (qs ids : List ℕ). quota_of qs (row_of ids p)) h.quotas h.ids }
+  | inr f ↦ let none : None ≡ Some quota = rw f at found in absurd (cc)
+]
+
+pub quota-none : (layout : Layout) (p : ℕ) → option_map (quota_of layout.quotas) (position (λ id. eqb id p) layout.ids) ≡ None → ltb (row_of layout.ids p) (length layout.ids) ≡ false
+quota-none layout p found = elim (cases_Bool (ltb (row_of layout.ids p) (length layout.ids))) [
+  | inl t ↦ let some : Some (quota_of layout.quotas (row_of layout.ids p)) ≡ None = rw t at found in absurd (cc)
+  | inr f ↦ f
+]
+
+pub used-found : (layout : Layout) (m : Pages) (p quota : ℕ) → IsCanonical layout m → IsQuota layout m p quota → quota - free_of m p ≡ need (answers layout m.words (row_of layout.ids p))
+used-found layout m p quota h is =
+    let used = used-need layout m (row_of layout.ids p) h (ltb-true _ _ is.root) in
+    let most = used_by-le m (row_of m.ids p) in
+    let same : row_of m.ids p ≡ row_of layout.ids p = ap (λ (ids : List ℕ). row_of ids p) (sym h.orderly.ids) in
+    let here : used_by m (row_of m.ids p) ≡ used_by m (row_of layout.ids p) = ap (used_by m) same in
+    let q = is.is in
+    numbers quota (quota_of m.quotas (row_of m.ids p)) (used_by m (row_of m.ids p)) q most ∙ here ∙ used
+  where
+    numbers : (quota all used : ℕ) → quota ≡ all → used ≤ all → quota - (all - used) ≡ used
+    numbers quota all used a b = omega arith
+
+pub free-found : (layout : Layout) (m : Pages) (p quota : ℕ) → IsQuota layout m p quota → free_of m p ≤ quota
+free-found layout m p quota is =
+    let q = is.is in
+    numbers quota (quota_of m.quotas (row_of m.ids p)) (used_by m (row_of m.ids p)) q
+  where
+    numbers : (quota all used : ℕ) → quota ≡ all → all - used ≤ quota
+    numbers quota all used a = omega arith
+
+-- ---- what an edit asks
+
+pub fits-row : (t : TablesView) (p row : ℕ) (runs : List PageRun) (access : View) → IsRow t.layout.ids p row → Fits p runs access t → FitsRow t.layout row runs access (pages_of t.pool.memory)
+fits-row t p row runs access is fits =
+    subst (λ r. FitsRow t.layout r runs access (pages_of t.pool.memory)) (sym is.is) (record { fits = fits })
+
+pub room-row : (t : TablesView) (p row : ℕ) (runs : List PageRun) → IsRow t.layout.ids p row → edit_operations p runs t ≤ t.room → row_operations runs ≤ t.room
+room-row t p row runs is ready =
+    let at = is.is in
+    let inside = is.inside in
+    let root : has_root t p ≡ true = grind (arith, nat_tests) in
+    let all : operations_for runs ≤ t.room = rw root at ready in
+    let most = row-operations runs in
+    omega (arith, all, most)

@@ -1,0 +1,6 @@
+pub mod Parts
+pub mod ChunkCounts
+pub mod Spans
+pub mod Normal
+pub mod OwnRuns
+pub mod Between

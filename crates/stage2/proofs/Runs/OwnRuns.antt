@@ -1,0 +1,186 @@
+-- An edit asks of a chunk, or of a gigabyte, only those of the runs that have pages there: it edits it as all runs do.
+use Rattle.std.proofs.Common.{◌≡◌, ℕ, zero, suc, ◌+◌, ◌*◌, ◌/◌, ◌<◌, ◌≤◌, max, min, Bool, true, false, not, ◌&&◌, ◌||◌, cond, eqb, leb, ltb, List, [], ◌∷◌, refl, arith, ap, ap₂, sym, ◌∙◌, inl, inr}
+use Rattle.std.specs.Option.{option_map_or}
+use Rattle.std.proofs.lemmas.Bool.{cases_Bool, eqb-true}
+use Rattle.std.proofs.lemmas.Bool.Decides.{nat_tests}
+use Rattle.std.proofs.lemmas.List.Sums.{sum_by-cons}
+use Rattle.std.proofs.lemmas.Map.Views.{any-filter_same}
+use Rattle.base.specs.Access.{View}
+use Rattle.base.specs.Need.{is_mixed, is_reached}
+use Rattle.base.specs.Pages.{PageRun, in_run, covers}
+use Rattle.pool.specs.Pool.{Pool, Pages}
+use Rattle.pool.proofs.Count.{count_below-same}
+use Rattle.stage2.specs.declared.walked.Walked.{Walked}
+use Rattle.stage2.specs.Chunks.{edited, Redoes, Redoes_in, IsGrowing}
+use Rattle.stage2.specs.Gigabytes.{sum_below, touches_run, touches_chunk, chunk_operations, gigabyte_operations, grows_at, gigabyte_growth, FitsGigabyte, EditsGigabyte}
+use Rattle.stage2.specs.Moments.{StaysInStep}
+use Rattle.stage2.specs.Orderly.{answers, linked}
+use Rattle.stage2.specs.Parts.{part_of, part_count, runs_between, chunk_runs, gigabyte_runs}
+use Rattle.stage2.specs.Slot.{Layout}
+use Rattle.stage2.specs.Steps.{AreFree, disturbs, disturbed}
+use Rattle.stage2.specs.Walk.{walk, walked}
+use Rattle.stage2.proofs.Walkers.ZeroedTables.{stays-wider}
+use Rattle.stage2.proofs.Counting.Needs.{mixed-same, reached-same}
+use Rattle.base.proofs.Booleans.{both}
+
+sum_below-same : (f g : ℕ → ℕ) (n : ℕ) → ((k : ℕ) → k < n → f k ≡ g k) → sum_below f n ≡ sum_below g n
+unfolding sum_below
+sum_below-same f g zero same = refl
+sum_below-same f g (suc n) same = ap₂ (λ a b. a + b) (same n (omega arith)) (sum_below-same f g n (λ k lt. same k (omega (arith, lt))))
+
+-- ---- the runs with pages from one up to another
+
+-- the parts of a run in a chunk: one, or none
+abbrev parts : ℕ → PageRun → ℕ
+parts c run = option_map_or (λ part. 1) (part_of c run) 0
+
+module _ (first end : ℕ) where
+  abbrev meets : PageRun → Bool
+  meets run = ltb first (run.first + run.count) && ltb run.first end
+
+  pub covers-between : (runs : List PageRun) (n : ℕ) → first ≤ n → n < end → covers (runs_between first end runs) n ≡ covers runs n
+  covers-between runs n from to = any-filter_same (λ run. in_run run n) meets true (λ run inside. here run.first run.count inside) runs
+    where
+      here : (start count : ℕ) → (leb start n && ltb n (start + count)) ≡ true → (ltb first (start + count) && ltb start end) ≡ true
+      here start count inside = grind (arith, nat_tests)
+
+  pub touches-between : (runs : List PageRun) (c : ℕ) → first ≤ 512 * c → 512 * c + 512 ≤ end → touches_chunk c (runs_between first end runs) ≡ touches_chunk c runs
+  touches-between runs c from to = any-filter_same (touches_run c) meets true (λ run inside. here run.first run.count inside) runs
+    where
+      here : (start count : ℕ) → (ltb 0 count && (leb (start / 512) c && ltb c ((start + count + 511) / 512))) ≡ true → (ltb first (start + count) && ltb start end) ≡ true
+      here start count inside = grind (arith, nat_tests)
+
+  no-part : (c : ℕ) → first ≤ 512 * c → 512 * c + 512 ≤ end → (run : PageRun) → meets run ≡ false → parts c run ≡ 0
+  unfolding part_of
+  no-part c from to run out = let none : ltb (max run.first (512 * c)) (min (run.first + run.count) (512 * c + 512)) ≡ false = grind (arith, nat_tests) in rw none refl
+
+  pub count-between : (runs : List PageRun) (c : ℕ) → first ≤ 512 * c → 512 * c + 512 ≤ end → part_count c (runs_between first end runs) ≡ part_count c runs
+  count-between [] c from to = refl
+  count-between (run ∷ runs) c from to =
+      let rest = count-between runs c from to in
+      elim (cases_Bool (meets run)) [
+        | inl t ↦ rw (t, sum_by-cons (parts c) run (runs_between first end runs), sum_by-cons (parts c) run runs) (ap (λ x. parts c run + x) rest)
+        | inr out ↦ rw (out, sum_by-cons (parts c) run runs, no-part c from to run out) (rest ∙ none_more (part_count c runs))
+      ]
+    where
+      none_more : (n : ℕ) → n ≡ 0 + n
+      none_more n = omega arith
+
+-- ---- a chunk
+
+in_case : (b : Bool) (x y other : Walked) → (b ≡ true → x ≡ y) → cond b x other ≡ cond b y other
+in_case true x y other same = same refl
+in_case false x y other same = refl
+
+module _ (c : ℕ) (runs part : List PageRun) (access : View) (same : (n : ℕ) → n / 512 ≡ c → covers part n ≡ covers runs n) where
+  edited-same : (v : ℕ → View) (n : ℕ) → n / 512 ≡ c → edited part access v n ≡ edited runs access v n
+  edited-same v n at = ap (λ b. cond b access (v n)) (same n at)
+
+  pub chunk-mixed : (v : ℕ → View) → is_mixed (edited part access v) c ≡ is_mixed (edited runs access v) c
+  chunk-mixed v = mixed-same (edited runs access v) (edited part access v) c (λ i small. edited-same v (512 * c + i) (omega (arith, small)))
+
+  pub chunk-growing : (v : ℕ → View) → IsGrowing v (edited part access v) c → IsGrowing v (edited runs access v) c
+  chunk-growing v h = record { now = sym (chunk-mixed v) ∙ h.now; was = h.was }
+
+  pub chunk-free : (v : ℕ → View) → AreFree (λ n. eqb (n / 512) c) runs access v → AreFree (λ n. eqb (n / 512) c) part access v
+  chunk-free v free n small at covered = free n small at (sym (same n (eqb-true _ _ at)) ∙ covered)
+
+  disturbs-part : (v : ℕ → View) (n : ℕ) → n / 512 ≡ c → disturbs part v (edited part access v) n ≡ disturbs runs v (edited runs access v) n
+  disturbs-part v n at = ap₂ (λ x y. x || not (is_mixed v (n / 512) && y)) (same n at) (ap (is_mixed (edited part access v)) at ∙ chunk-mixed v ∙ sym (ap (is_mixed (edited runs access v)) at))
+
+module _ (layout : Layout) (row c : ℕ) (runs part : List PageRun) (access : View) (same : (n : ℕ) → n / 512 ≡ c → covers part n ≡ covers runs n) where
+  redoes-same : (v : ℕ → View) (old new : Pages) → Redoes layout row c (edited part access v) old new → Redoes layout row c (edited runs access v) old new
+  redoes-same v old new h = record {
+    orderly = h.orderly;
+    ids = h.ids;
+    quotas = h.quotas;
+    walks = λ q n small. h.walks q n small
+        ∙ in_case (eqb q row && eqb (n / 512) c) (walked n (edited part access v n)) (walked n (edited runs access v n)) (walk layout old.words q n)
+        (λ e. ap (walked n) (edited-same c runs part access same v n (eqb-true _ _ (both (eqb q row) (eqb (n / 512) c) e).1)));
+    tables = h.tables;
+  }
+
+  pub chunk-redoes : (j : ℕ) (v : ℕ → View) (old new : Pages) → Redoes_in layout row c j (edited part access v) old new → Redoes_in layout row c j (edited runs access v) old new
+  chunk-redoes j v old new h = record { redoes = redoes-same v (linked layout row (c / 512) j old) (linked layout row (c / 512) j new) h.redoes; root = h.root }
+
+  pub chunk-stays : (v : ℕ → View) (a b : Pool) → StaysInStep layout row (λ n. eqb (n / 512) c && disturbs part v (edited part access v) n) (λ n. walked n (edited part access v n)) a b
+      → StaysInStep layout row (λ n. eqb (n / 512) c && disturbs runs v (edited runs access v) n) (λ n. walked n (edited runs access v n)) a b
+  chunk-stays v a b so =
+      stays-wider layout row (λ n. eqb (n / 512) c && disturbs part v (edited part access v) n) (λ n. eqb (n / 512) c && disturbs runs v (edited runs access v) n) (λ n. walked n (edited part access v n)) (λ n. walked n (edited runs access v n)) a b so
+      (λ n small w.
+      let two = both (eqb (n / 512) c) (disturbs part v (edited part access v) n) w in
+      let at = eqb-true _ _ two.0 in
+      let all : disturbs runs v (edited runs access v) n ≡ true = sym (disturbs-part c runs part access same v n at) ∙ two.1 in
+      (ap₂ (λ x y. x && y) two.0 all, inr (ap (walked n) (edited-same c runs part access same v n at))))
+
+module _ (c : ℕ) (runs part : List PageRun) (is : part ≡ chunk_runs c runs) where
+  pub chunk-covers : (n : ℕ) → n / 512 ≡ c → covers part n ≡ covers runs n
+  chunk-covers n at = ap (λ rs. covers rs n) is ∙ covers-between (512 * c) (512 * c + 512) runs n (omega (arith, at)) (omega (arith, at))
+
+  pub chunk-touches : touches_chunk c part ≡ touches_chunk c runs
+  chunk-touches = ap (touches_chunk c) is ∙ touches-between (512 * c) (512 * c + 512) runs c (omega arith) (omega arith)
+
+  pub chunk-count : part_count c part ≡ part_count c runs
+  chunk-count = ap (part_count c) is ∙ count-between (512 * c) (512 * c + 512) runs c (omega arith) (omega arith)
+
+-- ---- a gigabyte
+
+module _ (g : ℕ) (runs part : List PageRun) (is : part ≡ gigabyte_runs g runs) where
+  pub gigabyte-covers : (n : ℕ) → n / 512 / 512 ≡ g → covers part n ≡ covers runs n
+  gigabyte-covers n at = ap (λ rs. covers rs n) is ∙ covers-between (262144 * g) (262144 * g + 262144) runs n (omega (arith, at)) (omega (arith, at))
+
+  gigabyte-touches : (c : ℕ) → c / 512 ≡ g → touches_chunk c part ≡ touches_chunk c runs
+  gigabyte-touches c at = ap (touches_chunk c) is ∙ touches-between (262144 * g) (262144 * g + 262144) runs c (omega (arith, at)) (omega (arith, at))
+
+  pub gigabyte-operations : gigabyte_operations part g ≡ gigabyte_operations runs g
+  gigabyte-operations =
+      ap (λ x. x + 2) (sum_below-same (λ x. chunk_operations part (512 * g + x)) (λ x. chunk_operations runs (512 * g + x)) 512
+      (λ x lt. ap₂ (λ t k. cond t (515 + k) 0) (gigabyte-touches (512 * g + x) (omega (arith, lt)))
+      (ap (part_count (512 * g + x)) is ∙ count-between (262144 * g) (262144 * g + 262144) runs (512 * g + x) (omega arith) (omega (arith, lt)))))
+
+module _ (g : ℕ) (runs part : List PageRun) (access : View) (is : part ≡ gigabyte_runs g runs) where
+  same : (n : ℕ) → n / 512 / 512 ≡ g → covers part n ≡ covers runs n
+  same = gigabyte-covers g runs part is
+
+  all-same : (v : ℕ → View) (n : ℕ) → n / 512 / 512 ≡ g → edited part access v n ≡ edited runs access v n
+  all-same v n at = ap (λ b. cond b access (v n)) (same n at)
+
+  mixed-there : (v : ℕ → View) (x : ℕ) → x < 512 → is_mixed (edited part access v) (512 * g + x) ≡ is_mixed (edited runs access v) (512 * g + x)
+  mixed-there v x lt = chunk-mixed (512 * g + x) runs part access (λ n at. same n (omega (arith, at, lt))) v
+
+  pub gigabyte-growth : (v : ℕ → View) → gigabyte_growth v (edited part access v) g ≡ gigabyte_growth v (edited runs access v) g
+  gigabyte-growth v =
+      ap₂ (λ r k. cond (r && not (is_reached v g)) 1 0 + k)
+      (reached-same (edited runs access v) (edited part access v) g (λ i small. all-same v (262144 * g + i) (omega (arith, small))))
+      (count_below-same (λ x. grows_at v (edited runs access v) (512 * g + x)) (λ x. grows_at v (edited part access v) (512 * g + x)) 512 (λ x lt. ap (λ m. m && not (is_mixed v (512 * g + x))) (mixed-there v x lt)))
+
+module _ (layout : Layout) (row g : ℕ) (runs part : List PageRun) (access : View) (is : part ≡ gigabyte_runs g runs) where
+  pub gigabyte-fits : (m : Pages) → FitsGigabyte layout row g runs access m → FitsGigabyte layout row g part access m
+  gigabyte-fits m h = let e = gigabyte-growth g runs part access is (answers layout m.words row) in record { fits = rw e h.fits }
+
+  pub gigabyte-edits : (old new : Pages) → EditsGigabyte layout row g (edited part access (answers layout old.words row)) old new → EditsGigabyte layout row g (edited runs access (answers layout old.words row)) old new
+  gigabyte-edits old new h = let v = answers layout old.words row in record {
+    canonical = h.canonical;
+    ids = h.ids;
+    quotas = h.quotas;
+    walks = λ q n small. h.walks q n small
+        ∙ in_case (eqb q row && eqb (n / 512 / 512) g) (walked n (edited part access v n)) (walked n (edited runs access v n)) (walk layout old.words q n)
+        (λ e. ap (walked n) (all-same g runs part access is v n (eqb-true _ _ (both (eqb q row) (eqb (n / 512 / 512) g) e).1)));
+    used = rw (gigabyte-growth g runs part access is v) at h.used;
+  }
+
+  pub gigabyte-free : (v : ℕ → View) → AreFree (λ n. eqb (n / 512 / 512) g) runs access v → AreFree (λ n. eqb (n / 512 / 512) g) part access v
+  gigabyte-free v free n small at covered = free n small at (sym (same g runs part access is n (eqb-true _ _ at)) ∙ covered)
+
+  disturbed-same : (v : ℕ → View) (n : ℕ) → n / 512 / 512 ≡ g → disturbed part v (edited part access v) n ≡ disturbed runs v (edited runs access v) n
+  disturbed-same v n at = ap₂ (λ x y. x && y) (gigabyte-touches g runs part is (n / 512) at) (disturbs-part (n / 512) runs part access (λ m here. same g runs part access is m (ap (λ x. x / 512) here ∙ at)) v n refl)
+
+  pub gigabyte-stays : (v : ℕ → View) (a b : Pool) → StaysInStep layout row (λ n. eqb (n / 512 / 512) g && disturbed part v (edited part access v) n) (λ n. walked n (edited part access v n)) a b
+      → StaysInStep layout row (λ n. eqb (n / 512 / 512) g && disturbed runs v (edited runs access v) n) (λ n. walked n (edited runs access v n)) a b
+  gigabyte-stays v a b so =
+      stays-wider layout row (λ n. eqb (n / 512 / 512) g && disturbed part v (edited part access v) n) (λ n. eqb (n / 512 / 512) g && disturbed runs v (edited runs access v) n) (λ n. walked n (edited part access v n)) (λ n. walked n (edited runs access v n)) a b so
+      (λ n small w.
+      let two = both (eqb (n / 512 / 512) g) (disturbed part v (edited part access v) n) w in
+      let at = eqb-true _ _ two.0 in
+      let all : disturbed runs v (edited runs access v) n ≡ true = sym (disturbed-same v n at) ∙ two.1 in
+      (ap₂ (λ x y. x && y) two.0 all, inr (ap (walked n) (all-same g runs part access is v n at))))

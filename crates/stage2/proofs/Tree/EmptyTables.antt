@@ -1,0 +1,48 @@
+-- Tables of words that are all 0: nothing hangs but the roots, and nothing is mapped.
+use Rattle.std.proofs.Common.{◌≡◌, ℕ, ◌+◌, ◌/◌, ◌^◌, ◌<◌, ◌≤◌, true, Some, None, length, refl, sym, ap, subst, ◌∙◌, arith}
+use Rattle.std.proofs.lemmas.Bool.Decides.{nat_tests}
+use Rattle.base.specs.Manifest.{page_count}
+use Rattle.pool.specs.Pool.{Pages}
+use Rattle.stage2.specs.declared.walked.Walked.TheVariants.{None as Unmapped}
+use Rattle.stage2.specs.Slot.{Layout, slot}
+use Rattle.stage2.specs.Walk.{at_1, walk, walk_across, Place, Root, Gigabyte, Chunk, next_page, chunk_table, table_at, IsPlace}
+use Rattle.stage2.specs.Sound.{IsSound}
+use Rattle.stage2.proofs.Walkers.Level3Write.{slot-zero}
+
+module _ (layout : Layout) (m : Pages) (zero : (page index : ℕ) → m.words page index ≡ 0) where
+  empty_slot : (level page index : ℕ) → next_page (slot layout level (m.words page index)) ≡ None
+  empty_slot level page index = ap (λ w. next_page (slot layout level w)) (zero page index) ∙ ap next_page (slot-zero layout level)
+
+  pub no_gigabyte : (row g : ℕ) → table_at layout m.words (Gigabyte row g) ≡ None
+  unfolding table_at
+  no_gigabyte row g = empty_slot 1 row g
+
+  pub no_chunk : (row c : ℕ) → table_at layout m.words (Chunk row c) ≡ None
+  unfolding table_at
+  no_chunk row c = ap (chunk_table layout m.words c) (empty_slot 1 row (c / 512))
+
+  pub unmapped : (row n : ℕ) → walk layout m.words row n ≡ Unmapped
+  unfolding walk_across
+  unmapped row n =
+      let here = ap (at_1 layout m.words m.words n) (ap (slot layout 1) (zero row (n / 512 / 512)) ∙ slot-zero layout 1) in
+      grind (arith, nat_tests, here)
+
+  -- a table that hangs is a root
+  is_root : (a : Place) (q : ℕ) → table_at layout m.words a ≡ Some q → a ≡ Root q
+  unfolding table_at
+  is_root (Root row) q e = let same : row ≡ q = cc in ap Root same
+  is_root (Gigabyte row g) q e = let none = no_gigabyte row g in absurd (cc)
+  is_root (Chunk row c) q e = let none = no_chunk row c in absurd (cc)
+
+  pub sound_zero : layout.ids ≡ m.ids → layout.pages ≡ page_count m.quotas → length layout.ids ≡ length m.quotas → layout.base + layout.pages ≤ 2 ^ 27 → ((row : ℕ) → row < length m.quotas → m.taken row ≡ true) → IsSound layout m
+  sound_zero ids pages rows fits roots = record {
+    ids = ids;
+    pages = pages;
+    rows = rows;
+    fits = fits;
+    forest = λ a b q in_a in_b at_a at_b. is_root a q at_a ∙ sym (is_root b q at_b);
+    taken = λ a q inside e. let root = is_root a q e in let below : IsPlace layout (Root q) = subst (IsPlace layout) root inside in roots q (rw (← rows) below);
+    owned = λ a q inside e. rw (is_root a q e) refl;
+    tidy = λ row n inside small. rw (unmapped row n) tt;
+    paged = λ row n inside small e. unmapped row n;
+  }

@@ -1,0 +1,137 @@
+-- The words of tables that hang are those of their entries.
+use Rattle.std.proofs.Common.{◌≡◌, ℕ, ◌+◌, ◌*◌, ◌/◌, ◌%◌, ◌^◌, ◌<◌, IsTrue, Bool, true, false, Some, length, refl, arith, ap, ap₂, subst, sym, ◌∙◌, ◌-◌, ◌&&◌, leb, ltb, inl, inr}
+use Rattle.std.proofs.lemmas.Bool.{cases_Bool}
+use Rattle.base.specs.Access.{Access}
+use Rattle.words.specs.declared.word.Entry.{Entry}
+use Rattle.words.specs.declared.word.Entry.TheVariants.{Invalid, Table, Leaf, Wrong as WrongWord}
+use Rattle.words.specs.Words.{entry_of, leaf_word_of, leaf_level}
+use Rattle.words.proofs.RoundTrip.{word-leaf}
+use Rattle.pool.specs.Pool.{Pages}
+use Rattle.stage2.specs.declared.walked.Walked.TheVariants.{Leaf as Mapped, Wrong}
+use Rattle.stage2.specs.Slot.{Layout, Slot, Empty, Next, Maps, Bad, slot, slot_from}
+use Rattle.stage2.specs.Walk.{index_3, at_1, at_2, at_3, walk, Place, Root, Gigabyte, Chunk, next_page, table_at, IsPlace}
+use Rattle.stage2.specs.Orderly.{IsOrderly, answer_of}
+use Rattle.stage2.specs.Entries.{leaf_for, entry_for_table, word_at}
+use Rattle.stage2.proofs.Tree.WalkFrame.{table_at-root, table_at-chunk_in, walk-gigabyte, walk-chunk}
+use Rattle.stage2.proofs.Walkers.InStep.{walk-inside, gigabyte-now}
+use Rattle.stage2.proofs.Editing.Gigabyte.{table-word}
+
+leaf-entry : (layout : Layout) (n : ℕ) (a : Access) (e : Entry) → slot_from layout e ≡ Maps n a → e ≡ Leaf n a
+leaf-entry layout n a Invalid is = absurd (cc)
+leaf-entry layout n a (Table page) is = elim (cases_Bool (leb layout.base page && ltb page (layout.base + layout.pages))) [
+  | inl t ↦ let bad : Next (page - layout.base) ≡ Maps n a = rw t at is in absurd (cc)
+  | inr f ↦ let bad : Bad ≡ Maps n a = rw f at is in absurd (cc)
+]
+leaf-entry layout n a (Leaf m b) is = let same : m ≡ n = cc in let alike : b ≡ a = cc in ap₂ Leaf same alike
+leaf-entry layout n a WrongWord is = absurd (cc)
+
+level-block : (block : Bool) → 2 ≡ leaf_level block → block ≡ true
+level-block true e = refl
+level-block false e = absurd (omega arith)
+
+level-page : (block : Bool) → 3 ≡ leaf_level block → block ≡ false
+level-page true e = absurd (omega arith)
+level-page false e = refl
+
+block-word : (layout : Layout) (n word : ℕ) (a : Access) → slot layout 2 word ≡ Maps n a → word ≡ leaf_word_of true n a
+unfolding slot
+block-word layout n word a is =
+    let w = word-leaf 2 word n a (leaf-entry layout n a (entry_of 2 word) is) in
+    w.spelled ∙ ap (λ b. leaf_word_of b n a) (level-block w.block w.at_level)
+
+-- a block begins at a multiple of 512
+pub block-page : (layout : Layout) (n word : ℕ) (a : Access) → slot layout 2 word ≡ Maps n a → (x : ℕ) → n + x % 512 < 2 ^ 27
+unfolding slot
+block-page layout n word a is x =
+    let w = word-leaf 2 word n a (leaf-entry layout n a (entry_of 2 word) is) in
+    let aligned : n % 512 ≡ 0 = w.aligned (subst (λ b. IsTrue b) (sym (level-block w.block w.at_level)) refl) in
+    let small = w.in_range in
+    omega (arith, aligned, small)
+
+page-word : (layout : Layout) (n word : ℕ) (a : Access) → slot layout 3 word ≡ Maps n a → word ≡ leaf_word_of false n a
+unfolding slot
+page-word layout n word a is =
+    let w = word-leaf 3 word n a (leaf-entry layout n a (entry_of 3 word) is) in
+    w.spelled ∙ ap (λ b. leaf_word_of b n a) (level-page w.block w.at_level)
+
+module _ (layout : Layout) (m : Pages) (h : IsOrderly layout m) where
+  -- ---- a root
+
+  wrong-root : (row g : ℕ) → row < length layout.ids → g < 512 → (s : Slot) → slot layout 1 (m.words row g) ≡ s → at_1 layout m.words m.words (262144 * g) s ≡ Wrong → ⊥
+  wrong-root row g inside below s is wrong =
+      let index : 262144 * g / 512 / 512 ≡ g = omega arith in
+      let walk-is : walk layout m.words row (262144 * g) ≡ Wrong = walk-inside layout m.words row (262144 * g) inside ∙ ap (λ x. at_1 layout m.words m.words (262144 * g) (slot layout 1 (m.words row x))) index ∙ ap (at_1 layout m.words m.words (262144 * g)) is ∙ wrong in
+      rw walk-is at (h.tidy row (262144 * g) inside (omega (arith, below)))
+
+  root-by : (row g : ℕ) → row < length layout.ids → g < 512 → (s : Slot) → slot layout 1 (m.words row g) ≡ s → m.words row g ≡ entry_for_table layout (next_page s) 0
+  root-by row g inside below Empty is = h.clean (Root row) row g inside (table_at-root layout m.words row) below is
+  root-by row g inside below (Next k) is = table-word layout 1 (m.words row g) k is
+  root-by row g inside below (Maps p a) is = absurd (wrong-root row g inside below (Maps p a) is refl)
+  root-by row g inside below Bad is = absurd (wrong-root row g inside below Bad is refl)
+
+  -- ---- a level 2 table
+
+  chunk-walk : (row g i q : ℕ) → row < length layout.ids → i < 512 → table_at layout m.words (Gigabyte row g) ≡ Some q → walk layout m.words row (512 * (512 * g + i)) ≡ at_2 layout m.words (512 * (512 * g + i)) (slot layout 2 (m.words q i))
+  chunk-walk row g i q inside small table =
+      let first : 512 * (512 * g + i) / 512 / 512 ≡ g = omega (arith, small) in
+      let second : 512 * (512 * g + i) / 512 % 512 ≡ i = omega (arith, small) in
+      walk-gigabyte layout m.words row (512 * (512 * g + i)) q inside (ap (λ x. table_at layout m.words (Gigabyte row x)) first ∙ table)
+      ∙ ap (λ x. at_2 layout m.words (512 * (512 * g + i)) (slot layout 2 (m.words q x))) second
+
+  chunk-table : (row g i q : ℕ) → i < 512 → table_at layout m.words (Gigabyte row g) ≡ Some q → table_at layout m.words (Chunk row (512 * g + i)) ≡ next_page (slot layout 2 (m.words q i))
+  chunk-table row g i q small table =
+      let first : (512 * g + i) / 512 ≡ g = omega (arith, small) in
+      let second : (512 * g + i) % 512 ≡ i = omega (arith, small) in
+      table_at-chunk_in layout m.words row (512 * g + i) q (ap (λ x. table_at layout m.words (Gigabyte row x)) first ∙ table)
+      ∙ ap (λ x. next_page (slot layout 2 (m.words q x))) second
+
+  gigabyte-by : (row g i q : ℕ) → row < length layout.ids → g < 512 → i < 512 → table_at layout m.words (Gigabyte row g) ≡ Some q → (s : Slot) → slot layout 2 (m.words q i) ≡ s
+      → m.words q i ≡ entry_for_table layout (next_page s) (leaf_for true (512 * (512 * g + i)) (answer_of (at_2 layout m.words (512 * (512 * g + i)) s)))
+  gigabyte-by row g i q inside below small table Empty is = h.clean (Gigabyte row g) q i (inside, below) table small is
+  gigabyte-by row g i q inside below small table (Next k) is = table-word layout 2 (m.words q i) k is
+  gigabyte-by row g i q inside below small table (Maps p a) is =
+      let walk-is : walk layout m.words row (512 * (512 * g + i)) ≡ Mapped (p + index_3 (512 * (512 * g + i))) a = chunk-walk row g i q inside small table ∙ ap (at_2 layout m.words (512 * (512 * g + i))) is in
+      let tidy : p + index_3 (512 * (512 * g + i)) ≡ 512 * (512 * g + i) = rw walk-is at (h.tidy row (512 * (512 * g + i)) inside (omega (arith, below, small))) in
+      let page : p ≡ 512 * (512 * g + i) = omega (arith, tidy) in
+      block-word layout p (m.words q i) a is ∙ ap (λ x. leaf_word_of true x a) page
+  gigabyte-by row g i q inside below small table Bad is =
+      let walk-is : walk layout m.words row (512 * (512 * g + i)) ≡ Wrong = chunk-walk row g i q inside small table ∙ ap (at_2 layout m.words (512 * (512 * g + i))) is in
+      absurd (rw walk-is at (h.tidy row (512 * (512 * g + i)) inside (omega (arith, below, small))))
+
+  -- ---- a level 3 table
+
+  page-walk : (row c i q : ℕ) → row < length layout.ids → i < 512 → table_at layout m.words (Chunk row c) ≡ Some q → walk layout m.words row (512 * c + i) ≡ at_3 (slot layout 3 (m.words q i))
+  page-walk row c i q inside small table =
+      let chunk : (512 * c + i) / 512 ≡ c = omega (arith, small) in
+      let third : (512 * c + i) % 512 ≡ i = omega (arith, small) in
+      walk-chunk layout m.words row (512 * c + i) q inside (ap (λ x. table_at layout m.words (Chunk row x)) chunk ∙ table)
+      ∙ ap (λ x. at_3 (slot layout 3 (m.words q x))) third
+
+  chunk-by : (row c i q : ℕ) → row < length layout.ids → c < 262144 → i < 512 → table_at layout m.words (Chunk row c) ≡ Some q → (s : Slot) → slot layout 3 (m.words q i) ≡ s
+      → m.words q i ≡ leaf_for false (512 * c + i) (answer_of (at_3 s))
+  chunk-by row c i q inside below small table Empty is = h.clean (Chunk row c) q i (inside, below) table small is
+  chunk-by row c i q inside below small table (Maps p a) is =
+      let walk-is : walk layout m.words row (512 * c + i) ≡ Mapped p a = page-walk row c i q inside small table ∙ ap at_3 is in
+      let tidy : p ≡ 512 * c + i = rw walk-is at (h.tidy row (512 * c + i) inside (omega (arith, below, small))) in
+      page-word layout p (m.words q i) a is ∙ ap (λ x. leaf_word_of false x a) tidy
+  chunk-by row c i q inside below small table (Next k) is =
+      let walk-is : walk layout m.words row (512 * c + i) ≡ Wrong = page-walk row c i q inside small table ∙ ap at_3 is in
+      absurd (rw walk-is at (h.tidy row (512 * c + i) inside (omega (arith, below, small))))
+  chunk-by row c i q inside below small table Bad is =
+      let walk-is : walk layout m.words row (512 * c + i) ≡ Wrong = page-walk row c i q inside small table ∙ ap at_3 is in
+      absurd (rw walk-is at (h.tidy row (512 * c + i) inside (omega (arith, below, small))))
+
+  -- ---- each table
+
+  pub entries : (a : Place) (q i : ℕ) → IsPlace layout a → table_at layout m.words a ≡ Some q → i < 512 → m.words q i ≡ word_at layout m.words a i
+  unfolding word_at
+  entries (Root row) q i inside table small =
+      let same : row ≡ q = cc (table_at-root layout m.words row) in
+      ap (λ x. m.words x i) (sym same) ∙ root-by row i inside small (slot layout 1 (m.words row i)) refl
+      ∙ ap (λ o. entry_for_table layout o 0) (sym (gigabyte-now layout m.words row i))
+  entries (Gigabyte row g) q i inside table small =
+      gigabyte-by row g i q inside.0 inside.1 small table (slot layout 2 (m.words q i)) refl
+      ∙ ap₂ (λ o w. entry_for_table layout o (leaf_for true (512 * (512 * g + i)) (answer_of w))) (sym (chunk-table row g i q small table)) (sym (chunk-walk row g i q inside.0 small table))
+  entries (Chunk row c) q i inside table small =
+      chunk-by row c i q inside.0 inside.1 small table (slot layout 3 (m.words q i)) refl
+      ∙ ap (λ w. leaf_for false (512 * c + i) (answer_of w)) (sym (page-walk row c i q inside.0 small table))

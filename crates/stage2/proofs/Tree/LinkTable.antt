@@ -1,0 +1,57 @@
+-- A table without valid words, linked where none hangs: no walk changes.
+use Rattle.std.proofs.Common.{◌≡◌, ℕ, ◌+◌, ◌*◌, ◌/◌, ◌%◌, ◌^◌, ◌≤◌, ◌<◌, true, false, None, length, refl, arith, ap, sym, ◌∙◌, ◌⊎◌, inl, inr}
+use Rattle.std.proofs.lemmas.Bool.{cases_eq}
+use Rattle.std.proofs.lemmas.Bool.Decides.{nat_tests}
+use Rattle.words.specs.Words.{table_word_of}
+use Rattle.words.proofs.RoundTrip.{entry-table}
+use Rattle.pool.specs.Pool.{Pages, Words}
+use Rattle.stage2.specs.declared.walked.Walked.TheVariants.{None as Unmapped}
+use Rattle.stage2.specs.Slot.{Layout, Slot, Empty, Next, Maps, Bad, slot, slot_from}
+use Rattle.stage2.specs.Walk.{index_1, at_1, walk, walk_across, Gigabyte, next_page, table_at}
+use Rattle.stage2.specs.Sound.{IsSound, IsTidy}
+use Rattle.stage2.specs.Change.{IsFresh}
+use Rattle.stage2.proofs.Tree.WalkFrame.{IsUnheld}
+
+-- a word that points at a page of the pool
+pub slot-table : (layout : Layout) (level k : ℕ) → level < 3 → k < layout.pages → layout.base + layout.pages ≤ 2 ^ 27 → slot layout level (table_word_of (layout.base + k)) ≡ Next k
+unfolding slot
+slot-table layout level k low inside fits = ap (slot_from layout) (entry-table level (layout.base + k) low (omega arith)) ∙ grind (arith, nat_tests)
+
+unheld : (layout : Layout) (m : Pages) (row k : ℕ) → IsFresh layout m row k → IsUnheld layout m.words k
+unheld layout m row k h a inside e = let taken : m.taken k ≡ true = h.sound.taken a k inside e in let free : m.taken k ≡ false = h.lowest.free in absurd (cc)
+
+-- ---- the level 2 table of a gigabyte
+
+pub walk-inside : (layout : Layout) (words : Words) (row n : ℕ) → row < length layout.ids → walk layout words row n ≡ at_1 layout words words n (slot layout 1 (words row (index_1 n)))
+unfolding walk_across
+walk-inside layout words row n inside = grind (arith, nat_tests)
+
+pub untabled_1 : (layout : Layout) (words : Words) (n : ℕ) (s : Slot) → next_page s ≡ None → IsTidy n (at_1 layout words words n s) → at_1 layout words words n s ≡ Unmapped
+untabled_1 layout words n Empty e h = refl
+untabled_1 layout words n (Maps m a) e h = absurd h
+untabled_1 layout words n (Next j) e h = absurd (cc)
+untabled_1 layout words n Bad e h = absurd h
+
+-- nothing is mapped in a gigabyte without a table
+untabled : (layout : Layout) (m : Pages) (row n : ℕ) → IsSound layout m → row < length layout.ids → n < 2 ^ 27 → table_at layout m.words (Gigabyte row (n / 512 / 512)) ≡ None → walk layout m.words row n ≡ Unmapped
+unfolding table_at
+untabled layout m row n sound inside small none =
+    let read = walk-inside layout m.words row n inside in
+    read ∙ untabled_1 layout m.words n (slot layout 1 (m.words row (index_1 n))) none (rw (sym read) (sound.tidy row n inside small))
+
+in_gigabyte : (row g r c : ℕ) → ((r ≡ row) × (c / 512 ≡ g)) ⊎ (r ≡ row → c / 512 ≡ g → ⊥)
+in_gigabyte row g r c = elim (cases_eq r row) [
+  | inl e ↦ elim (cases_eq (c / 512) g) [ inl f ↦ inl (e, f) | inr f ↦ inr (λ _ x. f x) ]
+  | inr e ↦ inr (λ x _. e x)
+]
+
+-- ---- the level 3 table of a chunk
+
+whole : (c : ℕ) → 512 * (c / 512) + c % 512 ≡ c
+whole c = omega arith
+
+in_chunk : (row c r n : ℕ) → ((r ≡ row) × (n / 512 ≡ c)) ⊎ (r ≡ row → n / 512 ≡ c → ⊥)
+in_chunk row c r n = elim (cases_eq r row) [
+  | inl e ↦ elim (cases_eq (n / 512) c) [ inl f ↦ inl (e, f) | inr f ↦ inr (λ _ x. f x) ]
+  | inr e ↦ inr (λ x _. e x)
+]

@@ -1,0 +1,133 @@
+-- A word of a root is written: which tables hang, and what walks give.
+use Rattle.std.proofs.Common.{◌≡◌, ◌≢◌, ℕ, ◌+◌, ◌*◌, ◌/◌, ◌%◌, ◌^◌, ◌<◌, Option, Some, None, length, refl, arith, ap, sym, ◌∙◌, ap₂, ◌⊎◌, inl, inr}
+use Rattle.std.proofs.lemmas.Bool.{cases_eq}
+use Rattle.std.proofs.lemmas.Bool.Decides.{nat_tests}
+use Rattle.pool.specs.Pool.{Words, put}
+use Rattle.stage2.specs.declared.walked.Walked.TheVariants.{None as Unmapped}
+use Rattle.stage2.specs.Slot.{Layout, Empty, Next, slot}
+use Rattle.stage2.specs.Walk.{index_1, index_2, index_3, at_1, at_2, walk, walk_across, Place, Root, Gigabyte, Chunk, next_page, chunk_table, table_at, IsPlace, IsForest}
+use Rattle.stage2.proofs.Tree.WalkFrame.{put-other, put-same, walk-same, other_table, table_at-gigabyte, table_at-chunk, table_at-root, IsUnheld, IsLevel2Write, table_at-level_2, table_at-level_2-other}
+
+-- whether a place is this chunk's
+pub is_chunk : (a : Place) (p c : ℕ) → (a ≡ Chunk p c) ⊎ (a ≢ Chunk p c)
+is_chunk (Root p') p c = inr (λ e. cc)
+is_chunk (Gigabyte p' g) p c = inr (λ e. cc)
+is_chunk (Chunk p' c') p c = elim (cases_eq p' p) [
+  | inl e ↦ elim (cases_eq c' c) [ inl f ↦ inl (ap₂ Chunk e f) | inr f ↦ inr (λ same. f (cc)) ]
+  | inr e ↦ inr (λ same. e (cc))
+]
+
+pub is_gigabyte : (a : Place) (p g : ℕ) → (a ≡ Gigabyte p g) ⊎ (a ≢ Gigabyte p g)
+is_gigabyte (Root p') p c = inr (λ e. cc)
+is_gigabyte (Chunk p' g) p c = inr (λ e. cc)
+is_gigabyte (Gigabyte p' c') p c = elim (cases_eq p' p) [
+  | inl e ↦ elim (cases_eq c' c) [ inl f ↦ inl (ap₂ Gigabyte e f) | inr f ↦ inr (λ same. f (cc)) ]
+  | inr e ↦ inr (λ same. e (cc))
+]
+
+-- no table hangs at two places where one place alone has changed, to a table that hung nowhere
+pub forest_at : (layout : Layout) (words new : Words) (x : Place) → IsForest layout words
+    → ((b : Place) → IsPlace layout b → (b ≡ x) ⊎ (b ≢ x))
+    → ((b : Place) → IsPlace layout b → b ≢ x → (q : ℕ) → table_at layout new b ≡ Some q → table_at layout words b ≡ Some q)
+    → ((q : ℕ) → table_at layout new x ≡ Some q → IsUnheld layout words q)
+    → IsForest layout new
+forest_at layout words new x forest is_x kept fresh a b q in_a in_b at_a at_b =
+    elim (is_x a in_a) [
+      | inl e ↦ elim (is_x b in_b) [
+        | inl f ↦ e ∙ sym f
+        | inr f ↦ absurd (fresh q (ap (table_at layout new) (sym e) ∙ at_a) b in_b (kept b in_b f q at_b))
+      ]
+      | inr e ↦ elim (is_x b in_b) [
+        | inl f ↦ absurd (fresh q (ap (table_at layout new) (sym f) ∙ at_b) a in_a (kept a in_a e q at_a))
+        | inr f ↦ forest a b q in_a in_b (kept a in_a e q at_a) (kept b in_b f q at_b)
+      ]
+    ]
+
+pub forest-level_2 : (layout : Layout) (words : Words) (p g j i word : ℕ) → IsLevel2Write layout words p g j i word → IsForest layout (put j i word words)
+forest-level_2 layout words p g j i word h =
+    forest_at layout words (put j i word words) (Chunk p (512 * g + i)) h.forest
+    (λ b _. is_chunk b p (512 * g + i))
+    (λ b inside other q at_b. sym (table_at-level_2-other layout words p g j i word h b inside other) ∙ at_b)
+    (λ q at_x. h.fresh q (sym (table_at-level_2 layout words p g j i word h) ∙ at_x))
+
+-- ---- a write into a root
+
+pub record IsRootWrite (layout : Layout) (words : Words) (p g word : ℕ) : Type 0 where
+  pub forest : IsForest layout words
+  pub partition : p < length layout.ids
+  pub gigabyte : g < 512
+  pub fresh : (j : ℕ) → next_page (slot layout 1 word) ≡ Some j → IsUnheld layout words j
+  -- the table that hangs here afterwards has no valid word
+  pub empty : (j x : ℕ) → next_page (slot layout 1 word) ≡ Some j → x < 512 → slot layout 2 (words j x) ≡ Empty
+  -- nothing was mapped below, and no table hung there
+  pub unmapped : (n : ℕ) → n < 2 ^ 27 → n / 512 / 512 ≡ g → walk layout words p n ≡ Unmapped
+  pub clean : (slot layout 1 word ≡ Empty) ⊎ ((j : ℕ) × (slot layout 1 word ≡ Next j))
+
+root-second : (layout : Layout) (words : Words) (p g word : ℕ) → IsRootWrite layout words p g word → (p' g' j : ℕ) → p' < length layout.ids → g' < 512
+    → table_at layout words (Gigabyte p' g') ≡ Some j → (x : ℕ) → put p g word words j x ≡ words j x
+root-second layout words p g word h p' g' j inside below at_j x =
+    other_table layout words (Root p) (Gigabyte p' g') p j g word h.forest h.partition (inside, below) (table_at-root layout words p) at_j (λ e. cc) x
+
+pub table_at-root_write : (layout : Layout) (words : Words) (p g word : ℕ) → IsRootWrite layout words p g word → table_at layout (put p g word words) (Gigabyte p g) ≡ next_page (slot layout 1 word)
+unfolding table_at
+table_at-root_write layout words p g word h = ap (λ w. next_page (slot layout 1 w)) (put-same words p g word)
+
+pub table_at-root_write-gigabyte : (layout : Layout) (words : Words) (p g word : ℕ) → IsRootWrite layout words p g word → (p' g' : ℕ) → p' < length layout.ids → g' < 512
+    → (p' ≡ p → g' ≡ g → ⊥) → table_at layout (put p g word words) (Gigabyte p' g') ≡ table_at layout words (Gigabyte p' g')
+table_at-root_write-gigabyte layout words p g word h p' g' inside below other =
+    table_at-gigabyte layout words (put p g word words) p' g' (put-other words p g word p' g' other)
+
+pub table_at-root_write-chunk : (layout : Layout) (words : Words) (p g word : ℕ) → IsRootWrite layout words p g word → (p' c : ℕ) → p' < length layout.ids → c < 262144
+    → (p' ≡ p → c / 512 ≡ g → ⊥) → table_at layout (put p g word words) (Chunk p' c) ≡ table_at layout words (Chunk p' c)
+table_at-root_write-chunk layout words p g word h p' c inside below other =
+    table_at-chunk layout words (put p g word words) p' c (record {
+      first = put-other words p g word p' (c / 512) other;
+      second = λ j at_j. root-second layout words p g word h p' (c / 512) j inside (omega arith) at_j (c % 512);
+    })
+
+-- no table hangs below the gigabyte afterwards
+below_empty : (layout : Layout) (words : Words) (p g word : ℕ) → IsRootWrite layout words p g word → (c : ℕ) → c / 512 ≡ g → (o : Option ℕ) → next_page (slot layout 1 word) ≡ o → chunk_table layout (put p g word words) c o ≡ None
+below_empty layout words p g word h c e None f = refl
+below_empty layout words p g word h c e (Some j) f =
+    let same : put p g word words j (c % 512) ≡ words j (c % 512) = put-other words p g word j (c % 512) (λ equal _. h.fresh j f (Root p) h.partition (table_at-root layout words p ∙ ap Some (sym equal))) in
+    ap next_page (ap (slot layout 2) same ∙ h.empty j (c % 512) f (omega arith))
+
+pub table_at-root_write-below : (layout : Layout) (words : Words) (p g word : ℕ) → IsRootWrite layout words p g word → (c : ℕ) → c / 512 ≡ g → table_at layout (put p g word words) (Chunk p c) ≡ None
+unfolding table_at
+table_at-root_write-below layout words p g word h c e =
+    ap (λ w. chunk_table layout (put p g word words) c (next_page (slot layout 1 w))) (ap (put p g word words p) e ∙ put-same words p g word) ∙ below_empty layout words p g word h c e (next_page (slot layout 1 word)) refl
+
+-- a walk through the gigabyte finds nothing afterwards
+walk_below : (layout : Layout) (words : Words) (p g word : ℕ) → IsRootWrite layout words p g word → (n : ℕ) → n / 512 / 512 ≡ g → walk layout (put p g word words) p n ≡ Unmapped
+unfolding walk_across
+walk_below layout words p g word h n e =
+    let new = put p g word words in
+    let read : new p (n / 512 / 512) ≡ word = ap (new p) e ∙ put-same words p g word in
+    let result : at_1 layout new new n (slot layout 1 (new p (n / 512 / 512))) ≡ Unmapped =
+    elim h.clean [
+      | inl none ↦ ap (at_1 layout new new n) (ap (slot layout 1) read ∙ none)
+      | inr some ↦
+          let here : next_page (slot layout 1 word) ≡ Some some.0 = ap next_page some.1 in
+          let same : new some.0 (n / 512 % 512) ≡ words some.0 (n / 512 % 512) = put-other words p g word some.0 (n / 512 % 512) (λ equal _. h.fresh some.0 here (Root p) h.partition (table_at-root layout words p ∙ ap Some (sym equal))) in
+          ap (at_1 layout new new n) (ap (slot layout 1) read ∙ some.1) ∙ ap (at_2 layout new n) (ap (slot layout 2) same ∙ h.empty some.0 (n / 512 % 512) here (omega arith))
+    ] in
+    grind (arith, nat_tests, result)
+
+-- every page is translated as before
+pub walk-root_write : (layout : Layout) (words : Words) (p g word : ℕ) → IsRootWrite layout words p g word → (p' n : ℕ) → n < 2 ^ 27
+    → walk layout (put p g word words) p' n ≡ walk layout words p' n
+walk-root_write layout words p g word h p' n small =
+    let new = put p g word words in
+    let apart : (p' ≡ p → n / 512 / 512 ≡ g → ⊥) → walk layout new p' n ≡ walk layout words p' n = λ other.
+    walk-same layout words new new new p' n (λ inside. record {
+      first = put-other words p g word p' (index_1 n) other;
+      second = λ j at_j. root-second layout words p g word h p' (index_1 n) j inside (omega arith) at_j (index_2 n);
+      third = λ k at_k. other_table layout words (Root p) (Chunk p' (n / 512)) p k g word h.forest h.partition (inside, omega arith) (table_at-root layout words p) at_k (λ e. cc) (index_3 n);
+    }) in
+    elim (cases_eq p' p) [
+      | inl e_p ↦ elim (cases_eq (n / 512 / 512) g) [
+        | inl e_g ↦ rw e_p (walk_below layout words p g word h n e_g ∙ sym (h.unmapped n small e_g))
+        | inr e_g ↦ apart (λ _ f. e_g f)
+      ]
+      | inr e_p ↦ apart (λ f _. e_p f)
+    ]

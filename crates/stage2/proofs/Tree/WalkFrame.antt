@@ -1,0 +1,278 @@
+-- Words that are written leave each walk, and the place of each table, that do not read them.
+use Rattle.std.proofs.Common.{◌≡◌, ◌≢◌, ℕ, ◌+◌, ◌*◌, ◌/◌, ◌%◌, ◌^◌, ◌<◌, Option, Some, None, length, refl, arith, ap, sym, ◌∙◌, ap₂}
+use Rattle.std.proofs.lemmas.Bool.Decides.{nat_tests}
+use Rattle.pool.specs.Pool.{Words, put}
+use Rattle.stage2.specs.Slot.{Layout, Slot, Empty, Next, Maps, Bad, slot}
+use Rattle.stage2.specs.Walk.{index_1, index_2, index_3, at_1, at_2, at_3, walk, walk_across, Place, Root, Gigabyte, Chunk, next_page, chunk_table, table_at, IsPlace, IsForest}
+
+pub put-other : (words : Words) (page index word q i : ℕ) → (q ≡ page → i ≡ index → ⊥) → put page index word words q i ≡ words q i
+unfolding put
+put-other words page index word q i apart = grind (arith, nat_tests, apart)
+
+pub put-same : (words : Words) (page index word : ℕ) → put page index word words page index ≡ word
+unfolding put
+put-same words page index word = grind (arith, nat_tests)
+
+-- the words that a walk reads are those of `words`
+pub record ReadsAs (layout : Layout) (words w1 w2 w3 : Words) (p n : ℕ) : Type 0 where
+  pub first : w1 p (index_1 n) ≡ words p (index_1 n)
+  pub second : (j : ℕ) → table_at layout words (Gigabyte p (index_1 n)) ≡ Some j → w2 j (index_2 n) ≡ words j (index_2 n)
+  pub third : (k : ℕ) → table_at layout words (Chunk p (n / 512)) ≡ Some k → w3 k (index_3 n) ≡ words k (index_3 n)
+
+at_2-same : (layout : Layout) (words third : Words) (p n : ℕ) (s : Slot) → next_page s ≡ table_at layout words (Chunk p (n / 512))
+    → ((k : ℕ) → table_at layout words (Chunk p (n / 512)) ≡ Some k → third k (index_3 n) ≡ words k (index_3 n))
+    → at_2 layout third n s ≡ at_2 layout words n s
+at_2-same layout words third p n Empty e h = refl
+at_2-same layout words third p n (Maps m a) e h = refl
+at_2-same layout words third p n (Next k) e h = ap (λ w. at_3 (slot layout 3 w)) (h k (sym e))
+at_2-same layout words third p n Bad e h = refl
+
+at_1-same : (layout : Layout) (words second third : Words) (p n : ℕ) (s : Slot) → slot layout 1 (words p (index_1 n)) ≡ s
+    → ((j : ℕ) → table_at layout words (Gigabyte p (index_1 n)) ≡ Some j → second j (index_2 n) ≡ words j (index_2 n))
+    → ((k : ℕ) → table_at layout words (Chunk p (n / 512)) ≡ Some k → third k (index_3 n) ≡ words k (index_3 n))
+    → at_1 layout second third n s ≡ at_1 layout words words n s
+unfolding table_at
+at_1-same layout words second third p n Empty e g h = refl
+at_1-same layout words second third p n (Maps m a) e g h = refl
+at_1-same layout words second third p n (Next j) e g h =
+    let here : table_at layout words (Gigabyte p (index_1 n)) ≡ Some j = ap next_page e in
+    let below : next_page (slot layout 2 (words j (index_2 n))) ≡ table_at layout words (Chunk p (n / 512)) = ap (chunk_table layout words (n / 512)) (sym here) in
+    ap (λ w. at_2 layout third n (slot layout 2 w)) (g j here) ∙ at_2-same layout words third p n (slot layout 2 (words j (index_2 n))) below h
+at_1-same layout words second third p n Bad e g h = refl
+
+-- a walk that reads the same words gives the same
+pub walk-same : (layout : Layout) (words first second third : Words) (p n : ℕ) → (p < length layout.ids → ReadsAs layout words first second third p n)
+    → walk_across layout first second third p n ≡ walk layout words p n
+unfolding walk_across
+walk-same layout words first second third p n reads =
+    let inside : p < length layout.ids → at_1 layout second third n (slot layout 1 (first p (index_1 n))) ≡ at_1 layout words words n (slot layout 1 (words p (index_1 n)))
+    = λ below. ap (λ w. at_1 layout second third n (slot layout 1 w)) (reads below).first ∙ at_1-same layout words second third p n (slot layout 1 (words p (index_1 n))) refl (reads below).second (reads below).third in
+    grind (arith, nat_tests, inside)
+
+-- the words that decide which table hangs at a place are those of `words`
+pub record HangsAs (layout : Layout) (words new : Words) (p c : ℕ) : Type 0 where
+  pub first : new p (c / 512) ≡ words p (c / 512)
+  pub second : (j : ℕ) → table_at layout words (Gigabyte p (c / 512)) ≡ Some j → new j (c % 512) ≡ words j (c % 512)
+
+chunk_table-same : (layout : Layout) (words new : Words) (c : ℕ) (o : Option ℕ)
+    → ((j : ℕ) → o ≡ Some j → new j (c % 512) ≡ words j (c % 512)) → chunk_table layout new c o ≡ chunk_table layout words c o
+chunk_table-same layout words new c None h = refl
+chunk_table-same layout words new c (Some j) h = ap (λ w. next_page (slot layout 2 w)) (h j refl)
+
+pub table_at-gigabyte : (layout : Layout) (words new : Words) (p g : ℕ) → new p g ≡ words p g → table_at layout new (Gigabyte p g) ≡ table_at layout words (Gigabyte p g)
+unfolding table_at
+table_at-gigabyte layout words new p g e = ap (λ w. next_page (slot layout 1 w)) e
+
+pub table_at-chunk : (layout : Layout) (words new : Words) (p c : ℕ) → HangsAs layout words new p c → table_at layout new (Chunk p c) ≡ table_at layout words (Chunk p c)
+unfolding table_at
+table_at-chunk layout words new p c h =
+    ap (λ w. chunk_table layout new c (next_page (slot layout 1 w))) h.first ∙ chunk_table-same layout words new c (next_page (slot layout 1 (words p (c / 512)))) h.second
+
+pub table_at-root : (layout : Layout) (words : Words) (p : ℕ) → table_at layout words (Root p) ≡ Some p
+unfolding table_at
+table_at-root layout words p = refl
+
+-- a write into the table of one place leaves the words of the tables of all other places
+pub other_table : (layout : Layout) (words : Words) (a b : Place) (q r i word : ℕ) → IsForest layout words → IsPlace layout a → IsPlace layout b
+    → table_at layout words a ≡ Some q → table_at layout words b ≡ Some r → a ≢ b → (x : ℕ) → put q i word words r x ≡ words r x
+other_table layout words a b q r i word forest in_a in_b at_a at_b differ x =
+    put-other words q i word r x (λ same _. differ (forest a b q in_a in_b at_a (at_b ∙ ap Some same)))
+
+-- ---- a write into a level 3 table
+
+pub record IsLevel3Write (layout : Layout) (words : Words) (p c q : ℕ) : Type 0 where
+  pub forest : IsForest layout words
+  pub partition : p < length layout.ids
+  pub chunk : c < 262144
+  pub table : table_at layout words (Chunk p c) ≡ Some q
+
+level_3-root : (layout : Layout) (words : Words) (p c q i word : ℕ) → IsLevel3Write layout words p c q → (p' : ℕ) → p' < length layout.ids → (x : ℕ) → put q i word words p' x ≡ words p' x
+level_3-root layout words p c q i word h p' inside x =
+    other_table layout words (Chunk p c) (Root p') q p' i word h.forest (h.partition, h.chunk) inside h.table (table_at-root layout words p') (λ e. cc) x
+
+level_3-second : (layout : Layout) (words : Words) (p c q i word : ℕ) → IsLevel3Write layout words p c q → (p' g j : ℕ) → p' < length layout.ids → g < 512
+    → table_at layout words (Gigabyte p' g) ≡ Some j → (x : ℕ) → put q i word words j x ≡ words j x
+level_3-second layout words p c q i word h p' g j inside below at_j x =
+    other_table layout words (Chunk p c) (Gigabyte p' g) q j i word h.forest (h.partition, h.chunk) (inside, below) h.table at_j (λ e. cc) x
+
+-- every table hangs where it did
+pub table_at-level_3 : (layout : Layout) (words : Words) (p c q i word : ℕ) → IsLevel3Write layout words p c q → (b : Place) → IsPlace layout b
+    → table_at layout (put q i word words) b ≡ table_at layout words b
+table_at-level_3 layout words p c q i word h (Root p') inside = table_at-root layout (put q i word words) p' ∙ sym (table_at-root layout words p')
+table_at-level_3 layout words p c q i word h (Gigabyte p' g) inside = table_at-gigabyte layout words (put q i word words) p' g (level_3-root layout words p c q i word h p' inside.0 g)
+table_at-level_3 layout words p c q i word h (Chunk p' c') inside =
+    table_at-chunk layout words (put q i word words) p' c' (record {
+      first = level_3-root layout words p c q i word h p' inside.0 (c' / 512);
+      second = λ j at_j. level_3-second layout words p c q i word h p' (c' / 512) j inside.0 (omega (arith, inside.1)) at_j (c' % 512);
+    })
+
+-- every other page is translated as before
+pub walk-level_3-other : (layout : Layout) (words : Words) (p c q i word : ℕ) → IsLevel3Write layout words p c q → (p' n : ℕ) → n < 2 ^ 27 → (p' ≡ p → n ≡ 512 * c + i → ⊥)
+    → walk layout (put q i word words) p' n ≡ walk layout words p' n
+walk-level_3-other layout words p c q i word h p' n small other =
+    let new = put q i word words in
+    walk-same layout words new new new p' n (λ inside. record {
+      first = level_3-root layout words p c q i word h p' inside (index_1 n);
+      second = λ j at_j. level_3-second layout words p c q i word h p' (index_1 n) j inside (omega arith) at_j (index_2 n);
+      third = λ k at_k. put-other words q i word k (index_3 n) (λ same index.
+          let e : Chunk p' (n / 512) ≡ Chunk p c = h.forest (Chunk p' (n / 512)) (Chunk p c) q (inside, omega arith) (h.partition, h.chunk) (at_k ∙ ap Some same) h.table in
+          let e_p : p' ≡ p = cc in
+          let e_c : n / 512 ≡ c = cc in
+          other e_p (omega arith));
+    })
+
+at_2-chunk : (layout : Layout) (third : Words) (n q : ℕ) (s : Slot) → next_page s ≡ Some q → at_2 layout third n s ≡ at_3 (slot layout 3 (third q (index_3 n)))
+at_2-chunk layout third n q Empty e = cc
+at_2-chunk layout third n q (Maps m a) e = cc
+at_2-chunk layout third n q (Next k) e = let same : k ≡ q = cc in ap (λ x. at_3 (slot layout 3 (third x (index_3 n)))) same
+at_2-chunk layout third n q Bad e = cc
+
+at_1-chunk : (layout : Layout) (words : Words) (n q : ℕ) (s : Slot) → chunk_table layout words (n / 512) (next_page s) ≡ Some q → at_1 layout words words n s ≡ at_3 (slot layout 3 (words q (index_3 n)))
+at_1-chunk layout words n q Empty e = cc
+at_1-chunk layout words n q (Maps m a) e = cc
+at_1-chunk layout words n q (Next j) e = at_2-chunk layout words n q (slot layout 2 (words j (index_2 n))) e
+at_1-chunk layout words n q Bad e = cc
+
+-- a walk through the table of its chunk
+pub walk-chunk : (layout : Layout) (words : Words) (p n q : ℕ) → p < length layout.ids → table_at layout words (Chunk p (n / 512)) ≡ Some q
+    → walk layout words p n ≡ at_3 (slot layout 3 (words q (index_3 n)))
+unfolding walk_across table_at
+walk-chunk layout words p n q inside table =
+    let h = at_1-chunk layout words n q (slot layout 1 (words p (index_1 n))) table in
+    grind (arith, nat_tests, h)
+
+pub at_1-gigabyte : (layout : Layout) (words : Words) (n j : ℕ) (s : Slot) → next_page s ≡ Some j → at_1 layout words words n s ≡ at_2 layout words n (slot layout 2 (words j (index_2 n)))
+at_1-gigabyte layout words n j Empty e = cc
+at_1-gigabyte layout words n j (Maps m a) e = cc
+at_1-gigabyte layout words n j (Next k) e = let same : k ≡ j = cc in ap (λ x. at_2 layout words n (slot layout 2 (words x (index_2 n)))) same
+at_1-gigabyte layout words n j Bad e = cc
+
+-- a walk through the table of its gigabyte
+pub walk-gigabyte : (layout : Layout) (words : Words) (p n j : ℕ) → p < length layout.ids → table_at layout words (Gigabyte p (index_1 n)) ≡ Some j
+    → walk layout words p n ≡ at_2 layout words n (slot layout 2 (words j (index_2 n)))
+unfolding walk_across table_at
+walk-gigabyte layout words p n j inside table =
+    let h = at_1-gigabyte layout words n j (slot layout 1 (words p (index_1 n))) table in
+    grind (arith, nat_tests, h)
+
+-- the page itself is translated as the new word says
+pub walk-level_3 : (layout : Layout) (words : Words) (p c q i word : ℕ) → IsLevel3Write layout words p c q → i < 512
+    → walk layout (put q i word words) p (512 * c + i) ≡ at_3 (slot layout 3 word)
+walk-level_3 layout words p c q i word h small =
+    let new = put q i word words in
+    let chunk : (512 * c + i) / 512 ≡ c = omega arith in
+    let index : (512 * c + i) % 512 ≡ i = omega arith in
+    let here : table_at layout new (Chunk p ((512 * c + i) / 512)) ≡ Some q = rw chunk (table_at-level_3 layout words p c q i word h (Chunk p c) (h.partition, h.chunk) ∙ h.table) in
+    walk-chunk layout new p (512 * c + i) q h.partition here ∙ ap (λ w. at_3 (slot layout 3 w)) (ap (new q) index ∙ put-same words q i word)
+
+pub forest-level_3 : (layout : Layout) (words : Words) (p c q i word : ℕ) → IsLevel3Write layout words p c q → IsForest layout (put q i word words)
+forest-level_3 layout words p c q i word h a b r in_a in_b at_a at_b =
+    h.forest a b r in_a in_b (sym (table_at-level_3 layout words p c q i word h a in_a) ∙ at_a) (sym (table_at-level_3 layout words p c q i word h b in_b) ∙ at_b)
+
+-- ---- a write into a page where no table hangs
+
+abbrev pub IsUnheld : Layout → Words → ℕ → Type 0
+IsUnheld layout words q = (a : Place) → IsPlace layout a → table_at layout words a ≡ Some q → ⊥
+
+-- words that differ in one page alone
+abbrev pub AgreeOutside : ℕ → Words → Words → Type 0
+AgreeOutside q words new = (r x : ℕ) → r ≢ q → new r x ≡ words r x
+
+pub table_at-outside : (layout : Layout) (words new : Words) (q : ℕ) → IsUnheld layout words q → AgreeOutside q words new → (b : Place) → IsPlace layout b → table_at layout new b ≡ table_at layout words b
+table_at-outside layout words new q h agree (Root p) inside = table_at-root layout new p ∙ sym (table_at-root layout words p)
+table_at-outside layout words new q h agree (Gigabyte p g) inside =
+    table_at-gigabyte layout words new p g (agree p g (λ same. h (Root p) inside.0 (table_at-root layout words p ∙ ap Some same)))
+table_at-outside layout words new q h agree (Chunk p c) inside =
+    table_at-chunk layout words new p c (record {
+      first = agree p (c / 512) (λ same. h (Root p) inside.0 (table_at-root layout words p ∙ ap Some same));
+      second = λ j at_j. agree j (c % 512) (λ same. h (Gigabyte p (c / 512)) (inside.0, omega (arith, inside.1)) (at_j ∙ ap Some same));
+    })
+
+pub walk-outside : (layout : Layout) (words new : Words) (q : ℕ) → IsUnheld layout words q → AgreeOutside q words new → (p n : ℕ) → n < 2 ^ 27 → walk layout new p n ≡ walk layout words p n
+walk-outside layout words new q h agree p n small =
+    walk-same layout words new new new p n (λ inside. record {
+      first = agree p (index_1 n) (λ same. h (Root p) inside (table_at-root layout words p ∙ ap Some same));
+      second = λ j at_j. agree j (index_2 n) (λ same. h (Gigabyte p (index_1 n)) (inside, omega arith) (at_j ∙ ap Some same));
+      third = λ k at_k. agree k (index_3 n) (λ same. h (Chunk p (n / 512)) (inside, omega arith) (at_k ∙ ap Some same));
+    })
+
+put-outside : (words : Words) (q i word : ℕ) → AgreeOutside q words (put q i word words)
+put-outside words q i word r x apart = put-other words q i word r x (λ same _. apart same)
+
+pub table_at-unheld : (layout : Layout) (words : Words) (q i word : ℕ) → IsUnheld layout words q → (b : Place) → IsPlace layout b → table_at layout (put q i word words) b ≡ table_at layout words b
+table_at-unheld layout words q i word h b inside = table_at-outside layout words (put q i word words) q h (put-outside words q i word) b inside
+
+pub walk-unheld : (layout : Layout) (words : Words) (q i word : ℕ) → IsUnheld layout words q → (p n : ℕ) → n < 2 ^ 27 → walk layout (put q i word words) p n ≡ walk layout words p n
+walk-unheld layout words q i word h p n small = walk-outside layout words (put q i word words) q h (put-outside words q i word) p n small
+
+-- ---- a write into a level 2 table
+
+pub record IsLevel2Write (layout : Layout) (words : Words) (p g j i word : ℕ) : Type 0 where
+  pub forest : IsForest layout words
+  pub partition : p < length layout.ids
+  pub gigabyte : g < 512
+  pub index : i < 512
+  pub table : table_at layout words (Gigabyte p g) ≡ Some j
+  pub fresh : (k : ℕ) → next_page (slot layout 2 word) ≡ Some k → IsUnheld layout words k
+
+level_2-root : (layout : Layout) (words : Words) (p g j i word : ℕ) → IsLevel2Write layout words p g j i word → (p' : ℕ) → p' < length layout.ids → (x : ℕ) → put j i word words p' x ≡ words p' x
+level_2-root layout words p g j i word h p' inside x =
+    other_table layout words (Gigabyte p g) (Root p') j p' i word h.forest (h.partition, h.gigabyte) inside h.table (table_at-root layout words p') (λ e. cc) x
+
+level_2-second : (layout : Layout) (words : Words) (p g j i word : ℕ) → IsLevel2Write layout words p g j i word → (p' c j' : ℕ) → p' < length layout.ids → c < 262144
+    → (p' ≡ p → c ≡ 512 * g + i → ⊥) → table_at layout words (Gigabyte p' (c / 512)) ≡ Some j' → put j i word words j' (c % 512) ≡ words j' (c % 512)
+level_2-second layout words p g j i word h p' c j' inside below other at_j =
+    put-other words j i word j' (c % 512) (λ same index.
+    let e : Gigabyte p' (c / 512) ≡ Gigabyte p g = h.forest (Gigabyte p' (c / 512)) (Gigabyte p g) j (inside, omega arith) (h.partition, h.gigabyte) (at_j ∙ ap Some same) h.table in
+    let e_p : p' ≡ p = cc in
+    let e_g : c / 512 ≡ g = cc in
+    other e_p (omega arith))
+
+-- all but the table of the chunk hang where they did
+pub table_at-level_2-other : (layout : Layout) (words : Words) (p g j i word : ℕ) → IsLevel2Write layout words p g j i word → (b : Place) → IsPlace layout b → b ≢ Chunk p (512 * g + i)
+    → table_at layout (put j i word words) b ≡ table_at layout words b
+table_at-level_2-other layout words p g j i word h (Root p') inside other = table_at-root layout (put j i word words) p' ∙ sym (table_at-root layout words p')
+table_at-level_2-other layout words p g j i word h (Gigabyte p' g') inside other = table_at-gigabyte layout words (put j i word words) p' g' (level_2-root layout words p g j i word h p' inside.0 g')
+table_at-level_2-other layout words p g j i word h (Chunk p' c') inside other =
+    table_at-chunk layout words (put j i word words) p' c' (record {
+      first = level_2-root layout words p g j i word h p' inside.0 (c' / 512);
+      second = λ j' at_j. level_2-second layout words p g j i word h p' c' j' inside.0 inside.1 (λ e_p e_c. other (ap₂ Chunk e_p e_c)) at_j;
+    })
+
+chunk_table-Some : (layout : Layout) (words : Words) (c j : ℕ) (o : Option ℕ) → o ≡ Some j → chunk_table layout words c o ≡ next_page (slot layout 2 (words j (c % 512)))
+chunk_table-Some layout words c j o e = ap (chunk_table layout words c) e
+
+pub table_at-chunk_in : (layout : Layout) (words : Words) (p c j : ℕ) → table_at layout words (Gigabyte p (c / 512)) ≡ Some j → table_at layout words (Chunk p c) ≡ next_page (slot layout 2 (words j (c % 512)))
+unfolding table_at
+table_at-chunk_in layout words p c j e = chunk_table-Some layout words c j (next_page (slot layout 1 (words p (c / 512)))) e
+
+-- the table of the chunk is the one that the new word points at
+pub table_at-level_2 : (layout : Layout) (words : Words) (p g j i word : ℕ) → IsLevel2Write layout words p g j i word
+    → table_at layout (put j i word words) (Chunk p (512 * g + i)) ≡ next_page (slot layout 2 word)
+table_at-level_2 layout words p g j i word h =
+    let new = put j i word words in
+    let gigabyte : (512 * g + i) / 512 ≡ g = omega (arith, h.index) in
+    let index : (512 * g + i) % 512 ≡ i = omega (arith, h.index) in
+    let here : table_at layout new (Gigabyte p ((512 * g + i) / 512)) ≡ Some j = rw gigabyte (table_at-level_2-other layout words p g j i word h (Gigabyte p g) (h.partition, h.gigabyte) (λ e. cc) ∙ h.table) in
+    table_at-chunk_in layout new p (512 * g + i) j here ∙ ap (λ w. next_page (slot layout 2 w)) (ap (new j) index ∙ put-same words j i word)
+
+-- pages of other chunks are translated as before
+pub walk-level_2-other : (layout : Layout) (words : Words) (p g j i word : ℕ) → IsLevel2Write layout words p g j i word → (p' n : ℕ) → n < 2 ^ 27 → (p' ≡ p → n / 512 ≡ 512 * g + i → ⊥)
+    → walk layout (put j i word words) p' n ≡ walk layout words p' n
+walk-level_2-other layout words p g j i word h p' n small other =
+    let new = put j i word words in
+    walk-same layout words new new new p' n (λ inside. record {
+      first = level_2-root layout words p g j i word h p' inside (index_1 n);
+      second = λ j' at_j. level_2-second layout words p g j i word h p' (n / 512) j' inside (omega arith) other at_j;
+      third = λ k at_k. other_table layout words (Gigabyte p g) (Chunk p' (n / 512)) j k i word h.forest (h.partition, h.gigabyte) (inside, omega arith) h.table at_k (λ e. cc) (index_3 n);
+    })
+
+-- pages of the chunk are translated as the new word says
+pub walk-level_2 : (layout : Layout) (words : Words) (p g j i word : ℕ) → IsLevel2Write layout words p g j i word → (n : ℕ) → n / 512 ≡ 512 * g + i
+    → walk layout (put j i word words) p n ≡ at_2 layout (put j i word words) n (slot layout 2 word)
+walk-level_2 layout words p g j i word h n chunk =
+    let new = put j i word words in
+    let gigabyte : n / 512 / 512 ≡ g = omega (arith, h.index) in
+    let index : n / 512 % 512 ≡ i = omega (arith, h.index) in
+    let here : table_at layout new (Gigabyte p (n / 512 / 512)) ≡ Some j = rw gigabyte (table_at-level_2-other layout words p g j i word h (Gigabyte p g) (h.partition, h.gigabyte) (λ e. cc) ∙ h.table) in
+    walk-gigabyte layout new p n j h.partition here ∙ ap (λ w. at_2 layout new n (slot layout 2 w)) (ap (new j) index ∙ put-same words j i word)

@@ -1,0 +1,77 @@
+-- The edits of the chunks of a gigabyte, and of gigabytes, one after another, as walks under way see them.
+use Rattle.std.proofs.Common.{◌≡◌, ℕ, ◌+◌, ◌*◌, ◌/◌, ◌<◌, Bool, true, false, ◌&&◌, ◌||◌, eqb, cond, List, length, refl, arith, ap, sym, ◌∙◌, inl, inr}
+use Rattle.std.proofs.lemmas.Bool.{cases_Bool, eqb-true}
+use Rattle.std.proofs.lemmas.Bool.Decides.{nat_tests}
+use Rattle.base.specs.Pages.{PageRun, covers}
+use Rattle.base.specs.Access.{View}
+use Rattle.pool.specs.Pool.{Pool, Pages}
+use Rattle.stage2.specs.Slot.{Layout}
+use Rattle.stage2.specs.Walk.{walked}
+use Rattle.stage2.specs.Orderly.{answers, linked}
+use Rattle.stage2.specs.Chunks.{edited, answers_in}
+use Rattle.stage2.specs.Gigabytes.{touches_chunk, IsUnderway}
+use Rattle.stage2.specs.Moments.{StaysInStep}
+use Rattle.stage2.specs.Steps.{IsSeated, AreFree, disturbs, disturbed, disturbed_below}
+use Rattle.stage2.proofs.Editing.ChunkByChunk.{quotient, still-answers, still-mixed, now-mixed}
+use Rattle.stage2.proofs.Walkers.ZeroedTables.{stays-wider, stays-more, stays-as}
+use Rattle.stage2.proofs.Walkers.SeatedChunks.{seated-after}
+use Rattle.stage2.proofs.Walkers.Disturbed.{below-more, disturbs-same}
+use Rattle.base.proofs.Booleans.{both}
+
+module _ (layout : Layout) (row g j : ℕ) (runs : List PageRun) (access : View) (old : Pages) (inside : row < length layout.ids) (below : g < 512) (i : ℕ) (lt : i < 512) (mid : Pages) (h : IsUnderway layout row g j i (edited runs access (answers layout (linked layout row g j old).words row)) old mid) where
+  abbrev first : ℕ → View
+  first = answers layout (linked layout row g j old).words row
+
+  abbrev now : ℕ → View
+  now = answers_in layout row (512 * g + i) j mid
+
+  pub march-seated : IsSeated layout row g j old → IsSeated layout row ((512 * g + i) / 512) j mid
+  march-seated s = rw (quotient layout row g j runs access old inside below i lt mid h) (seated-after layout row g j old mid s (h.root g))
+
+  pub march-free : AreFree (λ n. eqb (n / 512 / 512) g) runs access (answers layout (linked layout row g j old).words row) → AreFree (λ n. eqb (n / 512) (512 * g + i)) runs access (answers_in layout row (512 * g + i) j mid)
+  march-free free n small at covered =
+      let here : n / 512 ≡ 512 * g + i = eqb-true _ _ at in
+      let inside_g : n / 512 / 512 ≡ g = omega (arith, here, lt) in
+      elim (free n small (grind (arith, nat_tests)) covered) [
+        | inl none ↦ inl none
+        | inr none ↦ inr (still-answers layout row g j runs access old inside below i lt mid h n small here ∙ none)
+      ]
+
+  pub march-edit : (a b c : Pool) → touches_chunk (512 * g + i) runs ≡ true
+      → StaysInStep layout row (disturbed_below g i runs (answers layout (linked layout row g j old).words row) (edited runs access (answers layout (linked layout row g j old).words row))) (λ n. walked n (edited runs access (answers layout (linked layout row g j old).words row) n)) a b
+      → StaysInStep layout row (λ n. eqb (n / 512) (512 * g + i) && disturbs runs (answers_in layout row (512 * g + i) j mid) (edited runs access (answers_in layout row (512 * g + i) j mid)) n) (λ n. walked n (edited runs access (answers_in layout row (512 * g + i) j mid) n)) b c
+      → StaysInStep layout row (disturbed_below g (i + 1) runs (answers layout (linked layout row g j old).words row) (edited runs access (answers layout (linked layout row g j old).words row))) (λ n. walked n (edited runs access (answers layout (linked layout row g j old).words row) n)) a c
+  march-edit a b c touched so here =
+      let v : ℕ → View = answers layout (linked layout row g j old).words row in
+      let w : ℕ → View = edited runs access v in
+      let v2 : ℕ → View = answers_in layout row (512 * g + i) j mid in
+      let w2 : ℕ → View = edited runs access v2 in
+      let told : StaysInStep layout row (λ n. eqb (n / 512) (512 * g + i) && disturbed runs v w n) (λ n. walked n (w n)) b c =
+      stays-wider layout row (λ n. eqb (n / 512) (512 * g + i) && disturbs runs v2 w2 n) (λ n. eqb (n / 512) (512 * g + i) && disturbed runs v w n) (λ n. walked n (w2 n)) (λ n. walked n (w n)) b c here
+      (λ n small is.
+      let two = both (eqb (n / 512) (512 * g + i)) (disturbs runs v2 w2 n) is in
+      let at : n / 512 ≡ 512 * g + i = eqb-true _ _ two.0 in
+      let same : disturbs runs v2 w2 n ≡ disturbs runs v w n = disturbs-same (512 * g + i) runs v w v2 w2 n at (still-mixed layout row g j runs access old inside below i lt mid h) (now-mixed layout row g j runs access old inside below i lt mid h) in
+      let touches : touches_chunk (n / 512) runs ≡ true = ap (λ x. touches_chunk x runs) at ∙ touched in
+      (rw (two.0, touches, sym same) two.1, inr (ap (λ x. walked n (cond (covers runs n) access x)) (still-answers layout row g j runs access old inside below i lt mid h n small at)))) in
+      stays-more layout row (disturbed_below g i runs v w) (λ n. eqb (n / 512) (512 * g + i) && disturbed runs v w n) (disturbed_below g (i + 1) runs v w) (λ n. walked n (w n)) a b c so told
+      (λ n small. below-more g i runs v w n lt)
+
+  pub march-skip : (a b : Pool) → touches_chunk (512 * g + i) runs ≡ false
+      → StaysInStep layout row (disturbed_below g i runs (answers layout (linked layout row g j old).words row) (edited runs access (answers layout (linked layout row g j old).words row))) (λ n. walked n (edited runs access (answers layout (linked layout row g j old).words row) n)) a b
+      → StaysInStep layout row (disturbed_below g (i + 1) runs (answers layout (linked layout row g j old).words row) (edited runs access (answers layout (linked layout row g j old).words row))) (λ n. walked n (edited runs access (answers layout (linked layout row g j old).words row) n)) a b
+  march-skip a b untouched so =
+      let v : ℕ → View = answers layout (linked layout row g j old).words row in
+      let w : ℕ → View = edited runs access v in
+      stays-as layout row (disturbed_below g i runs v w) (disturbed_below g (i + 1) runs v w) (λ n. walked n (w n)) a b so
+      (λ n small. below-more g i runs v w n lt ∙ none (disturbed_below g i runs v w n) (n / 512) (512 * g + i) (disturbs runs v w n) untouched)
+    where
+      none : (d : Bool) (x c : ℕ) (e : Bool) → touches_chunk c runs ≡ false → (d || (eqb x c && (touches_chunk x runs && e))) ≡ d
+      none d x c e free = elim (cases_Bool (eqb x c)) [
+        | inl t ↦ let off : touches_chunk x runs ≡ false = ap (λ y. touches_chunk y runs) (eqb-true _ _ t) ∙ free in rw (t, off) (or_false d)
+        | inr f ↦ rw f (or_false d)
+      ]
+        where
+          or_false : (d : Bool) → (d || false) ≡ d
+          or_false true = refl
+          or_false false = refl

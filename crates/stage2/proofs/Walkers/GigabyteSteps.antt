@@ -1,0 +1,81 @@
+-- The edits of the gigabytes of a row, one after another, as walks under way see them.
+use Rattle.std.proofs.Common.{◌≡◌, ℕ, ◌+◌, ◌*◌, ◌/◌, ◌<◌, Bool, true, false, ◌&&◌, ◌||◌, eqb, ltb, List, length, refl, arith, ap, ◌∙◌, inl, inr}
+use Rattle.std.proofs.lemmas.Bool.{eqb-true}
+use Rattle.std.proofs.lemmas.Bool.Decides.{nat_tests}
+use Rattle.base.specs.Pages.{PageRun}
+use Rattle.base.specs.Access.{View}
+use Rattle.pool.specs.Pool.{Pool, Pages}
+use Rattle.stage2.specs.Slot.{Layout}
+use Rattle.stage2.specs.Walk.{walked}
+use Rattle.base.specs.Need.{is_mixed}
+use Rattle.stage2.specs.Orderly.{answers}
+use Rattle.stage2.specs.Chunks.{edited}
+use Rattle.stage2.specs.Gigabytes.{IsPast}
+use Rattle.stage2.specs.Moments.{StaysInStep}
+use Rattle.stage2.specs.Steps.{AreFree, disturbed}
+use Rattle.stage2.proofs.Editing.GigabyteByGigabyte.{still-answers, still-edited}
+use Rattle.stage2.proofs.Counting.Needs.{mixed-same}
+use Rattle.stage2.proofs.Walkers.ZeroedTables.{stays-wider, stays-more}
+use Rattle.base.proofs.Booleans.{both}
+
+-- the pages that the edit of a row's gigabytes before the i-th may disturb
+abbrev pub disturbed_before : ℕ → List PageRun → (ℕ → View) → (ℕ → View) → ℕ → Bool
+disturbed_before i runs before after n = ltb (n / 512 / 512) i && disturbed runs before after n
+
+one-more : (g x : ℕ) (d : Bool) → (ltb x (g + 1) && d) ≡ ((ltb x g && d) || (eqb x g && d))
+one-more g x d = ap (λ b. b && d) more ∙ spread (ltb x g) (eqb x g) d
+  where
+    more : ltb x (g + 1) ≡ (ltb x g || eqb x g)
+    more = grind (arith, nat_tests)
+
+    spread : (some one d : Bool) → ((some || one) && d) ≡ ((some && d) || (one && d))
+    spread true true true = refl
+    spread true false true = refl
+    spread false true true = refl
+    spread false false true = refl
+    spread true true false = refl
+    spread true false false = refl
+    spread false true false = refl
+    spread false false false = refl
+
+module _ (layout : Layout) (row : ℕ) (runs : List PageRun) (access : View) (old : Pages) (inside : row < length layout.ids) (g : ℕ) (lt : g < 512) (mid : Pages) (h : IsPast layout row g (edited runs access (answers layout old.words row)) old mid) where
+  pub cross-free : AreFree (λ n. true) runs access (answers layout old.words row) → AreFree (λ n. eqb (n / 512 / 512) g) runs access (answers layout mid.words row)
+  cross-free free n small at covered = elim (free n small refl covered) [
+    | inl none ↦ inl none
+    | inr none ↦ inr (still-answers layout row runs access old inside g lt mid h n (eqb-true _ _ at) ∙ none)
+  ]
+
+  pub cross-edit : (a b c : Pool)
+      → StaysInStep layout row (disturbed_before g runs (answers layout old.words row) (edited runs access (answers layout old.words row))) (λ n. walked n (edited runs access (answers layout old.words row) n)) a b
+      → StaysInStep layout row (λ n. eqb (n / 512 / 512) g && disturbed runs (answers layout mid.words row) (edited runs access (answers layout mid.words row)) n) (λ n. walked n (edited runs access (answers layout mid.words row) n)) b c
+      → StaysInStep layout row (disturbed_before (g + 1) runs (answers layout old.words row) (edited runs access (answers layout old.words row))) (λ n. walked n (edited runs access (answers layout old.words row) n)) a c
+  cross-edit a b c so here =
+      let v : ℕ → View = answers layout old.words row in
+      let w : ℕ → View = edited runs access v in
+      let v2 : ℕ → View = answers layout mid.words row in
+      let w2 : ℕ → View = edited runs access v2 in
+      let told : StaysInStep layout row (λ n. eqb (n / 512 / 512) g && disturbed runs v w n) (λ n. walked n (w n)) b c =
+      stays-wider layout row (λ n. eqb (n / 512 / 512) g && disturbed runs v2 w2 n) (λ n. eqb (n / 512 / 512) g && disturbed runs v w n) (λ n. walked n (w2 n)) (λ n. walked n (w n)) b c here
+      (λ n small is.
+      let two = both (eqb (n / 512 / 512) g) (disturbed runs v2 w2 n) is in
+      let at : n / 512 / 512 ≡ g = eqb-true _ _ two.0 in
+      let one : is_mixed v2 (n / 512) ≡ is_mixed v (n / 512) = mixed-same v v2 (n / 512) (λ i below. still-answers layout row runs access old inside g lt mid h (512 * (n / 512) + i) (omega (arith, at, below))) in
+      let other : is_mixed w2 (n / 512) ≡ is_mixed w (n / 512) = mixed-same w w2 (n / 512) (λ i below. still-edited layout row runs access old inside g lt mid h (512 * (n / 512) + i) (omega (arith, at, below))) in
+      (rw (← one, ← other) is, inr (ap (walked n) (still-edited layout row runs access old inside g lt mid h n at)))) in
+      stays-more layout row (disturbed_before g runs v w) (λ n. eqb (n / 512 / 512) g && disturbed runs v w n) (disturbed_before (g + 1) runs v w) (λ n. walked n (w n)) a b c so told
+      (λ n small. one-more g (n / 512 / 512) (disturbed runs v w n))
+
+pub cross-skip : (layout : Layout) (row g : ℕ) (runs : List PageRun) (before after : ℕ → View) (a b : Pool)
+    → StaysInStep layout row (disturbed_before g runs before after) (λ n. walked n (after n)) a b → StaysInStep layout row (disturbed_before (g + 1) runs before after) (λ n. walked n (after n)) a b
+cross-skip layout row g runs before after a b so =
+    stays-wider layout row (disturbed_before g runs before after) (disturbed_before (g + 1) runs before after) (λ n. walked n (after n)) (λ n. walked n (after n)) a b so
+    (λ n small is. let two = both (ltb (n / 512 / 512) g) (disturbed runs before after n) is in (rw (later g (n / 512 / 512) two.0, two.1) refl, inr refl))
+  where
+    later : (g x : ℕ) → ltb x g ≡ true → ltb x (g + 1) ≡ true
+    later g x t = grind (arith, nat_tests)
+
+pub cross-all : (layout : Layout) (row i : ℕ) (runs : List PageRun) (before after : ℕ → View) (a b : Pool) → i ≡ 512
+    → StaysInStep layout row (disturbed_before i runs before after) (λ n. walked n (after n)) a b → StaysInStep layout row (disturbed runs before after) (λ n. walked n (after n)) a b
+cross-all layout row i runs before after a b end so =
+    stays-wider layout row (disturbed_before i runs before after) (disturbed runs before after) (λ n. walked n (after n)) (λ n. walked n (after n)) a b so
+    (λ n small is. ((both (ltb (n / 512 / 512) i) (disturbed runs before after n) is).1, inr refl))

@@ -1,0 +1,133 @@
+-- A chunk whose gigabyte's table hangs, or hangs only once the root's word is written: what hangs in the words as they are.
+use Rattle.std.proofs.Common.{◌≡◌, ◌≢◌, ℕ, ◌+◌, ◌*◌, ◌/◌, ◌%◌, ◌^◌, ◌<◌, true, false, ◌&&◌, eqb, cond, Some, None, length, refl, arith, ap, sym, subst, ◌∙◌, inl, inr}
+use Rattle.base.specs.Access.{View}
+use Rattle.words.specs.Words.{table_word_of}
+use Rattle.pool.specs.Pool.{Words, Pages, put}
+use Rattle.stage2.specs.declared.walked.Walked.TheVariants.{None as Unmapped}
+use Rattle.stage2.specs.Slot.{Layout, Slot, Empty, Next, slot}
+use Rattle.stage2.specs.Moments.{IsInvalid}
+use Rattle.stage2.proofs.Walkers.BreakBeforeMake.{empty-invalid}
+use Rattle.stage2.proofs.Walkers.TableWrites.{unmapped_3}
+use Rattle.stage2.specs.Walk.{at_2, walk, walked, Place, Gigabyte, Chunk, next_page, table_at, IsPlace, IsForest}
+use Rattle.stage2.specs.Orderly.{answers, linked}
+use Rattle.stage2.specs.Chunks.{Redoes_in, IsSite, IsEntryFor, IsOutcome}
+use Rattle.stage2.specs.Steps.{IsSeated}
+use Rattle.std.proofs.lemmas.Bool.Decides.{nat_tests}
+use Rattle.stage2.proofs.Tree.WalkFrame.{IsLevel3Write, IsUnheld, AgreeOutside, table_at-outside}
+use Rattle.stage2.proofs.Tree.PutTwice.{put-twice, put-there}
+use Rattle.stage2.proofs.Walkers.CallSeams.{hangs-linked, unheld-gigabyte, unheld-chunk}
+use Rattle.stage2.proofs.Editing.FourChunkEdits.{old, entry, table-entry, walk-entry, at_2-seen, third-at, slot-word, no-table, at_2-block, tidy-answer}
+use Rattle.stage2.proofs.Walkers.StepLists.{IsHung}
+
+-- the root's words stay
+pub seated-after : (layout : Layout) (row g j : ℕ) (m new : Pages) → IsSeated layout row g j m → new.words row g ≡ m.words row g → IsSeated layout row g j new
+seated-after layout row g j m new (inl h) e = inl (e ∙ h)
+seated-after layout row g j m new (inr h) e = inr (e ∙ h)
+
+module _ (layout : Layout) (row c j : ℕ) (m : Pages) (h : IsSite layout row c j m) where
+  -- the words as they are, where the link is written, and where it is not
+  same-words : m.words row (c / 512) ≡ table_word_of (layout.base + j) → old layout row c j m h ≡ m.words
+  same-words e = put-there m.words row (c / 512) (table_word_of (layout.base + j)) e
+
+  cut-words : m.words row (c / 512) ≡ 0 → put row (c / 512) 0 (old layout row c j m h) ≡ m.words
+  cut-words e = put-twice m.words row (c / 512) (table_word_of (layout.base + j)) 0 ∙ put-there m.words row (c / 512) 0 e
+
+  -- what hangs hangs with the link
+  pub hangs-seen : IsSeated layout row (c / 512) j m → (b : Place) (q : ℕ) → IsPlace layout b → table_at layout m.words b ≡ Some q → table_at layout (old layout row c j m h) b ≡ Some q
+  hangs-seen (inl e) b q inside at = ap (λ (w : Words). table_at layout w b) (same-words e) ∙ at
+  hangs-seen (inr e) b q inside at = hangs-linked layout (old layout row c j m h) row (c / 512) h.orderly.forest h.partition b q inside (ap (λ (w : Words). table_at layout w b) (cut-words e) ∙ at)
+
+  pub forest-seen : IsSeated layout row (c / 512) j m → IsForest layout m.words
+  forest-seen s a b q in_a in_b at_a at_b = h.orderly.forest a b q in_a in_b (hangs-seen s a q in_a at_a) (hangs-seen s b q in_b at_b)
+
+  -- a free page hangs nowhere
+  pub unheld-free : IsSeated layout row (c / 512) j m → (k : ℕ) → m.taken k ≡ false → IsUnheld layout m.words k
+  unheld-free s k free b inside at = let held : m.taken k ≡ true = h.orderly.taken b k inside (hangs-seen s b k inside at) in absurd (cc)
+
+  unheld-second : m.words row (c / 512) ≡ 0 → IsUnheld layout m.words j
+  unheld-second e =
+      subst (λ (w : Words). IsUnheld layout w j) (cut-words e) (unheld-gigabyte layout (old layout row c j m h) row (c / 512) h.orderly.forest h.partition j (omega (arith, h.chunk)) h.second)
+
+  pub unheld-third : m.words row (c / 512) ≡ 0 → (k : ℕ) → entry layout row c j m h ≡ Next k → IsUnheld layout m.words k
+  unheld-third e k is =
+      subst (λ (w : Words). IsUnheld layout w k) (cut-words e) (unheld-chunk layout (old layout row c j m h) row (c / 512) h.orderly.forest h.partition c k h.chunk refl (third-at layout row c j m h k is))
+
+  -- the level 2 table hangs, or hangs nowhere
+  pub hung-seen : IsSeated layout row (c / 512) j m → IsHung layout m.words row c j
+  hung-seen (inl e) = inl (forest-seen (inl e), ap (λ (w : Words). table_at layout w (Gigabyte row (c / 512))) (sym (same-words e)) ∙ h.second)
+  hung-seen (inr e) = inr (unheld-second e)
+
+  -- the table of the chunk hangs there alone, or nowhere
+  pub third-alone : IsSeated layout row (c / 512) j m → (k : ℕ) → entry layout row c j m h ≡ Next k → (a : Place) → IsPlace layout a → a ≢ Chunk row c → table_at layout m.words a ≡ Some k → ⊥
+  third-alone s k is a inside other at = other (h.orderly.forest a (Chunk row c) k inside (h.partition, h.chunk) (hangs-seen s a k inside at) (third-at layout row c j m h k is))
+
+  -- where the level 2 table hangs nowhere, nor does it
+  pub third-loose : IsSeated layout row (c / 512) j m → (k : ℕ) → entry layout row c j m h ≡ Next k → IsUnheld layout m.words j → IsUnheld layout m.words k
+  third-loose (inl e) k is loose = absurd (loose (Gigabyte row (c / 512)) (h.partition, omega (arith, h.chunk)) (ap (λ (w : Words). table_at layout w (Gigabyte row (c / 512))) (sym (same-words e)) ∙ h.second))
+  third-loose (inr e) k is loose = unheld-third e k is
+
+  pub third-hangs : m.words row (c / 512) ≡ table_word_of (layout.base + j) → (k : ℕ) → entry layout row c j m h ≡ Next k → table_at layout m.words (Chunk row c) ≡ Some k
+  third-hangs e k is = ap (λ (w : Words). table_at layout w (Chunk row c)) (sym (same-words e)) ∙ third-at layout row c j m h k is
+
+  -- the walks of the chunk's pages, from its word on
+  pub gives-entry : (n : ℕ) → n / 512 ≡ c → walk layout (old layout row c j m h) row n ≡ at_2 layout m.words n (entry layout row c j m h)
+  gives-entry n at = walk-entry layout row c j m h n at ∙ at_2-seen layout row c j m h n (entry layout row c j m h) (sym (table-entry layout row c j m h))
+
+-- a page that hung nowhere was filled
+pub hung-outside : (layout : Layout) (words new : Words) (row c j k : ℕ) → row < length layout.ids → c < 262144 → IsUnheld layout words k → AgreeOutside k words new → IsHung layout words row c j → IsHung layout new row c j
+hung-outside layout words new row c j k partition small free agree (inl h) = inl (
+  λ a b q in_a in_b at_a at_b. h.0 a b q in_a in_b (sym (table_at-outside layout words new k free agree a in_a) ∙ at_a) (sym (table_at-outside layout words new k free agree b in_b) ∙ at_b),
+  table_at-outside layout words new k free agree (Gigabyte row (c / 512)) (partition, omega (arith, small)) ∙ h.1,
+)
+hung-outside layout words new row c j k partition small free agree (inr h) = inr (λ a inside at. h a inside (sym (table_at-outside layout words new k free agree a inside) ∙ at))
+
+pub unheld-outside : (layout : Layout) (words new : Words) (k : ℕ) → IsUnheld layout words k → AgreeOutside k words new → IsUnheld layout new k
+unheld-outside layout words new k free agree a inside at = free a inside (sym (table_at-outside layout words new k free agree a inside) ∙ at)
+
+-- ---- after the edit of a chunk
+
+pub site-after : (layout : Layout) (row c j : ℕ) (view : ℕ → View) (m new : Pages) → IsSite layout row c j m → Redoes_in layout row c j view m new → IsSite layout row c j new
+site-after layout row c j view m new h r = record {
+  orderly = r.redoes.orderly;
+  partition = h.partition;
+  chunk = h.chunk;
+  second = r.redoes.tables (Gigabyte row (c / 512)) (h.partition, omega (arith, h.chunk)) (λ e. cc) ∙ h.second;
+}
+
+-- the chunk's word says what its pages answer
+pub gives-after : (layout : Layout) (row c j : ℕ) (view : ℕ → View) (m new : Pages) → IsSite layout row c j m → Redoes_in layout row c j view m new → (n : ℕ) → n < 2 ^ 27 → n / 512 ≡ c → at_2 layout new.words n (slot layout 2 (new.words j (c % 512))) ≡ walked n (view n)
+gives-after layout row c j view m new h r n small at =
+    let here : (eqb row row && eqb (n / 512) c) ≡ true = both row (n / 512) c at in
+    sym (gives-entry layout row c j new (site-after layout row c j view m new h r) n at)
+    ∙ r.redoes.walks row n small ∙ ap (λ b. cond b (walked n (view n)) (walk layout (linked layout row (c / 512) j m).words row n)) here
+  where
+    both : (x y z : ℕ) → y ≡ z → (eqb x x && eqb y z) ≡ true
+    both x y z e = grind (arith, nat_tests)
+
+-- a block, or nothing, is what it says
+pub gives-block : (layout : Layout) (words : Words) (c word : ℕ) (view : ℕ → View) (one : View) → IsEntryFor c one word → IsOutcome c view (Some one) → (n : ℕ) → n / 512 ≡ c → at_2 layout words n (slot layout 2 word) ≡ walked n (view n)
+gives-block layout words c word view one is outcome n at =
+    ap (at_2 layout words n) (slot-word layout 2 (512 * c) word one is.entry) ∙ at_2-block layout words c n one at ∙ ap (walked n) (sym (outcome.same one refl n at))
+
+pub block-no-table : (layout : Layout) (c word : ℕ) (one : View) → IsEntryFor c one word → next_page (slot layout 2 word) ≡ None
+block-no-table layout c word one is = ap next_page (slot-word layout 2 (512 * c) word one is.entry) ∙ no-table layout (512 * c) one
+
+-- ---- words of pages that are not mapped
+
+unmapped-at : (layout : Layout) (words : Words) (n k : ℕ) (s : Slot) → s ≡ Next k → at_2 layout words n s ≡ Unmapped → slot layout 3 (words k (n % 512)) ≡ Empty
+unmapped-at layout words n k s e none = unmapped_3 (slot layout 3 (words k (n % 512))) (ap (at_2 layout words n) (sym e) ∙ none)
+
+pub invalid-word : (layout : Layout) (row c j : ℕ) (m : Pages) (h : IsSite layout row c j m) (k i : ℕ) → entry layout row c j m h ≡ Next k → i < 512 → answers layout (old layout row c j m h) row (512 * c + i) ≡ None → IsInvalid (m.words k i)
+invalid-word layout row c j m h k i is small none =
+    let n = 512 * c + i in
+    let below = h.chunk in
+    let chunk : n / 512 ≡ c = omega (arith, small) in
+    let index : n % 512 ≡ i = omega (arith, small) in
+    let tidy = h.orderly.tidy row n h.partition (omega (arith, small, below)) in
+    let gone : walk layout (old layout row c j m h) row n ≡ Unmapped = tidy-answer n (walk layout (old layout row c j m h) row n) tidy ∙ ap (walked n) none in
+    let empty : slot layout 3 (m.words k (n % 512)) ≡ Empty = unmapped-at layout m.words n k (entry layout row c j m h) is (sym (gives-entry layout row c j m h n chunk) ∙ gone) in
+    empty-invalid layout 3 (m.words k i) (ap (λ x. slot layout 3 (m.words k x)) (sym index) ∙ empty)
+
+-- the table of the chunk hangs
+pub level_3-seen : (layout : Layout) (row c j : ℕ) (m : Pages) (h : IsSite layout row c j m) → (e : m.words row (c / 512) ≡ table_word_of (layout.base + j)) → (k : ℕ) → entry layout row c j m h ≡ Next k → IsLevel3Write layout m.words row c k
+level_3-seen layout row c j m h e k is = record { forest = forest-seen layout row c j m h (inl e); partition = h.partition; chunk = h.chunk; table = third-hangs layout row c j m h e k is }

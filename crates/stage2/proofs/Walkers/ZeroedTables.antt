@@ -1,0 +1,134 @@
+-- Words of level 3 tables are set to 0, and their pages are invalidated later.
+use Rattle.std.proofs.Common.{◌≡◌, ℕ, suc, ◌+◌, ◌%◌, ◌^◌, ◌<◌, Bool, true, false, ◌&&◌, ◌||◌, not, List, length, refl, arith, ap, sym, ◌∙◌, subst, ◌⊎◌, inl, inr}
+use Rattle.base.specs.Pages.{PageRun, in_run}
+use Rattle.base.specs.Manifest.{row_of}
+use Rattle.pool.specs.Pool.{Pool, Words, words_of}
+use Rattle.pool.specs.declared.operation.Op.{Op}
+use Rattle.pool.specs.declared.operation.Op.TheVariants.{Invalidate}
+use Rattle.stage2.specs.declared.walked.Walked.{Walked}
+use Rattle.stage2.specs.declared.walked.Walked.TheVariants.{None as Unmapped}
+use Rattle.stage2.specs.Slot.{Layout}
+use Rattle.stage2.specs.Moments.{BreaksFirst, Edit, MayGive, IsInStepIn, IsLogged, nothing, Allows, Clears, Settles, StaysInStep}
+use Rattle.stage2.proofs.Walkers.InStep.{orderly-invalidate, orderly-weaker}
+
+-- 0 may be written anywhere
+pub breaks-zero : (layout : Layout) (entry : Words) (past : List Op) (page index : ℕ) → BreaksFirst layout entry past page index 0
+breaks-zero layout entry past page index = record { breaks = λ _. refl; makes = λ valid a inside row n small stands moment since at. absurd (valid refl) }
+
+-- ---- one word
+
+-- ---- counting
+
+pub counted-more : (a l m k : ℕ) → m % 2 ^ 64 ≡ (a + l) % 2 ^ 64 → k ≡ (m + 1) % 2 ^ 64 → k % 2 ^ 64 ≡ (a + suc l) % 2 ^ 64
+counted-more a l m k e f = omega (arith, e, f)
+
+no : (a b : Bool) → (a || b) ≡ false → (a ≡ false) × (b ≡ false)
+no false b e = (refl, e)
+no true b e = absurd (cc)
+
+pub counted-op : (e : Edit) (op : Op) (old new : Pool) → IsLogged op old new → old.made % 2 ^ 64 ≡ (e.made + length old.operations) % 2 ^ 64 → new.made % 2 ^ 64 ≡ (e.made + length new.operations) % 2 ^ 64
+counted-op e op old new is counted =
+    let count : length new.operations ≡ suc (length old.operations) = ap (λ (ops : List Op). length ops) is.operations in
+    rw count (counted-more e.made (length old.operations) old.made new.made counted is.made)
+
+-- ---- one after another
+
+weaker : (e : Edit) (due more : ℕ → Bool) (pool : Pool) → IsInStepIn e due pool → ((n : ℕ) → n < 2 ^ 27 → more n ≡ false → due n ≡ false) → IsInStepIn e more pool
+weaker e due more pool h fewer = record { orderly = orderly-weaker e due more (words_of pool.memory.words) pool.operations h.orderly fewer; counted = h.counted }
+
+fewer-pages : (e : Edit) (layout : Layout) (row : ℕ) (which all : ℕ → Bool) (answer : ℕ → Walked) → ((n : ℕ) → n < 2 ^ 27 → which n ≡ true → all n ≡ true) → Allows e layout row all answer → Allows e layout row which answer
+fewer-pages e layout row which all answer within h = record { same_layout = h.same_layout; same_row = h.same_row; may = λ n small w. h.may n small (within n small w) }
+
+left_of : (all which more : Bool) → all ≡ (which || more) → which ≡ true → all ≡ true
+left_of all true more e w = e
+left_of all false more e w = absurd (cc)
+
+right_of : (all which more : Bool) → all ≡ (which || more) → more ≡ true → all ≡ true
+right_of all true true e w = e
+right_of all false true e w = e
+right_of all which false e w = absurd (cc)
+
+due_left : (due all : Bool) → (due || all) ≡ false → due ≡ false
+due_left true all f = absurd (cc)
+due_left false all f = refl
+
+pub clears-none : (layout : Layout) (row : ℕ) (which : ℕ → Bool) (a : Pool) → Clears layout row which a a
+clears-none layout row which a e due allows o = weaker e due (λ n. due n || which n) a o (λ n small f. due_left (due n) (which n) f)
+
+-- ---- invalidations
+
+and_not : (due which : Bool) → (due && not which) ≡ false → which ≡ false → due ≡ false
+and_not due true e f = absurd (cc)
+and_not true false e f = absurd (cc)
+and_not false false e f = refl
+
+pub settles-one : (who : ℕ) (run : PageRun) (a b : Pool) → b.memory ≡ a.memory → IsLogged (Invalidate who run) a b → Settles who (λ n. in_run run n) a b
+settles-one who run a b same is e due row o =
+    let more : ℕ → Bool = λ n. due n && not (in_run run n) in
+    let done = orderly-invalidate e due more (words_of a.memory.words) a.operations who run o.orderly row (λ n small f g. and_not (due n) (in_run run n) f g) in
+    record {
+      orderly = rw (same, is.operations) done;
+      counted = counted-op e (Invalidate who run) a b is o.counted;
+    }
+
+settled_twice : (due all which more : Bool) → all ≡ (which || more) → (due && not all) ≡ false → ((due && not which) && not more) ≡ false
+settled_twice false all which more e f = refl
+settled_twice true all true more e f = refl
+settled_twice true all false more e f = rw e at f
+
+pub settles-more : (who : ℕ) (which more all : ℕ → Bool) (a b c : Pool) → Settles who which a b → Settles who more b c → ((n : ℕ) → n < 2 ^ 27 → all n ≡ (which n || more n)) → Settles who all a c
+settles-more who which more all a b c so here is e due row o =
+    let second = here e (λ n. due n && not (which n)) row (so e due row o) in
+    weaker e (λ n. (due n && not (which n)) && not (more n)) (λ n. due n && not (all n)) c second (λ n small f. settled_twice (due n) (all n) (which n) (more n) (is n small) f)
+
+pub settles-as : (who : ℕ) (which all : ℕ → Bool) (a b : Pool) → Settles who which a b → ((n : ℕ) → n < 2 ^ 27 → all n ≡ which n) → Settles who all a b
+settles-as who which all a b so is e due row o = weaker e (λ n. due n && not (which n)) (λ n. due n && not (all n)) b (so e due row o) (λ n small f. rw (is n small) at f)
+
+-- ---- edits after which nothing is due
+
+due_of : (which : Bool) → ((false || which) && not which) ≡ false
+due_of true = refl
+due_of false = refl
+
+pub stays-cleared : (layout : Layout) (row who : ℕ) (which : ℕ → Bool) (a b c : Pool) → row_of layout.ids who ≡ row → Clears layout row which a b → Settles who which b c → StaysInStep layout row which (λ n. Unmapped) a c
+stays-cleared layout row who which a b c is clears settles e allows o =
+    let here : row_of e.layout.ids who ≡ e.row = rw (allows.same_layout, allows.same_row) is in
+    weaker e (λ n. (false || which n) && not (which n)) nothing c (settles e (λ n. false || which n) here (clears e nothing allows o)) (λ n small f. due_of (which n))
+
+pub stays-none : (layout : Layout) (row : ℕ) (which : ℕ → Bool) (answer : ℕ → Walked) (a : Pool) → StaysInStep layout row which answer a a
+stays-none layout row which answer a e allows o = o
+
+pub stays-more : (layout : Layout) (row : ℕ) (which more all : ℕ → Bool) (answer : ℕ → Walked) (a b c : Pool) → StaysInStep layout row which answer a b → StaysInStep layout row more answer b c → ((n : ℕ) → n < 2 ^ 27 → all n ≡ (which n || more n))
+    → StaysInStep layout row all answer a c
+stays-more layout row which more all answer a b c so here is e allows o =
+    here e (fewer-pages e layout row more all answer (λ n small w. right_of (all n) (which n) (more n) (is n small) w) allows)
+    (so e (fewer-pages e layout row which all answer (λ n small w. left_of (all n) (which n) (more n) (is n small) w) allows) o)
+
+pub stays-as : (layout : Layout) (row : ℕ) (which all : ℕ → Bool) (answer : ℕ → Walked) (a b : Pool) → StaysInStep layout row which answer a b → ((n : ℕ) → n < 2 ^ 27 → all n ≡ which n) → StaysInStep layout row all answer a b
+stays-as layout row which all answer a b so is e allows o = so e (fewer-pages e layout row which all answer (λ n small w. is n small ∙ w) allows) o
+
+-- of an edit that may disturb more, and give other answers
+pub stays-wider : (layout : Layout) (row : ℕ) (which all : ℕ → Bool) (answer other : ℕ → Walked) (a b : Pool) → StaysInStep layout row which answer a b → ((n : ℕ) → n < 2 ^ 27 → which n ≡ true → (all n ≡ true) × ((answer n ≡ Unmapped) ⊎ (answer n ≡ other n)))
+    → StaysInStep layout row all other a b
+stays-wider layout row which all answer other a b so within e allows o =
+    so e (record {
+      same_layout = allows.same_layout;
+      same_row = allows.same_row;
+      may = λ n small w.
+          let h = within n small w in
+          let m = allows.may n small h.0 in (
+            m.0,
+            elim h.1 [
+              | inl none ↦ subst (λ (x : Walked). MayGive e e.row n x) (sym none) m.0
+              | inr is ↦ subst (λ (x : Walked). MayGive e e.row n x) (sym is) m.1
+            ],
+          );
+    }) o
+
+-- one edit after another
+pub stays-after : (layout : Layout) (row : ℕ) (which : ℕ → Bool) (answer : ℕ → Walked) (a b c : Pool) → StaysInStep layout row which answer a b → StaysInStep layout row which answer b c → StaysInStep layout row which answer a c
+stays-after layout row which answer a b c so here e allows o = here e allows (so e allows o)
+
+-- pages are taken and given back without an operation
+pub stays-taken : (layout : Layout) (row : ℕ) (which : ℕ → Bool) (answer : ℕ → Walked) (a b : Pool) → words_of b.memory.words ≡ words_of a.memory.words → b.operations ≡ a.operations → b.made ≡ a.made → StaysInStep layout row which answer a b
+stays-taken layout row which answer a b words ops made e allows o = record { orderly = rw (words, ops) o.orderly; counted = rw (ops, made) o.counted }
