@@ -51,11 +51,9 @@ pub(crate) fn run_script<M: TableMem + Drop>(
 impl<M: TableMem + Drop> Run<M> {
     /// The manager before any call, and empty TX buffers.
     fn boot(alloc: Global, manifest: Manifest) -> Result<Self, OutOfMemory> {
-        Ok(Run {
-            alloc,
-            spm: Spm::boot(alloc, manifest)?,
-            kept: BTreeMap::new(alloc),
-        })
+        let spm = Spm::boot(alloc, manifest)?;
+        let kept = BTreeMap::new(alloc);
+        Ok(Run { alloc, spm, kept })
     }
 
     fn line(&mut self, line: Line, text: &mut String) -> Result<(), RunFault>
