@@ -47,7 +47,8 @@ abbrev pub sends_of : List PartitionState → ℕ → ℕ
 sends_of partitions p = option_map_or (λ s. s.sends) (state_of partitions p) 0
 
 -- these with the state of one partition changed
-abbrev pub with_partition : ℕ → (PartitionState → PartitionState) → List PartitionState → List PartitionState
+abbrev pub with_partition : ℕ → (PartitionState → PartitionState) → List PartitionState
+    → List PartitionState
 with_partition p change [] = []
 with_partition p change (s ∷ partitions) =
     if s.partition == p then change s ∷ partitions else s ∷ with_partition p change partitions

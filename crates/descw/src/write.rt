@@ -38,7 +38,8 @@ pub fn write_send(
 
     // Where the fields keep the rules, the bytes spell what they say.
     ensures spells { IfOk result (λ bytes.
-        IsTrue (are_send_fields fields.now) → send.SpellsSend version bytes.items (sent_by fields.now)) }
+        IsTrue (are_send_fields fields.now)
+        → send.SpellsSend version bytes.items (sent_by fields.now)) }
 {
     let receivers = fields.receivers.len() as u32;
     let ranges = fields.ranges.len() as u32;
@@ -66,7 +67,8 @@ pub fn write_retrieve(
 
     // Where the fields keep the rules, the bytes spell what they say.
     ensures spells { IfOk result (λ bytes.
-        IsTrue (are_retrieve_fields fields.now) → SpellsRetrieve version bytes.items (asked_by fields.now)) }
+        IsTrue (are_retrieve_fields fields.now)
+        → SpellsRetrieve version bytes.items (asked_by fields.now)) }
 {
     let size = header_size(version) + PART_SIZE;
     let mut out = Vec::with_capacity(alloc, size as usize)?;
@@ -84,7 +86,8 @@ pub fn write_relinquish(alloc: Global, fields: &RelinquishFields) -> Result<Vec<
 
     // Where the fields keep the rules, the bytes spell what they say.
     ensures spells { IfOk result (λ bytes.
-        IsTrue (are_relinquish_fields fields.now) → SpellsRelinquish bytes.items (given_up_by fields.now)) }
+        IsTrue (are_relinquish_fields fields.now)
+        → SpellsRelinquish bytes.items (given_up_by fields.now)) }
 {
     let mut out = Vec::with_capacity(alloc, RELINQUISH_SIZE)?;
     write_u64(&mut out, fields.handle.bits())?;

@@ -16,7 +16,9 @@ AreReached s p runs = AllByRecursion (λ r. sees s p r.run.first ≡ Some r.acce
 
 -- the pages from one number up to another, where there are any
 abbrev pub run_between : ℕ → ℕ → Option PageRun
-run_between first end = if nat_lt first end && nat_le end (2 ^ 27) then Some (record { first = first; count = end - first }) else None
+run_between first end =
+    if nat_lt first end
+    && nat_le end (2 ^ 27) then Some (record { first = first; count = end - first }) else None
 
 -- data and instruction access in three characters
 abbrev pub access_text : Access → List ℕ

@@ -108,7 +108,9 @@ fn run_between(first: u32, end: u32) -> Option<Run>
 
 /// Appends pages, to the last run where they continue it alike.
 fn append(runs: &mut Vec<Reached>, next: Reached) -> Result<(), OutOfMemory>
-    ensures { (s : State) (p : ℕ) → spec.AreReached s p runs.old.items → sees s p next.run.first ≡ Some next.access → OnOk result (spec.AreReached s p runs.new.items) }
+    ensures { (s : State) (p : ℕ) → spec.AreReached s p runs.old.items
+        → sees s p next.run.first ≡ Some next.access
+        → OnOk result (spec.AreReached s p runs.new.items) }
 {
     if let Some(last) = runs.last_mut() {
         if last.access == next.access && last.run.end() == next.run.first().number() {

@@ -9,7 +9,8 @@ pub use Rattle.base.specs.Transactions.{without}
 -- what one of the receivers has retrieved is this now
 abbrev pub with_retrieved : ℕ → View → List Receiver → List Receiver
 with_retrieved p view [] = []
-with_retrieved p view (r ∷ rs) = if r.partition == p then record r { retrieved = view } ∷ rs else r ∷ with_retrieved p view rs
+with_retrieved p view (r ∷ rs) =
+    if r.partition == p then record r { retrieved = view } ∷ rs else r ∷ with_retrieved p view rs
 
 -- the same of a receiver of the transaction
 abbrev pub with_retrieval : ℕ → View → Live → Live
@@ -18,7 +19,8 @@ with_retrieval p view t = record t { receivers = with_retrieved p view t.receive
 -- the same of a receiver of the transaction of a handle
 abbrev pub with_retrieval_of : ℕ → ℕ → View → List Live → List Live
 with_retrieval_of h p view [] = []
-with_retrieval_of h p view (t ∷ ts) = if t.handle == h then with_retrieval p view t ∷ ts else t ∷ with_retrieval_of h p view ts
+with_retrieval_of h p view (t ∷ ts) =
+    if t.handle == h then with_retrieval p view t ∷ ts else t ∷ with_retrieval_of h p view ts
 
 -- the donation by which a retrieval ends the transaction
 abbrev pub completed : ℕ → Access → Live → Donation

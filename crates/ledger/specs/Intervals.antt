@@ -20,7 +20,8 @@ AreAllSeparate (t ∷ ts) = AllByRecursion (AreSeparate t) ts × AreAllSeparate 
 -- the number of a page is the place of the last donation that covers it
 pub record IsPlaced (donations : List Donation) (given : List Span) : Type 0 where
   pub inside : (n i : ℕ) → value_at given n ≡ Some i → i < length donations
-  pub at : (n : ℕ) → option_and_then (slice_get donations) (value_at given n) ≡ donation_at donations n
+  pub at : (n : ℕ)
+      → option_and_then (slice_get donations) (value_at given n) ≡ donation_at donations n
 
 -- the number of a page is the handle of the live transaction that covers it
 abbrev pub AreHandles : List Live → List Span → Type 0

@@ -50,7 +50,8 @@ pub fn read_line(alloc: Global, bytes: &[u8]) -> Result<Option<Line>, OutOfMemor
     ensures long { 66000 < length bytes.now → IfOk result (λ line. line ≡ None) }
 
     // An empty line and a comment are lines that say nothing.
-    ensures nothing { IsTrue (is_nothing bytes.now) → IfOk result (λ line. line ≡ Some Line.Nothing) }
+    ensures nothing { IsTrue (is_nothing bytes.now)
+        → IfOk result (λ line. line ≡ Some Line.Nothing) }
 
     // A copy of a TX buffer is no longer than one, and a send has its total and not too many ranges.
     ensures parts { IfOk result (λ line. IfSome line HasParts) }

@@ -5,7 +5,8 @@ use Rattle.spans.specs.Spans.{Span, end_of, ascend, end_from}
 
 -- the pages of an interval from one page up to another
 abbrev pub part_of : ℕ → ℕ → Span → Span
-part_of first end s = record { run = record { first = first; count = end - first }; value = s.value }
+part_of first end s =
+    record { run = record { first = first; count = end - first }; value = s.value }
 
 -- the pages of an interval before a page
 abbrev pub left_of : ℕ → Span → Option Span

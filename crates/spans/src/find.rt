@@ -83,7 +83,8 @@ impl Spans {
     pub fn segment_at(&self, page: Page) -> Segment
         ensures behind { page < result.end }
         ensures in_range { result.end ≤ 2 ^ 27 }
-        ensures value { (n : ℕ) → page ≤ n → n < result.end → value_at self.now.spans n ≡ result.value }
+        ensures value { (n : ℕ) → page ≤ n → n < result.end
+            → value_at self.now.spans n ≡ result.value }
     {
         self.segment_from::<Brand>(page, Blank::new(1))
     }
@@ -94,7 +95,8 @@ impl Spans {
         requires some { 0 < L.parts }
         ensures behind { page < result.end }
         ensures in_range { result.end ≤ 2 ^ 27 }
-        ensures value { (n : ℕ) → page ≤ n → n < result.end → value_at self.now.spans n ≡ result.value }
+        ensures value { (n : ℕ) → page ≤ n → n < result.end
+            → value_at self.now.spans n ≡ result.value }
     {
         let mut probes = Probes::<L>::new(blank);
         self.find_segment(page, &mut probes)
@@ -104,7 +106,8 @@ impl Spans {
     fn find_segment<L: Ledger>(&self, page: Page, probes: &mut Probes<L>) -> Segment
         ensures behind { page < result.end }
         ensures in_range { result.end ≤ 2 ^ 27 }
-        ensures value { (n : ℕ) → page ≤ n → n < result.end → value_at self.now.spans n ≡ result.value }
+        ensures value { (n : ℕ) → page ≤ n → n < result.end
+            → value_at self.now.spans n ≡ result.value }
     {
         match self.place_of(page, probes) {
             Place::Inside(run, value) => Segment {

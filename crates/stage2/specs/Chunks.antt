@@ -21,8 +21,10 @@ pub record Redoes (layout : Layout) (row c : ℕ) (answer : ℕ → View) (old n
   pub orderly : IsOrderly layout new
   pub ids : new.ids ≡ old.ids
   pub quotas : new.quotas ≡ old.quotas
-  pub walks : (q n : ℕ) → n < 2 ^ 27 → walk layout new.words q n ≡ (if (q == row) && (n / 512 == c) then walked n (answer n) else walk layout old.words q n)
-  pub tables : (b : Place) → IsPlace layout b → b ≢ Chunk row c → table_at layout new.words b ≡ table_at layout old.words b
+  pub walks : (q n : ℕ) → n < 2 ^ 27 → walk layout new.words q n
+      ≡ (if (q == row) && (n / 512 == c) then walked n (answer n) else walk layout old.words q n)
+  pub tables : (b : Place) → IsPlace layout b → b ≢ Chunk row c
+      → table_at layout new.words b ≡ table_at layout old.words b
 
 -- ---- the words of one level 3 table
 
@@ -45,7 +47,8 @@ pub record Writes (k c : ℕ) (plan : ℕ → Option View) (old new : Pages) : T
   pub quotas : new.quotas ≡ old.quotas
   pub taken : new.taken ≡ old.taken
   pub others : (q i : ℕ) → q ≢ k → new.words q i ≡ old.words q i
-  pub here : (i : ℕ) (answer : View) → i < 512 → plan (512 * c + i) ≡ Some answer → IsWordFor (512 * c + i) answer (new.words k i)
+  pub here : (i : ℕ) (answer : View) → i < 512 → plan (512 * c + i) ≡ Some answer
+      → IsWordFor (512 * c + i) answer (new.words k i)
   pub stays : (i : ℕ) → i < 512 → plan (512 * c + i) ≡ None → new.words k i ≡ old.words k i
 
 -- ---- the answers of one chunk, from its level 2 word on
@@ -61,7 +64,9 @@ pub record IsOutcome (c : ℕ) (answer : ℕ → View) (outcome : Option View) :
 
 -- one of the runs has all pages of the chunk
 abbrev pub covers_chunk : ℕ → List PageRun → Bool
-covers_chunk c runs = list_any (λ run. nat_le run.first (512 * c) && nat_le (512 * c + 512) (run.first + run.count)) runs
+covers_chunk c runs =
+    list_any (λ run. nat_le run.first (512 * c) && nat_le (512 * c + 512) (run.first + run.count))
+    runs
 
 -- the pages of a chunk before the i-th answer as its first does
 pub record AreAlike (answer : ℕ → View) (c i : ℕ) : Type 0 where
@@ -77,7 +82,8 @@ pub record IsSite (layout : Layout) (row c j : ℕ) (m : Pages) : Type 0 where
   pub orderly : IsOrderly layout (linked layout row (c / 512) j m)
   pub partition : row < length layout.ids
   pub chunk : c < 262144
-  pub second : table_at layout (linked layout row (c / 512) j m).words (Gigabyte row (c / 512)) ≡ Some j
+  pub second : table_at layout (linked layout row (c / 512) j m).words (Gigabyte row (c / 512))
+      ≡ Some j
 
 -- the answers of a row, seen so
 abbrev pub answers_in : Layout → ℕ → ℕ → ℕ → Pages → ℕ → View
@@ -85,7 +91,8 @@ answers_in layout row c j m = answers layout (linked layout row (c / 512) j m).w
 
 -- the edit of a chunk, seen so; the root's own words stay
 pub record Redoes_in (layout : Layout) (row c j : ℕ) (answer : ℕ → View) (old new : Pages) : Type 0 where
-  pub redoes : Redoes layout row c answer (linked layout row (c / 512) j old) (linked layout row (c / 512) j new)
+  pub redoes : Redoes layout row c answer (linked layout row (c / 512) j old)
+      (linked layout row (c / 512) j new)
   pub root : (i : ℕ) → new.words row i ≡ old.words row i
 
 -- the chunk needs a table in the new view, and has none in the old

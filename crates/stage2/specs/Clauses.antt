@@ -36,7 +36,8 @@ Breaks who j c old new = Made (broken who j c (words_of old.memory.words j (c % 
 
 -- and another is written there
 abbrev pub Replaces : ℕ → ℕ → ℕ → ℕ → Pool → Pool → Type 0
-Replaces who j c word old new = Made (replaced who j c (words_of old.memory.words j (c % 512)) word) old new
+Replaces who j c word old new =
+    Made (replaced who j c (words_of old.memory.words j (c % 512)) word) old new
 
 -- ---- a chunk, whose level 2 word stands in table j
 
@@ -46,7 +47,8 @@ chunk_slot layout c j pool = slot layout 2 (words_of pool.memory.words j (c % 51
 
 -- what its pages answer after an edit, read from its word on
 abbrev pub read_after : Layout → List PageRun → View → Slot → Pool → ℕ → View
-read_after layout runs access entry pool = edited runs access (answers_at layout (words_of pool.memory.words) entry)
+read_after layout runs access entry pool =
+    edited runs access (answers_at layout (words_of pool.memory.words) entry)
 
 -- what its pages answer
 abbrev pub chunk_view : Layout → ℕ → ℕ → ℕ → Pool → ℕ → View
@@ -66,19 +68,26 @@ HasFree row pool = used_by (pages_of pool.memory) row < quota_of pool.memory.quo
 
 -- the edit takes a table for it
 abbrev pub GrowsChunk : Layout → ℕ → ℕ → ℕ → List PageRun → View → Pool → Type 0
-GrowsChunk layout row c j runs access pool = IsGrowing (chunk_view layout row c j pool) (chunk_after layout row c j runs access pool) c
+GrowsChunk layout row c j runs access pool =
+    IsGrowing (chunk_view layout row c j pool) (chunk_after layout row c j runs access pool) c
 
 -- its pages are edited
 abbrev pub EditsChunk : Layout → ℕ → ℕ → ℕ → List PageRun → View → Pool → Pool → Type 0
-EditsChunk layout row c j runs access old new = Redoes_in layout row c j (chunk_after layout row c j runs access old) (pages_of old.memory) (pages_of new.memory)
+EditsChunk layout row c j runs access old new =
+    Redoes_in layout row c j (chunk_after layout row c j runs access old) (pages_of old.memory)
+    (pages_of new.memory)
 
 -- where they don't answer all alike then
 abbrev pub EditsMixed : Layout → ℕ → ℕ → ℕ → List PageRun → View → Pool → Pool → Type 0
-EditsMixed layout row c j runs access old new = IsOutcome c (chunk_after layout row c j runs access old) None → EditsChunk layout row c j runs access old new
+EditsMixed layout row c j runs access old new =
+    IsOutcome c (chunk_after layout row c j runs access old) None
+    → EditsChunk layout row c j runs access old new
 
 -- they all get one answer
 abbrev pub SetsChunk : Layout → ℕ → ℕ → ℕ → View → Pool → Pool → Type 0
-SetsChunk layout row c j answer old new = (view : ℕ → View) → IsOutcome c view (Some answer) → Redoes_in layout row c j view (pages_of old.memory) (pages_of new.memory)
+SetsChunk layout row c j answer old new =
+    (view : ℕ → View) → IsOutcome c view (Some answer)
+    → Redoes_in layout row c j view (pages_of old.memory) (pages_of new.memory)
 
 -- the root's word of its gigabyte links table j, or is 0 still
 abbrev pub IsSeatedAt : Layout → ℕ → ℕ → ℕ → Pool → Type 0
@@ -86,18 +95,23 @@ IsSeatedAt layout row c j pool = IsSeated layout row (c / 512) j (pages_of pool.
 
 -- walks see nothing, the old answer or the new one of the chunk's pages
 abbrev pub StaysAtChunk : Layout → ℕ → ℕ → (ℕ → View) → Pool → Pool → Type 0
-StaysAtChunk layout row c view old new = StaysInStep layout row (λ n. n / 512 == c) (λ n. walked n (view n)) old new
+StaysAtChunk layout row c view old new =
+    StaysInStep layout row (λ n. n / 512 == c) (λ n. walked n (view n)) old new
 
 abbrev pub SetsInStep : Layout → ℕ → ℕ → ℕ → View → Pool → Pool → Type 0
-SetsInStep layout row c j answer old new = (view : ℕ → View) → IsOutcome c view (Some answer) → IsSeatedAt layout row c j old → StaysAtChunk layout row c view old new
+SetsInStep layout row c j answer old new =
+    (view : ℕ → View) → IsOutcome c view (Some answer) → IsSeatedAt layout row c j old
+    → StaysAtChunk layout row c view old new
 
 abbrev pub MixesInStep : Layout → ℕ → ℕ → ℕ → List PageRun → View → Pool → Pool → Type 0
 MixesInStep layout row c j runs access old new =
-    IsOutcome c (chunk_after layout row c j runs access old) None → IsSeatedAt layout row c j old → StaysAtChunk layout row c (chunk_after layout row c j runs access old) old new
+    IsOutcome c (chunk_after layout row c j runs access old) None → IsSeatedAt layout row c j old
+    → StaysAtChunk layout row c (chunk_after layout row c j runs access old) old new
 
 -- of its pages, those of a map are not mapped before
 abbrev pub AreFreeIn : Layout → ℕ → ℕ → ℕ → List PageRun → View → Pool → Type 0
-AreFreeIn layout row c j runs access pool = AreFree (λ n. n / 512 == c) runs access (chunk_view layout row c j pool)
+AreFreeIn layout row c j runs access pool =
+    AreFree (λ n. n / 512 == c) runs access (chunk_view layout row c j pool)
 
 -- its pages of the runs
 abbrev pub covers_in : ℕ → List PageRun → ℕ → Bool
@@ -106,40 +120,52 @@ covers_in c runs n = covers runs n && (n / 512 == c)
 -- pages are mapped in its table
 abbrev pub MapsInStep : Layout → ℕ → ℕ → ℕ → List PageRun → View → Pool → Pool → Type 0
 MapsInStep layout row c j runs access old new =
-    IsSeatedAt layout row c j old → AreFreeIn layout row c j runs access old → is_some access ≡ true → StaysInStep layout row (covers_in c runs) (λ n. walked n access) old new
+    IsSeatedAt layout row c j old → AreFreeIn layout row c j runs access old → is_some access ≡ true
+    → StaysInStep layout row (covers_in c runs) (λ n. walked n access) old new
 
 -- pages are unmapped in its table, and are not yet invalidated
 abbrev pub ClearsPages : Layout → ℕ → ℕ → ℕ → List PageRun → View → Pool → Pool → Type 0
-ClearsPages layout row c j runs access old new = access ≡ None → IsSeatedAt layout row c j old → Clears layout row (covers_in c runs) old new
+ClearsPages layout row c j runs access old new =
+    access ≡ None → IsSeatedAt layout row c j old → Clears layout row (covers_in c runs) old new
 
 -- the whole edit of the chunk
 abbrev pub ChunkInStep : Layout → ℕ → ℕ → ℕ → List PageRun → View → Pool → Pool → Type 0
 ChunkInStep layout row c j runs access old new =
     IsSeatedAt layout row c j old → AreFreeIn layout row c j runs access old
-    → StaysInStep layout row (λ n. (n / 512 == c) && disturbs runs (chunk_view layout row c j old) (chunk_after layout row c j runs access old) n) (λ n. walked n (chunk_after layout row c j runs access old n)) old new
+    → StaysInStep layout row
+    (λ n. (n / 512 == c) && disturbs runs (chunk_view layout row c j old) (chunk_after layout row c j runs access old) n)
+    (λ n. walked n (chunk_after layout row c j runs access old n)) old new
 
 -- ---- the chunks of a gigabyte, whose level 2 table is j
 
 abbrev pub IsLinkedOrderly : Layout → ℕ → ℕ → ℕ → Pool → Type 0
-IsLinkedOrderly layout row g j pool = IsOrderly layout (linked layout row g j (pages_of pool.memory))
+IsLinkedOrderly layout row g j pool =
+    IsOrderly layout (linked layout row g j (pages_of pool.memory))
 
 abbrev pub IsSecond : Layout → ℕ → ℕ → ℕ → Pool → Type 0
-IsSecond layout row g j pool = table_at layout (linked layout row g j (pages_of pool.memory)).words (Gigabyte row g) ≡ Some j
+IsSecond layout row g j pool =
+    table_at layout (linked layout row g j (pages_of pool.memory)).words (Gigabyte row g) ≡ Some j
 
 -- the operations that their edit takes at most
 abbrev pub chunks_operations : List PageRun → ℕ → ℕ
 chunks_operations runs g = sum_below (λ x. chunk_operations runs (512 * g + x)) 512
 
 abbrev pub linked_view : Layout → ℕ → ℕ → ℕ → Pool → ℕ → View
-linked_view layout row g j pool = answers layout (linked layout row g j (pages_of pool.memory)).words row
+linked_view layout row g j pool =
+    answers layout (linked layout row g j (pages_of pool.memory)).words row
 
 abbrev pub EditsChunks : Layout → ℕ → ℕ → ℕ → List PageRun → View → Pool → Pool → Type 0
-EditsChunks layout row g j runs access old new = IsUnderway layout row g j 512 (edited runs access (linked_view layout row g j old)) (pages_of old.memory) (pages_of new.memory)
+EditsChunks layout row g j runs access old new =
+    IsUnderway layout row g j 512 (edited runs access (linked_view layout row g j old))
+    (pages_of old.memory) (pages_of new.memory)
 
 abbrev pub ChunksInStep : Layout → ℕ → ℕ → ℕ → List PageRun → View → Pool → Pool → Type 0
 ChunksInStep layout row g j runs access old new =
-    IsSeated layout row g j (pages_of old.memory) → AreFree (λ n. n / 512 / 512 == g) runs access (linked_view layout row g j old)
-    → StaysInStep layout row (disturbed_below g 512 runs (linked_view layout row g j old) (edited runs access (linked_view layout row g j old))) (λ n. walked n (edited runs access (linked_view layout row g j old) n)) old new
+    IsSeated layout row g j (pages_of old.memory)
+    → AreFree (λ n. n / 512 / 512 == g) runs access (linked_view layout row g j old)
+    → StaysInStep layout row
+    (disturbed_below g 512 runs (linked_view layout row g j old) (edited runs access (linked_view layout row g j old)))
+    (λ n. walked n (edited runs access (linked_view layout row g j old) n)) old new
 
 -- the free pages of the row are enough for them
 abbrev pub FitsChunks : Layout → ℕ → ℕ → ℕ → List PageRun → View → Pool → Type 0
@@ -156,19 +182,24 @@ IsEmpty page pool = (i : ℕ) → i < 512 → words_of pool.memory.words page i 
 
 -- the root's word becomes 0, and the table is given back
 abbrev pub Unlinks : ℕ → ℕ → ℕ → Pool → Pool → Type 0
-Unlinks row g j old new = pages_of new.memory ≡ with_mark j false (with_put row g 0 (pages_of old.memory))
+Unlinks row g j old new =
+    pages_of new.memory ≡ with_mark j false (with_put row g 0 (pages_of old.memory))
 
 -- which no walk of the gigabyte's pages sees, where none of them is mapped
 abbrev pub UnlinksInStep : ℕ → ℕ → ℕ → Pool → Pool → Type 0
 UnlinksInStep who row g old new =
-    (layout : Layout) (which : ℕ → Bool) (answer : ℕ → Walked) → IsForest layout (words_of old.memory.words) → row < length layout.ids → row_of layout.ids who ≡ row
-    → ((n : ℕ) → n < 2 ^ 27 → n / 512 / 512 ≡ g → walk layout (words_of old.memory.words) row n ≡ Unmapped) → StaysInStep layout row which answer old new
+    (layout : Layout) (which : ℕ → Bool) (answer : ℕ → Walked)
+    → IsForest layout (words_of old.memory.words) → row < length layout.ids
+    → row_of layout.ids who ≡ row
+    → ((n : ℕ) → n < 2 ^ 27 → n / 512 / 512 ≡ g → walk layout (words_of old.memory.words) row n ≡ Unmapped)
+    → StaysInStep layout row which answer old new
 
 -- ---- a gigabyte, and a row
 
 -- the free pages of the row are enough for a gigabyte
 abbrev pub FitsInGigabyte : Layout → ℕ → ℕ → List PageRun → View → Pool → Type 0
-FitsInGigabyte layout row g runs access pool = FitsGigabyte layout row g runs access (pages_of pool.memory)
+FitsInGigabyte layout row g runs access pool =
+    FitsGigabyte layout row g runs access (pages_of pool.memory)
 
 -- for all of them
 abbrev pub FitsInRow : Layout → ℕ → List PageRun → View → Pool → Type 0
@@ -186,21 +217,29 @@ second_at layout row g pool = table_at layout (words_of pool.memory.words) (Giga
 
 -- the pages of a gigabyte are edited
 abbrev pub EditsInGigabyte : Layout → ℕ → ℕ → List PageRun → View → Pool → Pool → Type 0
-EditsInGigabyte layout row g runs access old new = EditsGigabyte layout row g (row_after layout row runs access old) (pages_of old.memory) (pages_of new.memory)
+EditsInGigabyte layout row g runs access old new =
+    EditsGigabyte layout row g (row_after layout row runs access old) (pages_of old.memory)
+    (pages_of new.memory)
 
 abbrev pub GigabyteInStep : Layout → ℕ → ℕ → List PageRun → View → Pool → Pool → Type 0
 GigabyteInStep layout row g runs access old new =
     AreFree (λ n. n / 512 / 512 == g) runs access (row_view layout row old)
-    → StaysInStep layout row (λ n. (n / 512 / 512 == g) && disturbed runs (row_view layout row old) (row_after layout row runs access old) n) (λ n. walked n (row_after layout row runs access old n)) old new
+    → StaysInStep layout row
+    (λ n. (n / 512 / 512 == g) && disturbed runs (row_view layout row old) (row_after layout row runs access old) n)
+    (λ n. walked n (row_after layout row runs access old n)) old new
 
 -- of a row
 abbrev pub EditsInRow : Layout → ℕ → List PageRun → View → Pool → Pool → Type 0
-EditsInRow layout row runs access old new = EditsRow layout row (row_after layout row runs access old) (pages_of old.memory) (pages_of new.memory)
+EditsInRow layout row runs access old new =
+    EditsRow layout row (row_after layout row runs access old) (pages_of old.memory)
+    (pages_of new.memory)
 
 abbrev pub RowInStep : Layout → ℕ → List PageRun → View → Pool → Pool → Type 0
 RowInStep layout row runs access old new =
     AreFree (λ n. true) runs access (row_view layout row old)
-    → StaysInStep layout row (disturbed runs (row_view layout row old) (row_after layout row runs access old)) (λ n. walked n (row_after layout row runs access old n)) old new
+    → StaysInStep layout row
+    (disturbed runs (row_view layout row old) (row_after layout row runs access old))
+    (λ n. walked n (row_after layout row runs access old n)) old new
 
 -- ---- a partition that may have no root
 

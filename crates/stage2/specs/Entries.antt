@@ -19,7 +19,10 @@ entry_for_table layout (Some k) leaf = table_word_of (layout.base + k)
 
 -- the word at an index of the table at a place: a root has table descriptors alone, the chunks of a gigabyte without a table are blocks
 unfoldable pub word_at : Layout → Words → Place → ℕ → ℕ
-word_at layout words (Root row) i = entry_for_table layout (table_at layout words (Gigabyte row i)) 0
+word_at layout words (Root row) i =
+    entry_for_table layout (table_at layout words (Gigabyte row i)) 0
 word_at layout words (Gigabyte row g) i =
-    entry_for_table layout (table_at layout words (Chunk row (512 * g + i))) (leaf_for true (512 * (512 * g + i)) (answers layout words row (512 * (512 * g + i))))
-word_at layout words (Chunk row c) i = leaf_for false (512 * c + i) (answers layout words row (512 * c + i))
+    entry_for_table layout (table_at layout words (Chunk row (512 * g + i)))
+    (leaf_for true (512 * (512 * g + i)) (answers layout words row (512 * (512 * g + i))))
+word_at layout words (Chunk row c) i =
+    leaf_for false (512 * c + i) (answers layout words row (512 * c + i))

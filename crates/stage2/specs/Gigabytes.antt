@@ -18,7 +18,9 @@ sum_below f (suc n) = f n + sum_below f n
 
 -- the run has a page in the chunk
 abbrev pub touches_run : ℕ → PageRun → Bool
-touches_run c run = nat_lt 0 run.count && (nat_le (run.first / 512) c && nat_lt c ((run.first + run.count + 511) / 512))
+touches_run c run =
+    nat_lt 0 run.count
+    && (nat_le (run.first / 512) c && nat_lt c ((run.first + run.count + 511) / 512))
 
 -- one of the runs has
 abbrev pub touches_chunk : ℕ → List PageRun → Bool
@@ -38,15 +40,20 @@ grows_at old new c = is_mixed new c && not (is_mixed old c)
 
 -- the tables of the new view under this gigabyte, itself with them, at places where the old has none
 abbrev pub gigabyte_growth : (ℕ → View) → (ℕ → View) → ℕ → ℕ
-gigabyte_growth old new g = (if is_reached new g && not (is_reached old g) then 1 else 0) + count_below (λ x. grows_at old new (512 * g + x)) 512
+gigabyte_growth old new g =
+    (if is_reached new g && not (is_reached old g) then 1 else 0)
+    + count_below (λ x. grows_at old new (512 * g + x)) 512
 
 -- the free pages of the row are enough for the chunks of the gigabyte, whose level 2 table j is taken
 pub record Fits (layout : Layout) (row g j : ℕ) (runs : List PageRun) (access : View) (m : Pages) : Type 0 where
-  pub fits : used_by m row + count_below (λ x. grows_at (answers layout (linked layout row g j m).words row) (edited runs access (answers layout (linked layout row g j m).words row)) (512 * g + x)) 512 ≤ quota_of m.quotas row
+  pub fits : used_by m row + count_below
+      (λ x. grows_at (answers layout (linked layout row g j m).words row) (edited runs access (answers layout (linked layout row g j m).words row)) (512 * g + x))
+      512 ≤ quota_of m.quotas row
 
 -- the free pages of the row are enough for the gigabyte
 pub record FitsGigabyte (layout : Layout) (row g : ℕ) (runs : List PageRun) (access : View) (m : Pages) : Type 0 where
-  pub fits : used_by m row + gigabyte_growth (answers layout m.words row) (edited runs access (answers layout m.words row)) g ≤ quota_of m.quotas row
+  pub fits : used_by m row + gigabyte_growth (answers layout m.words row)
+      (edited runs access (answers layout m.words row)) g ≤ quota_of m.quotas row
 
 -- the chunks of the gigabyte before the i-th are edited; its level 2 table is j, if only once its root's word is written
 pub record IsUnderway (layout : Layout) (row g j i : ℕ) (answer : ℕ → View) (old new : Pages) : Type 0 where
@@ -57,7 +64,9 @@ pub record IsUnderway (layout : Layout) (row g j i : ℕ) (answer : ℕ → View
   pub root : (x : ℕ) → new.words row x ≡ old.words row x
   pub walks : (q n : ℕ) → n < 2 ^ 27 → walk layout (linked layout row g j new).words q n
       ≡ (if (q == row) && ((n / 512 / 512 == g) && nat_lt (n / 512) (512 * g + i)) then walked n (answer n) else walk layout (linked layout row g j old).words q n)
-  pub others : (r x : ℕ) → r < length layout.ids → x < 512 → table_at layout (linked layout row g j new).words (Gigabyte r x) ≡ table_at layout (linked layout row g j old).words (Gigabyte r x)
+  pub others : (r x : ℕ) → r < length layout.ids → x < 512
+      → table_at layout (linked layout row g j new).words (Gigabyte r x)
+      ≡ table_at layout (linked layout row g j old).words (Gigabyte r x)
   pub used : used_by new row ≤ used_by old row + count_below (λ x. grows_at (answers layout (linked layout row g j old).words row) answer (512 * g + x)) i
 
 -- the pages of a gigabyte of the row give these answers, all others what they gave
@@ -65,7 +74,8 @@ pub record EditsGigabyte (layout : Layout) (row g : ℕ) (answer : ℕ → View)
   pub canonical : IsCanonical layout new
   pub ids : new.ids ≡ old.ids
   pub quotas : new.quotas ≡ old.quotas
-  pub walks : (q n : ℕ) → n < 2 ^ 27 → walk layout new.words q n ≡ (if (q == row) && (n / 512 / 512 == g) then walked n (answer n) else walk layout old.words q n)
+  pub walks : (q n : ℕ) → n < 2 ^ 27 → walk layout new.words q n
+      ≡ (if (q == row) && (n / 512 / 512 == g) then walked n (answer n) else walk layout old.words q n)
   pub used : used_by new row ≤ used_by old row + gigabyte_growth (answers layout old.words row) answer g
 
 -- some page of the runs is in the gigabyte
@@ -82,7 +92,8 @@ pub record IsPast (layout : Layout) (row i : ℕ) (answer : ℕ → View) (old n
   pub canonical : IsCanonical layout new
   pub ids : new.ids ≡ old.ids
   pub quotas : new.quotas ≡ old.quotas
-  pub walks : (q n : ℕ) → n < 2 ^ 27 → walk layout new.words q n ≡ (if (q == row) && nat_lt (n / 512 / 512) i then walked n (answer n) else walk layout old.words q n)
+  pub walks : (q n : ℕ) → n < 2 ^ 27 → walk layout new.words q n
+      ≡ (if (q == row) && nat_lt (n / 512 / 512) i then walked n (answer n) else walk layout old.words q n)
   pub used : used_by new row ≤ used_by old row + sum_below (gigabyte_growth (answers layout old.words row) answer) i
 
 -- the row's walks give these answers, those of all other rows what they gave
@@ -90,11 +101,13 @@ pub record EditsRow (layout : Layout) (row : ℕ) (answer : ℕ → View) (old n
   pub canonical : IsCanonical layout new
   pub ids : new.ids ≡ old.ids
   pub quotas : new.quotas ≡ old.quotas
-  pub walks : (q n : ℕ) → n < 2 ^ 27 → walk layout new.words q n ≡ (if q == row then walked n (answer n) else walk layout old.words q n)
+  pub walks : (q n : ℕ) → n < 2 ^ 27 → walk layout new.words q n
+      ≡ (if q == row then walked n (answer n) else walk layout old.words q n)
 
 -- the change fits: what the view needs, and the tables of the new view at places where it has none
 pub record FitsRow (layout : Layout) (row : ℕ) (runs : List PageRun) (access : View) (m : Pages) : Type 0 where
-  pub fits : need (answers layout m.words row) + grow (answers layout m.words row) (edited runs access (answers layout m.words row)) ≤ quota_of m.quotas row
+  pub fits : need (answers layout m.words row) + grow (answers layout m.words row)
+      (edited runs access (answers layout m.words row)) ≤ quota_of m.quotas row
 
 abbrev pub row_operations : List PageRun → ℕ
 row_operations runs = sum_below (gigabyte_operations runs) 512

@@ -20,7 +20,9 @@ pub record Made (made : List Op) (old new : Pool) : Type 0 where
 
 -- a chunk's level 2 word becomes 0, and the chunk is invalidated, if it was valid
 abbrev pub broken : ℕ → ℕ → ℕ → ℕ → List Op
-broken p j c was = if was == 0 then [] else (Invalidate p (record { first = 512 * c; count = 512 }) ∷ Set j (c % 512) 0 ∷ [])
+broken p j c was =
+    if was == 0 then []
+    else (Invalidate p (record { first = 512 * c; count = 512 }) ∷ Set j (c % 512) 0 ∷ [])
 
 -- and then it becomes this word, if that is valid
 abbrev pub replaced : ℕ → ℕ → ℕ → ℕ → ℕ → List Op
@@ -29,7 +31,10 @@ replaced p j c was word = (if word == 0 then [] else Set j (c % 512) word ∷ []
 -- writes of words of table k for chunk c, each as it is planned, upward and below the b-th
 abbrev pub AreSets : ℕ → ℕ → (ℕ → Option View) → ℕ → List Op → Type 0
 AreSets k c plan b [] = Unit {0}
-AreSets k c plan b (Set q i word ∷ ops) = (q ≡ k) × (i < b) × ((answer : View) × (plan (512 * c + i) ≡ Some answer) × IsWordFor (512 * c + i) answer word) × AreSets k c plan i ops
+AreSets k c plan b (Set q i word ∷ ops) =
+    (q ≡ k) × (i < b)
+    × ((answer : View) × (plan (512 * c + i) ≡ Some answer) × IsWordFor (512 * c + i) answer word)
+    × AreSets k c plan i ops
 AreSets k c plan b (Invalidate p run ∷ ops) = ⊥
 AreSets k c plan b (Clear run ∷ ops) = ⊥
 

@@ -35,7 +35,8 @@ AtEachMoment P (op ∷ past) = P (op ∷ past) × AtEachMoment P past
 -- an earlier moment, since which page n of the row was not invalidated
 pub data Since (layout : Layout) (row n : ℕ) : List Op → List Op → Type 0 where
   now : (past : List Op) → Since layout row n past past
-  earlier : (moment past : List Op) (op : Op) → invalidates layout op row n ≡ false → Since layout row n moment past → Since layout row n moment (op ∷ past)
+  earlier : (moment past : List Op) (op : Op) → invalidates layout op row n ≡ false
+      → Since layout row n moment past → Since layout row n moment (op ∷ past)
 
 -- ---- walks under way
 
@@ -69,8 +70,10 @@ goes_on layout words row n (Ends a) = Ends a
 -- each operation but an invalidation of its page, which waits for the walks under way and drops what is cached.
 pub data UnderWay (layout : Layout) (entry : Words) (row n : ℕ) : List Op → Walker → Type 0 where
   begins : (past : List Op) → UnderWay layout entry row n past Begins
-  reads : (past : List Op) (w : Walker) → UnderWay layout entry row n past w → UnderWay layout entry row n past (goes_on layout (words_after past entry) row n w)
-  outlasts : (past : List Op) (op : Op) (w : Walker) → invalidates layout op row n ≡ false → UnderWay layout entry row n past w → UnderWay layout entry row n (op ∷ past) w
+  reads : (past : List Op) (w : Walker) → UnderWay layout entry row n past w
+      → UnderWay layout entry row n past (goes_on layout (words_after past entry) row n w)
+  outlasts : (past : List Op) (op : Op) (w : Walker) → invalidates layout op row n ≡ false
+      → UnderWay layout entry row n past w → UnderWay layout entry row n (op ∷ past) w
 
 -- ---- break before make
 
@@ -92,14 +95,17 @@ pub record BreaksFirst (layout : Layout) (entry : Words) (past : List Op) (page 
   -- a valid word becomes 0 first
   pub breaks : IsValid (words_after past entry page index) → word ≡ 0
   -- and a valid word is written where none has stood, in this page hanging anywhere, since the last invalidation of each page that it stood for
-  pub makes : IsValid word → (a : Place) → IsPlace layout a → (row n : ℕ) → n < 2 ^ 27 → StandsFor a index row n → (moment : List Op) → Since layout row n moment past
-      → table_at layout (words_after moment entry) a ≡ Some page → IsInvalid (words_after moment entry page index)
+  pub makes : IsValid word → (a : Place) → IsPlace layout a → (row n : ℕ) → n < 2 ^ 27
+      → StandsFor a index row n → (moment : List Op) → Since layout row n moment past
+      → table_at layout (words_after moment entry) a ≡ Some page
+      → IsInvalid (words_after moment entry page index)
 
 -- each write into a table that hangs
 abbrev pub AllBreakFirst : Layout → Words → List Op → Type 0
 AllBreakFirst layout entry [] = Unit {0}
 AllBreakFirst layout entry (Set page index word ∷ past) =
-    ((a : Place) → IsPlace layout a → table_at layout (words_after past entry) a ≡ Some page → BreaksFirst layout entry past page index word) × AllBreakFirst layout entry past
+    ((a : Place) → IsPlace layout a → table_at layout (words_after past entry) a ≡ Some page → BreaksFirst layout entry past page index word)
+    × AllBreakFirst layout entry past
 AllBreakFirst layout entry (Invalidate who run ∷ past) = AllBreakFirst layout entry past
 AllBreakFirst layout entry (Clear run ∷ past) = AllBreakFirst layout entry past
 
@@ -107,14 +113,17 @@ AllBreakFirst layout entry (Clear run ∷ past) = AllBreakFirst layout entry pas
 
 -- no walk reaches a page of the run, and nothing is cached for one
 abbrev pub AreUnreached : Layout → Words → List Op → PageRun → Type 0
-AreUnreached layout entry past run = (row n : ℕ) (a : Walked) → row < length layout.ids → n < 2 ^ 27 → in_run run n ≡ true → UnderWay layout entry row n past (Ends a) → a ≡ Unmapped
+AreUnreached layout entry past run =
+    (row n : ℕ) (a : Walked) → row < length layout.ids → n < 2 ^ 27 → in_run run n ≡ true
+    → UnderWay layout entry row n past (Ends a) → a ≡ Unmapped
 
 -- pages are cleared while no partition reaches them
 abbrev pub AllClearUnreached : Layout → Words → List Op → Type 0
 AllClearUnreached layout entry [] = Unit {0}
 AllClearUnreached layout entry (Set page index word ∷ past) = AllClearUnreached layout entry past
 AllClearUnreached layout entry (Invalidate who run ∷ past) = AllClearUnreached layout entry past
-AllClearUnreached layout entry (Clear run ∷ past) = AreUnreached layout entry past run × AllClearUnreached layout entry past
+AllClearUnreached layout entry (Clear run ∷ past) =
+    AreUnreached layout entry past run × AllClearUnreached layout entry past
 
 -- ---- a call
 
@@ -129,11 +138,15 @@ pub record Edit : Type 0 where
 
 -- a walk may give what it gave at the entry, and for a page that is disturbed also nothing, or what it gives in the end
 abbrev pub MayGive : Edit → ℕ → ℕ → Walked → Type 0
-MayGive e q n a = (a ≡ walk e.layout e.entry q n) ⊎ (((q == e.row) && e.which n ≡ true) × ((a ≡ Unmapped) ⊎ (a ≡ e.answer n)))
+MayGive e q n a =
+    (a ≡ walk e.layout e.entry q n)
+    ⊎ (((q == e.row) && e.which n ≡ true) × ((a ≡ Unmapped) ⊎ (a ≡ e.answer n)))
 
 -- at a moment each walk that ends gives what it may
 abbrev pub GivesOnly : Edit → List Op → Type 0
-GivesOnly e past = (q n : ℕ) → q < length e.layout.ids → n < 2 ^ 27 → (a : Walked) → UnderWay e.layout e.entry q n past (Ends a) → MayGive e q n a
+GivesOnly e past =
+    (q n : ℕ) → q < length e.layout.ids → n < 2 ^ 27 → (a : Walked)
+    → UnderWay e.layout e.entry q n past (Ends a) → MayGive e q n a
 
 -- what a walk has read stands there still: the tables on its way, and, unless an invalidation is due, its answer or nothing
 abbrev pub Stands : Layout → Words → Bool → ℕ → ℕ → Walker → Type 0
@@ -148,7 +161,8 @@ pub record IsInStep (e : Edit) (due : ℕ → Bool) (words : Words) (past : List
   pub gives : AtEachMoment (GivesOnly e) past
   pub breaks : AllBreakFirst e.layout e.entry past
   pub clears : AllClearUnreached e.layout e.entry past
-  pub stands : (q n : ℕ) → q < length e.layout.ids → n < 2 ^ 27 → (w : Walker) → UnderWay e.layout e.entry q n past w → Stands e.layout words ((q == e.row) && due n) q n w
+  pub stands : (q n : ℕ) → q < length e.layout.ids → n < 2 ^ 27 → (w : Walker)
+      → UnderWay e.layout e.entry q n past w → Stands e.layout words ((q == e.row) && due n) q n w
 
 -- one operation more
 pub record IsLogged (op : Op) (old new : Pool) : Type 0 where
@@ -168,29 +182,40 @@ nothing n = false
 pub record Allows (e : Edit) (layout : Layout) (row : ℕ) (which : ℕ → Bool) (answer : ℕ → Walked) : Type 0 where
   pub same_layout : e.layout ≡ layout
   pub same_row : e.row ≡ row
-  pub may : (n : ℕ) → n < 2 ^ 27 → which n ≡ true → MayGive e e.row n Unmapped × MayGive e e.row n (answer n)
+  pub may : (n : ℕ) → n < 2 ^ 27 → which n ≡ true
+      → MayGive e e.row n Unmapped × MayGive e e.row n (answer n)
 
 -- an edit that is orderly so far stays so, with invalidations of these pages due
 abbrev pub Clears : Layout → ℕ → (ℕ → Bool) → Pool → Pool → Type 0
-Clears layout row which old new = (e : Edit) (due : ℕ → Bool) → Allows e layout row which (λ n. Unmapped) → IsInStepIn e due old → IsInStepIn e (λ n. due n || which n) new
+Clears layout row which old new =
+    (e : Edit) (due : ℕ → Bool) → Allows e layout row which (λ n. Unmapped) → IsInStepIn e due old
+    → IsInStepIn e (λ n. due n || which n) new
 
 -- it stays so, and no invalidations of these pages are due any more
 abbrev pub Settles : ℕ → (ℕ → Bool) → Pool → Pool → Type 0
-Settles who which old new = (e : Edit) (due : ℕ → Bool) → row_of e.layout.ids who ≡ e.row → IsInStepIn e due old → IsInStepIn e (λ n. due n && not (which n)) new
+Settles who which old new =
+    (e : Edit) (due : ℕ → Bool) → row_of e.layout.ids who ≡ e.row → IsInStepIn e due old
+    → IsInStepIn e (λ n. due n && not (which n)) new
 
 -- it stays so, where nothing is due before and after, and where it may give these answers
 abbrev pub StaysInStep : Layout → ℕ → (ℕ → Bool) → (ℕ → Walked) → Pool → Pool → Type 0
-StaysInStep layout row which answer old new = (e : Edit) → Allows e layout row which answer → IsInStepIn e nothing old → IsInStepIn e nothing new
+StaysInStep layout row which answer old new =
+    (e : Edit) → Allows e layout row which answer → IsInStepIn e nothing old
+    → IsInStepIn e nothing new
 
 -- ---- what walkers see of a whole call
 
 -- after these operations a walk of a page may give a partition this
 abbrev pub MayAnswer : Layout → Words → List Op → ℕ → ℕ → Walked → Type 0
-MayAnswer layout entry past p n a = (row_of layout.ids p < length layout.ids) × (n < 2 ^ 27) × UnderWay layout entry (row_of layout.ids p) n past (Ends a)
+MayAnswer layout entry past p n a =
+    (row_of layout.ids p < length layout.ids) × (n < 2 ^ 27)
+    × UnderWay layout entry (row_of layout.ids p) n past (Ends a)
 
 -- each walk gives nothing, or agrees with the answer before or the answer after
 abbrev pub GivesOldOrNew : Layout → Words → (ℕ → ℕ → View) → (ℕ → ℕ → View) → List Op → Type 0
-GivesOldOrNew layout entry before after past = (p n : ℕ) (a : Walked) → MayAnswer layout entry past p n a → (a ≡ Unmapped) ⊎ (a ≡ walked n (before p n)) ⊎ (a ≡ walked n (after p n))
+GivesOldOrNew layout entry before after past =
+    (p n : ℕ) (a : Walked) → MayAnswer layout entry past p n a
+    → (a ≡ Unmapped) ⊎ (a ≡ walked n (before p n)) ⊎ (a ≡ walked n (after p n))
 
 -- the answers of a chunk are not all equal, so it holds a table
 abbrev pub AreMixed : (ℕ → ℕ → View) → ℕ → ℕ → Type 0
@@ -199,25 +224,34 @@ AreMixed view p c = (x y : ℕ) × (x / 512 ≡ c) × (y / 512 ≡ c) × (view p
 -- a page that keeps its answer, in a chunk all of whose pages keep theirs, or which holds a table before and after
 pub record IsSteady (before after : ℕ → ℕ → View) (p n : ℕ) : Type 0 where
   pub kept : before p n ≡ after p n
-  pub chunk : ((x : ℕ) → x / 512 ≡ n / 512 → before p x ≡ after p x) ⊎ (AreMixed before p (n / 512) × AreMixed after p (n / 512))
+  pub chunk : ((x : ℕ) → x / 512 ≡ n / 512 → before p x ≡ after p x)
+      ⊎ (AreMixed before p (n / 512) × AreMixed after p (n / 512))
 
 -- each walk of a steady page agrees with its answer
 abbrev pub KeepsAnswers : Layout → Words → (ℕ → ℕ → View) → (ℕ → ℕ → View) → List Op → Type 0
-KeepsAnswers layout entry before after past = (p n : ℕ) (a : Walked) → IsSteady before after p n → MayAnswer layout entry past p n a → a ≡ walked n (before p n)
+KeepsAnswers layout entry before after past =
+    (p n : ℕ) (a : Walked) → IsSteady before after p n → MayAnswer layout entry past p n a
+    → a ≡ walked n (before p n)
 
 -- The operations of a pool's list lead from one pool to this one, while what partitions reach changes from `before` to `after`.
 pub record Moments (layout : Layout) (old new : Pool) (before after : ℕ → ℕ → View) : Type 0 where
   -- they are all that was done
   pub exact : words_of new.memory.words ≡ words_after new.operations (words_of old.memory.words)
   pub counted : new.made % 2 ^ 64 ≡ (old.made + length new.operations) % 2 ^ 64
-  pub gives : AtEachMoment (GivesOldOrNew layout (words_of old.memory.words) before after) new.operations
-  pub keeps : AtEachMoment (KeepsAnswers layout (words_of old.memory.words) before after) new.operations
+  pub gives : AtEachMoment (GivesOldOrNew layout (words_of old.memory.words) before after)
+      new.operations
+  pub keeps : AtEachMoment (KeepsAnswers layout (words_of old.memory.words) before after)
+      new.operations
   pub breaks : AllBreakFirst layout (words_of old.memory.words) new.operations
   -- pages are cleared while no partition reaches them
   pub clears : AllClearUnreached layout (words_of old.memory.words) new.operations
   -- in the end what is cached is new, and the tables that walks under way are to read hang still
-  pub fresh : (p n : ℕ) (a : Walked) → MayAnswer layout (words_of old.memory.words) new.operations p n a → (a ≡ Unmapped) ⊎ (a ≡ walked n (after p n))
-  pub linked : (row n : ℕ) → row < length layout.ids → n < 2 ^ 27 → (w : Walker) → UnderWay layout (words_of old.memory.words) row n new.operations w → Stands layout (words_of new.memory.words) true row n w
+  pub fresh : (p n : ℕ) (a : Walked)
+      → MayAnswer layout (words_of old.memory.words) new.operations p n a
+      → (a ≡ Unmapped) ⊎ (a ≡ walked n (after p n))
+  pub linked : (row n : ℕ) → row < length layout.ids → n < 2 ^ 27 → (w : Walker)
+      → UnderWay layout (words_of old.memory.words) row n new.operations w
+      → Stands layout (words_of new.memory.words) true row n w
 
 -- what partitions reach without these pages of one of them
 abbrev pub without : ℕ → (ℕ → Bool) → (ℕ → ℕ → View) → ℕ → ℕ → View

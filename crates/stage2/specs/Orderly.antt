@@ -46,21 +46,28 @@ pub record IsOrderly (layout : Layout) (m : Pages) : Type 0 where
   pub rows : length layout.ids ≡ length m.quotas
   pub fits : layout.base + layout.pages ≤ 2 ^ 27
   pub forest : IsForest layout m.words
-  pub taken : (a : Place) (q : ℕ) → IsPlace layout a → table_at layout m.words a ≡ Some q → m.taken q ≡ true
-  pub owned : (a : Place) (q : ℕ) → IsPlace layout a → table_at layout m.words a ≡ Some q → Owns m.quotas a q
+  pub taken : (a : Place) (q : ℕ) → IsPlace layout a → table_at layout m.words a ≡ Some q
+      → m.taken q ≡ true
+  pub owned : (a : Place) (q : ℕ) → IsPlace layout a → table_at layout m.words a ≡ Some q
+      → Owns m.quotas a q
   -- a page that is taken hangs somewhere
   pub hangs : (row q : ℕ) → InShare m.quotas row q → m.taken q ≡ true → Hangs layout m.words q
   -- as many pages of a share are taken as tables hang
   pub used : (row : ℕ) → row < length layout.ids → used_by m row ≡ hung layout m.words row
   -- an invalid word is 0
-  pub clean : (a : Place) (q i : ℕ) → IsPlace layout a → table_at layout m.words a ≡ Some q → i < 512 → slot layout (level_at a) (m.words q i) ≡ Empty → m.words q i ≡ 0
-  pub tidy : (row n : ℕ) → row < length layout.ids → n < 2 ^ 27 → IsTidy n (walk layout m.words row n)
-  pub mixed : (row c : ℕ) → row < length layout.ids → c < 262144 → is_some (table_at layout m.words (Chunk row c)) ≡ is_mixed (answers layout m.words row) c
+  pub clean : (a : Place) (q i : ℕ) → IsPlace layout a → table_at layout m.words a ≡ Some q
+      → i < 512 → slot layout (level_at a) (m.words q i) ≡ Empty → m.words q i ≡ 0
+  pub tidy : (row n : ℕ) → row < length layout.ids → n < 2 ^ 27
+      → IsTidy n (walk layout m.words row n)
+  pub mixed : (row c : ℕ) → row < length layout.ids → c < 262144
+      → is_some (table_at layout m.words (Chunk row c)) ≡ is_mixed (answers layout m.words row) c
 
 -- Between two edits also a gigabyte has a level 2 table exactly where one of its pages is reached.
 pub record IsCanonical (layout : Layout) (m : Pages) : Type 0 where
   pub orderly : IsOrderly layout m
-  pub reached : (row g : ℕ) → row < length layout.ids → g < 512 → is_some (table_at layout m.words (Gigabyte row g)) ≡ is_reached (answers layout m.words row) g
+  pub reached : (row g : ℕ) → row < length layout.ids → g < 512
+      → is_some (table_at layout m.words (Gigabyte row g))
+      ≡ is_reached (answers layout m.words row) g
 
 -- the same with a level 2 table linked in a root: what the pages will be once that word is written
 abbrev pub linked : Layout → ℕ → ℕ → ℕ → Pages → Pages

@@ -14,7 +14,8 @@ IsSeated layout row g j m = (m.words row g ≡ table_word_of (layout.base + j)) 
 
 -- of these pages, those of a map are not mapped before
 abbrev pub AreFree : (ℕ → Bool) → List PageRun → View → (ℕ → View) → Type 0
-AreFree which runs access view = (n : ℕ) → n < 2 ^ 27 → which n ≡ true → covers runs n ≡ true → (access ≡ None) ⊎ (view n ≡ None)
+AreFree which runs access view =
+    (n : ℕ) → n < 2 ^ 27 → which n ≡ true → covers runs n ≡ true → (access ≡ None) ⊎ (view n ≡ None)
 
 -- the pages of the runs, and all pages of a chunk that has no table before the edit or after it
 abbrev pub disturbs : List PageRun → (ℕ → View) → (ℕ → View) → ℕ → Bool
@@ -26,7 +27,8 @@ disturbed runs old new n = touches_chunk (n / 512) runs && disturbs runs old new
 
 -- those of a gigabyte's chunks before the i-th
 abbrev pub disturbed_below : ℕ → ℕ → List PageRun → (ℕ → View) → (ℕ → View) → ℕ → Bool
-disturbed_below g i runs old new n = ((n / 512 / 512 == g) && nat_lt (n / 512) (512 * g + i)) && disturbed runs old new n
+disturbed_below g i runs old new n =
+    ((n / 512 / 512 == g) && nat_lt (n / 512) (512 * g + i)) && disturbed runs old new n
 
 -- what partitions reach, where the pages of the runs are reached so by one of them
 abbrev pub with_pages : ℕ → List PageRun → View → (ℕ → ℕ → View) → ℕ → ℕ → View

@@ -42,18 +42,21 @@ pub record AreCanonical (t : TablesView) : Type 0 where
   -- the tables are trees of the pages taken, and a table hangs exactly where the views need one
   pub trees : IsCanonical t.layout (pages_of t.pool.memory)
   -- each of their words is that of its entry
-  pub words : (a : Place) (q i : ℕ) → IsPlace t.layout a → table_at t.layout (words_of t.pool.memory.words) a ≡ Some q → i < 512
+  pub words : (a : Place) (q i : ℕ) → IsPlace t.layout a
+      → table_at t.layout (words_of t.pool.memory.words) a ≡ Some q → i < 512
       → words_of t.pool.memory.words q i ≡ word_at t.layout (words_of t.pool.memory.words) a i
   -- as many pages of a share are taken as the partition's views need
   pub used : (p : ℕ) → has_root t p ≡ true → used_in t p ≡ need (view_of t p)
   -- a free page is all 0
-  pub free : (q i : ℕ) → taken_of t.pool.memory.taken q ≡ false → words_of t.pool.memory.words q i ≡ 0
+  pub free : (q i : ℕ) → taken_of t.pool.memory.taken q ≡ false
+      → words_of t.pool.memory.words q i ≡ 0
 
 -- ---- an edit of one partition's pages: they are reached with an access, or, for None, not at all
 
 -- it fits: what the partition's views need, and what the new views need where these need nothing, is no more than its quota
 abbrev pub Fits : ℕ → List PageRun → View → TablesView → Type 0
-Fits p runs access t = need (view_of t p) + grow (view_of t p) (edited runs access (view_of t p)) ≤ quota_in t p
+Fits p runs access t =
+    need (view_of t p) + grow (view_of t p) (edited runs access (view_of t p)) ≤ quota_in t p
 
 -- the operations that it makes at most
 abbrev pub edit_operations : ℕ → List PageRun → TablesView → ℕ
@@ -61,16 +64,20 @@ edit_operations p runs t = if has_root t p then operations_for runs else 0
 
 -- the pages of the runs are reached so; each other walk, of all pages of all partitions, gives what it gave
 abbrev pub ReachSo : ℕ → List PageRun → View → TablesView → TablesView → Type 0
-ReachSo p runs access old new = (q n : ℕ) → n < 2 ^ 27 → walk_in new q n ≡ (if (q == p) && covers runs n then walked n access else walk_in old q n)
+ReachSo p runs access old new =
+    (q n : ℕ) → n < 2 ^ 27
+    → walk_in new q n ≡ (if (q == p) && covers runs n then walked n access else walk_in old q n)
 
 -- of the pages of the runs, those of a map are not reached before
 abbrev pub AreFreeFor : ℕ → List PageRun → View → (ℕ → ℕ → View) → Type 0
-AreFreeFor p runs access before = (n : ℕ) → n < 2 ^ 27 → covers runs n ≡ true → (access ≡ None) ⊎ (before p n ≡ None)
+AreFreeFor p runs access before =
+    (n : ℕ) → n < 2 ^ 27 → covers runs n ≡ true → (access ≡ None) ⊎ (before p n ≡ None)
 
 -- what walkers see where the edit is all that is done
 abbrev pub ShowsMoments : ℕ → List PageRun → View → TablesView → TablesView → Type 0
 ShowsMoments p runs access old new =
-    old.pool.operations ≡ [] → (before : ℕ → ℕ → View) → Agrees old.layout (words_of old.pool.memory.words) before → AreFreeFor p runs access before
+    old.pool.operations ≡ [] → (before : ℕ → ℕ → View)
+    → Agrees old.layout (words_of old.pool.memory.words) before → AreFreeFor p runs access before
     → Moments old.layout old.pool new.pool before (with_pages p runs access before)
 
 -- ---- a call that clears pages before the edit or after it
@@ -94,12 +101,18 @@ IsCallInStep entry p runs access now = IsInStepIn (edit_from entry p runs access
 abbrev pub EditsInStep : ℕ → List PageRun → View → TablesView → TablesView → Type 0
 EditsInStep p runs access old new =
     AreFree (λ n. true) runs access (view_of old p)
-    → StaysInStep old.layout (row_of old.layout.ids p) (disturbed runs (view_of old p) (edited runs access (view_of old p))) (λ n. walked n (edited runs access (view_of old p) n)) old.pool new.pool
+    → StaysInStep old.layout (row_of old.layout.ids p)
+    (disturbed runs (view_of old p) (edited runs access (view_of old p)))
+    (λ n. walked n (edited runs access (view_of old p) n)) old.pool new.pool
 
 -- no partition reaches a page of the run
 abbrev pub AreUnmappedForAll : PageRun → TablesView → Type 0
-AreUnmappedForAll run t = (row n : ℕ) → row < length t.layout.ids → n < 2 ^ 27 → in_run run n ≡ true → walk t.layout (words_of t.pool.memory.words) row n ≡ Unmapped
+AreUnmappedForAll run t =
+    (row n : ℕ) → row < length t.layout.ids → n < 2 ^ 27 → in_run run n ≡ true
+    → walk t.layout (words_of t.pool.memory.words) row n ≡ Unmapped
 
 -- a clear of pages that no partition reaches keeps a call in step
 abbrev pub ClearsInStep : PageRun → TablesView → TablesView → Type 0
-ClearsInStep run old new = AreUnmappedForAll run old → (e : Edit) → e.layout ≡ old.layout → IsInStepIn e nothing old.pool → IsInStepIn e nothing new.pool
+ClearsInStep run old new =
+    AreUnmappedForAll run old → (e : Edit) → e.layout ≡ old.layout → IsInStepIn e nothing old.pool
+    → IsInStepIn e nothing new.pool

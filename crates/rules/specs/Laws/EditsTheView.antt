@@ -26,4 +26,5 @@ AreNotReached s (Some edit) =
 -- what each partition reaches after it is what it reached before, with the rule's edit
 pub record EditsTheView (s : State) (c : CallWords) (r : Request) : Type 0 where
   pub free : AreNotReached s (rule_of s c r).edit
-  pub views : (p n : ℕ) → sees (rule_of s c r).next p n ≡ with_edit (rule_of s c r).edit (sees s) p n
+  pub views : (p n : ℕ)
+      → sees (rule_of s c r).next p n ≡ with_edit (rule_of s c r).edit (sees s) p n
