@@ -48,13 +48,13 @@ row_of ids p = position_or_len (λ id. id == p) ids
 abbrev pub region_at : ManifestRows → ℕ → Option RegionRow
 region_at m n = find (λ r. in_run r.pages n) m.regions
 
--- the permission that a grant gives for memory of this kind
-abbrev pub permission_of : MemoryKind → GrantRow → Access
-permission_of kind g = record { rights = g.rights; exec = g.exec; kind = kind }
+-- the access that a grant gives to memory of this kind
+abbrev pub access_of_grant : MemoryKind → GrantRow → Access
+access_of_grant kind g = record { rights = g.rights; exec = g.exec; kind = kind }
 
 -- what a region grants to a partition
 abbrev pub granted_in : RegionRow → ℕ → View
-granted_in r p = option_map (permission_of r.kind) (find (λ g. g.partition == p) r.grants)
+granted_in r p = option_map (access_of_grant r.kind) (find (λ g. g.partition == p) r.grants)
 
 -- what the manifest grants to a partition at a page
 abbrev pub grant : ManifestRows → ℕ → ℕ → View

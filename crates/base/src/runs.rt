@@ -26,7 +26,7 @@ pub fn normal(alloc: Global, runs: &[Run]) -> Result<Vec<Run>, OutOfMemory>
 /// The runs in the order of their first pages.
 fn ascending(alloc: Global, runs: &[Run]) -> Result<Vec<Run>, OutOfMemory>
     ensures same { IfOk result (λ ascending. IsPermutation runs.now ascending.items) }
-    ensures sorted { IfOk result (λ ascending. IsNonDecreasingBy (λ run. run.first) ascending.items) }
+    ensures sorted { IfOk result (λ sorted. IsNonDecreasingBy (λ run. run.first) sorted.items) }
 {
     let mut sorted: Vec<Run> = runs.iter().copied().collect(alloc)?;
     sorted.sort_unstable_by_key(|run| run.first().number());

@@ -7,7 +7,7 @@ use Rattle.std.proofs.lemmas.Bool.{leb-true, eqb-true}
 use Rattle.std.proofs.lemmas.Bool.Decides.{nat_tests}
 use Rattle.std.proofs.lemmas.List.Sums.{passes_at_first}
 use Rattle.base.specs.Pages.{in_run}
-use Rattle.base.specs.Manifest.{PartitionRow, GrantRow, RegionRow, ManifestRows, ids_of, quotas_of, row_of, is_partition, granted_in, permission_of, grant}
+use Rattle.base.specs.Manifest.{PartitionRow, GrantRow, RegionRow, ManifestRows, ids_of, quotas_of, row_of, is_partition, granted_in, access_of_grant, grant}
 use Rattle.base.specs.Need.{need}
 use Rattle.manifest.specs.Valid.{granted_by, rise_from, begin_from, names_partitions, fits_quota, is_partition_row, is_region_row, is_valid}
 use Rattle.base.proofs.Booleans.{both}
@@ -86,7 +86,7 @@ stranger_in m [] p n names unknown = refl
 stranger_in m (r ∷ rs) p n names unknown =
     let b = both (names_partitions m.partitions r) (list_all (names_partitions m.partitions) rs) names in
     elim (in_run r.pages n) as (λ k. option_and_then (λ r. granted_in r p) (cond k (Some r) (find (λ s. in_run s.pages n) rs)) ≡ None) [
-      | true ↦ ap (option_map (permission_of r.kind)) (none_granted (is_partition m) r.grants p (both (is_partition m r.owner) _ b.0).1 unknown)
+      | true ↦ ap (option_map (access_of_grant r.kind)) (none_granted (is_partition m) r.grants p (both (is_partition m r.owner) _ b.0).1 unknown)
       | false ↦ stranger_in m rs p n b.1 unknown
     ]
 

@@ -104,7 +104,11 @@ impl TableMem for ListPool {
 
     ghost room = { λ m. vec_capacity m.operations - vec_len m.operations };
 
-    ghost whole = { λ m. record { ids = m.ids_whole; words = m.words_whole; taken = m.taken_whole } };
+    ghost whole = { λ m. record {
+      ids = m.ids_whole;
+      words = m.words_whole;
+      taken = m.taken_whole;
+    } };
 
     ghost roots_are_taken = { λ m row h. m.roots row h };
 

@@ -9,7 +9,7 @@ use Rattle.base.specs.declared.access.MemoryKind.{MemoryKind}
 use Rattle.base.specs.declared.access.MemoryKind.TheVariants.{Normal, Device}
 use Rattle.base.specs.Pages.{PageRun, in_run, covers}
 use Rattle.base.specs.Access.{Access, View, is_same, is_same_bool, is_rw, is_normal, is_reached_with}
-use Rattle.base.specs.Manifest.{GrantRow, RegionRow, region_at, granted_in, permission_of, is_sharable}
+use Rattle.base.specs.Manifest.{GrantRow, RegionRow, region_at, granted_in, access_of_grant, is_sharable}
 use Rattle.base.specs.Transactions.{Live, Donation}
 use Rattle.base.specs.Ledger.{live_at, donation_at, settled_view, is_idle}
 use Rattle.base.specs.Buffers.{is_buffer}
@@ -148,14 +148,14 @@ eqb_sym a b =
     ] refl
 
 -- what is granted to one partition alone is granted to no other
-only_grant : (kind : MemoryKind) (gs : List GrantRow) (p q : ℕ) (home : Access) → eqb (length gs) 1 ≡ true → option_map (permission_of kind) (find (λ g. eqb g.partition p) gs) ≡ Some home
-    → option_map (permission_of kind) (find (λ g. eqb g.partition q) gs) ≡ cond (eqb q p) (Some home) None
+only_grant : (kind : MemoryKind) (gs : List GrantRow) (p q : ℕ) (home : Access) → eqb (length gs) 1 ≡ true → option_map (access_of_grant kind) (find (λ g. eqb g.partition p) gs) ≡ Some home
+    → option_map (access_of_grant kind) (find (λ g. eqb g.partition q) gs) ≡ cond (eqb q p) (Some home) None
 only_grant kind [] p q home one h = absurd cc
 only_grant kind (g ∷ []) p q home one h =
-    elim (eqb g.partition p) as (λ b. eqb g.partition p ≡ b → option_map (permission_of kind) (cond b (Some g) None) ≡ Some home → option_map (permission_of kind) (cond (eqb g.partition q) (Some g) None) ≡ cond (eqb q p) (Some home) None) [
+    elim (eqb g.partition p) as (λ b. eqb g.partition p ≡ b → option_map (access_of_grant kind) (cond b (Some g) None) ≡ Some home → option_map (access_of_grant kind) (cond (eqb g.partition q) (Some g) None) ≡ cond (eqb q p) (Some home) None) [
       | true ↦ λ e k.
           let same : g.partition ≡ p = eqb-true _ _ e in
-          elim (eqb q p) as (λ b. eqb q p ≡ b → option_map (permission_of kind) (cond (eqb g.partition q) (Some g) None) ≡ cond b (Some home) None) [
+          elim (eqb q p) as (λ b. eqb q p ≡ b → option_map (access_of_grant kind) (cond (eqb g.partition q) (Some g) None) ≡ cond b (Some home) None) [
             | true ↦ λ f. let is : q ≡ p = eqb-true _ _ f in let here : eqb g.partition q ≡ true = eq-eqb _ _ (same ∙ sym is) in rw here k
             | false ↦ λ f. let other : eqb g.partition q ≡ false = grind (arith, nat_tests) in rw other refl
           ] refl

@@ -39,7 +39,10 @@ impl Model for Spans {
 
     ghost Value = { SpansView };
 
-    ghost view = { λ s. record { spans = s.spans.items; room = vec_capacity s.spans - vec_len s.spans } };
+    ghost view = { λ s. record {
+      spans = s.spans.items;
+      room = vec_capacity s.spans - vec_len s.spans;
+    } };
 
     ghost invariant = { λ s. IsTrue (ascend 0 s.spans.items) };
 }

@@ -47,7 +47,8 @@ pub enum Request {
 /// The call that registers 0 to 7 make. NOT_SUPPORTED where register 0 names none, and no other status.
 pub fn decode(regs: [u64; 8]) -> Result<Request, Status>
     ensures named { IfOk result (λ request. spec.request_of regs ≡ Some request) }
-    ensures unknown { IfErr result (λ status. (spec.request_of regs ≡ None) × (status ≡ Status.NotSupported)) }
+    ensures unknown { IfErr result (λ status. (spec.request_of regs ≡ None)
+        × (status ≡ Status.NotSupported)) }
 {
     match function_of(word(&regs, 0)) {
         Some(function) => Ok(request_for(function, &regs)),

@@ -4,6 +4,7 @@ ghost use Rattle.std.specs.Prelude.{◌≡◌, ◌+◌, ◌-◌, ◌*◌, ◌/�
 ghost use Rattle.std.specs.List.{list_all};
 ghost use Rattle.base.specs.Pages.{are_disjoint};
 ghost use Rattle.base.specs.Descriptors.Permissions.{not_specified, normal_write_back};
+ghost use Rattle.base.specs.Buffers as pairs;
 ghost use Rattle.base.specs.State as spec;
 ghost use Rattle.base.specs.Refusals.{first_refusal};
 ghost use Rattle.rules.specs.Calls.Send as rules;
@@ -22,6 +23,7 @@ use base::{
 };
 use descr::{Endpoint, SendDesc, read_send};
 use ledger::{Live, Receiver};
+use mailbox::Pair;
 use std::alloc::Global;
 use wire::{Reply, Transfer};
 
@@ -62,6 +64,7 @@ pub(crate) fn send(
 // ---- the tests
 
 /// The tests of a send, in order.
+#[tactic(auto, unfolding(base::specs::Buffers::has_pair))]
 fn check<'a>(
     state: &State,
     call: &'a Call,
@@ -75,7 +78,10 @@ fn check<'a>(
 {
     let p = call.partition();
     let row = state.row(p);
-    if !state.pairs.has_pair(p) || !names_tx(transfer) || !has_lengths(state, call, transfer) {
+    let Some(pair) = state.pairs.pair_of(p) else {
+        return Err(Status::InvalidParameters);
+    };
+    if !names_tx(transfer) || !has_lengths(state, pair, call, transfer) {
         return Err(Status::InvalidParameters);
     }
     let bytes = &call.tx[..transfer.total as usize];
@@ -111,23 +117,15 @@ fn names_tx(transfer: Transfer) -> bool
 
 /// Whether the lengths that the call gives agree, and its bytes and the TX buffer are as long.
 #[tactic(auto, unfolding(rules::specs::Calls::Send::has_lengths))]
-fn has_lengths(state: &State, call: &Call, transfer: Transfer) -> bool
+fn has_lengths(state: &State, pair: Pair, call: &Call, transfer: Transfer) -> bool
+    requires { pairs.pair_of state.now.mailboxes call.now.caller ≡ Some pair }
     ensures value { result ≡ rules.has_lengths state.now call.now transfer }
     ensures inside { IsTrue result → length (rules.bytes_of call.now transfer) ≡ transfer.total }
 {
+    let _state = state;
     transfer.total == transfer.fragment
-        && u64::from(transfer.total) <= tx_size(state, call.partition())
+        && u64::from(transfer.total) <= PAGE_SIZE * u64::from(pair.tx.count())
         && transfer.total as usize <= call.tx.len()
-}
-
-/// The size of a partition's TX buffer, in bytes.
-fn tx_size(state: &State, p: PartitionId) -> u64
-    ensures { result ≡ rules.tx_size state.now p }
-{
-    match state.pairs.pair_of(p) {
-        Some(pair) => PAGE_SIZE * u64::from(pair.tx.count()),
-        None => 0,
-    }
 }
 
 /// Whether a send names its sender and its receivers rightly.
