@@ -1,6 +1,6 @@
 //! The edit of one chunk: its level 2 word, and its level 3 table.
 
-ghost use Rattle.std.specs.Prelude.{◌≡◌, ℕ, ◌+◌, ◌*◌, ◌/◌, ◌%◌, ◌<◌, ◌≤◌, true, Some, None};
+ghost use Rattle.std.specs.Prelude.{◌≡◌, ℕ, ◌+◌, ◌*◌, ◌/◌, ◌%◌, ◌<◌, ◌≤◌, true, Some, None, ◌^◌};
 ghost use Rattle.base.specs.Pages.{covers};
 ghost use Rattle.base.specs.Manifest.{page_count, row_of};
 ghost use Rattle.base.specs.Access as permissions;
@@ -170,9 +170,63 @@ pub(crate) fn outcome<M: TableMem>(
 {
     if is_filled(runs, chunk) {
         Some(*access)
+    } else if differs_at_an_end(memory, layout, entry, chunk, runs, access) {
+        None
     } else {
         compared(memory, layout, entry, chunk, runs, access)
     }
+}
+
+/// Whether a page and the next one are both of the chunk, and reached otherwise after the edit.
+fn next_differs<M: TableMem>(
+    memory: &M,
+    layout: &Layout,
+    entry: &Slot,
+    chunk: u32,
+    page: u32,
+    runs: &[Run],
+    access: &Option<Access>,
+) -> bool
+    requires pages { layout.now.pages ≡ page_count (M.state memory.now).memory.quotas }
+    requires table { (k : ℕ) → entry.now ≡ Next k → k < layout.now.pages }
+    requires chunk { chunk < 262144 }
+    requires in_range { page ≤ 2 ^ 27 }
+    ensures { let now = M.state memory.now in
+        let after = read_after layout.now runs.now access.now entry.now now in
+        result ≡ true → needs.is_mixed after chunk ≡ true }
+{
+    if page / 512 != chunk || (page + 1) / 512 != chunk {
+        return false;
+    }
+    let here = page_after(memory, layout, entry, Page::new(page), runs, access);
+    let next = page_after(memory, layout, entry, Page::new(page + 1), runs, access);
+    !is_alike(&here, &next)
+}
+
+/// Whether the pages at an end of the first run, one in it and one beside it, are reached otherwise
+/// after the edit. Most edits that leave the chunk mixed are known by these four looks.
+fn differs_at_an_end<M: TableMem>(
+    memory: &M,
+    layout: &Layout,
+    entry: &Slot,
+    chunk: u32,
+    runs: &[Run],
+    access: &Option<Access>,
+) -> bool
+    requires pages { layout.now.pages ≡ page_count (M.state memory.now).memory.quotas }
+    requires table { (k : ℕ) → entry.now ≡ Next k → k < layout.now.pages }
+    requires chunk { chunk < 262144 }
+    ensures { let now = M.state memory.now in
+        let after = read_after layout.now runs.now access.now entry.now now in
+        result ≡ true → needs.is_mixed after chunk ≡ true }
+{
+    let Some(run) = runs.first() else {
+        return false;
+    };
+    let before = run.first().number().saturating_sub(1);
+    let last = run.end().saturating_sub(1);
+    next_differs(memory, layout, entry, chunk, before, runs, access)
+        || next_differs(memory, layout, entry, chunk, last, runs, access)
 }
 
 /// The same, found by a look at the pages, one after another, up to the first that is reached

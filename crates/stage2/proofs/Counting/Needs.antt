@@ -118,3 +118,27 @@ pub outcome-filled : (runs : List PageRun) (access : View) (before : ℕ → Vie
 outcome-filled runs access before c filled =
     let same = λ (n : ℕ) (at : n / 512 ≡ c). ap (λ b. cond b access (before n)) (filled-page runs c n filled at) in
     record { same = λ one is n at. same n at ∙ (let e : access ≡ one = cc in e); mixed = sym (same-unmixed (edited runs access before) c access same) }
+
+-- ---- chunks that are not mixed
+
+-- a page of a chunk whose answers are all equal
+pub equal-first : (view : ℕ → View) (c n : ℕ) → is_mixed view c ≡ false → n / 512 ≡ c → view n ≡ view (512 * c)
+unfolding is_mixed
+equal-first view c n unmixed at =
+    let place : 512 * c + n % 512 ≡ n = omega (arith, at) in
+    let one : not (is_alike (view (512 * c + n % 512)) (view (512 * c))) ≡ false = any_below-none (λ i. not (is_alike (view (512 * c + i)) (view (512 * c)))) 512 (n % 512) unmixed (omega arith) in
+    ap view (sym place) ∙ alike-same (view (512 * c + n % 512)) (view (512 * c)) (not_false (is_alike (view (512 * c + n % 512)) (view (512 * c))) one)
+  where
+    not_false : (b : Bool) → not b ≡ false → b ≡ true
+    not_false true e = refl
+    not_false false e = absurd (cc)
+
+-- two pages of a chunk that answer otherwise make it mixed
+pub unlike-mixed : (view : ℕ → View) (c x y : ℕ) → x / 512 ≡ c → y / 512 ≡ c → is_alike (view x) (view y) ≡ false → is_mixed view c ≡ true
+unlike-mixed view c x y at_x at_y unlike = elim (cases_Bool (is_mixed view c)) [
+  | inl t ↦ t
+  | inr f ↦
+      let same : view x ≡ view y = equal-first view c x f at_x ∙ sym (equal-first view c y f at_y) in
+      let alike : is_alike (view x) (view y) ≡ true = rw same (alike-refl (view y)) in
+      absurd (cc)
+]

@@ -17,9 +17,8 @@ use Rattle.stage2.specs.Gigabytes.{EditsRow, FitsRow}
 use Rattle.stage2.specs.Orderly.{IsCanonical, answers, answer_of}
 use Rattle.stage2.specs.Slot.{Layout, layout_of}
 use Rattle.stage2.specs.Walk.{walk, walked, translation}
-use Rattle.stage2.proofs.Walkers.WholeCall.{equal-first}
 use Rattle.stage2.proofs.Editing.Gigabyte.{not-reached}
-use Rattle.stage2.proofs.Counting.Needs.{mixed-same, reached-same, mixed-none, reached-none, alike-self}
+use Rattle.stage2.proofs.Counting.Needs.{mixed-same, reached-same, mixed-none, reached-none, alike-self, equal-first}
 use Rattle.manifest.proofs.Tables.{alike-same}
 use Rattle.stage2.proofs.Editing.ChunkKeeps.{answer-walked}
 use Rattle.base.proofs.Booleans.{both}

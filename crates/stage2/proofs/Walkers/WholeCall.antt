@@ -17,24 +17,9 @@ use Rattle.stage2.specs.Moments.{IsInStepIn, nothing, StaysInStep, Moments}
 use Rattle.stage2.specs.Steps.{AreFree, disturbs, disturbed, with_pages}
 use Rattle.stage2.proofs.Tree.Rows.{IsRow, same_row}
 use Rattle.stage2.proofs.Editing.ChunkKeeps.{answer-walked}
-use Rattle.manifest.proofs.Tables.{alike-same, any_below-none}
-use Rattle.stage2.proofs.Counting.Needs.{mixed-same}
+use Rattle.stage2.proofs.Counting.Needs.{mixed-same, equal-first}
 use Rattle.stage2.proofs.Walkers.WholeEdit.{edit_of, orderly-begun, moments-of}
 use Rattle.base.proofs.Booleans.{both}
-
--- ---- chunks that are not mixed
-
--- a page of a chunk whose answers are all equal
-pub equal-first : (view : ℕ → View) (c n : ℕ) → is_mixed view c ≡ false → n / 512 ≡ c → view n ≡ view (512 * c)
-unfolding is_mixed
-equal-first view c n unmixed at =
-    let place : 512 * c + n % 512 ≡ n = omega (arith, at) in
-    let one : not (is_alike (view (512 * c + n % 512)) (view (512 * c))) ≡ false = any_below-none (λ i. not (is_alike (view (512 * c + i)) (view (512 * c)))) 512 (n % 512) unmixed (omega arith) in
-    ap view (sym place) ∙ alike-same (view (512 * c + n % 512)) (view (512 * c)) (not_false (is_alike (view (512 * c + n % 512)) (view (512 * c))) one)
-  where
-    not_false : (b : Bool) → not b ≡ false → b ≡ true
-    not_false true e = refl
-    not_false false e = absurd (cc)
 
 -- ---- a chunk that runs touch has a page of theirs
 
