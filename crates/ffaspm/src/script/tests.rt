@@ -8,6 +8,7 @@ use std::process::Abort;
 use std::test::Fail;
 
 mod documents;
+mod manifests;
 mod operations;
 mod quotas;
 mod tables;

@@ -73,3 +73,16 @@ pub(super) fn sparse_document(alloc: Global) -> Result<String, Fail> {
     ];
     document(alloc, &[(0x8001, 16), (0x8002, 16)], &rows)
 }
+
+/// As many partitions as there may be, each with a page of its own in a chunk of its own.
+pub(super) fn many_document(alloc: Global) -> Result<String, Fail> {
+    let mut text = String::new(alloc);
+    writeln!(&mut text, "pool = 0x40000000")?;
+    for i in 0..64u16 {
+        let id = 0x8001 + i;
+        let base = 0x8000_0000 + 0x20_0000 * u64::from(i);
+        writeln!(&mut text, "[[partition]]\nid = {id}\nquota = 2")?;
+        push_row(&mut text, &(base, 1, "normal", &[(id, "rw", false)]))?;
+    }
+    Ok(text)
+}
