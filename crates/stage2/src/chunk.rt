@@ -1,7 +1,7 @@
 //! The edit of one chunk: its level 2 word, and its level 3 table.
 
 ghost use Rattle.std.specs.Prelude.{◌≡◌, ℕ, ◌+◌, ◌*◌, ◌/◌, ◌%◌, ◌<◌, ◌≤◌, true, Some, None, ◌^◌};
-ghost use Rattle.base.specs.Pages.{covers};
+ghost use Rattle.base.specs.Pages.{covers, are_normal};
 ghost use Rattle.base.specs.Manifest.{page_count, row_of};
 ghost use Rattle.base.specs.Access as permissions;
 ghost use Rattle.base.specs.Need as needs;
@@ -15,19 +15,13 @@ ghost use Rattle.stage2.specs.Clauses.{Puts, WritesPlan, one_page, Breaks, Repla
 
 use crate::edit::{put_word, word_of};
 use crate::layout::Layout;
+use crate::part::is_covered;
 use crate::read::read_slot;
 use crate::unmap::invalidate_parts;
 use crate::walked::Slot;
 use base::{Access, MemoryKind, Page, PartitionId, Rights, Run};
 use pool::TableMem;
 use words::{leaf_word, table_word};
-
-/// Whether a page is in one of the runs.
-fn is_covered(runs: &[Run], page: Page) -> bool
-    ensures { result ≡ covers runs.now page }
-{
-    runs.iter().any(|run| run.contains(page))
-}
 
 /// What is planned for a page: pages of the runs get one answer, and the others another one, or
 /// stay.
@@ -37,6 +31,7 @@ fn plan(
     others: &Option<Option<Access>>,
     page: Page,
 ) -> Option<Option<Access>>
+    requires normal { are_normal runs.now ≡ true }
     ensures { result ≡ planned runs.now access.now others.now page }
 {
     if is_covered(runs, page) {
@@ -73,6 +68,7 @@ fn write_table<M: TableMem>(
     access: &Option<Access>,
     others: &Option<Option<Access>>,
 )
+    requires normal { are_normal runs.now ≡ true }
     requires page_in { third < page_count (M.state memory.old).memory.quotas }
     requires taken { taken_of (M.state memory.old).memory.taken third ≡ true }
     requires chunk { chunk < 262144 }
@@ -126,6 +122,7 @@ fn page_after<M: TableMem>(
     runs: &[Run],
     access: &Option<Access>,
 ) -> Option<Access>
+    requires normal { are_normal runs.now ≡ true }
     requires pages { layout.now.pages ≡ page_count (M.state memory.now).memory.quotas }
     requires table { (k : ℕ) → entry.now ≡ Next k → k < layout.now.pages }
     ensures { result
@@ -161,6 +158,7 @@ pub(crate) fn outcome<M: TableMem>(
     runs: &[Run],
     access: &Option<Access>,
 ) -> Option<Option<Access>>
+    requires normal { are_normal runs.now ≡ true }
     requires pages { layout.now.pages ≡ page_count (M.state memory.now).memory.quotas }
     requires table { (k : ℕ) → entry.now ≡ Next k → k < layout.now.pages }
     requires chunk { chunk < 262144 }
@@ -187,6 +185,7 @@ fn next_differs<M: TableMem>(
     runs: &[Run],
     access: &Option<Access>,
 ) -> bool
+    requires normal { are_normal runs.now ≡ true }
     requires pages { layout.now.pages ≡ page_count (M.state memory.now).memory.quotas }
     requires table { (k : ℕ) → entry.now ≡ Next k → k < layout.now.pages }
     requires chunk { chunk < 262144 }
@@ -213,6 +212,7 @@ fn differs_at_an_end<M: TableMem>(
     runs: &[Run],
     access: &Option<Access>,
 ) -> bool
+    requires normal { are_normal runs.now ≡ true }
     requires pages { layout.now.pages ≡ page_count (M.state memory.now).memory.quotas }
     requires table { (k : ℕ) → entry.now ≡ Next k → k < layout.now.pages }
     requires chunk { chunk < 262144 }
@@ -239,6 +239,7 @@ fn compared<M: TableMem>(
     runs: &[Run],
     access: &Option<Access>,
 ) -> Option<Option<Access>>
+    requires normal { are_normal runs.now ≡ true }
     requires pages { layout.now.pages ≡ page_count (M.state memory.now).memory.quotas }
     requires table { (k : ℕ) → entry.now ≡ Next k → k < layout.now.pages }
     requires chunk { chunk < 262144 }
@@ -372,6 +373,7 @@ fn rewrite_table<M: TableMem>(
     runs: &[Run],
     access: &Option<Access>,
 )
+    requires normal { are_normal runs.now ≡ true }
     requires site { IsSite layout.now row chunk second (pages_of (M.state memory.old).memory) }
     requires table { chunk_slot layout.now chunk second (M.state memory.old) ≡ Next third }
     requires room { 512 ≤ M.room memory.old }
@@ -401,6 +403,7 @@ fn hang_table<M: TableMem>(
     runs: &[Run],
     access: &Option<Access>,
 )
+    requires normal { are_normal runs.now ≡ true }
     requires site { IsSite layout.now row chunk second (pages_of (M.state memory.old).memory) }
     requires row { row_of layout.now.ids p ≡ row }
     requires none { next_page (chunk_slot layout.now chunk second (M.state memory.old)) ≡ None }
@@ -450,6 +453,7 @@ pub(crate) fn edit_chunk<M: TableMem>(
     runs: &[Run],
     access: &Option<Access>,
 )
+    requires normal { are_normal runs.now ≡ true }
     requires site { IsSite layout.now row chunk second (pages_of (M.state memory.old).memory) }
     requires row { row_of layout.now.ids p ≡ row }
     requires free { GrowsChunk layout.now row chunk second runs.now access.now (M.state memory.old)

@@ -61,6 +61,7 @@ fn grows<M: TableMem>(
     runs: &[Run],
     access: &Option<Access>,
 ) -> bool
+    requires normal { are_normal runs.now ≡ true }
     requires pages { layout.now.pages ≡ page_count (M.state memory.now).memory.quotas }
     requires table { (k : ℕ) → entry.now ≡ Next k → k < layout.now.pages }
     requires chunk { chunk < 262144 }

@@ -1,10 +1,10 @@
 //! The runs that an edit of one gigabyte, or of one chunk, looks at.
 
 ghost use Rattle.std.specs.Prelude.{◌≡◌, ◌<◌, true};
-ghost use Rattle.base.specs.Pages.{are_normal};
+ghost use Rattle.base.specs.Pages.{are_normal, covers};
 ghost use Rattle.stage2.specs.Parts as parts;
 
-use base::Run;
+use base::{Page, Run};
 
 /// Those of the runs that have a page from one up to another.
 fn runs_between(runs: &[Run], first: u32, end: u32) -> &[Run]
@@ -18,11 +18,21 @@ fn runs_between(runs: &[Run], first: u32, end: u32) -> &[Run]
     &rest[..count]
 }
 
+/// Whether a page is in one of the runs.
+pub(crate) fn is_covered(runs: &[Run], page: Page) -> bool
+    requires normal { are_normal runs.now ≡ true }
+    ensures { result ≡ covers runs.now page }
+{
+    let n = page.number();
+    !runs_between(runs, n, n + 1).is_empty()
+}
+
 /// Those of the runs that have a page in a chunk.
 pub(crate) fn chunk_runs(runs: &[Run], chunk: u32) -> &[Run]
     requires normal { are_normal runs.now ≡ true }
     requires chunk { chunk < 262144 }
-    ensures { result.now ≡ parts.chunk_runs chunk runs.now }
+    ensures same { result.now ≡ parts.chunk_runs chunk runs.now }
+    ensures normal { are_normal result.now ≡ true }
 {
     runs_between(runs, 512 * chunk, 512 * chunk + 512)
 }

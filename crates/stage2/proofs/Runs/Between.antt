@@ -1,9 +1,9 @@
 -- The runs with pages from one up to another are found by two halvings, as runs stand upward.
-use Rattle.std.proofs.Common.{◌≡◌, ℕ, zero, suc, ◌+◌, ◌<◌, ◌≤◌, true, false, ◌&&◌, leb, ltb, List, [], ◌∷◌, get_or, length, take, drop, refl, arith, ap, sym, ◌∙◌}
+use Rattle.std.proofs.Common.{◌≡◌, ℕ, zero, suc, ◌+◌, ◌<◌, ◌≤◌, true, false, not, ◌&&◌, ◌||◌, cond, eqb, leb, ltb, List, [], ◌∷◌, get_or, length, take, drop, refl, arith, ap, sym, ◌∙◌}
 use Rattle.std.specs.List.Sorted.{IsPartitionPoint}
 use Rattle.std.proofs.lemmas.List.{get_or-drop, length-drop}
 use Rattle.std.proofs.lemmas.Bool.Decides.{nat_tests}
-use Rattle.base.specs.Pages.{PageRun}
+use Rattle.base.specs.Pages.{PageRun, in_run, covers}
 use Rattle.stage2.specs.Parts.{runs_between}
 use Rattle.stage2.proofs.Runs.Normal.{end_of, first_of}
 
@@ -41,3 +41,16 @@ module _ (first end : ℕ) where
       (λ k d lt. ap (λ r. leb (end_of r) first) (get_or-drop n runs k d) ∙ past.1 (n + k) d (omega arith) (let len = length-drop n runs in omega (arith, len, lt, le)))
       (λ k d lt small. begun.0 k d (omega arith) lt)
       (λ k d from lt. begun.1 k d from lt))
+
+-- a page is in one of the runs exactly where one of them has a page from it up to the next
+pub covered-between : (runs : List PageRun) (n : ℕ) → covers runs n ≡ not (eqb (length (runs_between n (n + 1) runs)) 0)
+covered-between [] n = refl
+covered-between (r ∷ runs) n =
+    let test : (ltb n (end_of r) && ltb r.first (n + 1)) ≡ in_run r n = grind (arith, nat_tests) in
+    rw test (elim (in_run r n) as (λ b. (b || covers runs n) ≡ not (eqb (length (cond b (r ∷ runs_between n (n + 1) runs) (runs_between n (n + 1) runs))) 0)) [
+      | true ↦ let some : eqb (length (r ∷ runs_between n (n + 1) runs)) 0 ≡ false = not_none (length (runs_between n (n + 1) runs)) in rw some refl
+      | false ↦ covered-between runs n
+    ])
+  where
+    not_none : (k : ℕ) → eqb (suc k) 0 ≡ false
+    not_none k = grind (arith, nat_tests)

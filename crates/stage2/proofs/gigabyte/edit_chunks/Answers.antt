@@ -27,7 +27,7 @@ edit_chunk-requires-clause-free g c = λ grows.
     let part = c.chunk_runs-part.result.now in
     has-free c.args.layout.now c.args.row c.args.gigabyte c.args.second c.args.runs.now c.args.access.now (pages_of (g.M.TableMem.state c.args.memory.now).memory) c.requires.partition c.requires.gigabyte
     c.loop-index.index (omega (arith, c.loop-index-test.true, c.chunk_span-span.ensures.most)) mid c.loop-index.invariant.underway c.requires.free.fits
-    (chunk-growing chunk c.args.runs.now part c.args.access.now (chunk-covers chunk c.args.runs.now part c.chunk_runs-part.ensures) (answers_in c.args.layout.now c.args.row chunk c.args.second mid) grows)
+    (chunk-growing chunk c.args.runs.now part c.args.access.now (chunk-covers chunk c.args.runs.now part c.chunk_runs-part.ensures.same) (answers_in c.args.layout.now c.args.row chunk c.args.second mid) grows)
 
 pub edit_chunk-requires-clause-room : goal.edit_chunk-requires-clause-room
 edit_chunk-requires-clause-room g c =
@@ -36,7 +36,7 @@ edit_chunk-requires-clause-room g c =
     let up = sum_below-up f (c.loop-index.index + 1) 512 (omega (arith, c.loop-index-test.true, c.chunk_span-span.ensures.most)) in
     let c0 = 512 * c.args.gigabyte + c.loop-index.index in
     let part = c.chunk_runs-part.result.now in
-    let one = cost c0 c.args.runs.now part c.chunk_runs-part.ensures (sym c.touches.ensures ∙ c.if-touches.true) in
+    let one = cost c0 c.args.runs.now part c.chunk_runs-part.ensures.same (sym c.touches.ensures ∙ c.if-touches.true) in
     enough (g.M.TableMem.room c.args.memory.now) (g.M.TableMem.room c.loop-index.memory) (f c.loop-index.index) (515 + part_count c0 part) (sum_below f c.loop-index.index) (sum_below f (c.loop-index.index + 1)) (sum_below f 512) one more up c.loop-index.invariant.room c.requires.room
   where
     enough : (r0 r one cost before next all : ℕ) → one ≡ cost → next ≡ one + before → next ≤ all → r0 ≤ r + before → all ≤ r0 → cost ≤ r
@@ -52,7 +52,7 @@ loop-index-preserved g c =
     let chunk = 512 * c.args.gigabyte + c.loop-index.index in
     let runs = c.args.runs.now in
     let part = c.chunk_runs-part.result.now in
-    let is = c.chunk_runs-part.ensures in
+    let is = c.chunk_runs-part.ensures.same in
     let covered = chunk-covers chunk runs part is in
     let v : ℕ → View = answers_in c.args.layout.now c.args.row chunk c.args.second mid in
     elim c.if-touches.branch [
