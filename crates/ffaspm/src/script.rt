@@ -14,7 +14,7 @@ use pool::TableMem;
 use spm::{Call, Reply, Spm};
 use std::alloc::Global;
 use std::collections::BTreeMap;
-use wire::identifiers::{FFA_MEM_DONATE, FFA_MEM_LEND, FFA_MEM_SHARE};
+use wire::identifiers::{FFA_MEM_DONATE, FFA_MEM_LEND, FFA_MEM_RECLAIM, FFA_MEM_SHARE};
 
 #[cfg(test)]
 mod tests;
@@ -71,6 +71,13 @@ impl<M: TableMem + Drop> Run<M> {
             }
             Line::Send(kind, send) => {
                 let reply = self.send(kind, &send)?;
+                write_reply(self.alloc, &reply, text)
+            }
+            Line::Reclaim(id, handle) => {
+                let identifier = u64::from(FFA_MEM_RECLAIM);
+                let (low, high) = (handle.low(), handle.high());
+                let regs = [identifier, u64::from(low), u64::from(high), 0, 0, 0, 0, 0];
+                let reply = self.call(id, regs)?;
                 write_reply(self.alloc, &reply, text)
             }
             Line::Maps(id) => write_maps(self.alloc, &self.spm, id, text),

@@ -4,7 +4,7 @@ ghost use Rattle.lines.specs.Lines.{is_nothing, HasParts};
 use crate::send::{SendLine, read_send};
 use crate::words::{read_id, read_number};
 use arrayvec::ArrayVec;
-use base::{Kind, OutOfMemory, PartitionId};
+use base::{Handle, Kind, OutOfMemory, PartitionId};
 use hex::FromHexError;
 use std::alloc::Global;
 use std::str;
@@ -33,6 +33,8 @@ pub enum Line {
     /// `share`, `lend` or `donate`, then `ID NUM RECEIVERS RANGES`: a send of this kind by ID with tag NUM.
     /// RECEIVERS are 1 to 8 of `ID:PERM` and RANGES 1 to 512 of `NUM+COUNT`, both parted by commas.
     Send(Kind, SendLine),
+    /// `reclaim ID NUM`: a reclaim by ID of the transaction whose handle is NUM.
+    Reclaim(PartitionId, Handle),
     /// `maps ID`: what ID reaches.
     Maps(PartitionId),
     /// `tables ID`: the valid entries of ID's translation tables.
@@ -75,6 +77,7 @@ pub fn read_line(alloc: Global, bytes: &[u8]) -> Result<Option<Line>, OutOfMemor
         ["share", words @ ..] => read_send_line(alloc, Kind::Share, words),
         ["lend", words @ ..] => read_send_line(alloc, Kind::Lend, words),
         ["donate", words @ ..] => read_send_line(alloc, Kind::Donate, words),
+        ["reclaim", id, handle] => Ok(read_reclaim(id, handle)),
         ["maps", id] => Ok(read_id(id).map(Line::Maps)),
         ["tables", id] => Ok(read_id(id).map(Line::Tables)),
         ["ops"] => Ok(Some(Line::Operations)),
@@ -132,4 +135,12 @@ fn read_call(id: &str, words: &[&str]) -> Option<Line>
         *registers.get_mut(i)? = read_number(word)?;
     }
     Some(Line::Call(id, registers))
+}
+
+fn read_reclaim(id: &str, handle: &str) -> Option<Line>
+    ensures { IfSome result HasParts }
+{
+    let id = read_id(id)?;
+    let handle = read_number(handle)?;
+    Some(Line::Reclaim(id, Handle::from_bits(handle)))
 }

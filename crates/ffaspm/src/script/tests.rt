@@ -11,6 +11,7 @@ mod documents;
 mod manifests;
 mod operations;
 mod quotas;
+mod reclaims;
 mod tables;
 mod walkers;
 

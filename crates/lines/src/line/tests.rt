@@ -1,7 +1,7 @@
 use super::{Line, read_line};
 use crate::send::SendLine;
 use arrayvec::ArrayVec;
-use base::{Kind, OutOfMemory, PartitionId, Permissions};
+use base::{Handle, Kind, OutOfMemory, PartitionId, Permissions};
 use descr::Endpoint;
 use descw::RangeFields;
 use std::alloc::Global;
@@ -33,6 +33,9 @@ fn reads_lines(rt: HostRuntime) -> Result<(), Fail> {
     let call = Line::Call(id, [1, 2, 3, 4, 5, 6, 7, u64::MAX]);
     let text = "call 80af 1 02 3 4 5 6 0000000000000007 ffffffffffffffff";
     expect_line(&rt, alloc, text, Some(call))?;
+    let handle = Handle::from_bits(0x8001_0000_0001);
+    let reclaim = Line::Reclaim(id, handle);
+    expect_line(&rt, alloc, "reclaim 80af 800100000001", Some(reclaim))?;
     expect_line(&rt, alloc, "maps 80af", Some(Line::Maps(id)))?;
     expect_line(&rt, alloc, "tables 80af", Some(Line::Tables(id)))?;
     expect_line(&rt, alloc, "ops", Some(Line::Operations))?;
@@ -96,6 +99,9 @@ fn refuses_other_sends(rt: HostRuntime) -> Result<(), Fail> {
     let alloc = rt.alloc();
     for text in [
         "share",
+        "reclaim 8001",
+        "reclaim 8001 1 2",
+        "reclaim 801 1",
         "donate 8001 5",
         "share 8001 5 8002:02",
         "give 8001 5 8002:02 80000000+1",
