@@ -32,3 +32,23 @@ pub record Donation : Type 0 where
 abbrev pub without : ℕ → List Live → List Live
 without h [] = []
 without h (t ∷ ts) = if t.handle == h then ts else t ∷ without h ts
+
+-- what one of the receivers has retrieved is this now
+abbrev pub with_retrieved : ℕ → View → List Receiver → List Receiver
+with_retrieved p view [] = []
+with_retrieved p view (r ∷ rs) =
+    if r.partition == p then record r { retrieved = view } ∷ rs else r ∷ with_retrieved p view rs
+
+-- the same of a receiver of the transaction
+abbrev pub with_retrieval : ℕ → View → Live → Live
+with_retrieval p view t = record t { receivers = with_retrieved p view t.receivers }
+
+-- the same of a receiver of the transaction of a handle
+abbrev pub with_retrieval_of : ℕ → ℕ → View → List Live → List Live
+with_retrieval_of h p view [] = []
+with_retrieval_of h p view (t ∷ ts) =
+    if t.handle == h then with_retrieval p view t ∷ ts else t ∷ with_retrieval_of h p view ts
+
+-- the donation that a retrieval of the transaction completes
+abbrev pub completed : ℕ → Access → Live → Donation
+completed p access t = record { ranges = t.ranges; giver = t.sender; taker = p; access = access }

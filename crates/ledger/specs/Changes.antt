@@ -1,30 +1,10 @@
 -- How the lists change (FF-A 1.1, "Memory management").
-use Rattle.std.specs.Prelude.{ℕ, ◌==◌, List, [], ◌∷◌, ◌++◌, Option, Some, None, if◌then◌else◌}
+use Rattle.std.specs.Prelude.{ℕ, List, [], ◌∷◌, ◌++◌, Option, Some, None}
 use Rattle.base.specs.declared.transaction.Kind.{Kind}
 use Rattle.base.specs.declared.transaction.Kind.TheVariants.{Share, Lend, Donate}
-use Rattle.base.specs.Access.{Access, View}
-use Rattle.base.specs.Transactions.{Receiver, Live, Donation}
-pub use Rattle.base.specs.Transactions.{without}
-
--- what one of the receivers has retrieved is this now
-abbrev pub with_retrieved : ℕ → View → List Receiver → List Receiver
-with_retrieved p view [] = []
-with_retrieved p view (r ∷ rs) =
-    if r.partition == p then record r { retrieved = view } ∷ rs else r ∷ with_retrieved p view rs
-
--- the same of a receiver of the transaction
-abbrev pub with_retrieval : ℕ → View → Live → Live
-with_retrieval p view t = record t { receivers = with_retrieved p view t.receivers }
-
--- the same of a receiver of the transaction of a handle
-abbrev pub with_retrieval_of : ℕ → ℕ → View → List Live → List Live
-with_retrieval_of h p view [] = []
-with_retrieval_of h p view (t ∷ ts) =
-    if t.handle == h then with_retrieval p view t ∷ ts else t ∷ with_retrieval_of h p view ts
-
--- the donation by which a retrieval ends the transaction
-abbrev pub completed : ℕ → Access → Live → Donation
-completed p access t = record { ranges = t.ranges; giver = t.sender; taker = p; access = access }
+use Rattle.base.specs.Access.{Access}
+use Rattle.base.specs.Transactions.{Live, Donation}
+pub use Rattle.base.specs.Transactions.{without, with_retrieved, with_retrieval, with_retrieval_of, completed}
 
 -- the donations that a retrieval of the transaction completes
 abbrev pub completed_by : ℕ → Access → Live → Kind → List Donation

@@ -2,3 +2,5 @@
 pub mod Buffers
 pub mod Send
 pub mod Reclaim
+pub mod Relinquish
+pub mod Retrieve

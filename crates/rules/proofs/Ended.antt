@@ -10,7 +10,7 @@ use Rattle.base.proofs.Booleans.{both}
 use Rattle.rules.specs.Laws.OneOwner.{AreApart, AreAllApart}
 use Rattle.rules.specs.Laws.Handles.{HaveOtherHandles}
 
-some_is : (t u : Live) → Some t ≡ Some u → t ≡ u
+pub some_is : (t u : Live) → Some t ≡ Some u → t ≡ u
 some_is t u e = cc
 
 -- ---- one of them is found
@@ -32,37 +32,37 @@ found_is f (u ∷ us) t e =
     ] refl e
 
 -- handles differ, so it is the first of its handle
-pub found_first : (ts : List Live) (h p : ℕ) (t : Live) → HaveOtherHandles ts → find (λ u. eqb u.handle h && eqb u.sender p) ts ≡ Some t → find (λ u. eqb u.handle h) ts ≡ Some t
-found_first [] h p t others e = absurd cc
-found_first (u ∷ us) h p t others e =
-    elim (eqb u.handle h) as (λ b. eqb u.handle h ≡ b → cond (b && eqb u.sender p) (Some u) (find (λ v. eqb v.handle h && eqb v.sender p) us) ≡ Some t → cond b (Some u) (find (λ v. eqb v.handle h) us) ≡ Some t) [
-      | true ↦ λ is k. elim (eqb u.sender p) as (λ b. cond b (Some u) (find (λ v. eqb v.handle h && eqb v.sender p) us) ≡ Some t → Some u ≡ Some t) [
+pub found_first : (ts : List Live) (h : ℕ) (g : Live → Bool) (t : Live) → HaveOtherHandles ts → find (λ u. eqb u.handle h && g u) ts ≡ Some t → find (λ u. eqb u.handle h) ts ≡ Some t
+found_first [] h g t others e = absurd cc
+found_first (u ∷ us) h g t others e =
+    elim (eqb u.handle h) as (λ b. eqb u.handle h ≡ b → cond (b && g u) (Some u) (find (λ v. eqb v.handle h && g v) us) ≡ Some t → cond b (Some u) (find (λ v. eqb v.handle h) us) ≡ Some t) [
+      | true ↦ λ is k. elim (g u) as (λ b. cond b (Some u) (find (λ v. eqb v.handle h && g v) us) ≡ Some t → Some u ≡ Some t) [
         | true ↦ λ m. m
         | false ↦ λ m.
-            let same : t.handle ≡ h = eqb-true _ _ (both (eqb t.handle h) (eqb t.sender p) (found_is (λ v. eqb v.handle h && eqb v.sender p) us t m)).0 in
-            absurd (found_in (λ v. u.handle ≢ v.handle) (λ v. eqb v.handle h && eqb v.sender p) us t m others.0 (eqb-true _ _ is ∙ sym same))
+            let same : t.handle ≡ h = eqb-true _ _ (both (eqb t.handle h) (g t) (found_is (λ v. eqb v.handle h && g v) us t m)).0 in
+            absurd (found_in (λ v. u.handle ≢ v.handle) (λ v. eqb v.handle h && g v) us t m others.0 (eqb-true _ _ is ∙ sym same))
       ] k
-      | false ↦ λ is k. found_first us h p t others.1 k
+      | false ↦ λ is k. found_first us h g t others.1 k
     ] refl e
 
-none_other : (ts : List Live) (h p : ℕ) (u : Live) → AllByRecursion (λ v. u.handle ≢ v.handle) ts → u.handle ≡ h → find (λ v. eqb v.handle h && eqb v.sender p) ts ≡ None
-none_other [] h p u others is = refl
-none_other (v ∷ vs) h p u others is =
-    elim (eqb v.handle h) as (λ b. eqb v.handle h ≡ b → cond (b && eqb v.sender p) (Some v) (find (λ w. eqb w.handle h && eqb w.sender p) vs) ≡ None) [
+none_other : (ts : List Live) (h : ℕ) (g : Live → Bool) (u : Live) → AllByRecursion (λ v. u.handle ≢ v.handle) ts → u.handle ≡ h → find (λ v. eqb v.handle h && g v) ts ≡ None
+none_other [] h g u others is = refl
+none_other (v ∷ vs) h g u others is =
+    elim (eqb v.handle h) as (λ b. eqb v.handle h ≡ b → cond (b && g v) (Some v) (find (λ w. eqb w.handle h && g w) vs) ≡ None) [
       | true ↦ λ e. absurd (others.0 (is ∙ sym (eqb-true _ _ e)))
-      | false ↦ λ e. none_other vs h p u others.1 is
+      | false ↦ λ e. none_other vs h g u others.1 is
     ] refl
 
--- so the sender of the one with the handle decides
-pub found_of : (ts : List Live) (h p : ℕ) → HaveOtherHandles ts → find (λ u. eqb u.handle h && eqb u.sender p) ts ≡ option_and_then (λ u. cond (eqb u.sender p) (Some u) None) (find (λ u. eqb u.handle h) ts)
-found_of [] h p others = refl
-found_of (u ∷ us) h p others =
-    elim (eqb u.handle h) as (λ b. eqb u.handle h ≡ b → cond (b && eqb u.sender p) (Some u) (find (λ v. eqb v.handle h && eqb v.sender p) us) ≡ option_and_then (λ v. cond (eqb v.sender p) (Some v) None) (cond b (Some u) (find (λ v. eqb v.handle h) us))) [
-      | true ↦ λ e. elim (eqb u.sender p) as (λ b. cond b (Some u) (find (λ v. eqb v.handle h && eqb v.sender p) us) ≡ cond b (Some u) None) [
+-- so the one with the handle decides
+pub found_of : (ts : List Live) (h : ℕ) (g : Live → Bool) → HaveOtherHandles ts → find (λ u. eqb u.handle h && g u) ts ≡ option_and_then (λ u. cond (g u) (Some u) None) (find (λ u. eqb u.handle h) ts)
+found_of [] h g others = refl
+found_of (u ∷ us) h g others =
+    elim (eqb u.handle h) as (λ b. eqb u.handle h ≡ b → cond (b && g u) (Some u) (find (λ v. eqb v.handle h && g v) us) ≡ option_and_then (λ v. cond (g v) (Some v) None) (cond b (Some u) (find (λ v. eqb v.handle h) us))) [
+      | true ↦ λ e. elim (g u) as (λ b. cond b (Some u) (find (λ v. eqb v.handle h && g v) us) ≡ cond b (Some u) None) [
         | true ↦ refl
-        | false ↦ none_other us h p u others.0 (eqb-true _ _ e)
+        | false ↦ none_other us h g u others.0 (eqb-true _ _ e)
       ]
-      | false ↦ λ e. found_of us h p others.1
+      | false ↦ λ e. found_of us h g others.1
     ] refl
 
 -- ---- the others stay
@@ -97,13 +97,23 @@ none_covers : (t : Live) (ts : List Live) (n : ℕ) → AllByRecursion (AreApart
 none_covers t [] n a c = refl
 none_covers t (u ∷ us) n a c = let no = a.0 n c in rw no (none_covers t us n a.1 c)
 
+-- what holds of each in two ways
+pub both_all : (P Q R : Live → Type 0) → ((t : Live) → P t → Q t → R t) → (ts : List Live) → AllByRecursion P ts → AllByRecursion Q ts → AllByRecursion R ts
+both_all P Q R f [] p q = tt
+both_all P Q R f (t ∷ ts) p q = (f t p.0 q.0, both_all P Q R f ts p.1 q.1)
+
 -- one that is apart from it covers none of its pages
-not_covered : (u t : Live) (n : ℕ) → AreApart u t → covers t.ranges n ≡ true → covers u.ranges n ≡ false
+pub not_covered : (u t : Live) (n : ℕ) → AreApart u t → covers t.ranges n ≡ true → covers u.ranges n ≡ false
 not_covered u t n apart c =
     elim (covers u.ranges n) as (λ b. covers u.ranges n ≡ b → b ≡ false) [
       | true ↦ λ e. absurd (let no = apart n e in cc)
       | false ↦ λ e. refl
     ] refl
+
+-- two are apart from each other
+pub turned : (t : Live) (us : List Live) → AllByRecursion (AreApart t) us → AllByRecursion (λ u. AreApart u t) us
+turned t [] a = tt
+turned t (u ∷ us) a = (λ n c. not_covered t u n a.0 c, turned t us a.1)
 
 pub covered_live : (h : ℕ) (ts : List Live) (t : Live) (n : ℕ) → AreAllApart ts → find (λ u. eqb u.handle h) ts ≡ Some t → covers t.ranges n ≡ true → live_at ts n ≡ Some t
 covered_live h [] t n a e c = absurd cc

@@ -87,7 +87,7 @@ pub record IsFreePage (s : State) (p n : ℕ) : Type 0 where
   pub idle : is_some (live_at s.live n) ≡ false
   pub unregistered : is_buffer s.mailboxes n ≡ false
 
-is_not : (b : Bool) → not b ≡ true → b ≡ false
+pub is_not : (b : Bool) → not b ≡ true → b ≡ false
 is_not true e = absurd cc
 is_not false e = refl
 

@@ -1,6 +1,8 @@
 pub mod Passing
 pub mod FreePages
 pub mod Ended
+pub mod Retrieved
+pub mod Given
 pub mod Calls
 pub mod ViewLemmas
 pub mod Laws

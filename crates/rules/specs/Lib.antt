@@ -1,5 +1,7 @@
 pub mod Call
 pub mod Rule
+pub mod Transfers
+pub mod Receivers
 pub mod Calls
 pub mod Run
 pub mod Laws

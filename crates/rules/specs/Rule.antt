@@ -2,7 +2,7 @@
 use Rattle.std.specs.Prelude.{ℕ, ◌+◌, Bool, true, false, ◌&&◌, ◌==◌, nat_le, List, [], ◌∷◌, ◌++◌, Option, Some, None, if◌then◌else◌}
 use Rattle.std.specs.Option.{option_map_or}
 use Rattle.base.specs.declared.status.Status.{Status}
-use Rattle.base.specs.declared.status.Status.TheVariants.{NotSupported, NoMemory}
+use Rattle.base.specs.declared.status.Status.TheVariants.{NoMemory}
 use Rattle.base.specs.Pages.{PageRun, covers}
 use Rattle.base.specs.Access.{View}
 use Rattle.base.specs.Refusals.{Test, ◌otherwise◌, first_refusal}
@@ -45,10 +45,6 @@ all_tests s rule = rule.tests ++ (fits s rule.edit otherwise NoMemory) ∷ []
 abbrev pub refused : Status → State → Rule
 refused status s =
     record { tests = (false otherwise status) ∷ []; edit = None; next = s; reply = error status }
-
--- the call is not served
-abbrev pub not_served : State → Rule
-not_served s = refused NotSupported s
 
 -- the status of the first test that fails, else the rule's reply
 abbrev pub reply_of : State → Rule → ReplyWords

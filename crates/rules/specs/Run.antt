@@ -34,8 +34,8 @@ rule_of s c (RxtxMap tx rx count) = map_rule s c tx rx count
 rule_of s c (RxtxUnmap word) = unmap_rule s c word
 rule_of s c IdGet = id_get_rule s c
 rule_of s c (Send kind transfer) = send_rule s c kind transfer
-rule_of s c (Retrieve transfer) = retrieve_rule s
-rule_of s c Relinquish = relinquish_rule s
+rule_of s c (Retrieve transfer) = retrieve_rule s c transfer
+rule_of s c Relinquish = relinquish_rule s c
 rule_of s c (Reclaim handle flags) = reclaim_rule s c handle flags
 
 -- the rule of any call: a caller without a row is refused first, and then an identifier that names no call

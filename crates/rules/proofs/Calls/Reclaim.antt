@@ -18,7 +18,7 @@ pub record ReclaimPasses (s : State) (p handle : ℕ) : Type 0 where
   pub sender : transaction.sender ≡ p
   pub given_back : is_given_back transaction ≡ true
 
-has_one : (o : Option Live) → is_some o ≡ true → (t : Live) × (o ≡ Some t)
+pub has_one : (o : Option Live) → is_some o ≡ true → (t : Live) × (o ≡ Some t)
 has_one None e = absurd cc
 has_one (Some t) e = (t, refl)
 

@@ -9,7 +9,8 @@ use Rattle.base.specs.Refusals.{first_refusal}
 use Rattle.base.specs.State.{State, common_home}
 use Rattle.wire.specs.declared.request.Transfer.{Transfer}
 use Rattle.rules.specs.Call.{CallWords}
-use Rattle.rules.specs.Calls.Send.{names_tx, has_lengths, caller_version, bytes_of, sent, are_parties, suits, are_capped, has_room, opened, with_transaction, send_tests, send_rule}
+use Rattle.rules.specs.Transfers.{names_tx, has_lengths, caller_version, bytes_of}
+use Rattle.rules.specs.Calls.Send.{sent, are_parties, suits, are_capped, has_room, opened, with_transaction, send_tests, send_rule}
 use Rattle.base.proofs.Booleans.{both}
 use Rattle.rules.proofs.Passing.{all_pass}
 

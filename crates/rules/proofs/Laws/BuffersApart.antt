@@ -1,7 +1,7 @@
 -- The law that no page of a live transaction lies in a registered buffer.
 use Rattle.std.proofs.Common.{◌≡◌, ℕ, Bool, true, false, ◌⊎◌, inl, inr, Some, None, is_some, refl, sym, ap, ◌∙◌}
 use Rattle.base.specs.declared.transaction.Kind.{Kind}
-use Rattle.base.specs.Access.{Access}
+use Rattle.base.specs.Access.{Access, View}
 use Rattle.base.specs.Buffers as pairs
 use Rattle.base.specs.Descriptors.Send as descriptor
 use Rattle.base.specs.Pages.{covers}
@@ -16,13 +16,18 @@ use Rattle.rules.specs.Calls.Version.{naming, with_version}
 use Rattle.rules.specs.Calls.Buffers.{with_pair, with_rx_released}
 use Rattle.rules.specs.Calls.Send.{opened, with_transaction, sent, send_rule, counting, has_room, next_handle}
 use Rattle.rules.specs.Calls.Reclaim.{ended}
+use Rattle.rules.specs.Calls.Relinquish.{given_up}
+use Rattle.rules.specs.Calls.Retrieve.{with_donation, with_rx_filled, retrieve_rule}
+use Rattle.rules.specs.Receivers.{with_retrieval_by}
 use Rattle.rules.specs.Run.{rule_of, IsReached}
 use Rattle.rules.specs.Laws.EditsTheView.{Passes}
 use Rattle.rules.proofs.Calls.Send.{SendPasses, send_passes, next_is}
 use Rattle.rules.proofs.Reached.{all_push, Keeps, all_reached}
 use Rattle.rules.specs.Laws.BuffersApart.{AreBuffersApart}
 use Rattle.rules.proofs.Calls.Buffers.{map_passes, mapped_page, buffer_after, buffer_after_rx}
+use Rattle.rules.proofs.Calls.Retrieve.{RetrievePasses, retrieve_passes, retrieve_cases}
 use Rattle.rules.proofs.Ended.{none_ended}
+use Rattle.rules.proofs.Retrieved.{some_set}
 use Rattle.rules.proofs.FreePages.{HasFreeHome, common_at}
 use Rattle.rules.proofs.ViewLemmas.{live_at-other}
 
@@ -46,6 +51,24 @@ ended_kept : (s : State) (handle : ℕ) → AreBuffersApart s → AreBuffersApar
 unfolding ended
 ended_kept s handle a = record { apart = λ n b. none_ended handle s.live n (a.apart n b) }
 
+set_kept : (s : State) (p handle : ℕ) (view : View) → AreBuffersApart s → AreBuffersApart (with_retrieval_by s p handle view)
+unfolding with_retrieval_by
+set_kept s p handle view a = record { apart = λ n b. some_set handle p view s.live n ∙ a.apart n b }
+
+given_kept : (s : State) (p : ℕ) (t : Live) (access : Access) → AreBuffersApart s → AreBuffersApart (with_donation s p t access)
+unfolding with_donation
+given_kept s p t access a = record { apart = λ n b. none_ended t.handle s.live n (a.apart n b) }
+
+filled_kept : (s : State) (p : ℕ) → AreBuffersApart s → AreBuffersApart (with_rx_filled s p)
+unfolding with_rx_filled
+filled_kept s p a = record { apart = λ n b. a.apart n (buffer_after_rx p true s.mailboxes n b) }
+
+retrieve : (s : State) (c : CallWords) (x : Transfer) → RetrievePasses s c x → AreBuffersApart s → AreBuffersApart (retrieve_rule s c x).next
+retrieve s c x k a =
+    retrieve_cases AreBuffersApart s c x k (λ u. filled_kept u c.caller)
+    (λ e. set_kept s c.caller k.transaction.handle (Some k.access) a)
+    (λ e. given_kept s c.caller k.transaction k.access a)
+
 keeps : Keeps AreBuffersApart
 unfolding with_version with_pair with_rx_released
 keeps s c (Version word) r is k a = record { apart = a.apart }
@@ -62,8 +85,8 @@ keeps s c (RxtxUnmap word) r is k a =
     record { apart = λ n b. elim (buffer_after c.caller None s.mailboxes n b) [ inl x ↦ absurd cc | inr y ↦ a.apart n y ] }
 keeps s c IdGet r is k a = a
 keeps s c (Send kind t) r is k a = send s c kind t (send_passes s c kind t k.passed) a
-keeps s c (Retrieve t) r is k a = a
-keeps s c Relinquish r is k a = a
+keeps s c (Retrieve x) r is k a = retrieve s c x (retrieve_passes s c x k.passed) a
+keeps s c Relinquish r is k a = set_kept s c.caller (given_up c).handle None a
 keeps s c (Reclaim handle flags) r is k a = ended_kept s handle a
 
 pub buffers_apart : (s : State) → IsReached s → AreBuffersApart s

@@ -1,12 +1,13 @@
 -- The law that a rule's edit is what the call changes of the views.
 use Rattle.std.proofs.Common.{◌≡◌, ℕ, Bool, true, false, ◌&&◌, not, cond, eqb, List, [], ◌∷◌, Option, Some, None, is_some, find, refl, sym, eq-eqb, ◌∙◌, ap, subst, inl, inr, ◌⊎◌}
 use Rattle.std.specs.List.{list_all}
-use Rattle.std.specs.Option.{option_map_or, option_and_then}
+use Rattle.std.specs.Option.{option_map, option_map_or, option_and_then}
+use Rattle.std.proofs.lemmas.Bool.{eqb-true}
 use Rattle.base.specs.Access.{Access, View}
 use Rattle.base.specs.Ledger.{live_at, donation_at, settled_view, kept, retrieved, view_under}
 use Rattle.base.specs.Manifest.{region_at}
 use Rattle.base.specs.Pages.{PageRun, covers}
-use Rattle.base.specs.Transactions.{Receiver, Live, without}
+use Rattle.base.specs.Transactions.{Receiver, Live, without, with_retrieved, with_retrieval}
 use Rattle.base.proofs.Booleans.{both}
 use Rattle.base.specs.declared.transaction.Kind.{Kind}
 use Rattle.base.specs.declared.transaction.Kind.TheVariants.{Share, Lend, Donate}
@@ -20,15 +21,22 @@ use Rattle.rules.specs.Calls.Version.{with_version}
 use Rattle.rules.specs.Calls.Buffers.{with_pair, with_rx_released}
 use Rattle.rules.specs.Calls.Send.{sent, send_rule}
 use Rattle.rules.specs.Calls.Reclaim.{sent_with, is_given_back, returned, returned_by, ended, reclaim_rule}
+use Rattle.rules.specs.Calls.Relinquish.{given_up, given_back_by, relinquish_rule}
+use Rattle.rules.specs.Calls.Retrieve.{with_donation, with_rx_filled, retrieve_rule}
+use Rattle.rules.specs.Receivers.{is_received_by, with_retrieval_by}
 use Rattle.rules.specs.Run.{rule_of, IsReached}
 use Rattle.rules.specs.Laws.EditsTheView.{Passes, AreNotReached, EditsTheView}
 use Rattle.rules.proofs.Calls.Send.{SendPasses, send_passes, next_is}
-use Rattle.rules.specs.Laws.SentPages.{IsSentPage, AreSentPages}
+use Rattle.rules.specs.Laws.SentPages.{IsSentPage, AreSentPages, IsSentToOthers, IsNotTaken}
 use Rattle.rules.proofs.Calls.Reclaim.{ReclaimPasses, reclaim_passes}
+use Rattle.rules.proofs.Calls.Relinquish.{RelinquishPasses, relinquish_passes}
+use Rattle.rules.proofs.Calls.Retrieve.{RetrievePasses, retrieve_passes, retrieve_cases, edit_is}
+use Rattle.rules.proofs.Given.{given_home, given_view}
+use Rattle.rules.proofs.Retrieved.{retrieved_set, covered_set, other_set}
 use Rattle.rules.proofs.Ended.{found_in, found_first, covered_live, covered_ended, other_ended}
 use Rattle.rules.proofs.FreePages.{common_at, settled, eqb_sym}
 use Rattle.rules.proofs.Laws.Handles.{handles_used_once}
-use Rattle.rules.proofs.Laws.OneOwner.{owned_once}
+use Rattle.rules.proofs.Laws.OneOwner.{owned_once, first_is}
 use Rattle.rules.proofs.Laws.SentPages.{transactions_kept}
 use Rattle.rules.proofs.ViewLemmas.{IsSeenAlike, seen_alike, opened_view}
 
@@ -68,7 +76,7 @@ module _ (s : State) (p handle : ℕ) (r : IsReached s) (k : ReclaimPasses s p h
   t = k.transaction
 
   first : find (λ u. eqb u.handle handle) s.live ≡ Some t
-  first = found_first s.live handle p t (handles_used_once s r).distinct k.found
+  first = found_first s.live handle (λ u. eqb u.sender p) t (handles_used_once s r).distinct k.found
 
   page : (n : ℕ) → covers t.ranges n ≡ true → IsSentPage s t n
   page = found_in (AreSentPages s) (λ u. eqb u.handle handle && eqb u.sender p) s.live t k.found (transactions_kept s r).pages
@@ -112,6 +120,117 @@ reclaimed s c handle flags r k =
     let none = not_kept u.kind s u.sender u.ranges u.home (λ n covered. lent s c.caller handle r k u.sender n covered ∙ if_own u.sender (kept u.kind (Some u.home))) in
     subst (λ (o : Option Live). AreNotReached s (option_and_then returned_by o)) (sym k.found) none
 
+-- ---- a receiver
+
+-- a receiver has this of the transaction now, and all others what they had
+under_set : (t : Live) (home : View) (p q : ℕ) (view : View) → is_received_by p t ≡ true → eqb t.sender p ≡ false → view_under (with_retrieval p view t) home q ≡ cond (eqb q p) view (view_under t home q)
+under_set t home p q view receiver other =
+    elim (eqb t.sender q) as (λ b. eqb t.sender q ≡ b → cond b (kept t.kind home) (retrieved (with_retrieved p view t.receivers) q) ≡ cond (eqb q p) view (cond b (kept t.kind home) (retrieved t.receivers q))) [
+      | true ↦ λ e. let away : eqb q p ≡ false = ap (λ (x : ℕ). eqb x p) (sym (eqb-true _ _ e)) ∙ other in rw away refl
+      | false ↦ λ e. retrieved_set t.receivers p q view receiver
+    ] refl
+
+if_covered : (b c : Bool) (x y : View) → c ≡ true → cond b x y ≡ cond (b && c) x y
+if_covered true c x y e = rw e refl
+if_covered false c x y e = refl
+
+if_not_covered : (b c : Bool) (x y : View) → c ≡ false → y ≡ cond (b && c) x y
+if_not_covered true c x y e = rw e refl
+if_not_covered false c x y e = refl
+
+not_sender : (s : State) (p : ℕ) (t : Live) → IsSentToOthers t → is_received_by p t ≡ true → eqb t.sender p ≡ false
+not_sender s p t others receiver =
+    elim (eqb t.sender p) as (λ b. eqb t.sender p ≡ b → b ≡ false) [
+      | true ↦ λ e. absurd (let is : is_received_by t.sender t ≡ is_received_by p t = ap (λ (x : ℕ). is_received_by x t) (eqb-true _ _ e) in cc)
+      | false ↦ λ e. refl
+    ] refl
+
+module _ (s : State) (p handle : ℕ) (r : IsReached s) (u : Live) (first : find (λ v. eqb v.handle handle) s.live ≡ Some u) (receiver : is_received_by p u ≡ true) where
+  other : eqb u.sender p ≡ false
+  other = not_sender s p u (found_in IsSentToOthers (λ v. eqb v.handle handle) s.live u first (transactions_kept s r).others) receiver
+
+  -- what is reached of its pages
+  under : (q n : ℕ) → covers u.ranges n ≡ true → sees s q n ≡ view_under u (home_of s n) q
+  under q n c = ap (λ (o : Option Live). option_map_or (λ (v : Live). view_under v (home_of s n) q) o (settled_view s.manifest s.donations q n)) (covered_live handle s.live u n (owned_once s r).apart first c)
+
+  set_view : (view : View) (q n : ℕ) → sees (with_retrieval_by s p handle view) q n ≡ with_edit (Some (record { who = p; runs = u.ranges; to = view })) (sees s) q n
+  unfolding with_retrieval_by
+  set_view view q n =
+      let after = λ (o : Option Live). option_map_or (λ (v : Live). view_under v (home_of s n) q) o (settled_view s.manifest s.donations q n) in
+      elim (covers u.ranges n) as (λ b. covers u.ranges n ≡ b → sees (with_retrieval_by s p handle view) q n ≡ cond (eqb q p && covers u.ranges n) view (sees s q n)) [
+        | true ↦ λ c.
+            ap after (covered_set handle p view s.live u n (owned_once s r).apart first c) ∙ under_set u (home_of s n) p q view receiver other
+            ∙ ap (λ (v : View). cond (eqb q p) view v) (sym (under q n c)) ∙ if_covered (eqb q p) (covers u.ranges n) view (sees s q n) c
+        | false ↦ λ c. ap after (other_set handle p view s.live u n first c) ∙ if_not_covered (eqb q p) (covers u.ranges n) view (sees s q n) c
+      ] refl
+
+  -- a receiver that has retrieved nothing reaches none of its pages
+  not_reached : retrieved u.receivers p ≡ None → (n : ℕ) → covers u.ranges n ≡ true → sees s p n ≡ None
+  not_reached none n c = under p n c ∙ ap (λ (b : Bool). cond b (kept u.kind (home_of s n)) (retrieved u.receivers p)) other ∙ none
+
+relinquish : (s : State) (c : CallWords) → IsReached s → RelinquishPasses s c → (q n : ℕ) → sees (relinquish_rule s c).next q n ≡ with_edit (relinquish_rule s c).edit (sees s) q n
+relinquish s c r k q n =
+    let p = c.caller in
+    let handle = (given_up c).handle in
+    let first_one = found_first s.live handle (is_received_by p) k.transaction (handles_used_once s r).distinct k.found in
+    set_view s p handle r k.transaction first_one k.receiver None q n ∙ ap (λ (o : Option Live). with_edit (option_map (given_back_by p) o) (sees s) q n) (sym k.found)
+
+relinquished : (s : State) (c : CallWords) → RelinquishPasses s c → AreNotReached s (relinquish_rule s c).edit
+relinquished s c k = subst (λ (o : Option Live). AreNotReached s (option_map (given_back_by c.caller) o)) (sym k.found) (λ n here. inl refl)
+
+-- ---- a retrieve
+
+-- nobody reaches the pages of a donation that is live
+untaken : (u : Live) (home : View) (q : ℕ) → u.kind ≡ Donate → IsNotTaken u → view_under u home q ≡ None
+untaken u home q e free =
+    elim (eqb u.sender q) as (λ b. cond b (kept u.kind home) (retrieved u.receivers q) ≡ None) [
+      | true ↦ ap (λ (k : Kind). kept k home) e
+      | false ↦ free e q
+    ]
+
+module _ (s : State) (p : ℕ) (r : IsReached s) (u : Live) (first : find (λ v. eqb v.handle u.handle) s.live ≡ Some u) (access : Access) (donated : u.kind ≡ Donate) where
+  given_sees : (q n : ℕ) → sees (with_donation s p u access) q n ≡ with_edit (Some (record { who = p; runs = u.ranges; to = Some access })) (sees s) q n
+  unfolding with_donation
+  given_sees q n =
+      let new = with_donation s p u access in
+      let after = λ (o : Option Live). option_map_or (λ (v : Live). view_under v (home_of new n) q) o (settled_view s.manifest new.donations q n) in
+      elim (covers u.ranges n) as (λ b. covers u.ranges n ≡ b → sees new q n ≡ cond (eqb q p && covers u.ranges n) (Some access) (sees s q n)) [
+        | true ↦ λ c.
+            let free = found_in IsNotTaken (λ v. eqb v.handle u.handle) s.live u first (transactions_kept s r).not_taken in
+            let before : sees s q n ≡ None =
+            ap (λ (o : Option Live). option_map_or (λ (v : Live). view_under v (home_of s n) q) o (settled_view s.manifest s.donations q n)) (covered_live u.handle s.live u n (owned_once s r).apart first c) ∙ untaken u (home_of s n) q donated free in
+            ap after (covered_ended u.handle s.live u n (owned_once s r).apart first c) ∙ given_view s p u access n q
+            ∙ ap (λ (b : Bool). cond b (cond (eqb p q) (Some access) None) (settled_view s.manifest s.donations q n)) c
+            ∙ ap (λ (b : Bool). cond b (Some access) None) (eqb_sym p q) ∙ ap (λ (v : View). cond (eqb q p) (Some access) v) (sym before)
+            ∙ if_covered (eqb q p) (covers u.ranges n) (Some access) (sees s q n) c
+        | false ↦ λ c.
+            ap after (other_ended u.handle s.live u n first c)
+            ∙ ap (λ (v : View). option_map_or (λ (w : Live). view_under w (home_of new n) q) (live_at s.live n) v) (given_view s p u access n q ∙ ap (λ (b : Bool). cond b (cond (eqb p q) (Some access) None) (settled_view s.manifest s.donations q n)) c)
+            ∙ ap (λ (h : View). option_map_or (λ (w : Live). view_under w h q) (live_at s.live n) (settled_view s.manifest s.donations q n)) (given_home s p u access n ∙ ap (λ (b : Bool). cond b (Some access) (home_of s n)) c)
+            ∙ if_not_covered (eqb q p) (covers u.ranges n) (Some access) (sees s q n) c
+      ] refl
+
+pub filled_sees : (s : State) (p q n : ℕ) → sees (with_rx_filled s p) q n ≡ sees s q n
+unfolding with_rx_filled
+filled_sees s p q n = refl
+
+retrieve : (s : State) (c : CallWords) (x : Transfer) → IsReached s → RetrievePasses s c x → (q n : ℕ) → sees (retrieve_rule s c x).next q n ≡ with_edit (retrieve_rule s c x).edit (sees s) q n
+retrieve s c x r k q n =
+    let p = c.caller in
+    let u = k.transaction in
+    let first_one = first_is s c x r k in
+    let edit = λ (v : Option Edit). with_edit v (sees s) q n in
+    retrieve_cases (λ v. sees v q n ≡ edit (Some (record { who = p; runs = u.ranges; to = Some k.access }))) s c x k (λ v e. filled_sees v p q n ∙ e)
+    (λ e. set_view s p u.handle r u first_one k.receiver (Some k.access) q n)
+    (λ e. given_sees s p r u first_one k.access e q n)
+    ∙ ap edit (sym (edit_is s c x k))
+
+reached_now : (s : State) (c : CallWords) (x : Transfer) → IsReached s → RetrievePasses s c x → AreNotReached s (retrieve_rule s c x).edit
+reached_now s c x r k =
+    let u = k.transaction in
+    let none = not_reached s c.caller u.handle r u (first_is s c x r k) k.receiver k.nothing_yet in
+    subst (AreNotReached s) (sym (edit_is s c x k)) (λ n here. inr (none n here))
+
 -- ---- all calls
 
 views : (s : State) (c : CallWords) (r : Request) → IsReached s → Passes s c r → (q n : ℕ) → sees (rule_of s c r).next q n ≡ with_edit (rule_of s c r).edit (sees s) q n
@@ -123,11 +242,11 @@ views s c (RxtxMap tx rx count) is k q n = refl
 views s c (RxtxUnmap word) is k q n = refl
 views s c IdGet is k q n = refl
 views s c (Send kind t) is k q n = send s c kind t (send_passes s c kind t k.passed) q n
-views s c (Retrieve t) is k q n = refl
-views s c Relinquish is k q n = refl
+views s c (Retrieve x) is k q n = retrieve s c x is (retrieve_passes s c x k.passed) q n
+views s c Relinquish is k q n = relinquish s c is (relinquish_passes s c k.passed) q n
 views s c (Reclaim handle flags) is k q n = reclaim s c handle flags is (reclaim_passes s c.caller handle flags k.passed) q n
 
--- a send takes pages away, and a reclaim gives back what its sender did not keep
+-- a send and a relinquish take pages away, a reclaim gives back what its sender did not keep, and a receiver retrieves what it has not retrieved yet
 free : (s : State) (c : CallWords) (r : Request) → IsReached s → Passes s c r → AreNotReached s (rule_of s c r).edit
 free s c (Version word) is k = tt
 free s c (Features identifier) is k = tt
@@ -138,8 +257,8 @@ free s c IdGet is k = tt
 free s c (Send Lend t) is k = λ n here. inl refl
 free s c (Send Share t) is k = tt
 free s c (Send Donate t) is k = λ n here. inl refl
-free s c (Retrieve t) is k = tt
-free s c Relinquish is k = tt
+free s c (Retrieve x) is k = reached_now s c x is (retrieve_passes s c x k.passed)
+free s c Relinquish is k = relinquished s c (relinquish_passes s c k.passed)
 free s c (Reclaim handle flags) is k = reclaimed s c handle flags is (reclaim_passes s c.caller handle flags k.passed)
 
 pub edits_the_view : (s : State) (c : CallWords) (r : Request) → IsReached s → Passes s c r → EditsTheView s c r

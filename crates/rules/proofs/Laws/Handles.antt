@@ -5,7 +5,7 @@ use Rattle.std.specs.Option.{option_map, option_map_or}
 use Rattle.std.proofs.lemmas.Bool.{eqb-true, ltb-true, eq-eqb}
 use Rattle.std.proofs.lemmas.Bool.Decides.{nat_tests}
 use Rattle.base.specs.declared.transaction.Kind.{Kind}
-use Rattle.base.specs.Access.{Access}
+use Rattle.base.specs.Access.{Access, View}
 use Rattle.base.specs.Descriptors.Send as descriptor
 use Rattle.base.specs.Manifest.{ManifestRows, PartitionRow, is_partition}
 use Rattle.base.specs.Transactions.{Live}
@@ -18,10 +18,15 @@ use Rattle.rules.specs.Calls.Version.{naming, with_version}
 use Rattle.rules.specs.Calls.Buffers.{with_pair, with_rx_released}
 use Rattle.rules.specs.Calls.Send.{opened, with_transaction, sent, send_rule, counting, has_room, next_handle}
 use Rattle.rules.specs.Calls.Reclaim.{ended}
+use Rattle.rules.specs.Calls.Relinquish.{given_up}
+use Rattle.rules.specs.Calls.Retrieve.{with_donation, with_rx_filled, retrieve_rule}
+use Rattle.rules.specs.Receivers.{with_retrieval_by}
 use Rattle.rules.specs.Run.{rule_of, IsReached}
 use Rattle.rules.specs.Laws.EditsTheView.{Passes}
 use Rattle.rules.proofs.Calls.Send.{SendPasses, send_passes, next_is}
+use Rattle.rules.proofs.Calls.Retrieve.{RetrievePasses, retrieve_passes, retrieve_cases}
 use Rattle.rules.proofs.Ended.{all_without, handles_without}
+use Rattle.rules.proofs.Retrieved.{all_set, handles_set}
 use Rattle.rules.proofs.Reached.{all_push, Keeps, all_reached}
 use Rattle.rules.specs.Laws.Handles.{IsCounted, HaveOtherHandles, AreHandlesUsedOnce}
 use Rattle.base.proofs.Booleans.{both}
@@ -141,6 +146,36 @@ ended_kept s handle h =
       distinct = handles_without handle s.live h.distinct;
     }
 
+set_kept : (s : State) (p handle : ℕ) (view : View) → AreHandlesUsedOnce s → AreHandlesUsedOnce (with_retrieval_by s p handle view)
+unfolding with_retrieval_by
+set_kept s p handle view h =
+    record {
+      rows = h.rows;
+      counts = h.counts;
+      counted = all_set (IsCounted s) handle p view s.live h.counted (λ t e x. x);
+      distinct = handles_set handle p view s.live h.distinct;
+    }
+
+given_kept : (s : State) (p : ℕ) (t : Live) (access : Access) → AreHandlesUsedOnce s → AreHandlesUsedOnce (with_donation s p t access)
+unfolding with_donation
+given_kept s p t access h =
+    record {
+      rows = h.rows;
+      counts = h.counts;
+      counted = all_without (IsCounted s) t.handle s.live h.counted;
+      distinct = handles_without t.handle s.live h.distinct;
+    }
+
+filled_kept : (s : State) (p : ℕ) → AreHandlesUsedOnce s → AreHandlesUsedOnce (with_rx_filled s p)
+unfolding with_rx_filled
+filled_kept s p h = record { rows = h.rows; counts = h.counts; counted = h.counted; distinct = h.distinct }
+
+retrieve : (s : State) (c : CallWords) (x : Transfer) → RetrievePasses s c x → AreHandlesUsedOnce s → AreHandlesUsedOnce (retrieve_rule s c x).next
+retrieve s c x k h =
+    retrieve_cases AreHandlesUsedOnce s c x k (λ u. filled_kept u c.caller)
+    (λ e. set_kept s c.caller k.transaction.handle (Some k.access) h)
+    (λ e. given_kept s c.caller k.transaction k.access h)
+
 keeps : Keeps AreHandlesUsedOnce
 unfolding with_pair with_rx_released
 keeps s c (Version word) r is k h = named_kept s c.caller word h
@@ -150,8 +185,8 @@ keeps s c (RxtxMap tx rx count) r is k h = record { rows = h.rows; counts = h.co
 keeps s c (RxtxUnmap word) r is k h = record { rows = h.rows; counts = h.counts; counted = h.counted; distinct = h.distinct }
 keeps s c IdGet r is k h = h
 keeps s c (Send kind t) r is k h = send s c kind t k.known (send_passes s c kind t k.passed) h
-keeps s c (Retrieve t) r is k h = h
-keeps s c Relinquish r is k h = h
+keeps s c (Retrieve x) r is k h = retrieve s c x (retrieve_passes s c x k.passed) h
+keeps s c Relinquish r is k h = set_kept s c.caller (given_up c).handle None h
 keeps s c (Reclaim handle flags) r is k h = ended_kept s handle h
 
 first_rows : (rows : List PartitionRow) (p : ℕ) → is_some (state_of (map first_state rows) p) ≡ list_any (λ (row : PartitionRow). eqb row.id p) rows

@@ -1,5 +1,5 @@
 -- The law of isolation: what a partition is answered, and what becomes of what it may learn, depends on that alone.
-use Rattle.std.proofs.Common.{◌≡◌, ◌≢◌, ℕ, zero, suc, ◌+◌, ◌*◌, ◌^◌, Bool, true, false, ◌&&◌, ◌||◌, not, cond, eqb, leb, List, [], ◌∷◌, ◌++◌, length, map, filter, Option, Some, None, is_some, refl, sym, ap, ap₂, subst, ◌∙◌, eq-eqb, find}
+use Rattle.std.proofs.Common.{◌≡◌, ◌≢◌, ℕ, zero, suc, ◌+◌, ◌*◌, ◌^◌, Bool, true, false, ◌&&◌, ◌||◌, not, cond, eqb, leb, List, [], ◌∷◌, ◌++◌, length, map, filter, Option, Some, None, is_some, refl, sym, ap, ap₂, subst, ◌∙◌, eq-eqb, find, arith}
 use Rattle.std.specs.List.{AllByRecursion, list_any, list_all}
 use Rattle.std.specs.Option.{option_map, option_and_then, option_map_or}
 use Rattle.std.proofs.lemmas.Bool.{eqb-true}
@@ -15,10 +15,12 @@ use Rattle.base.specs.Buffers as pairs
 use Rattle.base.specs.Buffers.{Pair, Mailbox, pair_of, has_pair, holds_rx, in_pair, is_buffer, holding, named_pair}
 use Rattle.base.specs.Descriptors.Send as descriptor
 use Rattle.base.specs.Descriptors.Send.{Endpoint, is_send, send_of}
+use Rattle.base.specs.Descriptors.Retrieve as descriptors
+use Rattle.base.specs.Descriptors.Retrieve.{is_retrieve, retrieve_of}
 use Rattle.base.specs.Manifest.{PartitionRow, is_partition}
 use Rattle.base.specs.Pages.{PageRun, covers}
 use Rattle.base.specs.Refusals.{Test, first_refusal}
-use Rattle.base.specs.Transactions.{Live, without}
+use Rattle.base.specs.Transactions.{Live, without, with_retrieval, with_retrieval_of}
 use Rattle.base.specs.Ledger.{live_at}
 use Rattle.base.specs.State.{State, PartitionState, state_of, sends_of, version_of, with_partition, owner_of, owns, home_of, is_free, free_home, is_free_with, common_home, each_page, each_page_in, sees}
 use Rattle.wire.specs.declared.request.Request.{Request}
@@ -30,20 +32,30 @@ use Rattle.rules.specs.Call.{CallWords}
 use Rattle.rules.specs.Rule.{Edit, Rule, refused, fits, all_tests, reply_of, next_of, with_edit}
 use Rattle.rules.specs.Calls.Version.{naming, with_version}
 use Rattle.rules.specs.Calls.Buffers.{with_pair, with_rx_released, may_be_buffer, may_be_buffers, map_tests}
-use Rattle.rules.specs.Calls.Send.{names_tx, has_lengths, tx_size, caller_version, bytes_of, sent, is_receiver, are_distinct, are_parties, suits, are_capped, has_room, next_handle, opened, counting, with_transaction, sender_edit, send_tests, send_rule}
+use Rattle.rules.specs.Transfers.{has_lengths, caller_version, bytes_of}
+use Rattle.rules.specs.Calls.Send.{sent, is_receiver, are_distinct, are_parties, suits, are_capped, has_room, next_handle, opened, counting, with_transaction, sender_edit, send_tests, send_rule}
 use Rattle.rules.specs.Calls.Reclaim.{sent_with, returned, returned_by, ended, reclaim_tests, reclaim_rule}
+use Rattle.rules.specs.Calls.Relinquish.{given_up, given_back_by, relinquish_tests, relinquish_rule}
+use Rattle.rules.specs.Calls.Retrieve.{asked, granted, fits_rx, retrieve_tests, Retrieval, retrieval_with, retrieval_of, retrieved_by, responding, with_donation, with_rx_filled, with_retrieval_of_kind, retrieve_rule}
+use Rattle.rules.specs.Receivers.{is_received_by, received_with, with_retrieval_by}
 use Rattle.rules.specs.Run.{rule_of, rule, answer, step, IsReached}
 use Rattle.rules.specs.Laws.EditsTheView.{Passes}
 use Rattle.rules.specs.Laws.OneOwner.{IsOwnSend}
+use Rattle.rules.specs.Laws.SentPages.{AreSentPages}
 use Rattle.rules.specs.Laws.Isolation.{names, transactions_of, mailboxes_of, is_sharable_at, AreAlikeTo, IsIsolated}
 use Rattle.base.proofs.Booleans.{both}
 use Rattle.rules.proofs.Calls.Reclaim.{ReclaimPasses, reclaim_passes}
-use Rattle.rules.proofs.Ended.{found_is, found_first}
+use Rattle.rules.proofs.Calls.Relinquish.{relinquish_passes}
+use Rattle.rules.proofs.Calls.Retrieve.{RetrievePasses, retrieve_passes, retrieved_is}
+use Rattle.rules.proofs.Ended.{found_is, found_in, found_first}
+use Rattle.rules.proofs.Given.{given_owner, given_home}
+use Rattle.rules.proofs.Retrieved.{receivers_set}
 use Rattle.rules.proofs.Calls.Send.{SendPasses, send_passes, next_is}
 use Rattle.rules.proofs.FreePages.{owner_from_test}
-use Rattle.rules.proofs.Laws.EditsTheView.{edits_the_view}
+use Rattle.rules.proofs.Laws.EditsTheView.{edits_the_view, filled_sees}
 use Rattle.rules.proofs.Laws.Handles.{state_after, handles_used_once}
-use Rattle.rules.proofs.Laws.OneOwner.{owned_once}
+use Rattle.rules.proofs.Laws.OneOwner.{owned_once, first_is}
+use Rattle.rules.proofs.Laws.SentPages.{transactions_kept}
 use Rattle.rules.proofs.Laws.OwnBuffers.{IsOwnBuffer, AreBuffersOwned, buffers_owned}
 use Rattle.rules.proofs.Passing.{before_last}
 use Rattle.rules.proofs.Reached.{step_cases}
@@ -52,6 +64,9 @@ use Rattle.rules.proofs.Reached.{step_cases}
 
 some_is : (a b : ℕ) → Some a ≡ Some b → a ≡ b
 some_is a b e = cc
+
+some_live : (t u : Live) → Some t ≡ Some u → t ≡ u
+some_live t u e = cc
 
 module _ (s : State) (p n : ℕ) (own : owner_of s n ≡ Some p) where
   live_mine : (ts : List Live) → AllByRecursion (IsOwnSend s) ts → is_some (live_at ts n) ≡ is_some (live_at (transactions_of p ts) n)
@@ -130,22 +145,27 @@ transactions_push p (u ∷ ts) t =
 
 -- ---- the transaction that a partition has sent with a handle
 
-and_false : (b : Bool) → (b && false) ≡ false
-and_false true = refl
-and_false false = refl
-
-find_mine : (p h : ℕ) (ts : List Live) → find (λ u. eqb u.handle h && eqb u.sender p) ts ≡ find (λ u. eqb u.handle h && eqb u.sender p) (transactions_of p ts)
-find_mine p h [] = refl
-find_mine p h (t ∷ ts) =
-    elim (eqb t.sender p) as (λ b. eqb t.sender p ≡ b → cond (eqb t.handle h && b) (Some t) (find (λ u. eqb u.handle h && eqb u.sender p) ts) ≡ find (λ u. eqb u.handle h && eqb u.sender p) (cond (b || list_any (λ r. eqb r.partition p) t.receivers) (t ∷ transactions_of p ts) (transactions_of p ts))) [
-      | true ↦ λ e. rw e (ap (λ (o : Option Live). cond (eqb t.handle h && true) (Some t) o) (find_mine p h ts))
-      | false ↦ λ e.
-          let not_it : (eqb t.handle h && false) ≡ false = and_false (eqb t.handle h) in
-          rw not_it (elim (list_any (λ r. eqb r.partition p) t.receivers) as (λ k. find (λ u. eqb u.handle h && eqb u.sender p) ts ≡ find (λ u. eqb u.handle h && eqb u.sender p) (cond k (t ∷ transactions_of p ts) (transactions_of p ts))) [
-            | true ↦ rw (e, not_it) (find_mine p h ts)
-            | false ↦ find_mine p h ts
-          ])
+-- one that names the partition is among those that do
+find_mine : (p : ℕ) (g : Live → Bool) → ((u : Live) → g u ≡ true → names p u ≡ true) → (ts : List Live) → find g ts ≡ find g (transactions_of p ts)
+find_mine p g h [] = refl
+find_mine p g h (t ∷ ts) =
+    elim (g t) as (λ b. g t ≡ b → cond b (Some t) (find g ts) ≡ find g (cond (names p t) (t ∷ transactions_of p ts) (transactions_of p ts))) [
+      | true ↦ λ e. let mine = h t e in rw (mine, e) refl
+      | false ↦ λ e. elim (names p t) as (λ k. find g ts ≡ find g (cond k (t ∷ transactions_of p ts) (transactions_of p ts))) [
+        | true ↦ rw e (find_mine p g h ts)
+        | false ↦ find_mine p g h ts
+      ]
     ] refl
+
+sent_mine : (p h : ℕ) (u : Live) → (eqb u.handle h && eqb u.sender p) ≡ true → names p u ≡ true
+sent_mine p h u e = let is = (both (eqb u.handle h) (eqb u.sender p) e).1 in rw is refl
+
+or_true : (b : Bool) → (b || true) ≡ true
+or_true true = refl
+or_true false = refl
+
+received_mine : (p h : ℕ) (u : Live) → (eqb u.handle h && is_received_by p u) ≡ true → names p u ≡ true
+received_mine p h u e = let is = (both (eqb u.handle h) (is_received_by p u) e).1 in rw is (or_true (eqb u.sender p))
 
 without_mine : (p h : ℕ) (ts : List Live) (t : Live) → find (λ u. eqb u.handle h) ts ≡ Some t → names p t ≡ true → transactions_of p (without h ts) ≡ without h (transactions_of p ts)
 without_mine p h [] t e mine = absurd cc
@@ -157,6 +177,75 @@ without_mine p h (u ∷ us) t e mine =
         | false ↦ without_mine p h us t k mine
       ]
     ] refl e
+
+named_set : (p q : ℕ) (view : View) (u : Live) → names p (with_retrieval q view u) ≡ names p u
+named_set p q view u = ap (λ (b : Bool). eqb u.sender p || b) (receivers_set u.receivers q p view)
+
+set_mine : (p h q : ℕ) (view : View) (ts : List Live) (t : Live) → find (λ u. eqb u.handle h) ts ≡ Some t → names p t ≡ true → transactions_of p (with_retrieval_of h q view ts) ≡ with_retrieval_of h q view (transactions_of p ts)
+set_mine p h q view [] t e mine = absurd cc
+set_mine p h q view (u ∷ us) t e mine =
+    elim (eqb u.handle h) as (λ b. eqb u.handle h ≡ b → cond b (Some u) (find (λ v. eqb v.handle h) us) ≡ Some t → transactions_of p (cond b (with_retrieval q view u ∷ us) (u ∷ with_retrieval_of h q view us)) ≡ with_retrieval_of h q view (cond (names p u) (u ∷ transactions_of p us) (transactions_of p us))) [
+      | true ↦ λ is k.
+          let here : names p u ≡ true = ap (names p) (some_live u t k) ∙ mine in
+          let after : names p (with_retrieval q view u) ≡ true = named_set p q view u ∙ here in
+          rw (here, after, is) refl
+      | false ↦ λ is k. elim (names p u) as (λ b. cond b (u ∷ transactions_of p (with_retrieval_of h q view us)) (transactions_of p (with_retrieval_of h q view us)) ≡ with_retrieval_of h q view (cond b (u ∷ transactions_of p us) (transactions_of p us))) [
+        | true ↦ rw is (ap (λ ts. u ∷ ts) (set_mine p h q view us t k mine))
+        | false ↦ set_mine p h q view us t k mine
+      ]
+    ] refl e
+
+-- one that has ended and changes nothing for the partition does not name it
+fewer : (h : ℕ) (ts : List Live) (t : Live) → find (λ u. eqb u.handle h) ts ≡ Some t → suc (length (without h ts)) ≡ length ts
+fewer h [] t e = absurd cc
+fewer h (u ∷ us) t e =
+    elim (eqb u.handle h) as (λ b. cond b (Some u) (find (λ v. eqb v.handle h) us) ≡ Some t → suc (length (cond b us (u ∷ without h us))) ≡ suc (length us)) [
+      | true ↦ λ k. refl
+      | false ↦ λ k. ap suc (fewer h us t k)
+    ] e
+
+find_named : (p h : ℕ) (ts : List Live) (t : Live) → find (λ u. eqb u.handle h) ts ≡ Some t → names p t ≡ true → find (λ u. eqb u.handle h) (transactions_of p ts) ≡ Some t
+find_named p h [] t e mine = absurd cc
+find_named p h (u ∷ us) t e mine =
+    elim (eqb u.handle h) as (λ b. eqb u.handle h ≡ b → cond b (Some u) (find (λ v. eqb v.handle h) us) ≡ Some t → find (λ v. eqb v.handle h) (cond (names p u) (u ∷ transactions_of p us) (transactions_of p us)) ≡ Some t) [
+      | true ↦ λ is k. let here : names p u ≡ true = ap (names p) (some_live u t k) ∙ mine in rw (here, is) k
+      | false ↦ λ is k. elim (names p u) as (λ b. find (λ v. eqb v.handle h) (cond b (u ∷ transactions_of p us) (transactions_of p us)) ≡ Some t) [
+        | true ↦ rw is (find_named p h us t k mine)
+        | false ↦ find_named p h us t k mine
+      ]
+    ] refl e
+
+not_named : (p h : ℕ) (ts : List Live) (t : Live) → find (λ u. eqb u.handle h) ts ≡ Some t → transactions_of p (without h ts) ≡ transactions_of p ts → names p t ≡ false
+not_named p h ts t e kept =
+    elim (names p t) as (λ b. names p t ≡ b → b ≡ false) [
+      | true ↦ λ mine. absurd (
+          let less : suc (length (without h (transactions_of p ts))) ≡ length (transactions_of p ts) = fewer h (transactions_of p ts) t (find_named p h ts t e mine) in
+          let same : length (without h (transactions_of p ts)) ≡ length (transactions_of p ts) = ap (λ (us : List Live). length us) (sym (without_mine p h ts t e mine) ∙ kept) in
+          omega arith)
+      | false ↦ λ other. refl
+    ] refl
+
+-- ---- RX
+
+rx_alike : (p : ℕ) (held : Bool) (b c : List Mailbox) → mailboxes_of p b ≡ mailboxes_of p c → mailboxes_of p (pairs.with_rx p held b) ≡ mailboxes_of p (pairs.with_rx p held c)
+rx_alike p held b c e =
+    let pair : pair_of b p ≡ pair_of c p = pair_mine b p ∙ ap (λ bs. pair_of bs p) e ∙ sym (pair_mine c p) in
+    mailboxes_mine p (option_map (holding held) (pair_of b p)) b ∙ ap₂ (λ (o : Option Pair) (bs : List Mailbox). pairs.with_pair p (option_map (holding held) o) bs) pair e ∙ sym (mailboxes_mine p (option_map (holding held) (pair_of c p)) c)
+
+filled_alike : (p : ℕ) (u v : State) → AreAlikeTo p u v → AreAlikeTo p (with_rx_filled u p) (with_rx_filled v p)
+unfolding with_rx_filled
+filled_alike p u v same = record {
+  partitions = same.partitions;
+  quota = same.quota;
+  grants = same.grants;
+  state = same.state;
+  buffers = rx_alike p true u.mailboxes v.mailboxes same.buffers;
+  owned = same.owned;
+  homes = same.homes;
+  sharable = same.sharable;
+  transactions = same.transactions;
+  views = same.views;
+}
 
 -- ---- what agrees at each page or element
 
@@ -183,6 +272,10 @@ edit_same (Some edit) view other p n e = ap (λ (v : View). cond (eqb p edit.who
 not_free : (s : State) (p n : ℕ) → owns s p n ≡ false → is_free s p n ≡ false
 unfolding is_free
 not_free s p n e = rw e refl
+
+owned_after : (p : ℕ) (c : Bool) (o e : Option ℕ) → option_map_or (λ x. eqb x p) o false ≡ option_map_or (λ x. eqb x p) e false → option_map_or (λ x. eqb x p) (cond c (Some p) o) false ≡ option_map_or (λ x. eqb x p) (cond c (Some p) e) false
+owned_after p true o e same = refl
+owned_after p false o e same = same
 
 -- ---- the rules of two states
 
@@ -321,7 +414,7 @@ module _ (p : ℕ) (s t : State) (same : AreAlikeTo p s t) (sends_s : AllByRecur
     quota = same.quota;
     grants = same.grants;
     state = same.state;
-    buffers = same_boxes_after (option_map (holding false) (pair_of s.mailboxes p)) ∙ ap (λ (o : Option Pair). mailboxes_of p (pairs.with_pair p (option_map (holding false) o) t.mailboxes)) same_pair_of;
+    buffers = rx_alike p false s.mailboxes t.mailboxes same.buffers;
     owned = same.owned;
     homes = same.homes;
     sharable = same.sharable;
@@ -345,7 +438,14 @@ module _ (p : ℕ) (s t : State) (same : AreAlikeTo p s t) (sends_s : AllByRecur
   same_opened k v home = ap (λ (h : ℕ). record (opened s p k v home) { handle = h }) same_handle
 
   same_sent_with : (h : ℕ) → sent_with s p h ≡ sent_with t p h
-  same_sent_with h = find_mine p h s.live ∙ ap (λ ts. find (λ u. eqb u.handle h && eqb u.sender p) ts) same.transactions ∙ sym (find_mine p h t.live)
+  same_sent_with h =
+      let sent_by = λ (u : Live). eqb u.handle h && eqb u.sender p in
+      find_mine p sent_by (sent_mine p h) s.live ∙ ap (find sent_by) same.transactions ∙ sym (find_mine p sent_by (sent_mine p h) t.live)
+
+  same_received_with : (h : ℕ) → received_with s p h ≡ received_with t p h
+  same_received_with h =
+      let received = λ (u : Live). eqb u.handle h && is_received_by p u in
+      find_mine p received (received_mine p h) s.live ∙ ap (find received) same.transactions ∙ sym (find_mine p received (received_mine p h) t.live)
 
   -- but for what is reached, which the edit decides
   ended_alike : (h : ℕ) → transactions_of p (without h s.live) ≡ transactions_of p (without h t.live) → ((n : ℕ) → sees (ended s h) p n ≡ sees (ended t h) p n) → AreAlikeTo p (ended s h) (ended t h)
@@ -362,6 +462,49 @@ module _ (p : ℕ) (s t : State) (same : AreAlikeTo p s t) (sends_s : AllByRecur
     transactions = kept;
     views = seen;
   }
+
+  set_alike : (h : ℕ) (view : View) → transactions_of p (with_retrieval_of h p view s.live) ≡ transactions_of p (with_retrieval_of h p view t.live) → ((n : ℕ) → sees (with_retrieval_by s p h view) p n ≡ sees (with_retrieval_by t p h view) p n)
+      → AreAlikeTo p (with_retrieval_by s p h view) (with_retrieval_by t p h view)
+  unfolding with_retrieval_by
+  set_alike h view kept seen = record {
+    partitions = same.partitions;
+    quota = same.quota;
+    grants = same.grants;
+    state = same.state;
+    buffers = same.buffers;
+    owned = same.owned;
+    homes = same.homes;
+    sharable = same.sharable;
+    transactions = kept;
+    views = seen;
+  }
+
+  given_alike : (u : Live) (access : Access) → AreSentPages s u → AreSentPages t u → transactions_of p (without u.handle s.live) ≡ transactions_of p (without u.handle t.live) → ((n : ℕ) → sees (with_donation s p u access) p n ≡ sees (with_donation t p u access) p n)
+      → AreAlikeTo p (with_donation s p u access) (with_donation t p u access)
+  unfolding with_donation
+  given_alike u access page_s page_t kept seen =
+      let own = λ (o : Option ℕ). option_map_or (λ x. eqb x p) o false in
+      record {
+        partitions = same.partitions;
+        quota = same.quota;
+        grants = same.grants;
+        state = same.state;
+        buffers = same.buffers;
+        owned = λ n. ap own (given_owner s p u access n) ∙ owned_after p (covers u.ranges n) (owner_of s n) (owner_of t n) (same.owned n) ∙ sym (ap own (given_owner t p u access n));
+        homes = λ n e.
+            given_home s p u access n
+            ∙ elim (covers u.ranges n) as (λ b. covers u.ranges n ≡ b → cond b (Some access) (home_of s n) ≡ cond b (Some access) (home_of t n)) [
+              | true ↦ λ c. refl
+              | false ↦ λ c. same.homes n (sym (ap own (given_owner s p u access n ∙ ap (λ (b : Bool). cond b (Some p) (owner_of s n)) c)) ∙ e)
+            ] refl
+            ∙ sym (given_home t p u access n);
+        sharable = λ n e. elim (covers u.ranges n) as (λ b. covers u.ranges n ≡ b → is_sharable_at s n ≡ is_sharable_at t n) [
+          | true ↦ λ c. (page_s n c).1 ∙ sym (page_t n c).1
+          | false ↦ λ c. same.sharable n (sym (ap own (given_owner s p u access n ∙ ap (λ (b : Bool). cond b (Some p) (owner_of s n)) c)) ∙ e)
+        ] refl;
+        transactions = kept;
+        views = seen;
+      }
 
   -- but for what is reached, which the edit decides
   opened_alike : (k : Kind) (v : descriptor.Send) (home : Access) → ((n : ℕ) → sees (with_transaction s (opened s p k v home)) p n ≡ sees (with_transaction t (opened t p k v home)) p n)
@@ -397,6 +540,24 @@ own_return s p h e is =
       | None ↦ λ f k. absurd cc
       | Some u ↦ λ f k. returned_to u.kind u.sender u.ranges u.home e k ∙ eqb-true _ _ (both (eqb u.handle h) (eqb u.sender p) (found_is (λ v. eqb v.handle h && eqb v.sender p) s.live u f)).1
     ] refl is
+
+-- a relinquish and a retrieve edit what the receiver reaches
+own_give_back : (p : ℕ) (o : Option Live) (e : Edit) → option_map (given_back_by p) o ≡ Some e → e.who ≡ p
+own_give_back p None e is = absurd cc
+own_give_back p (Some u) e is = let same : given_back_by p u ≡ e = cc in ap (λ (x : Edit). x.who) (sym same)
+
+own_retrieval : (p : ℕ) (o : Option Retrieval) (e : Edit) → option_map (retrieved_by p) o ≡ Some e → e.who ≡ p
+own_retrieval p None e is = absurd cc
+own_retrieval p (Some u) e is = let same : retrieved_by p u ≡ e = cc in ap (λ (x : Edit). x.who) (sym same)
+
+one_transaction : (a b : Retrieval) → Some a ≡ Some b → a.transaction ≡ b.transaction
+one_transaction a b e = let same : a ≡ b = cc in ap (λ (r : Retrieval). r.transaction) same
+
+one_access : (a b : Retrieval) → Some a ≡ Some b → a.access ≡ b.access
+one_access a b e = let same : a ≡ b = cc in ap (λ (r : Retrieval). r.access) same
+
+named_receiver : (p : ℕ) (u : Live) → is_received_by p u ≡ true → names p u ≡ true
+named_receiver p u e = rw e (or_true (eqb u.sender p))
 
 -- a send edits what its sender reaches
 own_edit : (k : Kind) (p : ℕ) (runs : List PageRun) (e : Edit) → sender_edit k p runs ≡ Some e → e.who ≡ p
@@ -483,7 +644,7 @@ module _ (s t : State) (c : CallWords) (same : AreAlikeTo c.caller s t) (rs : Is
   mine_without : (u : State) (h : ℕ) → IsReached u → ReclaimPasses u c.caller h → transactions_of c.caller (without h u.live) ≡ without h (transactions_of c.caller u.live)
   mine_without u h ru k =
       let mine : names c.caller k.transaction ≡ true = rw (eq-eqb _ _ k.sender) refl in
-      without_mine c.caller h u.live k.transaction (found_first u.live h c.caller k.transaction (handles_used_once u ru).distinct k.found) mine
+      without_mine c.caller h u.live k.transaction (found_first u.live h (λ v. eqb v.sender c.caller) k.transaction (handles_used_once u ru).distinct k.found) mine
 
   reclaim_alike : (h flags : ℕ)
       → (first_refusal (reclaim_tests s c.caller h flags) ≡ None → fits s (reclaim_rule s c h flags).edit ≡ true → (n : ℕ) → sees (ended s h) c.caller n ≡ with_edit (reclaim_rule s c h flags).edit (sees s) c.caller n)
@@ -507,6 +668,112 @@ module _ (s t : State) (c : CallWords) (same : AreAlikeTo c.caller s t) (rs : Is
             ended_alike p s t same sends_s sends_t boxes_s boxes_t h kept seen;
       }
 
+  -- ---- a relinquish
+
+  set_in_both : (h : ℕ) (view : View) (u v : Live) → find (λ w. eqb w.handle h) s.live ≡ Some u → find (λ w. eqb w.handle h) t.live ≡ Some v → is_received_by c.caller u ≡ true → is_received_by c.caller v ≡ true
+      → transactions_of c.caller (with_retrieval_of h c.caller view s.live) ≡ transactions_of c.caller (with_retrieval_of h c.caller view t.live)
+  set_in_both h view u v at_s at_t mine_s mine_t =
+      let p = c.caller in
+      set_mine p h p view s.live u at_s (named_receiver p u mine_s) ∙ ap (λ ts. with_retrieval_of h p view ts) same.transactions ∙ sym (set_mine p h p view t.live v at_t (named_receiver p v mine_t))
+
+  relinquish_alike : (first_refusal (relinquish_tests s c) ≡ None → fits s (relinquish_rule s c).edit ≡ true → (n : ℕ) → sees (relinquish_rule s c).next c.caller n ≡ with_edit (relinquish_rule s c).edit (sees s) c.caller n)
+      → (first_refusal (relinquish_tests t c) ≡ None → fits t (relinquish_rule t c).edit ≡ true → (n : ℕ) → sees (relinquish_rule t c).next c.caller n ≡ with_edit (relinquish_rule t c).edit (sees t) c.caller n)
+      → AreAlikeRules c.caller s t (relinquish_rule s c) (relinquish_rule t c)
+  relinquish_alike edit_s edit_t =
+      let p = c.caller in
+      let h = (given_up c).handle in
+      let one : received_with s p h ≡ received_with t p h = same_received_with p s t same sends_s sends_t boxes_s boxes_t h in
+      let tests : relinquish_tests s c ≡ relinquish_tests t c = rw (one, same_pair p s t same sends_s sends_t boxes_s boxes_t) refl in
+      let edits : (relinquish_rule s c).edit ≡ (relinquish_rule t c).edit = ap (λ (o : Option Live). option_map (given_back_by p) o) one in
+      let fit : fits s (relinquish_rule s c).edit ≡ fits t (relinquish_rule t c).edit = same_fits p s t same sends_s sends_t boxes_s boxes_t (relinquish_rule s c).edit (own_give_back p (received_with s p h)) ∙ ap (fits t) edits in
+      record {
+        tests = tests;
+        fit = fit;
+        reply = refl;
+        next = λ e g.
+            let f : first_refusal (relinquish_tests t c) ≡ None = ap first_refusal (sym tests) ∙ e in
+            let ks = relinquish_passes s c e in
+            let kt = relinquish_passes t c f in
+            let at_s = found_first s.live h (is_received_by p) ks.transaction (handles_used_once s rs).distinct ks.found in
+            let at_t = found_first t.live h (is_received_by p) kt.transaction (handles_used_once t rt).distinct kt.found in
+            let seen : (n : ℕ) → sees (with_retrieval_by s p h None) p n ≡ sees (with_retrieval_by t p h None) p n = λ n.
+            edit_s e g n ∙ edit_same (relinquish_rule s c).edit (sees s) (sees t) p n (same.views n) ∙ ap (λ (x : Option Edit). with_edit x (sees t) p n) edits ∙ sym (edit_t f (sym fit ∙ g) n) in
+            set_alike p s t same sends_s sends_t boxes_s boxes_t h None (set_in_both h None ks.transaction kt.transaction at_s at_t ks.receiver kt.receiver) seen;
+      }
+
+  -- ---- a retrieve
+
+  same_asked : (x : Transfer) → asked s c x ≡ asked t c x
+  same_asked x = ap (λ v. retrieve_of v (bytes_of c x)) same_version
+
+  same_retrieval : (x : Transfer) → retrieval_of s c x ≡ retrieval_of t c x
+  same_retrieval x =
+      let p = c.caller in
+      let find_in = λ (v : descriptors.Retrieve). option_and_then (retrieval_with v.endpoint.permissions p) (received_with s p v.handle) in
+      ap find_in (same_asked x) ∙ ap (option_and_then (retrieval_with (asked t c x).endpoint.permissions p)) (same_received_with p s t same sends_s sends_t boxes_s boxes_t (asked t c x).handle)
+
+  same_fits_rx : fits_rx s c ≡ fits_rx t c
+  unfolding fits_rx
+  same_fits_rx =
+      fun_ext (λ u. rw (same_version, same_pair_of c.caller s t same sends_s sends_t boxes_s boxes_t) refl)
+
+  same_retrieve_tests : (x : Transfer) → retrieve_tests s c x ≡ retrieve_tests t c x
+  same_retrieve_tests x =
+      let p = c.caller in
+      let spelled : is_retrieve (caller_version s c) (bytes_of c x) ≡ is_retrieve (caller_version t c) (bytes_of c x) = ap (λ w. is_retrieve w (bytes_of c x)) same_version in
+      let one = same_received_with p s t same sends_s sends_t boxes_s boxes_t (asked t c x).handle in
+      rw (same_asked x, spelled, same_lengths x, same_pair p s t same sends_s sends_t boxes_s boxes_t, same_held p s t same sends_s sends_t boxes_s boxes_t, same_fits_rx, one) refl
+
+  -- the state that both come to, but for RX
+  kind_alike : (k : Kind) (u : Live) (access : Access) → find (λ w. eqb w.handle u.handle) s.live ≡ Some u → find (λ w. eqb w.handle u.handle) t.live ≡ Some u → is_received_by c.caller u ≡ true
+      → ((n : ℕ) → sees (with_retrieval_of_kind k s c.caller u access) c.caller n ≡ sees (with_retrieval_of_kind k t c.caller u access) c.caller n)
+      → AreAlikeTo c.caller (with_retrieval_of_kind k s c.caller u access) (with_retrieval_of_kind k t c.caller u access)
+  kind_alike Share u access at_s at_t mine seen = set_alike c.caller s t same sends_s sends_t boxes_s boxes_t u.handle (Some access) (set_in_both u.handle (Some access) u u at_s at_t mine mine) seen
+  kind_alike Lend u access at_s at_t mine seen = set_alike c.caller s t same sends_s sends_t boxes_s boxes_t u.handle (Some access) (set_in_both u.handle (Some access) u u at_s at_t mine mine) seen
+  kind_alike Donate u access at_s at_t mine seen =
+      let p = c.caller in
+      let named = named_receiver p u mine in
+      let is_it = λ (w : Live). eqb w.handle u.handle in
+      let kept = without_mine p u.handle s.live u at_s named ∙ ap (without u.handle) same.transactions ∙ sym (without_mine p u.handle t.live u at_t named) in
+      given_alike p s t same sends_s sends_t boxes_s boxes_t u access (found_in (AreSentPages s) is_it s.live u at_s (transactions_kept s rs).pages) (found_in (AreSentPages t) is_it t.live u at_t (transactions_kept t rt).pages) kept seen
+
+  retrieve_next : (x : Transfer) (a : RetrievePasses s c x) (b : RetrievePasses t c x)
+      → ((n : ℕ) → sees (retrieve_rule s c x).next c.caller n ≡ with_edit (retrieve_rule s c x).edit (sees s) c.caller n) → ((n : ℕ) → sees (retrieve_rule t c x).next c.caller n ≡ with_edit (retrieve_rule t c x).edit (sees t) c.caller n)
+      → AreAlikeTo c.caller (retrieve_rule s c x).next (retrieve_rule t c x).next
+  retrieve_next x a b edit_s edit_t =
+      let p = c.caller in
+      let both_are : Some (record { transaction = a.transaction; access = a.access }) ≡ Some (record { transaction = b.transaction; access = b.access }) = sym a.named ∙ same_retrieval x ∙ b.named in
+      let is_one : b.transaction ≡ a.transaction = sym (one_transaction _ _ both_are) in
+      let is_access : b.access ≡ a.access = sym (one_access _ _ both_are) in
+      let u = a.transaction in
+      let next_t : (retrieve_rule t c x).next ≡ with_rx_filled (with_retrieval_of_kind u.kind t p u a.access) p =
+      retrieved_is t c x b ∙ ap₂ (λ (w : Live) (access : Access). with_rx_filled (with_retrieval_of_kind w.kind t p w access) p) is_one is_access in
+      let at_t : find (λ w. eqb w.handle u.handle) t.live ≡ Some u = subst (λ (w : Live). find (λ v. eqb v.handle w.handle) t.live ≡ Some w) is_one (first_is t c x rt b) in
+      let edits : (retrieve_rule s c x).edit ≡ (retrieve_rule t c x).edit = ap (λ (o : Option Retrieval). option_map (retrieved_by p) o) (same_retrieval x) in
+      let seen : (n : ℕ) → sees (with_retrieval_of_kind u.kind s p u a.access) p n ≡ sees (with_retrieval_of_kind u.kind t p u a.access) p n = λ n.
+      sym (filled_sees (with_retrieval_of_kind u.kind s p u a.access) p p n) ∙ ap (λ (w : State). sees w p n) (sym (retrieved_is s c x a))
+      ∙ edit_s n ∙ edit_same (retrieve_rule s c x).edit (sees s) (sees t) p n (same.views n) ∙ ap (λ (e : Option Edit). with_edit e (sees t) p n) edits ∙ sym (edit_t n)
+      ∙ ap (λ (w : State). sees w p n) next_t ∙ filled_sees (with_retrieval_of_kind u.kind t p u a.access) p p n in
+      let alike_now = filled_alike p (with_retrieval_of_kind u.kind s p u a.access) (with_retrieval_of_kind u.kind t p u a.access) (kind_alike u.kind u a.access (first_is s c x rs a) at_t a.receiver seen) in
+      subst (λ (w : State). AreAlikeTo p (retrieve_rule s c x).next w) (sym next_t) (subst (λ (w : State). AreAlikeTo p w (with_rx_filled (with_retrieval_of_kind u.kind t p u a.access) p)) (sym (retrieved_is s c x a)) alike_now)
+
+  retrieve_alike : (x : Transfer)
+      → (first_refusal (retrieve_tests s c x) ≡ None → fits s (retrieve_rule s c x).edit ≡ true → (n : ℕ) → sees (retrieve_rule s c x).next c.caller n ≡ with_edit (retrieve_rule s c x).edit (sees s) c.caller n)
+      → (first_refusal (retrieve_tests t c x) ≡ None → fits t (retrieve_rule t c x).edit ≡ true → (n : ℕ) → sees (retrieve_rule t c x).next c.caller n ≡ with_edit (retrieve_rule t c x).edit (sees t) c.caller n)
+      → AreAlikeRules c.caller s t (retrieve_rule s c x) (retrieve_rule t c x)
+  retrieve_alike x edit_s edit_t =
+      let p = c.caller in
+      let edits : (retrieve_rule s c x).edit ≡ (retrieve_rule t c x).edit = ap (λ (o : Option Retrieval). option_map (retrieved_by p) o) (same_retrieval x) in
+      let fit : fits s (retrieve_rule s c x).edit ≡ fits t (retrieve_rule t c x).edit = same_fits p s t same sends_s sends_t boxes_s boxes_t (retrieve_rule s c x).edit (own_retrieval p (retrieval_of s c x)) ∙ ap (fits t) edits in
+      record {
+        tests = same_retrieve_tests x;
+        fit = fit;
+        reply = ap₂ (λ v (o : Option Retrieval). option_map_or (responding v p) o (error Denied)) same_version (same_retrieval x);
+        next = λ e g.
+            let f : first_refusal (retrieve_tests t c x) ≡ None = ap first_refusal (sym (same_retrieve_tests x)) ∙ e in
+            retrieve_next x (retrieve_passes s c x e) (retrieve_passes t c x f) (edit_s e g) (edit_t f (sym fit ∙ g));
+      }
+
   alike_rules : (r : Request) → is_partition s.manifest c.caller ≡ true → is_partition t.manifest c.caller ≡ true → request_of c.regs ≡ Some r → AreAlikeRules c.caller s t (rule_of s c r) (rule_of t c r)
   alike_rules (Version word) ks kt n = record { tests = refl; fit = no_edit s t; reply = refl; next = λ e g. named c.caller s t same sends_s sends_t boxes_s boxes_t word }
   alike_rules (Features identifier) ks kt n = record { tests = refl; fit = no_edit s t; reply = refl; next = λ e g. same }
@@ -515,8 +782,8 @@ module _ (s t : State) (c : CallWords) (same : AreAlikeTo c.caller s t) (rs : Is
   alike_rules (RxtxUnmap word) ks kt n = record { tests = rw (same_pair c.caller s t same sends_s sends_t boxes_s boxes_t) refl; fit = no_edit s t; reply = refl; next = λ e g. paired c.caller s t same sends_s sends_t boxes_s boxes_t None }
   alike_rules IdGet ks kt n = record { tests = refl; fit = no_edit s t; reply = refl; next = λ e g. same }
   alike_rules (Send kind x) ks kt n = send_alike kind x (λ e f. (edits_the_view s c (Send kind x) rs (record { known = ks; named = n; passed = e; fits = f })).views c.caller) (λ e f. (edits_the_view t c (Send kind x) rt (record { known = kt; named = n; passed = e; fits = f })).views c.caller)
-  alike_rules (Retrieve x) ks kt n = record { tests = refl; fit = no_edit s t; reply = refl; next = λ e g. same }
-  alike_rules Relinquish ks kt n = record { tests = refl; fit = no_edit s t; reply = refl; next = λ e g. same }
+  alike_rules (Retrieve x) ks kt n = retrieve_alike x (λ e f. (edits_the_view s c (Retrieve x) rs (record { known = ks; named = n; passed = e; fits = f })).views c.caller) (λ e f. (edits_the_view t c (Retrieve x) rt (record { known = kt; named = n; passed = e; fits = f })).views c.caller)
+  alike_rules Relinquish ks kt n = relinquish_alike (λ e f. (edits_the_view s c Relinquish rs (record { known = ks; named = n; passed = e; fits = f })).views c.caller) (λ e f. (edits_the_view t c Relinquish rt (record { known = kt; named = n; passed = e; fits = f })).views c.caller)
   alike_rules (Reclaim handle flags) ks kt n = reclaim_alike handle flags (λ e f. (edits_the_view s c (Reclaim handle flags) rs (record { known = ks; named = n; passed = e; fits = f })).views c.caller) (λ e f. (edits_the_view t c (Reclaim handle flags) rt (record { known = kt; named = n; passed = e; fits = f })).views c.caller)
 
   any_rules : (ks kt : Bool) (o : Option Request) → ks ≡ kt → ((r : Request) → ks ≡ true → o ≡ Some r → AreAlikeRules c.caller s t (rule_of s c r) (rule_of t c r))
@@ -556,6 +823,18 @@ other_edit Donate q runs view p n ne = rw ne refl
 other_edited : (edit : Option Edit) (q : ℕ) → ((e : Edit) → edit ≡ Some e → e.who ≡ q) → (view : ℕ → ℕ → View) (p n : ℕ) → eqb p q ≡ false → with_edit edit view p n ≡ view p n
 other_edited None q own view p n ne = refl
 other_edited (Some e) q own view p n ne = let who = own e refl in rw (who, ne) refl
+
+not_either : (a b : Bool) → (a || b) ≡ false → a ≡ false
+not_either true b e = absurd cc
+not_either false b e = refl
+
+given_live : (s : State) (q : ℕ) (u : Live) (access : Access) (p : ℕ) → transactions_of p (without u.handle s.live) ≡ transactions_of p (with_donation s q u access).live
+unfolding with_donation
+given_live s q u access p = refl
+
+filled_live : (s : State) (q p : ℕ) → transactions_of p s.live ≡ transactions_of p (with_rx_filled s q).live
+unfolding with_rx_filled
+filled_live s q p = refl
 
 module _ (p : ℕ) (s : State) (c : CallWords) (is : IsReached s) (ne : eqb c.caller p ≡ false) (en : eqb p c.caller ≡ false) where
   alike : AreAlikeTo p s s
@@ -602,6 +881,70 @@ module _ (p : ℕ) (s : State) (c : CallWords) (is : IsReached s) (ne : eqb c.ca
   unfolding ended
   other_ended h kept seen = record { partitions = refl; quota = refl; grants = λ n. refl; state = refl; buffers = refl; owned = λ n. refl; homes = λ n e. refl; sharable = λ n e. refl; transactions = sym kept; views = λ n. sym (seen n) }
 
+  other_set : (h : ℕ) (view : View) → transactions_of p (with_retrieval_by s c.caller h view).live ≡ transactions_of p s.live → ((n : ℕ) → sees (with_retrieval_by s c.caller h view) p n ≡ sees s p n) → AreAlikeTo p s (with_retrieval_by s c.caller h view)
+  unfolding with_retrieval_by
+  other_set h view kept seen = record { partitions = refl; quota = refl; grants = λ n. refl; state = refl; buffers = refl; owned = λ n. refl; homes = λ n e. refl; sharable = λ n e. refl; transactions = sym kept; views = λ n. sym (seen n) }
+
+  -- a donation to another partition, by a sender that is another too
+  not_given : (u : Live) (access : Access) → find (λ w. eqb w.handle u.handle) s.live ≡ Some u → names p u ≡ false → (n : ℕ) → covers u.ranges n ≡ true → owns s p n ≡ false
+  not_given u access first away n here =
+      let own = found_in (IsOwnSend s) (λ w. eqb w.handle u.handle) s.live u first (owned_once s is).senders in
+      ap (λ (o : Option ℕ). option_map_or (λ x. eqb x p) o false) (own n here) ∙ not_either (eqb u.sender p) (is_received_by p u) away
+
+  other_given : (u : Live) (access : Access) → find (λ w. eqb w.handle u.handle) s.live ≡ Some u → names p u ≡ false → transactions_of p (with_donation s c.caller u access).live ≡ transactions_of p s.live → ((n : ℕ) → sees (with_donation s c.caller u access) p n ≡ sees s p n) → AreAlikeTo p s (with_donation s c.caller u access)
+  unfolding with_donation
+  other_given u access first away kept seen =
+      let own = λ (o : Option ℕ). option_map_or (λ x. eqb x p) o false in
+      record {
+        partitions = refl;
+        quota = refl;
+        grants = λ n. refl;
+        state = refl;
+        buffers = refl;
+        owned = λ n. sym (ap own (given_owner s c.caller u access n) ∙ elim (covers u.ranges n) as (λ b. covers u.ranges n ≡ b → own (cond b (Some c.caller) (owner_of s n)) ≡ owns s p n) [
+          | true ↦ λ here. ne ∙ sym (not_given u access first away n here)
+          | false ↦ λ here. refl
+        ] refl);
+        homes = λ n e. sym (given_home s c.caller u access n ∙ elim (covers u.ranges n) as (λ b. covers u.ranges n ≡ b → cond b (Some access) (home_of s n) ≡ home_of s n) [
+          | true ↦ λ here. absurd (let none = not_given u access first away n here in cc)
+          | false ↦ λ here. refl
+        ] refl);
+        sharable = λ n e. refl;
+        transactions = sym kept;
+        views = λ n. sym (seen n);
+      }
+
+  other_filled : (u : State) → AreAlikeTo p s u → AreAlikeTo p s (with_rx_filled u c.caller)
+  unfolding with_rx_filled
+  other_filled u same = record {
+    partitions = same.partitions;
+    quota = same.quota;
+    grants = same.grants;
+    state = same.state;
+    buffers = same.buffers ∙ sym (mailboxes_other p c.caller (option_map (holding true) (pair_of u.mailboxes c.caller)) ne u.mailboxes);
+    owned = same.owned;
+    homes = same.homes;
+    sharable = same.sharable;
+    transactions = same.transactions;
+    views = same.views;
+  }
+
+  other_kind : (k : Kind) (u : Live) (access : Access) → find (λ w. eqb w.handle u.handle) s.live ≡ Some u → transactions_of p (with_retrieval_of_kind k s c.caller u access).live ≡ transactions_of p s.live
+      → ((n : ℕ) → sees (with_retrieval_of_kind k s c.caller u access) p n ≡ sees s p n) → AreAlikeTo p s (with_retrieval_of_kind k s c.caller u access)
+  other_kind Share u access first kept seen = other_set u.handle (Some access) kept seen
+  other_kind Lend u access first kept seen = other_set u.handle (Some access) kept seen
+  other_kind Donate u access first kept seen = other_given u access first (not_named p u.handle s.live u first (given_live s c.caller u access p ∙ kept)) kept seen
+
+  other_retrieve : (x : Transfer) → RetrievePasses s c x → ((n : ℕ) → sees (retrieve_rule s c x).next p n ≡ sees s p n) → transactions_of p (retrieve_rule s c x).next.live ≡ transactions_of p s.live → AreAlikeTo p s (retrieve_rule s c x).next
+  other_retrieve x k seen kept =
+      let u = k.transaction in
+      let now = with_retrieval_of_kind u.kind s c.caller u k.access in
+      let next : (retrieve_rule s c x).next ≡ with_rx_filled now c.caller = retrieved_is s c x k in
+      subst (λ (w : State). AreAlikeTo p s w) (sym next)
+      (other_filled now (other_kind u.kind u k.access (first_is s c x is k)
+      (filled_live now c.caller p ∙ ap (λ (w : State). transactions_of p w.live) (sym next) ∙ kept)
+      (λ n. sym (filled_sees now c.caller p n) ∙ ap (λ (w : State). sees w p n) (sym next) ∙ seen n)))
+
   other_next : (r : Request) → Passes s c r → transactions_of p (rule_of s c r).next.live ≡ transactions_of p s.live → AreAlikeTo p s (rule_of s c r).next
   other_next (Version word) k kept = other_named word
   other_next (Features identifier) k kept = alike
@@ -610,8 +953,11 @@ module _ (p : ℕ) (s : State) (c : CallWords) (is : IsReached s) (ne : eqb c.ca
   other_next (RxtxUnmap word) k kept = other_pair None
   other_next IdGet k kept = alike
   other_next (Send kind x) k kept = other_send kind x (send_passes s c kind x k.passed) ((edits_the_view s c (Send kind x) is k).views p) kept
-  other_next (Retrieve x) k kept = alike
-  other_next Relinquish k kept = alike
+  other_next (Retrieve x) k kept =
+      other_retrieve x (retrieve_passes s c x k.passed) (λ n. (edits_the_view s c (Retrieve x) is k).views p n ∙ other_edited (option_map (retrieved_by c.caller) (retrieval_of s c x)) c.caller (own_retrieval c.caller (retrieval_of s c x)) (sees s) p n en) kept
+  other_next Relinquish k kept =
+      let h = (given_up c).handle in
+      other_set h None kept (λ n. (edits_the_view s c Relinquish is k).views p n ∙ other_edited (option_map (given_back_by c.caller) (received_with s c.caller h)) c.caller (own_give_back c.caller (received_with s c.caller h)) (sees s) p n en)
   other_next (Reclaim handle flags) k kept =
       other_ended handle kept (λ n. (edits_the_view s c (Reclaim handle flags) is k).views p n ∙ other_edited (option_and_then returned_by (sent_with s c.caller handle)) c.caller (own_return s c.caller handle) (sees s) p n en)
 

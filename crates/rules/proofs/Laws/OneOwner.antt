@@ -1,14 +1,14 @@
 -- The law that each page of a live transaction is its sender's, and no other transaction's.
-use Rattle.std.proofs.Common.{◌≡◌, ℕ, Bool, true, false, List, [], ◌∷◌, ◌++◌, Option, Some, None, is_some, cond, eqb, refl, ap, subst}
+use Rattle.std.proofs.Common.{◌≡◌, ℕ, Bool, true, false, List, [], ◌∷◌, ◌++◌, Option, Some, None, is_some, cond, eqb, refl, sym, ap, ◌∙◌, subst, find}
 use Rattle.std.specs.List.{AllByRecursion}
 use Rattle.std.specs.Option.{option_map_or, option_map}
 use Rattle.std.proofs.lemmas.Bool.{eqb-true}
 use Rattle.base.specs.declared.access.Rights.{Rights}
 use Rattle.base.specs.declared.transaction.Kind.{Kind}
 use Rattle.base.specs.Pages.{covers}
-use Rattle.base.specs.Access.{Access}
+use Rattle.base.specs.Access.{Access, View}
 use Rattle.base.specs.Manifest.{RegionRow, region_at}
-use Rattle.base.specs.Transactions.{Live}
+use Rattle.base.specs.Transactions.{Live, without}
 use Rattle.base.specs.Ledger.{live_at}
 use Rattle.base.specs.State.{State, owner_of}
 use Rattle.base.specs.Descriptors.Send as descriptor
@@ -20,11 +20,18 @@ use Rattle.rules.specs.Calls.Version.{with_version}
 use Rattle.rules.specs.Calls.Buffers.{with_pair, with_rx_released}
 use Rattle.rules.specs.Calls.Send.{opened, with_transaction, sent, send_rule}
 use Rattle.rules.specs.Calls.Reclaim.{ended}
+use Rattle.rules.specs.Calls.Relinquish.{given_up}
+use Rattle.rules.specs.Calls.Retrieve.{asked, with_donation, with_rx_filled, retrieve_rule}
+use Rattle.rules.specs.Receivers.{is_received_by, with_retrieval_by}
 use Rattle.rules.specs.Run.{rule_of, IsReached}
 use Rattle.rules.specs.Laws.EditsTheView.{Passes}
 use Rattle.rules.specs.Laws.OneOwner.{IsOwnSend, AreApart, AreAllApart, IsOwnedOnce}
 use Rattle.rules.proofs.Calls.Send.{SendPasses, send_passes, next_is}
-use Rattle.rules.proofs.Ended.{all_without, apart_without}
+use Rattle.rules.proofs.Calls.Retrieve.{RetrievePasses, retrieve_passes, retrieve_cases}
+use Rattle.rules.proofs.Ended.{found_in, found_first, all_without, apart_without, both_all}
+use Rattle.rules.proofs.Laws.Handles.{handles_used_once}
+use Rattle.rules.proofs.Given.{given_owner, others_apart}
+use Rattle.rules.proofs.Retrieved.{all_set, apart_set}
 use Rattle.rules.proofs.FreePages.{HasFreeHome, owner_from_test, common_at}
 use Rattle.rules.proofs.Reached.{all_push, Keeps, all_reached}
 
@@ -64,6 +71,45 @@ ended_kept s handle o =
       apart = apart_without handle s.live o.apart;
     }
 
+set_kept : (s : State) (p handle : ℕ) (view : View) → IsOwnedOnce s → IsOwnedOnce (with_retrieval_by s p handle view)
+unfolding with_retrieval_by
+set_kept s p handle view o =
+    record {
+      owners = o.owners;
+      senders = all_set (IsOwnSend s) handle p view s.live o.senders (λ t e x. x);
+      apart = apart_set handle p view s.live o.apart;
+    }
+
+-- ---- a donation is completed
+
+pub first_is : (s : State) (c : CallWords) (x : Transfer) → IsReached s → (k : RetrievePasses s c x) → find (λ u. eqb u.handle k.transaction.handle) s.live ≡ Some k.transaction
+first_is s c x r k =
+    let handle = (asked s c x).handle in
+    subst (λ (h : ℕ). find (λ u. eqb u.handle h) s.live ≡ Some k.transaction) (sym k.handle) (found_first s.live handle (is_received_by c.caller) k.transaction (handles_used_once s r).distinct k.found)
+
+given_kept : (s : State) (p : ℕ) (t : Live) (access : Access) → find (λ u. eqb u.handle t.handle) s.live ≡ Some t → IsOwnedOnce s → IsOwnedOnce (with_donation s p t access)
+unfolding with_donation
+given_kept s p t access first o =
+    let own = found_in (IsOwnSend s) (λ u. eqb u.handle t.handle) s.live t first o.senders in
+    record {
+      owners = λ n. elim (covers t.ranges n) as (λ b. covers t.ranges n ≡ b → is_some (owner_of (with_donation s p t access) n) ≡ is_some (region_at s.manifest n)) [
+        | true ↦ λ c. rw (given_owner s p t access n, c) (ap (λ (x : Option ℕ). is_some x) (sym (own n c)) ∙ o.owners n)
+        | false ↦ λ c. rw (given_owner s p t access n, c) (o.owners n)
+      ] refl;
+      senders = both_all (IsOwnSend s) (λ u. AreApart u t) (IsOwnSend (with_donation s p t access)) (λ u mine apart n c. let no = apart n c in rw (given_owner s p t access n, no) (mine n c)) (without t.handle s.live) (all_without (IsOwnSend s) t.handle s.live o.senders) (others_apart t.handle s.live t o.apart first);
+      apart = apart_without t.handle s.live o.apart;
+    }
+
+filled_kept : (s : State) (p : ℕ) → IsOwnedOnce s → IsOwnedOnce (with_rx_filled s p)
+unfolding with_rx_filled
+filled_kept s p o = record { owners = o.owners; senders = o.senders; apart = o.apart }
+
+retrieve : (s : State) (c : CallWords) (x : Transfer) → IsReached s → RetrievePasses s c x → IsOwnedOnce s → IsOwnedOnce (retrieve_rule s c x).next
+retrieve s c x r k o =
+    retrieve_cases IsOwnedOnce s c x k (λ u. filled_kept u c.caller)
+    (λ e. set_kept s c.caller k.transaction.handle (Some k.access) o)
+    (λ e. given_kept s c.caller k.transaction k.access (first_is s c x r k) o)
+
 keeps : Keeps IsOwnedOnce
 unfolding with_version with_pair with_rx_released
 keeps s c (Version word) r is k o = record { owners = o.owners; senders = o.senders; apart = o.apart }
@@ -73,8 +119,8 @@ keeps s c (RxtxMap tx rx count) r is k o = record { owners = o.owners; senders =
 keeps s c (RxtxUnmap word) r is k o = record { owners = o.owners; senders = o.senders; apart = o.apart }
 keeps s c IdGet r is k o = o
 keeps s c (Send kind t) r is k o = send s c kind t (send_passes s c kind t k.passed) o
-keeps s c (Retrieve t) r is k o = o
-keeps s c Relinquish r is k o = o
+keeps s c (Retrieve x) r is k o = retrieve s c x r (retrieve_passes s c x k.passed) o
+keeps s c Relinquish r is k o = set_kept s c.caller (given_up c).handle None o
 keeps s c (Reclaim handle flags) r is k o = ended_kept s handle o
 
 some_owner : (r : Option RegionRow) → is_some (option_map (λ (x : RegionRow). x.owner) r) ≡ is_some r

@@ -1,6 +1,44 @@
--- FFA_MEM_RELINQUISH (FF-A 1.1, "FFA_MEM_RELINQUISH").
+-- FFA_MEM_RELINQUISH: a receiver gives up what it has retrieved (FF-A 1.1, "FFA_MEM_RELINQUISH").
+use Rattle.std.specs.Prelude.{ℕ, false, ◌==◌, List, [], ◌∷◌, Option, Some, None, is_some}
+use Rattle.std.specs.Option.{option_map, option_map_or}
+use Rattle.base.specs.declared.status.Status.TheVariants.{InvalidParameters, Denied}
+use Rattle.base.specs.Buffers.{has_pair}
+use Rattle.base.specs.Descriptors.Relinquish.{Relinquish, is_relinquish, relinquish_of}
+use Rattle.base.specs.Refusals.{Test, ◌otherwise◌}
 use Rattle.base.specs.State.{State}
-use Rattle.rules.specs.Rule.{Rule, not_served}
+use Rattle.base.specs.Transactions.{Live}
+use Rattle.wire.specs.Replies.{success}
+use Rattle.rules.specs.Call.{CallWords}
+use Rattle.rules.specs.Receivers.{received_with, has_retrieved, with_retrieval_by}
+use Rattle.rules.specs.Rule.{Rule, Edit}
 
-abbrev pub relinquish_rule : State → Rule
-relinquish_rule s = not_served s
+-- what the descriptor says, with which TX begins
+abbrev pub given_up : CallWords → Relinquish
+given_up c = relinquish_of c.tx
+
+-- the tests, in order
+abbrev pub relinquish_tests : State → CallWords → List Test
+relinquish_tests s c =
+    let p = c.caller in
+    let transaction = received_with s p (given_up c).handle in
+    (has_pair s.mailboxes p otherwise InvalidParameters)
+    ∷ (is_relinquish c.tx otherwise InvalidParameters)
+    ∷ ((given_up c).endpoint == p otherwise InvalidParameters)
+    ∷ (is_some transaction otherwise InvalidParameters)
+    ∷ (option_map_or (has_retrieved p) transaction false otherwise Denied)
+    ∷ []
+
+-- the receiver reaches its pages no more
+abbrev pub given_back_by : ℕ → Live → Edit
+given_back_by p t = record { who = p; runs = t.ranges; to = None }
+
+abbrev pub relinquish_rule : State → CallWords → Rule
+relinquish_rule s c =
+    let p = c.caller in
+    let handle = (given_up c).handle in
+    record {
+      tests = relinquish_tests s c;
+      edit = option_map (given_back_by p) (received_with s p handle);
+      next = with_retrieval_by s p handle None;
+      reply = success 0 0;
+    }

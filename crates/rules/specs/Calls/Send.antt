@@ -1,12 +1,11 @@
 -- FFA_MEM_DONATE, FFA_MEM_LEND and FFA_MEM_SHARE (FF-A 1.1, "Memory management interfaces").
-use Rattle.std.specs.Prelude.{ℕ, ◌+◌, ◌-◌, ◌*◌, ◌/◌, ◌%◌, ◌^◌, Bool, true, false, ◌&&◌, ◌||◌, ◌==◌, not, nat_le, nat_lt, List, [], ◌∷◌, ◌++◌, length, take, map, filter, Option, Some, None, is_some, if◌then◌else◌}
+use Rattle.std.specs.Prelude.{ℕ, ◌+◌, ◌-◌, ◌^◌, Bool, true, false, ◌&&◌, ◌||◌, ◌==◌, not, nat_lt, List, [], ◌∷◌, ◌++◌, length, map, filter, Option, Some, None, is_some, if◌then◌else◌}
 use Rattle.std.specs.List.{list_all}
 use Rattle.std.specs.Option.{option_map_or}
 use Rattle.base.specs.declared.access.Rights.{Rights}
 use Rattle.base.specs.declared.access.Rights.TheVariants.{Ro, Rw}
 use Rattle.base.specs.declared.transaction.Kind.{Kind}
 use Rattle.base.specs.declared.transaction.Kind.TheVariants.{Share, Lend, Donate}
-use Rattle.base.specs.declared.partition.Version.{Version}
 use Rattle.base.specs.declared.status.Status.TheVariants.{InvalidParameters, NoMemory, Denied}
 use Rattle.base.specs.Pages.{PageRun}
 use Rattle.base.specs.Access.{Access, View}
@@ -16,35 +15,15 @@ use Rattle.base.specs.Descriptors.Permissions.{no_permissions, read_only, read_w
 use Rattle.base.specs.Descriptors.Send.{Send, Endpoint, is_send, send_of}
 use Rattle.base.specs.Handles.{handle_of, low_half, high_half}
 use Rattle.base.specs.Refusals.{Test, ◌otherwise◌}
-use Rattle.base.specs.Buffers.{pair_of, has_pair}
-use Rattle.base.specs.State.{State, PartitionState, version_of, sends_of, with_partition, common_home}
+use Rattle.base.specs.Buffers.{has_pair}
+use Rattle.base.specs.State.{State, PartitionState, sends_of, with_partition, common_home}
 use Rattle.wire.specs.declared.request.Transfer.{Transfer}
 use Rattle.wire.specs.Replies.{success}
 use Rattle.rules.specs.Call.{CallWords}
+use Rattle.rules.specs.Transfers.{names_tx, has_lengths, bytes_of, caller_version}
 use Rattle.rules.specs.Rule.{Edit, Rule}
 
--- ---- the registers
-
--- registers 3 and 4 name no other buffer
-unfoldable pub names_tx : Transfer → Bool
-names_tx t = (t.address == 0) && (t.pages == 0)
-
--- the size of the TX buffer, in bytes
-abbrev pub tx_size : State → ℕ → ℕ
-tx_size s p = option_map_or (λ pair. 4096 * pair.tx.count) (pair_of s.mailboxes p) 0
-
--- the total length is the fragment's, and neither the TX buffer nor the bytes that the call carries are shorter
-unfoldable pub has_lengths : State → CallWords → Transfer → Bool
-has_lengths s c t =
-    (t.total == t.fragment) && nat_le t.total (tx_size s c.caller) && nat_le t.total (length c.tx)
-
 -- ---- the descriptor
-
-abbrev pub bytes_of : CallWords → Transfer → List ℕ
-bytes_of c t = take t.total c.tx
-
-abbrev pub caller_version : State → CallWords → Version
-caller_version s c = version_of s.partitions c.caller
 
 -- what the descriptor says
 abbrev pub sent : State → CallWords → Transfer → Send

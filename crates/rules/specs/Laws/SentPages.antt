@@ -1,10 +1,13 @@
 -- What a transaction says of its pages stays true while it is live.
-use Rattle.std.specs.Prelude.{◌≡◌, ℕ, true, Some}
+use Rattle.std.specs.Prelude.{◌≡◌, ℕ, true, false, Some, None}
 use Rattle.std.specs.List.{AllByRecursion}
+use Rattle.base.specs.declared.transaction.Kind.TheVariants.{Donate}
+use Rattle.base.specs.Ledger.{retrieved}
 use Rattle.base.specs.Pages.{covers, are_disjoint}
 use Rattle.base.specs.Transactions.{Live}
 use Rattle.base.specs.State.{State, owns, home_of}
 use Rattle.rules.specs.Laws.Isolation.{is_sharable_at}
+use Rattle.rules.specs.Receivers.{is_received_by}
 
 -- the sender owns the page, which may be shared, and its home is that of the transaction
 abbrev pub IsSentPage : State → Live → ℕ → Type 0
@@ -14,7 +17,17 @@ IsSentPage s t n =
 abbrev pub AreSentPages : State → Live → Type 0
 AreSentPages s t = (n : ℕ) → covers t.ranges n ≡ true → IsSentPage s t n
 
--- so is each page of a live transaction, and no two of its ranges share a page
+-- its sender is none of its receivers
+abbrev pub IsSentToOthers : Live → Type 0
+IsSentToOthers t = is_received_by t.sender t ≡ false
+
+-- a donation that has been retrieved is live no more
+abbrev pub IsNotTaken : Live → Type 0
+IsNotTaken t = t.kind ≡ Donate → (p : ℕ) → retrieved t.receivers p ≡ None
+
+-- so is each page of a live transaction, no two of its ranges share a page, it was sent to others, and no receiver has taken a donation
 pub record AreTransactionsKept (s : State) : Type 0 where
   pub pages : AllByRecursion (AreSentPages s) s.live
   pub apart : AllByRecursion (λ t. are_disjoint t.ranges ≡ true) s.live
+  pub others : AllByRecursion IsSentToOthers s.live
+  pub not_taken : AllByRecursion IsNotTaken s.live
