@@ -1,12 +1,13 @@
 -- The law that what a live transaction says of its pages stays true.
-use Rattle.std.proofs.Common.{◌≡◌, ℕ, Bool, true, false, ◌&&◌, not, cond, eqb, List, [], ◌∷◌, map, Option, Some, None, refl, sym, ap, ◌∙◌, find, subst}
+use Rattle.std.proofs.Common.{◌≡◌, ℕ, zero, suc, ◌+◌, ◌≤◌, Bool, true, false, ◌&&◌, not, cond, eqb, List, [], ◌∷◌, length, map, Option, Some, None, refl, sym, ap, ◌∙◌, find, subst}
 use Rattle.std.specs.List.{AllByRecursion, list_all, list_any}
 use Rattle.std.specs.Option.{option_map_or}
+use Rattle.std.proofs.lemmas.Bool.{leb-true}
 use Rattle.base.specs.declared.transaction.Kind.{Kind}
 use Rattle.base.specs.declared.transaction.Kind.TheVariants.{Donate}
 use Rattle.base.specs.Access.{Access, View}
 use Rattle.base.specs.Descriptors.Send as descriptor
-use Rattle.base.specs.Descriptors.Send.{Endpoint}
+use Rattle.base.specs.Descriptors.Send.{Endpoint, is_send, send_of, has_layout, is_composite, range_count, composite_at, ranges_at, ranges_of, pages_in}
 use Rattle.base.specs.Ledger.{retrieved}
 use Rattle.base.specs.Manifest.{is_partition}
 use Rattle.base.specs.Pages.{covers, are_disjoint}
@@ -24,9 +25,10 @@ use Rattle.rules.specs.Calls.Reclaim.{ended}
 use Rattle.rules.specs.Calls.Relinquish.{given_up, relinquish_rule}
 use Rattle.rules.specs.Calls.Retrieve.{with_donation, with_rx_filled, retrieve_rule}
 use Rattle.rules.specs.Receivers.{is_received_by, with_retrieval_by}
+use Rattle.rules.specs.Transfers.{caller_version, bytes_of}
 use Rattle.rules.specs.Run.{IsReached}
 use Rattle.rules.specs.Laws.OneOwner.{AreApart, AreAllApart}
-use Rattle.rules.specs.Laws.SentPages.{IsSentPage, AreSentPages, IsSentToOthers, IsNotTaken, AreTransactionsKept}
+use Rattle.rules.specs.Laws.SentPages.{IsSentPage, AreSentPages, IsSentToOthers, IsNotTaken, IsWithinLimits, AreTransactionsKept}
 use Rattle.rules.proofs.Calls.Send.{SendPasses, send_passes, next_is, sent_apart}
 use Rattle.rules.proofs.Calls.Relinquish.{RelinquishPasses, relinquish_passes}
 use Rattle.rules.proofs.Calls.Retrieve.{RetrievePasses, retrieve_passes, retrieve_cases}
@@ -59,13 +61,30 @@ sent_to_others s c k x passes =
     let parties = both (eqb v.sender c.caller && list_all (is_receiver s c.caller) v.receivers) (are_distinct v.receivers) passes.parties in
     none_is s c.caller (receiver k passes.home) (λ e. refl) v.receivers (both (eqb v.sender c.caller) (list_all (is_receiver s c.caller) v.receivers) parties.0).1
 
-opened_kept : (s : State) (p : ℕ) (k : Kind) (v : descriptor.Send) (home : Access) → ((n : ℕ) → covers v.ranges n ≡ true → HasFreeHome s p n home) → are_disjoint v.ranges ≡ true → IsSentToOthers (opened s p k v home) → AreTransactionsKept s → AreTransactionsKept (with_transaction s (opened s p k v home))
+-- a send keeps the limits
+length-ranges_at : (count : ℕ) (bytes : List ℕ) (at : ℕ) → length (ranges_at count bytes at) ≡ count
+length-ranges_at zero bytes at = refl
+length-ranges_at (suc count) bytes at = ap suc (length-ranges_at count bytes (at + 16))
+
+within_limits : (s : State) (c : CallWords) (k : Kind) (x : Transfer) (passes : SendPasses s c k x) → IsWithinLimits (opened s c.caller k (sent s c x) passes.home)
+unfolding is_send send_of has_layout is_composite
+within_limits s c k x passes =
+    let version = caller_version s c in
+    let bytes = bytes_of c x in
+    let parts = both _ _ passes.spelled in
+    let layout = (both _ _ (both _ _ (both _ _ (both _ _ parts.0).0).0).0).0 in
+    let count : range_count version bytes ≤ 512 = leb-true _ _ (both _ _ (both _ _ layout).0).1 in
+    let pages : pages_in (ranges_of version bytes) ≤ 262144 = leb-true _ _ (both _ _ parts.1).1 in
+    (rw (length-ranges_at (range_count version bytes) bytes (composite_at version bytes + 16)) count, pages)
+
+opened_kept : (s : State) (p : ℕ) (k : Kind) (v : descriptor.Send) (home : Access) → ((n : ℕ) → covers v.ranges n ≡ true → HasFreeHome s p n home) → are_disjoint v.ranges ≡ true → IsSentToOthers (opened s p k v home) → IsWithinLimits (opened s p k v home) → AreTransactionsKept s → AreTransactionsKept (with_transaction s (opened s p k v home))
 unfolding with_transaction
-opened_kept s p k v home free apart others h =
+opened_kept s p k v home free apart others limits h =
     let t = opened s p k v home in
     record {
       pages = all_push (AreSentPages s) s.live t h.pages (λ n c. sent_page s p k v home n (free n c));
       apart = all_push (λ u. are_disjoint u.ranges ≡ true) s.live t h.apart apart;
+      limits = all_push IsWithinLimits s.live t h.limits limits;
       others = all_push IsSentToOthers s.live t h.others others;
       not_taken = all_push IsNotTaken s.live t h.not_taken (λ e q. none_retrieved (receiver k home) (λ x. refl) v.receivers q);
     }
@@ -73,7 +92,7 @@ opened_kept s p k v home free apart others h =
 send : (s : State) (c : CallWords) (k : Kind) (t : Transfer) → SendPasses s c k t → AreTransactionsKept s → AreTransactionsKept (send_rule s c k t).next
 send s c k t passes h =
     let v = sent s c t in
-    rw (next_is s c k t passes) (opened_kept s c.caller k v passes.home (common_at s c.caller v.ranges passes.home passes.common) (sent_apart s c k t passes) (sent_to_others s c k t passes) h)
+    rw (next_is s c k t passes) (opened_kept s c.caller k v passes.home (common_at s c.caller v.ranges passes.home passes.common) (sent_apart s c k t passes) (sent_to_others s c k t passes) (within_limits s c k t passes) h)
 
 ended_kept : (s : State) (handle : ℕ) → AreTransactionsKept s → AreTransactionsKept (ended s handle)
 unfolding ended
@@ -81,6 +100,7 @@ ended_kept s handle h =
     record {
       pages = all_without (AreSentPages s) handle s.live h.pages;
       apart = all_without (λ u. are_disjoint u.ranges ≡ true) handle s.live h.apart;
+      limits = all_without IsWithinLimits handle s.live h.limits;
       others = all_without IsSentToOthers handle s.live h.others;
       not_taken = all_without IsNotTaken handle s.live h.not_taken;
     }
@@ -93,6 +113,7 @@ set_kept s p handle view t first free h =
     record {
       pages = all_set (AreSentPages s) handle p view s.live h.pages (λ u e x. x);
       apart = all_set (λ u. are_disjoint u.ranges ≡ true) handle p view s.live h.apart (λ u e x. x);
+      limits = all_set IsWithinLimits handle p view s.live h.limits (λ u e x. x);
       others = all_set IsSentToOthers handle p view s.live h.others (λ u e x. receivers_set u.receivers p u.sender view ∙ x);
       not_taken = all_set IsNotTaken handle p view s.live h.not_taken (λ u e x. subst (λ (w : Live). IsNotTaken (with_retrieval p view w)) (some_is t u (sym first ∙ e)) free);
     }
@@ -126,13 +147,14 @@ given_kept s p t access first apart h =
     record {
       pages = both_all (AreSentPages s) (λ u. AreApart u t) (AreSentPages (with_donation s p t access)) (still_sent s p t access) (without t.handle s.live) (all_without (AreSentPages s) t.handle s.live h.pages) (others_apart t.handle s.live t apart first);
       apart = all_without (λ u. are_disjoint u.ranges ≡ true) t.handle s.live h.apart;
+      limits = all_without IsWithinLimits t.handle s.live h.limits;
       others = all_without IsSentToOthers t.handle s.live h.others;
       not_taken = all_without IsNotTaken t.handle s.live h.not_taken;
     }
 
 filled_kept : (s : State) (p : ℕ) → AreTransactionsKept s → AreTransactionsKept (with_rx_filled s p)
 unfolding with_rx_filled
-filled_kept s p h = record { pages = h.pages; apart = h.apart; others = h.others; not_taken = h.not_taken }
+filled_kept s p h = record { pages = h.pages; apart = h.apart; limits = h.limits; others = h.others; not_taken = h.not_taken }
 
 retrieve : (s : State) (c : CallWords) (x : Transfer) → IsReached s → RetrievePasses s c x → AreTransactionsKept s → AreTransactionsKept (retrieve_rule s c x).next
 retrieve s c x r k h =
@@ -143,11 +165,11 @@ retrieve s c x r k h =
 
 keeps : Keeps AreTransactionsKept
 unfolding with_version with_pair with_rx_released
-keeps s c (Version word) r is k h = record { pages = h.pages; apart = h.apart; others = h.others; not_taken = h.not_taken }
+keeps s c (Version word) r is k h = record { pages = h.pages; apart = h.apart; limits = h.limits; others = h.others; not_taken = h.not_taken }
 keeps s c (Features identifier) r is k h = h
-keeps s c RxRelease r is k h = record { pages = h.pages; apart = h.apart; others = h.others; not_taken = h.not_taken }
-keeps s c (RxtxMap tx rx count) r is k h = record { pages = h.pages; apart = h.apart; others = h.others; not_taken = h.not_taken }
-keeps s c (RxtxUnmap word) r is k h = record { pages = h.pages; apart = h.apart; others = h.others; not_taken = h.not_taken }
+keeps s c RxRelease r is k h = record { pages = h.pages; apart = h.apart; limits = h.limits; others = h.others; not_taken = h.not_taken }
+keeps s c (RxtxMap tx rx count) r is k h = record { pages = h.pages; apart = h.apart; limits = h.limits; others = h.others; not_taken = h.not_taken }
+keeps s c (RxtxUnmap word) r is k h = record { pages = h.pages; apart = h.apart; limits = h.limits; others = h.others; not_taken = h.not_taken }
 keeps s c IdGet r is k h = h
 keeps s c (Send kind t) r is k h = send s c kind t (send_passes s c kind t k.passed) h
 keeps s c (Retrieve x) r is k h = retrieve s c x r (retrieve_passes s c x k.passed) h
@@ -155,4 +177,4 @@ keeps s c Relinquish r is k h = relinquish s c r (relinquish_passes s c k.passed
 keeps s c (Reclaim handle flags) r is k h = ended_kept s handle h
 
 pub transactions_kept : (s : State) → IsReached s → AreTransactionsKept s
-transactions_kept = all_reached AreTransactionsKept (λ m valid. record { pages = tt; apart = tt; others = tt; not_taken = tt }) keeps
+transactions_kept = all_reached AreTransactionsKept (λ m valid. record { pages = tt; apart = tt; limits = tt; others = tt; not_taken = tt }) keeps
