@@ -1,4 +1,4 @@
-ghost use Rattle.std.specs.Prelude.{◌≡◌, false};
+ghost use Rattle.std.specs.Prelude.{◌≡◌, true, false};
 
 use std::marker::Model;
 
@@ -88,5 +88,18 @@ impl Access {
         ensures legal { IsLegal self }
     {
         self.kind
+    }
+
+    /// The same kind of memory with this data access, where instructions may be fetched or not. They
+    /// may be fetched only where they may be by this access.
+    pub fn narrowed(self, rights: Rights, exec: bool) -> Self
+        requires { exec ≡ true → self.exec ≡ true }
+        ensures { result ≡ record { rights = rights; exec = exec; kind = self.kind } }
+    {
+        Access {
+            rights,
+            exec,
+            kind: self.kind,
+        }
     }
 }

@@ -39,3 +39,30 @@ earlier_decides (t ∷ ts) passes status first e =
       | true ↦ λ h. earlier_decides ts passes status first h
       | false ↦ λ h. h
     ] e
+
+-- ---- one table after another
+
+pub first_decides : (ts us : List Test) (status : Status) → first_refusal ts ≡ Some status → first_refusal (ts ++ us) ≡ Some status
+first_decides [] us status e = absurd cc
+first_decides (t ∷ ts) us status e =
+    elim t.passes as (λ b. cond b (first_refusal ts) (Some t.refusal) ≡ Some status → cond b (first_refusal (ts ++ us)) (Some t.refusal) ≡ Some status) [
+      | true ↦ λ h. first_decides ts us status h
+      | false ↦ λ h. h
+    ] e
+
+pub second_decides : (ts us : List Test) → first_refusal ts ≡ None → first_refusal (ts ++ us) ≡ first_refusal us
+second_decides [] us e = refl
+second_decides (t ∷ ts) us e =
+    elim t.passes as (λ b. cond b (first_refusal ts) (Some t.refusal) ≡ None → cond b (first_refusal (ts ++ us)) (Some t.refusal) ≡ first_refusal us) [
+      | true ↦ λ h. second_decides ts us h
+      | false ↦ λ h. absurd cc
+    ] e
+
+-- where none of both fails, none of the first does
+pub first_pass : (ts us : List Test) → first_refusal (ts ++ us) ≡ None → first_refusal ts ≡ None
+first_pass [] us e = refl
+first_pass (t ∷ ts) us e =
+    elim t.passes as (λ b. cond b (first_refusal (ts ++ us)) (Some t.refusal) ≡ None → cond b (first_refusal ts) (Some t.refusal) ≡ None) [
+      | true ↦ λ h. first_pass ts us h
+      | false ↦ λ h. absurd cc
+    ] e

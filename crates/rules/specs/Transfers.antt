@@ -16,9 +16,12 @@ abbrev pub tx_size : State → ℕ → ℕ
 tx_size s p = option_map_or (λ pair. 4096 * pair.tx.count) (pair_of s.mailboxes p) 0
 
 -- the total length is the fragment's, and neither the TX buffer nor the bytes that the call carries are shorter
-unfoldable pub has_lengths : State → CallWords → Transfer → Bool
-has_lengths s c t =
-    (t.total == t.fragment) && nat_le t.total (tx_size s c.caller) && nat_le t.total (length c.tx)
+unfoldable pub are_lengths : Transfer → ℕ → ℕ → Bool
+are_lengths t buffer bytes =
+    (t.total == t.fragment) && nat_le t.total buffer && nat_le t.total bytes
+
+abbrev pub has_lengths : State → CallWords → Transfer → Bool
+has_lengths s c t = are_lengths t (tx_size s c.caller) (length c.tx)
 
 -- the bytes of the descriptor
 abbrev pub bytes_of : CallWords → Transfer → List ℕ

@@ -2,6 +2,7 @@ mod Rows
 mod SegmentLemmas
 mod OpenLemmas
 mod ReclaimLemmas
+mod ReceiverLemmas
 mod QuotaLemmas
 mod ShownLemmas
 mod ConsistencyLemmas

@@ -1,8 +1,10 @@
 -- What is known of the change of a call that passes its tests, and of one that does not.
 use Rattle.std.specs.Prelude.{◌≡◌, ℕ, ◌-◌, ◌<◌, ◌^◌, Bool, true, false, ◌||◌, Option, Some, None, is_some}
+use Rattle.std.specs.Option.{option_map_or}
+use Rattle.base.specs.Access.{Access}
 use Rattle.base.specs.Buffers as pairs
 use Rattle.base.specs.Pages.{covers, are_normal}
-use Rattle.base.specs.Refusals.{first_refusal}
+use Rattle.base.specs.Refusals.{first_refusal, NoneRefuses}
 use Rattle.base.specs.Transactions.{Live}
 use Rattle.base.specs.Ledger.{live_at}
 use Rattle.base.specs.State.{State, sends_of}
@@ -17,14 +19,21 @@ use Rattle.rules.specs.Calls.Version.{with_version}
 use Rattle.rules.specs.Calls.Buffers.{with_pair, with_rx_released}
 use Rattle.rules.specs.Calls.Send.{with_transaction}
 use Rattle.rules.specs.Calls.Reclaim.{ended}
+use Rattle.rules.specs.Calls.Retrieve.{with_retrieved}
+use Rattle.rules.specs.Receivers.{with_retrieval_by}
 use Rattle.spm.specs.declared.change.Update.{Update}
-use Rattle.spm.specs.declared.change.Update.TheVariants.{Nothing, SetVersion, MapBuffers, UnmapBuffers, ReleaseRx, Open, Close}
+use Rattle.spm.specs.declared.change.Update.TheVariants.{Nothing, SetVersion, MapBuffers, UnmapBuffers, ReleaseRx, Open, Close, Retrieve, Relinquish}
 use Rattle.spm.specs.declared.change.Change.{Change}
 use Rattle.spm.specs.declared.change.Stop.{Stop}
 use Rattle.spm.specs.Machine.{takes_memory}
 use Rattle.spm.specs.declared.change.Stop.TheVariants.{Refused, NoMemory}
 
 -- ---- the state
+
+-- the transaction of the handle is retrieved, and its receiver holds RX
+abbrev pub after_retrieval : State → ℕ → ℕ → Access → State
+after_retrieval s p handle access =
+    option_map_or (λ t. with_retrieved s p (record { transaction = t; access = access })) (found s.live handle) s
 
 -- the state after an update by a partition
 abbrev pub updated : State → ℕ → Update → State
@@ -35,12 +44,19 @@ updated s p UnmapBuffers = with_pair s p None
 updated s p ReleaseRx = with_rx_released s p
 updated s p (Open t) = with_transaction s t
 updated s p (Close handle) = ended s handle
+updated s p (Retrieve handle access) = after_retrieval s p handle access
+updated s p (Relinquish handle) = with_retrieval_by s p handle None
 
 -- the transaction can be opened: its sender may make one send more, its handle is new, and no live transaction covers its pages
 pub record CanOpen (s : State) (t : Live) : Type 0 where
   pub room : sends_of s.partitions t.sender < 2 ^ 32 - 1
   pub new : found s.live t.handle ≡ None
   pub apart : (n : ℕ) → covers t.ranges n ≡ true → live_at s.live n ≡ None
+
+-- the transaction of the handle is live, and its receiver has a pair and does not hold RX
+pub record CanRetrieve (s : State) (p handle : ℕ) : Type 0 where
+  pub live : is_some (found s.live handle) ≡ true
+  pub fills : NoneRefuses (pairs.fill_tests s.mailboxes p)
 
 -- the update can be made
 abbrev pub CanUpdate : State → ℕ → Update → Type 0
@@ -51,6 +67,8 @@ CanUpdate s p UnmapBuffers = first_refusal (pairs.unmap_tests s.mailboxes p) ≡
 CanUpdate s p ReleaseRx = first_refusal (pairs.release_tests s.mailboxes p) ≡ None
 CanUpdate s p (Open t) = CanOpen s t
 CanUpdate s p (Close handle) = Unit {0}
+CanUpdate s p (Retrieve handle access) = CanRetrieve s p handle
+CanUpdate s p (Relinquish handle) = Unit {0}
 
 -- the update takes memory
 abbrev pub needs_room : Update → Bool
@@ -61,6 +79,8 @@ needs_room UnmapBuffers = false
 needs_room ReleaseRx = false
 needs_room (Open t) = true
 needs_room (Close handle) = true
+needs_room (Retrieve handle access) = true
+needs_room (Relinquish handle) = false
 
 -- ---- the tables
 

@@ -8,14 +8,17 @@ ghost use Rattle.spm.specs.Machine.{takes_memory};
 pub(crate) mod buffers;
 pub(crate) mod features;
 pub(crate) mod id_get;
+pub(crate) mod receiver;
 pub(crate) mod reclaim;
+pub(crate) mod relinquish;
+pub(crate) mod retrieve;
 pub(crate) mod send;
+pub(crate) mod transfer;
 pub(crate) mod version;
 
 use crate::call::Call;
 use crate::change::{Change, Stop};
 use crate::state::State;
-use base::Status;
 use wire::Request;
 
 /// Tests what a partition asks for, and says what it changes. It changes nothing itself.
@@ -34,7 +37,8 @@ pub(crate) fn check(state: &State, call: &Call, request: Request) -> Result<Chan
         Request::RxtxUnmap(word) => buffers::unmap(state, call, word),
         Request::IdGet => Ok(id_get::id_get(call)),
         Request::Send(kind, transfer) => send::send(state, call, kind, transfer),
+        Request::Retrieve(transfer) => retrieve::retrieve(state, call, transfer),
+        Request::Relinquish => relinquish::relinquish(state, call),
         Request::Reclaim { handle, flags } => reclaim::reclaim(state, call, handle, flags),
-        Request::Retrieve(_) | Request::Relinquish => Err(Stop::Refused(Status::NotSupported)),
     }
 }

@@ -42,6 +42,10 @@ pub(crate) enum Update {
     Open(Live),
     /// The transaction of this handle has ended.
     Close(Handle),
+    /// The partition has retrieved the transaction of this handle, with this access, and holds RX.
+    Retrieve(Handle, Access),
+    /// The partition has retrieved nothing any more of the transaction of this handle.
+    Relinquish(Handle),
 }
 
 /// What a call changes, and what it is answered. It has taken the memory that it needs but for the

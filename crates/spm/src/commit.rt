@@ -8,7 +8,7 @@ ghost use Rattle.stage2.specs.Tables.{Fits, ReachSo, ShowsMoments, edit_operatio
 ghost use Rattle.spm.specs.Granted.{updated, CanUpdate, needs_room, AreOrderly, IsOrderly, wants_memory};
 ghost use Rattle.spm.specs.Machine.{AreEditedBy, ShowsEdit, fits_in};
 
-use crate::calls::{buffers, reclaim, send, version};
+use crate::calls::{buffers, reclaim, relinquish, retrieve, send, version};
 use crate::change::{Change, Edit, Update};
 use crate::state::State;
 use base::{OutOfMemory, PartitionId};
@@ -124,7 +124,7 @@ fn edit_tables<M: TableMem + Drop>(tables: &mut Tables<M>, edit: Edit)
     }
 }
 
-/// Changes the state. Only opening and ending a transaction take memory.
+/// Changes the state. Opening, retrieving and ending a transaction take memory.
 fn apply(state: &mut State, p: PartitionId, update: Update) -> Result<(), OutOfMemory>
     requires { CanUpdate state.old p update }
     ensures ok { OnOk result (state.new ≡ updated state.old p update) }
@@ -139,6 +139,8 @@ fn apply(state: &mut State, p: PartitionId, update: Update) -> Result<(), OutOfM
         Update::ReleaseRx => buffers::take_rx_back(state, p),
         Update::Open(transaction) => send::open(state, transaction)?,
         Update::Close(handle) => reclaim::close(state, handle)?,
+        Update::Retrieve(handle, access) => retrieve::complete(state, p, handle, access)?,
+        Update::Relinquish(handle) => relinquish::give_up(state, p, handle),
     }
     Ok(())
 }

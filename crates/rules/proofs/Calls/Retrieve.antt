@@ -1,5 +1,5 @@
 -- What is known of a retrieve that passes its tests.
-use Rattle.std.proofs.Common.{◌≡◌, ℕ, Bool, true, false, ◌&&◌, not, eqb, Option, Some, None, is_some, find, refl, sym, ap, ◌∙◌, subst}
+use Rattle.std.proofs.Common.{◌≡◌, ℕ, Bool, true, false, ◌&&◌, not, eqb, List, [], ◌++◌, Option, Some, None, is_some, find, refl, sym, ap, ◌∙◌, subst}
 use Rattle.std.specs.Option.{option_map, option_map_or, option_and_then}
 use Rattle.base.specs.declared.transaction.Kind.{Kind}
 use Rattle.base.specs.declared.transaction.Kind.TheVariants.{Share, Lend, Donate}
@@ -10,11 +10,11 @@ use Rattle.base.specs.Transactions.{Live}
 use Rattle.base.specs.State.{State}
 use Rattle.wire.specs.declared.request.Transfer.{Transfer}
 use Rattle.rules.specs.Call.{CallWords}
-use Rattle.rules.specs.Calls.Retrieve.{asked, granted, retrieve_tests, Retrieval, retrieval_with, retrieval_of, with_retrieval_of_kind, with_donation, with_rx_filled, with_retrieved, retrieve_rule}
+use Rattle.rules.specs.Calls.Retrieve.{asked, granted, request_tests, transaction_tests, retrieve_tests, Retrieval, retrieval_with, retrieval_of, with_retrieval_of_kind, with_donation, with_rx_filled, with_retrieved, retrieve_rule}
 use Rattle.rules.specs.Receivers.{is_received_by, received_with, has_retrieved, with_retrieval_by}
 use Rattle.rules.proofs.Calls.Reclaim.{has_one}
 use Rattle.rules.proofs.Calls.Relinquish.{receiver_is}
-use Rattle.rules.proofs.Passing.{all_pass}
+use Rattle.rules.proofs.Passing.{all_pass, first_pass, second_decides}
 
 -- the transaction, of which the caller is a receiver that has retrieved nothing, and what it is granted
 pub record RetrievePasses (s : State) (c : CallWords) (x : Transfer) : Type 0 where
@@ -39,12 +39,15 @@ pub retrieve_passes : (s : State) (c : CallWords) (x : Transfer) → first_refus
 retrieve_passes s c x e =
     let p = c.caller in
     let v = asked s c x in
-    let all = all_pass (retrieve_tests s c x) e in
-    let one = has_one (received_with s p v.handle) all.1.1.1.1.1.0 in
+    let of_transaction = option_map_or (transaction_tests s p v) (received_with s p v.handle) [] in
+    let first = first_pass (request_tests s c x) of_transaction e in
+    let one = has_one (received_with s p v.handle) (all_pass (request_tests s c x) first).1.1.1.1.1.0 in
     let t = one.0 in
     let is = receiver_is s p v.handle t one.1 in
-    let first : not (has_retrieved p t) ≡ true = rw one.1 at all.1.1.1.1.1.1.1.0 in
-    let may : is_some (granted v.endpoint.permissions p t) ≡ true = rw one.1 at all.1.1.1.1.1.1.1.1.0 in
+    let none : first_refusal (transaction_tests s p v t) ≡ None =
+    ap (λ (o : Option Live). first_refusal (option_map_or (transaction_tests s p v) o [])) (sym one.1) ∙ sym (second_decides (request_tests s c x) of_transaction first) ∙ e in
+    let then = all_pass (transaction_tests s p v t) none in
+    let may : is_some (granted v.endpoint.permissions p t) ≡ true = then.1.1.0 in
     let access = has_access (granted v.endpoint.permissions p t) may in
     record {
       transaction = t;
@@ -52,7 +55,7 @@ retrieve_passes s c x e =
       found = one.1;
       handle = is.0;
       receiver = is.1;
-      nothing_yet = nothing (retrieved t.receivers p) first;
+      nothing_yet = nothing (retrieved t.receivers p) then.1.0;
       grants = access.1;
       named =
           ap (λ (o : Option Live). option_and_then (retrieval_with v.endpoint.permissions p) o) one.1

@@ -36,7 +36,7 @@ use Rattle.rules.specs.Transfers.{has_lengths, caller_version, bytes_of}
 use Rattle.rules.specs.Calls.Send.{sent, is_receiver, are_distinct, are_parties, suits, are_capped, has_room, next_handle, opened, counting, with_transaction, sender_edit, send_tests, send_rule}
 use Rattle.rules.specs.Calls.Reclaim.{sent_with, returned, returned_by, ended, reclaim_tests, reclaim_rule}
 use Rattle.rules.specs.Calls.Relinquish.{given_up, given_back_by, relinquish_tests, relinquish_rule}
-use Rattle.rules.specs.Calls.Retrieve.{asked, granted, fits_rx, retrieve_tests, Retrieval, retrieval_with, retrieval_of, retrieved_by, responding, with_donation, with_rx_filled, with_retrieval_of_kind, retrieve_rule}
+use Rattle.rules.specs.Calls.Retrieve.{asked, granted, fits_rx, request_tests, transaction_tests, retrieve_tests, Retrieval, retrieval_with, retrieval_of, retrieved_by, responding, with_donation, with_rx_filled, with_retrieval_of_kind, retrieve_rule}
 use Rattle.rules.specs.Receivers.{is_received_by, received_with, with_retrieval_by}
 use Rattle.rules.specs.Run.{rule_of, rule, answer, step, IsReached}
 use Rattle.rules.specs.Laws.EditsTheView.{Passes}
@@ -585,7 +585,6 @@ module _ (s t : State) (c : CallWords) (same : AreAlikeTo c.caller s t) (rs : Is
   same_sent x = ap (λ v. send_of v (bytes_of c x)) same_version
 
   same_lengths : (x : Transfer) → has_lengths s c x ≡ has_lengths t c x
-  unfolding has_lengths
   same_lengths x = rw (same_pair_of c.caller s t same sends_s sends_t boxes_s boxes_t) refl
 
   same_send_tests : (k : Kind) (x : Transfer) → send_tests s c k x ≡ send_tests t c k x
@@ -712,17 +711,26 @@ module _ (s t : State) (c : CallWords) (same : AreAlikeTo c.caller s t) (rs : Is
       let find_in = λ (v : descriptors.Retrieve). option_and_then (retrieval_with v.endpoint.permissions p) (received_with s p v.handle) in
       ap find_in (same_asked x) ∙ ap (option_and_then (retrieval_with (asked t c x).endpoint.permissions p)) (same_received_with p s t same sends_s sends_t boxes_s boxes_t (asked t c x).handle)
 
-  same_fits_rx : fits_rx s c ≡ fits_rx t c
+  same_transaction_tests : (v : descriptors.Retrieve) → transaction_tests s c.caller v ≡ transaction_tests t c.caller v
   unfolding fits_rx
-  same_fits_rx =
-      fun_ext (λ u. rw (same_version, same_pair_of c.caller s t same sends_s sends_t boxes_s boxes_t) refl)
+  same_transaction_tests v =
+      let p = c.caller in
+      fun_ext (λ u. rw (same_version, same_pair_of p s t same sends_s sends_t boxes_s boxes_t, same_held p s t same sends_s sends_t boxes_s boxes_t) refl)
+
+  same_request_tests : (x : Transfer) → request_tests s c x ≡ request_tests t c x
+  same_request_tests x =
+      let p = c.caller in
+      let spelled : is_retrieve (caller_version s c) (bytes_of c x) ≡ is_retrieve (caller_version t c) (bytes_of c x) = ap (λ w. is_retrieve w (bytes_of c x)) same_version in
+      let one = same_received_with p s t same sends_s sends_t boxes_s boxes_t (asked t c x).handle in
+      rw (same_asked x, spelled, same_lengths x, same_pair p s t same sends_s sends_t boxes_s boxes_t, one) refl
 
   same_retrieve_tests : (x : Transfer) → retrieve_tests s c x ≡ retrieve_tests t c x
   same_retrieve_tests x =
       let p = c.caller in
-      let spelled : is_retrieve (caller_version s c) (bytes_of c x) ≡ is_retrieve (caller_version t c) (bytes_of c x) = ap (λ w. is_retrieve w (bytes_of c x)) same_version in
       let one = same_received_with p s t same sends_s sends_t boxes_s boxes_t (asked t c x).handle in
-      rw (same_asked x, spelled, same_lengths x, same_pair p s t same sends_s sends_t boxes_s boxes_t, same_held p s t same sends_s sends_t boxes_s boxes_t, same_fits_rx, one) refl
+      let tests_in = λ (v : descriptors.Retrieve). option_map_or (transaction_tests s p v) (received_with s p v.handle) [] in
+      ap₂ (λ (a b : List Test). a ++ b) (same_request_tests x)
+      (ap tests_in (same_asked x) ∙ ap₂ (λ (f : Live → List Test) (o : Option Live). option_map_or f o []) (same_transaction_tests (asked t c x)) one)
 
   -- the state that both come to, but for RX
   kind_alike : (k : Kind) (u : Live) (access : Access) → find (λ w. eqb w.handle u.handle) s.live ≡ Some u → find (λ w. eqb w.handle u.handle) t.live ≡ Some u → is_received_by c.caller u ≡ true

@@ -20,7 +20,7 @@ use Rattle.base.specs.Descriptors.Response.{Response}
 use Rattle.base.specs.Descriptors.Retrieve.{Retrieve, is_retrieve, retrieve_of}
 use Rattle.base.specs.Descriptors.Send.{Endpoint, header_size}
 use Rattle.base.specs.Refusals.{Test, ◌otherwise◌}
-use Rattle.base.specs.State.{State}
+use Rattle.base.specs.State.{State, version_of}
 use Rattle.base.specs.Transactions.{Receiver, Live, without, completed}
 use Rattle.wire.specs.declared.request.Transfer.{Transfer}
 use Rattle.wire.specs.Replies.{ReplyWords, response, error}
@@ -127,30 +127,40 @@ abbrev pub rx_size : State → ℕ → ℕ
 rx_size s p = option_map_or (λ pair. 4096 * pair.rx.count) (pair_of s.mailboxes p) 0
 
 -- the response is not longer than the RX buffer
-unfoldable pub fits_rx : State → CallWords → Live → Bool
-fits_rx s c t = nat_le (response_length (caller_version s c) t) (rx_size s c.caller)
+unfoldable pub fits_rx : State → ℕ → Live → Bool
+fits_rx s p t = nat_le (response_length (version_of s.partitions p) t) (rx_size s p)
 
 -- ---- the table
 
--- the tests of the request itself, and of the transaction that it names
-abbrev pub retrieve_tests : State → CallWords → Transfer → List Test
-retrieve_tests s c x =
+-- the tests of the request itself
+abbrev pub request_tests : State → CallWords → Transfer → List Test
+request_tests s c x =
     let p = c.caller in
     let v = asked s c x in
-    let transaction = received_with s p v.handle in
-    let access = option_and_then (granted v.endpoint.permissions p) transaction in
     (has_pair s.mailboxes p otherwise InvalidParameters)
     ∷ (names_tx x otherwise InvalidParameters)
     ∷ (has_lengths s c x otherwise InvalidParameters)
     ∷ (is_retrieve (caller_version s c) (bytes_of c x) otherwise InvalidParameters)
     ∷ (v.endpoint.partition == p otherwise InvalidParameters)
-    ∷ (is_some transaction otherwise InvalidParameters)
-    ∷ (option_map_or (is_asked_rightly v) transaction false otherwise InvalidParameters)
-    ∷ (option_map_or (λ t. not (has_retrieved p t)) transaction false otherwise Denied)
-    ∷ (is_some access otherwise Denied)
-    ∷ (not (holds_rx s.mailboxes p) otherwise Busy)
-    ∷ (option_map_or (fits_rx s c) transaction false otherwise NoMemory)
+    ∷ (is_some (received_with s p v.handle) otherwise InvalidParameters)
     ∷ []
+
+-- the tests of the transaction that it names
+abbrev pub transaction_tests : State → ℕ → Retrieve → Live → List Test
+transaction_tests s p v t =
+    (is_asked_rightly v t otherwise InvalidParameters)
+    ∷ (not (has_retrieved p t) otherwise Denied)
+    ∷ (is_some (granted v.endpoint.permissions p t) otherwise Denied)
+    ∷ (not (holds_rx s.mailboxes p) otherwise Busy)
+    ∷ (fits_rx s p t otherwise NoMemory)
+    ∷ []
+
+-- all of them, in order
+abbrev pub retrieve_tests : State → CallWords → Transfer → List Test
+retrieve_tests s c x =
+    let v = asked s c x in
+    request_tests s c x
+    ++ option_map_or (transaction_tests s c.caller v) (received_with s c.caller v.handle) []
 
 -- ---- success
 

@@ -4,7 +4,6 @@ ghost use Rattle.std.specs.Prelude.{◌≡◌, ◌+◌, ◌-◌, ◌*◌, ◌/�
 ghost use Rattle.std.specs.List.{list_all};
 ghost use Rattle.base.specs.Pages.{are_disjoint};
 ghost use Rattle.base.specs.Descriptors.Permissions.{not_specified, normal_write_back};
-ghost use Rattle.base.specs.Buffers as pairs;
 ghost use Rattle.base.specs.State as spec;
 ghost use Rattle.base.specs.Refusals.{first_refusal};
 ghost use Rattle.rules.specs.Calls.Send as rules;
@@ -13,17 +12,17 @@ ghost use Rattle.spm.specs.Granted.{IsGranted, IsStopped, AreSameEdits, AreOrder
 ghost use Rattle.spm.specs.Checked.{IsChecked};
 
 use crate::call::Call;
+use crate::calls::transfer::{are_lengths, names_tx};
 use crate::change::{Change, Edit, Stop, Update};
 use crate::partitions::PartitionState;
 use crate::state::State;
-use base::limits::{MOST_LIVE, PAGE_SIZE};
+use base::limits::MOST_LIVE;
 use base::{
     Access, Handle, Kind, MemoryAttributes, OutOfMemory, PartitionId, Permissions, Rights, Run,
     Status, normal,
 };
 use descr::{Endpoint, SendDesc, read_send};
 use ledger::{Live, Receiver};
-use mailbox::Pair;
 use std::alloc::Global;
 use wire::{Reply, Transfer};
 
@@ -81,7 +80,7 @@ fn check<'a>(
     let Some(pair) = state.pairs.pair_of(p) else {
         return Err(Status::InvalidParameters);
     };
-    if !names_tx(transfer) || !has_lengths(state, pair, call, transfer) {
+    if !names_tx(transfer) || !are_lengths(transfer, pair, call) {
         return Err(Status::InvalidParameters);
     }
     let bytes = &call.tx[..transfer.total as usize];
@@ -105,27 +104,6 @@ fn check<'a>(
         home,
         sends: row.sends,
     })
-}
-
-/// Whether registers 3 and 4 name no other buffer.
-#[tactic(auto, unfolding(rules::specs::Calls::Send::names_tx))]
-fn names_tx(transfer: Transfer) -> bool
-    ensures { result ≡ rules.names_tx transfer }
-{
-    transfer.address == 0 && transfer.pages == 0
-}
-
-/// Whether the lengths that the call gives agree, and its bytes and the TX buffer are as long.
-#[tactic(auto, unfolding(rules::specs::Calls::Send::has_lengths))]
-fn has_lengths(state: &State, pair: Pair, call: &Call, transfer: Transfer) -> bool
-    requires { pairs.pair_of state.now.mailboxes call.now.caller ≡ Some pair }
-    ensures value { result ≡ rules.has_lengths state.now call.now transfer }
-    ensures inside { IsTrue result → length (rules.bytes_of call.now transfer) ≡ transfer.total }
-{
-    let _state = state;
-    transfer.total == transfer.fragment
-        && u64::from(transfer.total) <= PAGE_SIZE * u64::from(pair.tx.count())
-        && transfer.total as usize <= call.tx.len()
 }
 
 /// Whether a send names its sender and its receivers rightly.

@@ -1,0 +1,359 @@
+//! FFA_MEM_RETRIEVE_REQ.
+
+ghost use Rattle.std.specs.Prelude.{◌≡◌, ◌≤◌, ◌<◌, ◌+◌, ◌*◌, true, length, Some, None, IfOk, IfErr, OnOk, OnErr};
+ghost use Rattle.base.specs.Refusals.{NoneRefuses, RefusesWith};
+ghost use Rattle.rules.specs.Calls.Retrieve as rules;
+ghost use Rattle.rules.specs.Laws.SentPages.{IsWithinLimits};
+ghost use Rattle.rules.specs.Run.{IsReached};
+ghost use Rattle.spm.specs.Checked.{IsNamed, IsRetrieved};
+ghost use Rattle.spm.specs.Granted.{IsGranted, IsStopped, CanRetrieve, after_retrieval};
+
+use crate::call::Call;
+use crate::calls::receiver::{received_with, receiver_edit, receiver_of, retrieved};
+use crate::calls::transfer::{are_lengths, names_tx};
+use crate::change::{Change, Stop, Update};
+use crate::state::State;
+use base::limits::PAGE_SIZE;
+use base::{
+    Access, DataAccess, Handle, InstructionAccess, Kind, OutOfMemory, PartitionId, Permissions, Rights,
+    Status, Version,
+};
+use descr::{Endpoint, RetrieveDesc, read_retrieve};
+use descw::{ResponseFields, write_response};
+use ledger::Live;
+use mailbox::Pair;
+use std::alloc::Global;
+use wire::{Reply, Transfer};
+
+/// What a retrieve request says, and the transaction that it names.
+#[derive(Clone, Copy)]
+struct Named<'a> {
+    request: RetrieveDesc,
+    transaction: &'a Live,
+}
+
+/// The caller retrieves the transaction that its descriptor in TX names. It reaches the pages with what
+/// it is granted, and RX says so. A donation is complete then.
+pub(crate) fn retrieve(state: &State, call: &Call, transfer: Transfer) -> Result<Change, Stop>
+    requires { IsReached state.now }
+    ensures granted { IfOk result (λ change. IsGranted state.now call.now.caller
+        (rules.retrieve_rule state.now call.now transfer) true change) }
+    ensures stopped { IfErr result (λ stop. IsStopped
+        (rules.retrieve_rule state.now call.now transfer) true stop) }
+{
+    match check(state, call, transfer) {
+        Ok((transaction, access)) => match change(state, call, transfer, transaction, access) {
+            Ok(change) => Ok(change),
+            Err(error) => Err(Stop::NoMemory(error)),
+        },
+        Err(status) => Err(Stop::Refused(status)),
+    }
+}
+
+// ---- the tests
+
+/// The tests of a retrieve, in order: they find the transaction, and what the caller is granted of it.
+fn check<'a>(
+    state: &'a State,
+    call: &Call,
+    transfer: Transfer,
+) -> Result<(&'a Live, Access), Status>
+    requires { IsReached state.now }
+    ensures refused { IfErr result (RefusesWith
+        (rules.retrieve_tests state.now call.now transfer)) }
+    ensures passed { IfOk result (λ r. IsRetrieved state.now call.now transfer
+        r.0.now r.1) }
+{
+    match check_request(state, call, transfer) {
+        Ok(named) => {
+            match check_transaction(state, call.partition(), &named.request, named.transaction) {
+                Ok(access) => Ok((named.transaction, access)),
+                Err(status) => Err(status),
+            }
+        }
+        Err(status) => Err(status),
+    }
+}
+
+/// The tests of the request itself, in order: they find what it says, and the transaction that it names.
+#[tactic(auto, unfolding(base::specs::Buffers::has_pair))]
+fn check_request<'a>(
+    state: &'a State,
+    call: &Call,
+    transfer: Transfer,
+) -> Result<Named<'a>, Status>
+    requires { IsReached state.now }
+    ensures refused { IfErr result (RefusesWith
+        (rules.request_tests state.now call.now transfer)) }
+    ensures passed { IfOk result (λ named. IsNamed state.now call.now transfer
+        named.request named.transaction.now) }
+{
+    let p = call.partition();
+    let Some(pair) = state.pairs.pair_of(p) else {
+        return Err(Status::InvalidParameters);
+    };
+    if !names_tx(transfer) || !are_lengths(transfer, pair, call) {
+        return Err(Status::InvalidParameters);
+    }
+    let bytes = &call.tx[..transfer.total as usize];
+    let Some(request) = read_retrieve(bytes, state.row(p).version) else {
+        return Err(Status::InvalidParameters);
+    };
+    if request.endpoint.partition != p {
+        return Err(Status::InvalidParameters);
+    }
+    let Some(transaction) = received_with(state, p, request.handle) else {
+        return Err(Status::InvalidParameters);
+    };
+    Ok(Named {
+        request,
+        transaction,
+    })
+}
+
+/// The tests of the transaction that a request names, in order, and what they grant.
+fn check_transaction(
+    state: &State,
+    p: PartitionId,
+    request: &RetrieveDesc,
+    transaction: &Live,
+) -> Result<Access, Status>
+    requires { IsWithinLimits transaction.now }
+    ensures refused { IfErr result (RefusesWith
+        (rules.transaction_tests state.now p request.now transaction.now)) }
+    ensures passed { IfOk result (λ access. NoneRefuses
+        (rules.transaction_tests state.now p request.now transaction.now)) }
+    ensures granted { IfOk result (λ access. rules.granted request.now.endpoint.permissions p
+        transaction.now ≡ Some access) }
+{
+    if !is_asked_rightly(request, transaction) {
+        return Err(Status::InvalidParameters);
+    }
+    if retrieved(transaction, p).is_some() {
+        return Err(Status::Denied);
+    }
+    let Some(access) = granted(request.endpoint.permissions, p, transaction) else {
+        return Err(Status::Denied);
+    };
+    if state.pairs.holds_rx(p) {
+        return Err(Status::Busy);
+    }
+    if !fits_rx(state, p, transaction) {
+        return Err(Status::NoMemory);
+    }
+    Ok(access)
+}
+
+/// Whether a request names the sender, the tag and the kind of a transaction, and all its borrowers or
+/// bypasses the check of them.
+#[tactic(auto, unfolding(rules::specs::Calls::Retrieve::is_asked_rightly))]
+fn is_asked_rightly(request: &RetrieveDesc, transaction: &Live) -> bool
+    ensures { result ≡ rules.is_asked_rightly request.now transaction.now }
+{
+    request.sender == transaction.sender
+        && request.tag == transaction.tag
+        && is_kind(transaction.kind, request.kind)
+        && (transaction.receivers.len() == 1 || request.bypass)
+}
+
+/// Whether a transaction is of the kind that is asked for, if one is.
+fn is_kind(kind: Kind, asked: Option<Kind>) -> bool
+    ensures { result ≡ rules.is_kind kind asked }
+{
+    match asked {
+        None => true,
+        Some(asked) => kind == asked,
+    }
+}
+
+// ---- what is granted
+
+/// What the permissions that a receiver asks for come to, where they are granted.
+#[tactic(auto, unfolding(rules::specs::Calls::Retrieve::granted))]
+fn granted(permissions: Permissions, p: PartitionId, transaction: &Live) -> Option<Access>
+    ensures { result ≡ rules.granted permissions p transaction.now }
+{
+    let cap = cap_of(transaction, p)?;
+    let rights = granted_rights(permissions.data(), cap)?;
+    let may = may_execute(transaction, rights);
+    let exec = granted_execution(permissions.instruction(), may)?;
+    Some(transaction.home.narrowed(rights, exec))
+}
+
+/// The most that a receiver may retrieve.
+fn cap_of(transaction: &Live, p: PartitionId) -> Option<Rights>
+    ensures { result ≡ rules.cap_of p transaction.now }
+{
+    match receiver_of(transaction, p) {
+        Some(receiver) => Some(receiver.cap),
+        None => None,
+    }
+}
+
+fn granted_rights(asked: DataAccess, cap: Rights) -> Option<Rights>
+    ensures { result ≡ rules.granted_rights asked cap }
+{
+    match (asked, cap) {
+        (DataAccess::NotSpecified, cap) => Some(cap),
+        (DataAccess::ReadOnly, _) => Some(Rights::Ro),
+        (DataAccess::ReadWrite, Rights::Rw) => Some(Rights::Rw),
+        (DataAccess::ReadWrite, Rights::Ro) | (DataAccess::Reserved, _) => None,
+    }
+}
+
+/// Whether the pages may be executed by a receiver with this data access.
+fn may_execute(transaction: &Live, rights: Rights) -> bool
+    ensures value { result ≡ rules.may_execute transaction.now rights }
+    ensures home { result ≡ true → transaction.now.home.exec ≡ true }
+{
+    let for_one = match transaction.kind {
+        Kind::Share => false,
+        Kind::Lend => transaction.receivers.len() == 1,
+        Kind::Donate => true,
+    };
+    rights == Rights::Ro && for_one && transaction.home.is_executable()
+}
+
+fn granted_execution(instruction: InstructionAccess, may: bool) -> Option<bool>
+    ensures value { result ≡ rules.granted_execution instruction may }
+    ensures only { result ≡ Some true → may ≡ true }
+{
+    match instruction {
+        InstructionAccess::NotSpecified | InstructionAccess::NotExecutable => Some(false),
+        InstructionAccess::Executable => {
+            if may {
+                Some(true)
+            } else {
+                None
+            }
+        }
+        InstructionAccess::Reserved => None,
+    }
+}
+
+// ---- the response
+
+/// The length of the response in bytes.
+fn response_length(version: Version, transaction: &Live) -> u32
+    requires { length transaction.now.ranges ≤ 512 }
+    ensures { result ≡ rules.response_length version transaction.now }
+{
+    let header = match version {
+        Version::V10 => 32,
+        Version::V11 => 48,
+    };
+    header + 32 + 16 * transaction.ranges.len() as u32
+}
+
+/// The size of the RX buffer in bytes; 0 without a pair.
+fn rx_size(state: &State, p: PartitionId) -> u64
+    ensures { result ≡ rules.rx_size state.now p }
+{
+    match state.pairs.pair_of(p) {
+        Some(pair) => PAGE_SIZE * u64::from(pair.rx.count()),
+        None => 0,
+    }
+}
+
+/// Whether the response is not longer than the RX buffer.
+#[tactic(auto, unfolding(rules::specs::Calls::Retrieve::fits_rx))]
+fn fits_rx(state: &State, p: PartitionId, transaction: &Live) -> bool
+    requires { length transaction.now.ranges ≤ 512 }
+    ensures { result ≡ rules.fits_rx state.now p transaction.now }
+{
+    let length = response_length(state.row(p).version, transaction);
+    u64::from(length) <= rx_size(state, p)
+}
+
+/// The permissions that a response tells of.
+fn permissions_of(access: Access) -> Permissions
+    ensures { result ≡ rules.permissions_of access }
+{
+    let data = match access.rights() {
+        Rights::Ro => 1,
+        Rights::Rw => 2,
+    };
+    let instruction = if access.is_executable() {
+        2
+    } else {
+        1
+    };
+    Permissions::new(data + 4 * instruction)
+}
+
+/// The response in RX, and its length in the registers.
+fn respond(
+    alloc: Global,
+    version: Version,
+    p: PartitionId,
+    transaction: &Live,
+    access: Access,
+) -> Result<Reply, OutOfMemory>
+    requires { IsWithinLimits transaction.now }
+    ensures { IfOk result (λ reply. reply ≡ rules.responding version p
+        (record { transaction = transaction.now; access = access })) }
+{
+    let fields = ResponseFields {
+        sender: transaction.sender,
+        kind: transaction.kind,
+        handle: transaction.handle,
+        tag: transaction.tag,
+        endpoint: Endpoint {
+            partition: p,
+            permissions: permissions_of(access),
+        },
+        ranges: &transaction.ranges,
+    };
+    let bytes = write_response(alloc, version, &fields)?;
+    let regs = Reply::response(response_length(version, transaction)).regs;
+    Ok(Reply {
+        regs,
+        rx: Some(bytes),
+    })
+}
+
+// ---- the change
+
+/// What a retrieve of this transaction changes that has passed its tests, and is granted this.
+fn change(
+    state: &State,
+    call: &Call,
+    transfer: Transfer,
+    transaction: &Live,
+    access: Access,
+) -> Result<Change, OutOfMemory>
+    requires reached { IsReached state.now }
+    requires retrieved { IsRetrieved state.now call.now transfer transaction.now access }
+    ensures { IfOk result (λ change. IsGranted state.now call.now.caller
+        (rules.retrieve_rule state.now call.now transfer) true change) }
+{
+    let p = call.partition();
+    let version = state.row(p).version;
+    let reply = respond(state.alloc, version, p, transaction, access)?;
+    let edit = receiver_edit(state.alloc, p, transaction, Some(access))?;
+    Ok(Change {
+        edit,
+        update: Update::Retrieve(transaction.handle, access),
+        reply,
+    })
+}
+
+/// The partition has retrieved the transaction of a handle, and holds RX.
+pub(crate) fn complete(
+    state: &mut State,
+    p: PartitionId,
+    handle: Handle,
+    access: Access,
+) -> Result<(), OutOfMemory>
+    requires { CanRetrieve state.old p handle }
+    ensures ok { OnOk result (state.new ≡ after_retrieval state.old p handle access) }
+    ensures err { OnErr result (state.new ≡ state.old) }
+{
+    if let Some(transaction) = state.ledger.find(handle) {
+        let runs = transaction.ranges.len();
+        state.ledger.ready(runs)?;
+    }
+    state.ledger.retrieve(p, handle, access);
+    let _ = state.pairs.fill(p);
+    Ok(())
+}
