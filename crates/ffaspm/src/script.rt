@@ -7,14 +7,18 @@ use crate::maps::write_maps;
 use crate::operations::write_operations;
 use crate::tables::write_tables;
 use base::{Handle, Kind, MemoryAttributes, OutOfMemory, PartitionId};
-use descw::{HeaderFields, SendFields, write_send};
+use descw::{
+    HeaderFields, RelinquishFields, RetrieveFields, SendFields, write_relinquish, write_retrieve, write_send,
+};
 use lines::{Line, SendLine, read_line};
 use manifest::Manifest;
 use pool::TableMem;
 use spm::{Call, Reply, Spm};
 use std::alloc::Global;
 use std::collections::BTreeMap;
-use wire::identifiers::{FFA_MEM_DONATE, FFA_MEM_LEND, FFA_MEM_RECLAIM, FFA_MEM_SHARE};
+use wire::identifiers::{
+    FFA_MEM_DONATE, FFA_MEM_LEND, FFA_MEM_RECLAIM, FFA_MEM_RELINQUISH, FFA_MEM_RETRIEVE_REQ, FFA_MEM_SHARE,
+};
 
 #[cfg(test)]
 mod tests;
@@ -73,11 +77,16 @@ impl<M: TableMem + Drop> Run<M> {
                 let reply = self.send(kind, &send)?;
                 write_reply(self.alloc, &reply, text)
             }
+            Line::Retrieve(fields) => {
+                let reply = self.retrieve(&fields)?;
+                write_reply(self.alloc, &reply, text)
+            }
+            Line::Relinquish(fields) => {
+                let reply = self.relinquish(&fields)?;
+                write_reply(self.alloc, &reply, text)
+            }
             Line::Reclaim(id, handle) => {
-                let identifier = u64::from(FFA_MEM_RECLAIM);
-                let (low, high) = (handle.low(), handle.high());
-                let regs = [identifier, u64::from(low), u64::from(high), 0, 0, 0, 0, 0];
-                let reply = self.call(id, regs)?;
+                let reply = self.call(id, reclaim_registers(handle))?;
                 write_reply(self.alloc, &reply, text)
             }
             Line::Maps(id) => write_maps(self.alloc, &self.spm, id, text),
@@ -105,11 +114,33 @@ impl<M: TableMem + Drop> Run<M> {
             ranges: &send.ranges,
         };
         let tx = write_send(self.alloc, self.spm.version(send.sender), &fields)?;
-        let identifier = u64::from(identifier_of(kind));
+        self.hand_over(send.sender, identifier_of(kind), tx)
+    }
+
+    /// A retrieve request in the layout of the caller's version. The bytes that are kept for it stay.
+    fn retrieve(&mut self, fields: &RetrieveFields) -> Result<Reply, RunFault> {
+        let id = fields.endpoint.partition;
+        let tx = write_retrieve(self.alloc, self.spm.version(id), fields)?;
+        self.hand_over(id, FFA_MEM_RETRIEVE_REQ, tx)
+    }
+
+    /// A call whose whole descriptor is in TX.
+    fn hand_over(&mut self, id: PartitionId, function: u32, tx: Vec<u8>) -> Result<Reply, RunFault> {
         let length = tx.len() as u64;
         let call = Call {
-            caller: send.sender.number(),
-            regs: [identifier, length, length, 0, 0, 0, 0, 0],
+            caller: id.number(),
+            regs: [u64::from(function), length, length, 0, 0, 0, 0, 0],
+            tx,
+        };
+        Ok(self.spm.handle(&call)?)
+    }
+
+    /// A relinquish, whose registers say nothing. The bytes that are kept for the caller stay.
+    fn relinquish(&mut self, fields: &RelinquishFields) -> Result<Reply, RunFault> {
+        let tx = write_relinquish(self.alloc, fields)?;
+        let call = Call {
+            caller: fields.endpoint.number(),
+            regs: [u64::from(FFA_MEM_RELINQUISH), 0, 0, 0, 0, 0, 0, 0],
             tx,
         };
         Ok(self.spm.handle(&call)?)
@@ -127,6 +158,12 @@ impl<M: TableMem + Drop> Run<M> {
         };
         Ok(self.spm.handle(&call)?)
     }
+}
+
+/// The registers of a reclaim without a flag.
+fn reclaim_registers(handle: Handle) -> [u64; 8] {
+    let (low, high) = (u64::from(handle.low()), u64::from(handle.high()));
+    [u64::from(FFA_MEM_RECLAIM), low, high, 0, 0, 0, 0, 0]
 }
 
 /// The identifier of the 32-bit call that sends.

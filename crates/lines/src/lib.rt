@@ -2,6 +2,7 @@
 #![tactic(auto)]
 
 mod line;
+mod receive;
 mod send;
 mod words;
 

@@ -1,10 +1,12 @@
 ghost use Rattle.std.specs.Prelude.{◌≡◌, ◌<◌, length, Some, None, IfSome, IfOk, IsTrue};
 ghost use Rattle.lines.specs.Lines.{is_nothing, HasParts};
 
+use crate::receive::{read_relinquish, read_retrieve};
 use crate::send::{SendLine, read_send};
 use crate::words::{read_id, read_number};
 use arrayvec::ArrayVec;
 use base::{Handle, Kind, OutOfMemory, PartitionId};
+use descw::{RelinquishFields, RetrieveFields};
 use hex::FromHexError;
 use std::alloc::Global;
 use std::str;
@@ -33,6 +35,12 @@ pub enum Line {
     /// `share`, `lend` or `donate`, then `ID NUM RECEIVERS RANGES`: a send of this kind by ID with tag NUM.
     /// RECEIVERS are 1 to 8 of `ID:PERM` and RANGES 1 to 512 of `NUM+COUNT`, both parted by commas.
     Send(Kind, SendLine),
+    /// `retrieve ID NUM ID NUM TYPE PERM`, and the same with a last word `alone`: a retrieve request by the
+    /// first ID of the transaction whose handle is the first NUM, with the sender, the tag, the type and
+    /// the permissions. `alone` bypasses the check that all borrowers are named.
+    Retrieve(RetrieveFields),
+    /// `relinquish ID NUM`: ID relinquishes the transaction whose handle is NUM.
+    Relinquish(RelinquishFields),
     /// `reclaim ID NUM`: a reclaim by ID of the transaction whose handle is NUM.
     Reclaim(PartitionId, Handle),
     /// `maps ID`: what ID reaches.
@@ -77,6 +85,9 @@ pub fn read_line(alloc: Global, bytes: &[u8]) -> Result<Option<Line>, OutOfMemor
         ["share", words @ ..] => read_send_line(alloc, Kind::Share, words),
         ["lend", words @ ..] => read_send_line(alloc, Kind::Lend, words),
         ["donate", words @ ..] => read_send_line(alloc, Kind::Donate, words),
+        ["retrieve", words @ .., "alone"] => Ok(read_retrieve(words, true).map(Line::Retrieve)),
+        ["retrieve", words @ ..] => Ok(read_retrieve(words, false).map(Line::Retrieve)),
+        ["relinquish", id, handle] => Ok(read_relinquish(id, handle).map(Line::Relinquish)),
         ["reclaim", id, handle] => Ok(read_reclaim(id, handle)),
         ["maps", id] => Ok(read_id(id).map(Line::Maps)),
         ["tables", id] => Ok(read_id(id).map(Line::Tables)),

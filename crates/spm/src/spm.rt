@@ -155,7 +155,7 @@ impl<M: TableMem + Drop> Spm<M> {
         // Want of memory changes nothing,
         ensures err { OnErr result (self.new ≡ unchanged self.old) }
 
-        // and only a send or a reclaim that passes its tests meets it.
+        // and only a call on a transaction that passes its tests meets it.
         ensures memory_after_the_tests { OnErr result (MayNeedMemory self.old.state call.now) }
 
         // What walkers see at every write: the old translation, none, or the new one.

@@ -12,6 +12,7 @@ mod manifests;
 mod operations;
 mod quotas;
 mod reclaims;
+mod retrieves;
 mod tables;
 mod walkers;
 

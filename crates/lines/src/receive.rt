@@ -1,0 +1,58 @@
+//! Lines of receivers.
+
+ghost use Rattle.std.specs.Prelude.{◌≤◌, IfSome};
+
+use crate::words::{read_id, read_number, read_permissions};
+use base::{Handle, MemoryAttributes};
+use descr::Endpoint;
+use descw::{HeaderFields, RelinquishFields, RetrieveFields};
+
+/// Bit 10 of the flags of a retrieve request: the check that it names all borrowers is bypassed.
+const BYPASS: u32 = 0x400;
+
+/// The retrieve request that the words `ID NUM ID NUM TYPE PERM` say: who asks, the handle, the sender,
+/// the tag, the type and the permissions; where other borrowers are not named, `alone`.
+pub(crate) fn read_retrieve(words: &[&str], alone: bool) -> Option<RetrieveFields> {
+    let [id, handle, sender, tag, kind, permissions] = words else {
+        return None;
+    };
+    let bypass = if alone {
+        BYPASS
+    } else {
+        0
+    };
+    let header = HeaderFields {
+        sender: read_id(sender)?,
+        attributes: MemoryAttributes::normal_write_back(),
+        flags: read_kind(kind)? + bypass,
+        handle: Handle::from_bits(read_number(handle)?),
+        tag: read_number(tag)?,
+    };
+    let endpoint = Endpoint {
+        partition: read_id(id)?,
+        permissions: read_permissions(permissions)?,
+    };
+    Some(RetrieveFields { header, endpoint })
+}
+
+/// The type in bits 4:3 of the flags that a digit 0 to 3 is: any, share, lend or donate.
+fn read_kind(word: &str) -> Option<u32>
+    ensures { IfSome result (λ kind. kind ≤ 24) }
+{
+    match word {
+        "0" => Some(0),
+        "1" => Some(8),
+        "2" => Some(16),
+        "3" => Some(24),
+        _ => None,
+    }
+}
+
+/// The relinquish that the words `ID NUM` say: who gives up, and the handle.
+pub(crate) fn read_relinquish(id: &str, handle: &str) -> Option<RelinquishFields> {
+    Some(RelinquishFields {
+        handle: Handle::from_bits(read_number(handle)?),
+        flags: 0,
+        endpoint: read_id(id)?,
+    })
+}
