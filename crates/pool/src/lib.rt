@@ -1,6 +1,7 @@
 //! Table memory: pages of 512 table words, and the record of what is done to them.
 #![tactic(auto)]
 
+mod block;
 mod cells;
 mod image;
 mod list_pool;

@@ -1,125 +1,23 @@
-ghost use Rattle.std.specs.Prelude.{◌≡◌, ℕ, ◌-◌, ◌<◌, ◌++◌, Some, None, length, map, replicate, slice_set, get_or, IfOk};
-ghost use Rattle.pool.specs.Cells.{contents};
+ghost use Rattle.std.specs.Prelude.{◌≡◌};
+ghost use Rattle.pool.specs.Address.{address_of};
 
-use crate::cells::{Base, Cells, Deed, allocate, deallocate};
+use crate::block::Block;
 use crate::table_pool::TablePool;
-use crate::word_store::WordStore;
-use base::OutOfMemory;
-use std::alloc::Global;
-use std_alloc::room::may_hold;
 
 /// Table memory in one block of raw memory: the word of page j at index i stands at place
 /// `512 * j + i` from `address` on, as a processor's walk of the tables reads it.
 ///
-/// The block has 4,096 bytes for each page and is asked for in one piece. Its address is a multiple of
-/// 8. Where a processor is to walk the tables, the allocator below `Global` has to align a block of
-/// whole pages to 4,096, since no type asks for an alignment above 16 bytes.
+/// The block has 4,096 bytes for each page and is asked for in one piece, aligned to 8 bytes. Where a
+/// processor is to walk the tables, the allocator below `Global` has to align a block of whole pages
+/// to 4,096, since `Global` refuses a wish for more than 16.
 pub type RawPool = TablePool<Block>;
 
 impl TablePool<Block> {
     /// Where the word of page 0 at index 0 lies. The pointer is good as long as the memory, and gives
     /// no right to read or write there.
     pub fn address(&self) -> *const u64
-        ensures { result ≡ self.now.store.base.ptr }
+        ensures { result ≡ address_of self.now }
     {
         self.store.address()
-    }
-}
-
-/// Words in a block of raw memory, which goes back to the allocator when they end.
-pub struct Block {
-    base: Base<u64>,
-    count: usize,
-    cells: Cells<u64>,
-    deed: Deed<u64, Global>,
-    alloc: Global,
-    ghost cells_placed: { cells.at ≡ base.ptr },
-    ghost deed_placed: { deed.at ≡ base.ptr },
-    ghost deed_counts: { deed.len ≡ count },
-    ghost deed_alloc: { deed.alloc ≡ alloc },
-    ghost full: { cells.slots ≡ map Some (contents cells.slots) },
-    ghost counted: { length (contents cells.slots) ≡ count },
-}
-
-/// Fills so many empty places with 0.
-fn fill(base: Base<u64>, count: usize, cells: &mut Cells<u64>)
-    requires place { base.ptr ≡ cells.old.at }
-    requires empty { cells.old.slots ≡ replicate count None }
-    ensures place { cells.new.at ≡ cells.old.at }
-    ensures filled { cells.new.slots ≡ map Some (replicate count 0) }
-{
-    for place in 0..count {
-        cells.write(base, place, 0);
-    }
-}
-
-/// Empties so many places.
-fn empty(base: Base<u64>, count: usize, cells: &mut Cells<u64>)
-    requires place { base.ptr ≡ cells.old.at }
-    requires full { cells.old.slots ≡ map Some (contents cells.old.slots) }
-    requires counted { length (contents cells.old.slots) ≡ count }
-    ensures place { cells.new.at ≡ cells.old.at }
-    ensures empty { cells.new.slots ≡ replicate count None }
-{
-    for place in 0..count {
-        let _word = cells.read(base, place);
-    }
-}
-
-impl Block {
-    fn address(&self) -> *const u64
-        ensures { result ≡ self.now.base.ptr }
-    {
-        self.base.ptr.cast_const()
-    }
-}
-
-impl Drop for Block {
-    fn drop(self) {
-        let Block {
-            base,
-            count,
-            mut cells,
-            deed,
-            alloc,
-        } = self;
-        empty(base, count, &mut cells);
-        deallocate(&alloc, base, count, cells, deed);
-    }
-}
-
-impl WordStore for Block {
-    ghost words = { λ b. contents b.cells.slots };
-
-    fn zeroed(alloc: Global, count: usize) -> Result<Self, OutOfMemory> {
-        if !may_hold::<u64>(count) {
-            return Err(OutOfMemory);
-        }
-        let (base, mut cells, deed) = allocate(&alloc, count)?;
-        fill(base, count, &mut cells);
-        Ok(Block {
-            base,
-            count,
-            cells,
-            deed,
-            alloc,
-        })
-    }
-
-    fn word(&self, place: usize) -> u64 {
-        *self.cells.get(self.base, place)
-    }
-
-    fn set_word(&mut self, place: usize, word: u64) {
-        let _old = self.cells.read(self.base, place);
-        self.cells.write(self.base, place, word);
-    }
-
-    fn copy(&self, alloc: Global) -> Result<Vec<u64>, OutOfMemory> {
-        let mut copy = Vec::with_capacity(alloc, self.count)?;
-        for place in 0..self.count {
-            copy.push(self.word(place))?;
-        }
-        Ok(copy)
     }
 }

@@ -4,6 +4,7 @@ ghost use Rattle.pool.specs.Pool.{new_pool};
 
 use crate::list_pool::ListPool;
 use crate::operation::Op;
+use crate::raw_pool::RawPool;
 use crate::table_mem::TableMem;
 use base::{OutOfMemory, Page, PartitionId, Run};
 use manifest::common_manifest;
@@ -90,18 +91,22 @@ fn keep_operations<M: TableMem + Drop>(rt: &impl Abort, alloc: Global) -> Result
 #[test]
 fn takes_the_lowest_free_page(rt: HostRuntime) -> Result<(), Fail> {
     take_first_pages::<ListPool>(&rt, rt.alloc())?;
+    take_first_pages::<RawPool>(&rt, rt.alloc())?;
     take_given_page::<ListPool>(&rt, rt.alloc())?;
+    take_given_page::<RawPool>(&rt, rt.alloc())?;
     Ok(())
 }
 
 #[test]
 fn records_what_is_done(rt: HostRuntime) -> Result<(), Fail> {
     record_operations::<ListPool>(&rt, rt.alloc())?;
+    record_operations::<RawPool>(&rt, rt.alloc())?;
     Ok(())
 }
 
 #[test]
 fn keeps_what_was_recorded(rt: HostRuntime) -> Result<(), Fail> {
     keep_operations::<ListPool>(&rt, rt.alloc())?;
+    keep_operations::<RawPool>(&rt, rt.alloc())?;
     Ok(())
 }

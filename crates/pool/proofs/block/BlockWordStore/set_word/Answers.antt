@@ -2,7 +2,7 @@ use Rattle.std.proofs.Common.{◌≡◌, ◌∙◌, sym, ap, length, slice_index
 use Rattle.std.proofs.Math.ListN.{length-set}
 use Rattle.pool.specs.Cells.{contents}
 use Rattle.pool.proofs.Contents.{read, replaced, replaced-contents, replaced-full}
-use Rattle.pool.proofs.raw_pool.BlockWordStore.set_word.Goals as goal
+use Rattle.pool.proofs.block.BlockWordStore.set_word.Goals as goal
 
 pub read-old-requires : goal.read-old-requires
 read-old-requires c =

@@ -1,7 +1,7 @@
 use Rattle.std.proofs.Common.{sym, slice_index}
 use Rattle.pool.specs.Cells.{contents}
 use Rattle.pool.proofs.Contents.{read}
-use Rattle.pool.proofs.raw_pool.BlockWordStore.word.Goals as goal
+use Rattle.pool.proofs.block.BlockWordStore.word.Goals as goal
 
 pub get-requires : goal.get-requires
 get-requires c =

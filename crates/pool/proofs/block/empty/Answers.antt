@@ -2,7 +2,7 @@ use Rattle.std.proofs.Common.{◌≡◌, ◌<◌, ◌∙◌, ap, sym, length, ge
 use Rattle.std.proofs.lemmas.List.{length-map}
 use Rattle.pool.specs.Cells.{contents}
 use Rattle.pool.proofs.Contents.{read, swept-here, swept-next, swept-all}
-use Rattle.pool.proofs.raw_pool.empty.Goals as goal
+use Rattle.pool.proofs.block.empty.Goals as goal
 
 pub read-word-requires : goal.read-word-requires
 read-word-requires c =

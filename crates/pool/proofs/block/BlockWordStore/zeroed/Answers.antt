@@ -1,7 +1,7 @@
 use Rattle.std.proofs.Common.{◌∙◌, ℕ, List, sym, ap, length, replicate, map, Some}
 use Rattle.std.proofs.lemmas.List.{length-replicate}
 use Rattle.pool.proofs.Contents.{contents-filled}
-use Rattle.pool.proofs.raw_pool.BlockWordStore.zeroed.Goals as goal
+use Rattle.pool.proofs.block.BlockWordStore.zeroed.Goals as goal
 
 pub returns : goal.returns
 returns c = rw c.fill.ensures.filled (contents-filled (replicate c.args.count 0))

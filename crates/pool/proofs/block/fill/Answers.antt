@@ -1,7 +1,7 @@
 use Rattle.std.proofs.Common.{◌≡◌, ◌<◌, ◌∙◌, ap, sym, length, get_or, arith, replicate, Some, None}
 use Rattle.std.proofs.lemmas.List.{get_or-replicate, length-replicate}
 use Rattle.pool.proofs.Contents.{swept-here, swept-next, swept-length, swept-all, replicate-filled}
-use Rattle.pool.proofs.raw_pool.fill.Goals as goal
+use Rattle.pool.proofs.block.fill.Goals as goal
 
 pub write-requires : goal.write-requires
 write-requires c =
