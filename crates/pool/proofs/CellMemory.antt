@@ -1,32 +1,30 @@
--- What the walks of the unsafe functions share. Assumes `Logic`.
+-- What the proofs of the functions with pointers share.
 --     word_had, word_made, mark_had, mark_made      a value of one pointer, and one of no bytes
---     slot_out, slot_in, run_out, run_in, slot_seen, run_seen      one place or a run of places is taken out of the row, put back, or seen
+--     slot_out, slot_in, slot_seen      one place is taken out of the row, put back, or seen
 --     of_room, to_room      room for an array is a row of empty places
 use mathlib.Core.Path.{◌≡◌, refl, sym, ap, subst, ◌∙◌}
 use Prim.Native.Nat.{ℕ, zero, suc, ◌+◌, ◌*◌, ◌<◌, ◌≤◌}
 use native.Mathlib.Omega.{arith}
 use native.Mathlib.Nat.{zero-mul, suc-mul}
-use mathlib.Core.List.{List, [], ◌∷◌, ◌++◌, map}
-use lib.ListN.{length, take, drop, set, get_or, replicate, take-append-drop, length-take, length-drop}
-use lib.Seq.{drop-cons, drop-drop, set_split}
+use mathlib.Core.List.{List, [], ◌∷◌, ◌++◌}
+use lib.ListN.{length, take, drop, set, get_or, replicate, take-append-drop, length-take}
+use lib.Seq.{drop-cons, set_split}
 use seplogic.Ra.Ura.{Ura}
 use base.Fraction.{full_share}
 use mir.Syntax.{Ty, ty_array}
 use mir.Val.{Val, vstruct, vcons, vnil, of_list}
-use base.Logic.{SProp, ent, sep, emp, ex, guard, via, snd∗, id⊢, mono_r}
+use base.Logic.{SProp, ent, sep, emp, ex, guard, via, snd∗, id⊢}
 use base.Fml.{Fml, Lft, ftrue, fsep, fat, froom}
 use types.Logic.{Logic, sem}
-use types.SemTy.{cells}
 use contract.Monad.{fact, fact_i}
 use types.Kit.{Item, Goal, Seq, Step, step, prop, ‵, raw, some, ◌⊛◌, ◌$◌, ◌∵◌, !, qed, by, move, keep, drop as skip, use0, use1, use2, pick, split, check, show, frame, fsplit, fjoin, fpick, fpack, feq_i, feq_l, rewrite, done}
 use denote.RattleType.{RattleType, Valss}
 use denote.Laws.{Typed, Is, shows}
 use denote.Param.{param, layout}
 use denote.Param.Laws.{Laws, param_laws}
-use denote.Memory.{part_at, mem}
+use denote.Memory.{part_at}
 use denote.RawPtr.{Ptr, RawPtr, ptr_val}
 use denote.Shadow.{makes_shadow}
-use denote.Slice.{elements_shared}
 use denote.Steps.{nothing, peeks}
 use denote.Struct.Struct.{Shape, Struct, within}
 use denote.Struct.Owning.{shape}
@@ -169,34 +167,6 @@ module _ (E : El) {M : Type 1} {𝓤 : Ura M} (𝓛 : Logic 𝓤) (b : ℕ) wher
         use2 𝓛 (‵ (Row o (take i cs ++ c ∷ drop (suc i) cs))) (glue (take i cs) (c ∷ drop (suc i) cs) o (i * s + o) (before (omega arith))) $
         rewrite ! 0 (λ (l : List (Place E)). ‵ (Row o l)) (sym (set_split cs i c lt)) refl $ done !
 
-    module _ (n : ℕ) where
-      -- the places but for the n from the i-th on
-      abbrev pub Around : Fml
-      Around = fsep (Row o (take i cs)) (Row (n * s + (i * s + o)) (drop (i + n) cs))
-
-      pub run_out : i + n ≤ length cs → ent 𝓤 (sem 𝓛 (Row o cs)) (sep 𝓤 (sem 𝓛 (Row (i * s + o) (take n (drop i cs)))) (sem 𝓛 Around))
-      run_out le =
-          let run = take n (drop i cs) in let long : n ≡ length run = omega (arith, length-take n (drop i cs), length-drop i cs) in
-          qed 𝓛 (‵ (Row o cs) ∷ []) ∵
-          rewrite ! 0 (λ (l : List (Place E)). ‵ (Row o l)) (sym (take-append-drop i cs) ∙ ap (λ l. take i cs ++ l) (sym (take-append-drop n (drop i cs)) ∙ ap (λ l. run ++ l) (drop-drop n i cs))) refl $
-          use1 𝓛 (‵ (Row o (take i cs)) ⊛ ‵ (Row (i * s + o) (run ++ drop (i + n) cs))) (cut (take i cs) (run ++ drop (i + n) cs) o (i * s + o) (before (omega arith))) $ split ! $ move ! (1 ∷ []) $
-          use1 𝓛 (‵ (Row (i * s + o) run) ⊛ ‵ (Row (n * s + (i * s + o)) (drop (i + n) cs))) (cut run (drop (i + n) cs) (i * s + o) (n * s + (i * s + o)) (ap (λ k. k * s + (i * s + o)) long)) $
-          split ! $ move ! (2 ∷ 1 ∷ []) $ fjoin ! $ move ! (1 ∷ []) $ done !
-
-      pub run_in : i + n ≤ length cs → (ws : List (Place E)) → n ≡ length ws
-          → ent 𝓤 (sep 𝓤 (sem 𝓛 (Row (i * s + o) ws)) (sem 𝓛 Around)) (sem 𝓛 (Row o (take i cs ++ (ws ++ drop (i + n) cs))))
-      run_in le ws long = qed 𝓛 (‵ (Row (i * s + o) ws) ∷ ‵ Around ∷ []) ∵ move ! (1 ∷ []) $ fsplit ! $ move ! (2 ∷ 1 ∷ []) $
-          use2 𝓛 (‵ (Row (i * s + o) (ws ++ drop (i + n) cs))) (glue ws (drop (i + n) cs) (i * s + o) (n * s + (i * s + o)) (ap (λ k. k * s + (i * s + o)) long)) $ move ! (1 ∷ 0 ∷ []) $
-          by ! (glue (take i cs) (ws ++ drop (i + n) cs) o (i * s + o) (before (omega arith)))
-
-  pub to_cells : (xs : List (el_x E)) (o : ℕ) → ent 𝓤 (sem 𝓛 (Row o (map Some xs))) (sem 𝓛 (cells (mem (R E)) xs b o))
-  to_cells [] o = id⊢ 𝓤 (emp 𝓤)
-  to_cells (x ∷ xs) o = mono_r 𝓤 (sem 𝓛 (part_at (R E) full_share x b o)) (to_cells xs (o + s))
-
-  pub of_cells : (xs : List (el_x E)) (o : ℕ) → ent 𝓤 (sem 𝓛 (cells (mem (R E)) xs b o)) (sem 𝓛 (Row o (map Some xs)))
-  of_cells [] o = id⊢ 𝓤 (emp 𝓤)
-  of_cells (x ∷ xs) o = mono_r 𝓤 (sem 𝓛 (part_at (R E) full_share x b o)) (of_cells xs (o + s))
-
   pub of_room : (n o : ℕ) → ent 𝓤 (H.room (ty_array (elτ E) n) b o) (sem 𝓛 (Row o (replicate n None)))
   of_room zero o = qed 𝓛 (‵ (froom (ty_array (elτ E) 0) b o) ∷ []) ∵ keep ! [] $ done !
   of_room (suc n) o = qed 𝓛 (‵ (froom (ty_array (elτ E) (suc n)) b o) ∷ []) ∵
@@ -219,15 +189,6 @@ module _ (E : El) {M : Type 1} {𝓤 : Ura M} (𝓛 : Logic 𝓤) (b : ℕ) wher
     from_on (c ∷ cs) (suc i) o at le e =
         via 𝓤 (sem 𝓛 (Seen (o + s) cs)) (snd∗ 𝓤 (sem 𝓛 (slot_lent (R E) b o c κ)) (sem 𝓛 (Seen (o + s) cs))) (from_on cs i (o + s) at (omega arith) (omega (arith, suc-mul i s)))
 
-    up_to : (xs : List (el_x E)) (rest : List (Place E)) (o : ℕ) → ent 𝓤 (sem 𝓛 (Seen o (map Some xs ++ rest))) (sem 𝓛 (elements_shared (R E) xs b o κ))
-    up_to [] rest o = qed 𝓛 (‵ (Seen o rest) ∷ []) ∵ keep ! [] $ done !
-    up_to (x ∷ xs) rest o = mono_r 𝓤 (sem 𝓛 (slot_lent (R E) b o (Some x) κ)) (up_to xs rest (o + s))
-
     pub slot_seen : (o : ℕ) (cs : List (Place E)) (i : ℕ) → i < length cs → ent 𝓤 (sem 𝓛 (Seen o cs)) (sem 𝓛 (slot_lent (R E) b (i * s + o) (get_or cs i None) κ))
     slot_seen o cs i lt = qed 𝓛 (‵ (Seen o cs) ∷ []) ∵ use1 𝓛 (‵ (Seen (i * s + o) (drop i cs))) (from_on cs i o (i * s + o) (omega arith) refl) $
         rewrite ! 0 (λ (l : List (Place E)). ‵ (Seen (i * s + o) l)) (drop-cons cs i None lt) refl $ fsplit ! $ keep ! (0 ∷ []) $ done !
-
-    pub run_seen : (o : ℕ) (cs : List (Place E)) (i n : ℕ) (xs : List (el_x E)) → i ≤ length cs → take n (drop i cs) ≡ map Some xs
-        → ent 𝓤 (sem 𝓛 (Seen o cs)) (sem 𝓛 (elements_shared (R E) xs b (i * s + o) κ))
-    run_seen o cs i n xs le e = qed 𝓛 (‵ (Seen o cs) ∷ []) ∵ use1 𝓛 (‵ (Seen (i * s + o) (drop i cs))) (from_on cs i o (i * s + o) le refl) $
-        rewrite ! 0 (λ (l : List (Place E)). ‵ (Seen (i * s + o) l)) (sym (take-append-drop n (drop i cs)) ∙ ap (λ l. l ++ drop n (drop i cs)) e) refl $ by ! (up_to xs (drop n (drop i cs)) (i * s + o))

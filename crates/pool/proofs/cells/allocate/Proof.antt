@@ -1,4 +1,4 @@
--- `allocate` cuts the new block into empty places, and keeps the right to free it. Assumes `Logic`.
+-- `allocate` cuts the new block into empty places, and keeps the right to free it.
 use mathlib.Core.Path.{◌≡◌, refl, sym, ap, subst}
 use mathlib.Core.Bool.{true, false}
 use Prim.Native.Nat.{ℕ, ◌*◌, ◌<◌, ◌^◌}

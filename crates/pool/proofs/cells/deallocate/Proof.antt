@@ -1,4 +1,4 @@
--- `deallocate` makes the block of its empty places, and hands it back with the allocator's token. Assumes `Logic`.
+-- `deallocate` makes the block of its empty places, and hands it back with the allocator's token.
 use mathlib.Core.Path.{◌≡◌, refl, sym, ap, subst, ◌∙◌}
 use Prim.Native.Nat.{ℕ, ◌*◌, ◌<◌, ◌^◌}
 use native.Mathlib.Omega.{arith}

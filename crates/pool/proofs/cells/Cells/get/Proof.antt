@@ -1,4 +1,4 @@
--- `get` shows one value that the places lend. Assumes `Logic`.
+-- `get` shows one value that the places lend.
 use mathlib.Core.Path.{◌≡◌, refl, sym, subst, ◌∙◌}
 use Prim.Native.Nat.{ℕ, ◌+◌, ◌*◌, ◌<◌, ◌^◌}
 use native.Mathlib.Omega.{arith}

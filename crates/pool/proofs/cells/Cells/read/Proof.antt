@@ -1,4 +1,4 @@
--- `read` moves a value out, and its place is empty. Assumes `Logic`.
+-- `read` moves a value out, and its place is empty.
 use mathlib.Core.Path.{◌≡◌, refl, sym, subst, ◌∙◌}
 use Prim.Native.Nat.{ℕ, ◌+◌, ◌*◌, ◌<◌, ◌^◌}
 use native.Mathlib.Omega.{arith}

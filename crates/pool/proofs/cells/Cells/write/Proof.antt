@@ -1,4 +1,4 @@
--- `write` fills an empty place. Assumes `Logic`.
+-- `write` fills an empty place.
 use mathlib.Core.Path.{◌≡◌, refl, sym, subst, ◌∙◌}
 use Prim.Native.Nat.{ℕ, ◌+◌, ◌*◌, ◌<◌, ◌^◌}
 use native.Mathlib.Omega.{arith}
