@@ -1,4 +1,4 @@
-ghost use Rattle.std.specs.Prelude.{◌≡◌, ℕ, ◌-◌, ◌<◌, ◌++◌, Some, None, length, map, replicate, slice_set, get_or, IfOk};
+ghost use Rattle.std.specs.Prelude.{◌≡◌, Some, None, length, map, replicate};
 ghost use Rattle.pool.specs.Cells.{contents};
 
 use crate::cells::{Base, Cells, Deed, allocate, deallocate};

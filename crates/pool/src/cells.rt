@@ -1,5 +1,5 @@
-//! Places in one block of raw memory, each of them empty or filled with a value. All pointers of the
-//! crate are here.
+//! Places in one block of raw memory, each of them empty or filled with a value. What is read or
+//! written through a pointer, is read or written here.
 ghost use Rattle.std.specs.Prelude.{◌≡◌, ℕ, ◌<◌, List, Option, Some, None, length, replicate, get_or, slice_set, IfOk, ⊤};
 ghost use Rattle.std.specs.Vec.Ownership.{FitsInBlock};
 ghost use base.Fml.{ftrue};
@@ -41,8 +41,8 @@ impl<T> Model for Cells<T> {
     ghost also_shares = { λ c _ κ. cells_lent T.row c.at c.slots κ };
 }
 
-/// The right to give the block of `len` places at `at` back to `alloc`. It takes no space, and cannot be
-/// let go in another way.
+/// The right to give the block of `len` places at `at` back to `alloc`. It takes no space, and cannot
+/// be let go in another way.
 pub(crate) struct Deed<T, A: Allocator> {
     mark: PhantomData<*const (T, A)>,
     ghost at: { Ptr },
@@ -62,7 +62,8 @@ pub(crate) fn allocate<T, A: Allocator>(
     len: usize,
 ) -> Result<(Base<T>, Cells<T>, Deed<T, A>), AllocError>
     requires { FitsInBlock T.row len }
-    ensures { IfOk result (λ r. (r.1.at ≡ r.0.ptr) × (r.1.slots ≡ replicate len None) × (r.2.at ≡ r.0.ptr) × (r.2.len ≡ len) × (r.2.alloc ≡ alloc.now)) }
+    ensures { IfOk result (λ r. (r.1.at ≡ r.0.ptr) × (r.1.slots ≡ replicate len None)
+        × (r.2.at ≡ r.0.ptr) × (r.2.len ≡ len) × (r.2.alloc ≡ alloc.now)) }
 {
     match alloc.allocate(len * size_of::<T>(), align_of::<T>()) {
         Ok(block) => {
@@ -87,7 +88,8 @@ pub(crate) fn deallocate<T, A: Allocator>(
     cells: Cells<T>,
     deed: Deed<T, A>,
 )
-    requires { (cells.at ≡ base.ptr) × (cells.slots ≡ replicate len None) × (deed.at ≡ base.ptr) × (deed.len ≡ len) × (deed.alloc ≡ alloc.now) }
+    requires { (cells.at ≡ base.ptr) × (cells.slots ≡ replicate len None)
+        × (deed.at ≡ base.ptr) × (deed.len ≡ len) × (deed.alloc ≡ alloc.now) }
 {
     let Cells { mark: _ } = cells;
     let Deed { mark: _ } = deed;
@@ -99,8 +101,10 @@ pub(crate) fn deallocate<T, A: Allocator>(
 impl<T> Cells<T> {
     /// Fills an empty place.
     pub(crate) fn write(&mut self, base: Base<T>, index: usize, item: T)
-        requires { (base.ptr ≡ self.old.at) × (index < length self.old.slots) × (get_or self.old.slots index None ≡ None) }
-        ensures { (self.new.at ≡ self.old.at) × (self.new.slots ≡ slice_set self.old.slots index (Some item)) }
+        requires { (base.ptr ≡ self.old.at) × (index < length self.old.slots)
+            × (get_or self.old.slots index None ≡ None) }
+        ensures { (self.new.at ≡ self.old.at)
+            × (self.new.slots ≡ slice_set self.old.slots index (Some item)) }
     {
         unsafe { base.ptr.add(index).write(item) }
     }
@@ -109,7 +113,8 @@ impl<T> Cells<T> {
     pub(crate) fn read(&mut self, base: Base<T>, index: usize) -> T
         requires { (base.ptr ≡ self.old.at) × IsFilled self.old.slots index }
         ensures value { get_or self.old.slots index None ≡ Some result }
-        ensures slots { (self.new.at ≡ self.old.at) × (self.new.slots ≡ slice_set self.old.slots index None) }
+        ensures slots { (self.new.at ≡ self.old.at)
+            × (self.new.slots ≡ slice_set self.old.slots index None) }
     {
         unsafe { base.ptr.add(index).read() }
     }

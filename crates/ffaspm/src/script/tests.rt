@@ -145,11 +145,7 @@ const INVALID: &str = "84000060 00000000 fffffffe 00000000";
 const REFUSED: &str = "84000060 00000000 fffffffa 00000000";
 
 /// Each line is a call, and is answered by these registers 0 to 3; the others are 0.
-fn expect_replies(
-    rt: &impl Abort,
-    alloc: Global,
-    calls: &[(&str, &str)],
-) -> Result<(), Fail> {
+fn expect_replies(rt: &impl Abort, alloc: Global, calls: &[(&str, &str)]) -> Result<(), Fail> {
     let mut script = String::new(alloc);
     let mut wanted = String::new(alloc);
     for (line, registers) in calls {

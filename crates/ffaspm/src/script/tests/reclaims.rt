@@ -10,12 +10,7 @@ const SUCCESS: &str =
     "reply 84000061 00000000 00000000 00000000 00000000 00000000 00000000 00000000\n";
 
 /// What lines write after the buffer pairs are there.
-fn expect(
-    rt: &impl Abort,
-    alloc: Global,
-    lines: &str,
-    wanted: &str,
-) -> Result<(), Fail> {
+fn expect(rt: &impl Abort, alloc: Global, lines: &str, wanted: &str) -> Result<(), Fail> {
     let script = format!(in alloc; "{PAIRS}{lines}")?;
     let wanted = format!(in alloc; "{SUCCESS}{SUCCESS}{SUCCESS}{wanted}")?;
     expect_text(rt, alloc, &script, None, &wanted)

@@ -268,16 +268,14 @@ fn watch_over<M: TableMem + Drop>(
 }
 
 /// The same over either table memory, from what a document says.
-fn watch_script(
-    rt: &impl Abort,
-    alloc: Global,
-    document: &str,
-    script: &str,
-) -> Result<u32, Fail> {
+fn watch_script(rt: &impl Abort, alloc: Global, document: &str, script: &str) -> Result<u32, Fail> {
     let manifest = read(alloc, document.as_bytes())?;
     let changes = watch_over::<ListPool>(rt, alloc, manifest, script)?;
     let manifest = read(alloc, document.as_bytes())?;
-    assert_eq!(rt; watch_over::<RawPool>(rt, alloc, manifest, script)?, changes);
+    assert_eq!(rt;
+        watch_over::<RawPool>(rt, alloc, manifest, script)?,
+        changes
+    );
     Ok(changes)
 }
 

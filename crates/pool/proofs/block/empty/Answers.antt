@@ -9,8 +9,7 @@ read-word-requires c =
     let old = c.args.cells.now.slots in
     let place = c.loop-place.place in
     let below : place < length (contents old) = omega (arith, c.requires.counted, c.loop-place-test.true) in
-    let whole : length old ≡ length (contents old) = ap length c.requires.full ∙ length-map (contents old) Some in
-    (
+    let whole : length old ≡ length (contents old) = ap length c.requires.full ∙ length-map (contents old) Some in (
       c.requires.place ∙ sym c.loop-place.invariant.0,
       (slice_index (contents old) place, ap (λ ds. get_or ds place None) c.loop-place.invariant.1 ∙ swept-here None place old None (omega (arith, whole, below)) ∙ read old place 0 c.requires.full below),
     )
