@@ -7,7 +7,7 @@ use arguments::{Task, read_arguments, words_of};
 use fault::Fault;
 use files::{read_manifest, read_script};
 use needs::write_needs;
-use pool::ListPool;
+use pool::RawPool;
 use script::run_script;
 use std::io::{self, Write};
 use std::process::ExitCode;
@@ -29,7 +29,7 @@ fn perform(rt: &HostRuntime, task: &Task<'_>) -> Result<(), Fault> {
             let manifest = read_manifest(rt, manifest)?;
             let script = read_script(rt, script)?;
             let mut text = String::new(alloc);
-            let outcome = run_script::<ListPool>(alloc, manifest, &script, &mut text);
+            let outcome = run_script::<RawPool>(alloc, manifest, &script, &mut text);
             write_text(rt, &text)?;
             Ok(outcome?)
         }

@@ -1,4 +1,4 @@
--- What a memory in vectors keeps at each write, and what its searches find.
+-- What a table memory keeps at each write, and what its searches find.
 use Rattle.std.proofs.Common.{◌≡◌, ℕ, ◌+◌, ◌-◌, ◌<◌, ◌≤◌, ◌^◌, Bool, true, false, not, List, length, take, drop, slice_index_or, slice_set, ◌*◌, replicate, ◌++◌, get_or, refl, arith, inl, inr, zero, suc, add-one, add-zero, IsTrue, IsSome, Some, ◌==◌}
 use Rattle.std.specs.List.{count_by, position}
 use Rattle.std.proofs.lemmas.Grind.{common_steps}
@@ -10,7 +10,8 @@ use Rattle.base.specs.Manifest.{PartitionRow, ManifestRows, row_of, quotas_of, p
 use Rattle.manifest.specs.Valid.{is_valid}
 use Rattle.pool.specs.Pool.{Memory, Pages, InShare, IsLowestFree, words_of, taken_of, put, mark, share_start, quota_of, pages_of, free_of}
 use Rattle.base.specs.Counts.{count_below}
-use Rattle.pool.specs.declared.list_pool.ListPool.{ListPool}
+use Rattle.pool.specs.declared.table_pool.TablePool.{TablePool}
+use Rattle.pool.specs.declared.word_store.WordStore.{Ghosts}
 use Rattle.pool.proofs.Words.{words_of-set, taken_of-set}
 use Rattle.pool.proofs.Shares.{quota_of-none, share_at, share_inside}
 use Rattle.pool.proofs.Count.{count_below-all}
@@ -53,9 +54,9 @@ pub taken_of-read : (items : List Bool) (page : ℕ) (is : Bool) → is ≡ slic
 unfolding taken_of
 taken_of-read items page is read inside = grind (arith, common_steps)
 
--- the pages of a memory in vectors, as functions
-abbrev pub pages_in : ListPool → Pages
-pages_in m = pages_of (record { ids = m.ids.items; quotas = m.quotas.items; words = m.words.items; taken = m.taken.items })
+-- the pages of a memory, as functions
+abbrev pub pages_in : {S : Type 0} {g : Ghosts S} → TablePool S g → Pages
+pages_in {g = g} m = pages_of (record { ids = m.ids.items; quotas = m.quotas.items; words = g.words m.store; taken = m.taken.items })
 
 -- the pages of a row's share below a page are taken, and the page stands in the share
 pub record IsSearched (m : Pages) (row page : ℕ) : Type 0 where
@@ -87,7 +88,7 @@ searched-next m p page free searched held =
       below = below;
     }
 
-pub searched-within : (m : ListPool) (row page : ℕ) → IsSearched (pages_in m) row page → page < length m.taken.items
+pub searched-within : {S : Type 0} {g : Ghosts S} (m : TablePool S g) (row page : ℕ) → IsSearched (pages_in m) row page → page < length m.taken.items
 searched-within m row page searched = omega (arith, m.taken_whole, share_inside m.quotas.items row page searched.inside)
 
 pub searched-found : (m : Pages) (row page : ℕ) → IsSearched m row page → m.taken page ≡ false → IsLowestFree m row page

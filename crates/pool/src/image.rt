@@ -1,10 +1,8 @@
-ghost use Rattle.std.specs.Prelude.{◌≡◌, ◌*◌, ◌<◌, length, IfOk};
+ghost use Rattle.std.specs.Prelude.{◌≡◌, ◌*◌, ◌<◌, length};
 ghost use Rattle.pool.specs.Pool as copies;
 ghost use Rattle.pool.specs.Pool.{words_of, IsInImage, applied};
 
 use crate::operation::Op;
-use base::OutOfMemory;
-use std::alloc::Global;
 use std::marker::Model;
 
 /// A copy of the words of all table pages, to which operations are applied one by one.
@@ -26,15 +24,12 @@ impl Model for Image {
 }
 
 impl Image {
-    /// A copy of the words of this many pages.
-    pub(crate) fn copy(alloc: Global, pages: usize, words: &[u64]) -> Result<Self, OutOfMemory>
-        requires { length words.now ≡ 512 * pages }
-        ensures { IfOk result (λ image. image ≡ record { pages = pages; words = words.now }) }
+    /// A copy of the words of this many pages, from these words.
+    pub(crate) fn new(pages: usize, words: Vec<u64>) -> Self
+        requires { length words.items ≡ 512 * pages }
+        ensures { result ≡ record { pages = pages; words = words.items } }
     {
-        Ok(Image {
-            pages,
-            words: words.to_vec(alloc)?,
-        })
+        Image { pages, words }
     }
 
     /// How many table pages it has.

@@ -1,12 +1,18 @@
 //! Table memory: pages of 512 table words, and the record of what is done to them.
 #![tactic(auto)]
 
+mod block;
+mod cells;
 mod image;
 mod list_pool;
 mod operation;
+mod raw_pool;
 mod table_mem;
+mod table_pool;
+mod word_store;
 
 pub use image::Image;
 pub use list_pool::ListPool;
 pub use operation::Op;
+pub use raw_pool::RawPool;
 pub use table_mem::TableMem;

@@ -2,7 +2,7 @@ use super::run_script;
 use crate::fault::RunFault;
 use documents::common_document;
 use manifest::read;
-use pool::{ListPool, TableMem};
+use pool::{ListPool, RawPool, TableMem};
 use std::alloc::Global;
 use std::process::Abort;
 use std::test::Fail;
@@ -17,7 +17,7 @@ mod tables;
 mod walkers;
 
 /// What a script writes, from the common manifest on, and the fault that ends it.
-fn expect_text<M: TableMem + Drop>(
+fn expect_text(
     rt: &impl Abort,
     alloc: Global,
     script: &str,
@@ -25,11 +25,23 @@ fn expect_text<M: TableMem + Drop>(
     wanted: &str,
 ) -> Result<(), Fail> {
     let document = common_document(alloc, 16, 16)?;
-    expect_text_from::<M>(rt, alloc, &document, script, fault, wanted)
+    expect_text_from(rt, alloc, &document, script, fault, wanted)
 }
 
-/// What a script writes, from a manifest on, and the fault that ends it.
-fn expect_text_from<M: TableMem + Drop>(
+/// What a script writes, from a manifest on, and the fault that ends it, over either table memory.
+fn expect_text_from(
+    rt: &impl Abort,
+    alloc: Global,
+    document: &str,
+    script: &str,
+    fault: Option<RunFault>,
+    wanted: &str,
+) -> Result<(), Fail> {
+    expect_text_over::<ListPool>(rt, alloc, document, script, fault, wanted)?;
+    expect_text_over::<RawPool>(rt, alloc, document, script, fault, wanted)
+}
+
+fn expect_text_over<M: TableMem + Drop>(
     rt: &impl Abort,
     alloc: Global,
     document: &str,
@@ -58,10 +70,10 @@ const MAPS: &str = "maps 8001 4\n\
 fn writes_what_is_reached(rt: HostRuntime) -> Result<(), Fail> {
     let alloc = rt.alloc();
     let others = "maps 8003 1\n00c0000000 2 rw- normal\nmaps 8004 0\nmaps 00ff 0\n";
-    expect_text::<ListPool>(&rt, alloc, "maps 8001", None, MAPS)?;
+    expect_text(&rt, alloc, "maps 8001", None, MAPS)?;
     let script = "maps 8003\n# no row\n\nmaps 8004\nmaps 00ff\n";
-    expect_text::<ListPool>(&rt, alloc, script, None, others)?;
-    expect_text::<ListPool>(&rt, alloc, "", None, "")?;
+    expect_text(&rt, alloc, script, None, others)?;
+    expect_text(&rt, alloc, "", None, "")?;
     Ok(())
 }
 
@@ -75,7 +87,7 @@ const DENIED: &str =
 fn ends_at_a_bad_line(rt: HostRuntime) -> Result<(), Fail> {
     let alloc = rt.alloc();
     let fault = Some(RunFault::Line(3));
-    expect_text::<ListPool>(
+    expect_text(
         &rt,
         alloc,
         "#\ncall 8001 1\nmap 8001\nmaps 8001\n",
@@ -83,8 +95,8 @@ fn ends_at_a_bad_line(rt: HostRuntime) -> Result<(), Fail> {
         UNKNOWN,
     )?;
     let fault = Some(RunFault::Line(1));
-    expect_text::<ListPool>(&rt, alloc, "maps 8001 ", fault, "")?;
-    expect_text::<ListPool>(&rt, alloc, "call 8004 84000066\n", None, DENIED)?;
+    expect_text(&rt, alloc, "maps 8001 ", fault, "")?;
+    expect_text(&rt, alloc, "call 8004 84000066\n", None, DENIED)?;
     Ok(())
 }
 
@@ -122,7 +134,7 @@ fn keeps_bytes(rt: HostRuntime) -> Result<(), Fail> {
         call 8001 84000072 60 60\n\
         maps 8001\n"
     )?;
-    expect_text::<ListPool>(&rt, alloc, &script, None, REPLIES)
+    expect_text(&rt, alloc, &script, None, REPLIES)
 }
 
 const SUCCESS: &str = "84000061 00000000 00000000 00000000";
@@ -134,11 +146,7 @@ const INVALID: &str = "84000060 00000000 fffffffe 00000000";
 const REFUSED: &str = "84000060 00000000 fffffffa 00000000";
 
 /// Each line is a call, and is answered by these registers 0 to 3; the others are 0.
-fn expect_replies<M: TableMem + Drop>(
-    rt: &impl Abort,
-    alloc: Global,
-    calls: &[(&str, &str)],
-) -> Result<(), Fail> {
+fn expect_replies(rt: &impl Abort, alloc: Global, calls: &[(&str, &str)]) -> Result<(), Fail> {
     let mut script = String::new(alloc);
     let mut wanted = String::new(alloc);
     for (line, registers) in calls {
@@ -148,7 +156,7 @@ fn expect_replies<M: TableMem + Drop>(
             "reply {registers} 00000000 00000000 00000000 00000000"
         )?;
     }
-    expect_text::<M>(rt, alloc, &script, None, &wanted)
+    expect_text(rt, alloc, &script, None, &wanted)
 }
 
 /// The calls that move no page, in one script.
@@ -187,7 +195,7 @@ fn answers_calls_that_move_no_page(rt: HostRuntime) -> Result<(), Fail> {
         ("call 8001 84000067", SUCCESS),
         ("call 8001 84000067", INVALID),
     ];
-    expect_replies::<ListPool>(&rt, rt.alloc(), &calls)
+    expect_replies(&rt, rt.alloc(), &calls)
 }
 
 /// The same lend in the layout of version 1.0.
@@ -220,7 +228,7 @@ fn reads_the_layout_of_the_version(rt: HostRuntime) -> Result<(), Fail> {
         reply 84000061 00000000 00000001 00008001 00000000 00000000 00000000 00000000\n\
         reply 00010001 00000000 00000000 00000000 00000000 00000000 00000000 00000000\n\
         reply 84000060 00000000 fffffffe 00000000 00000000 00000000 00000000 00000000\n";
-    expect_text::<ListPool>(&rt, alloc, &script, None, wanted)
+    expect_text(&rt, alloc, &script, None, wanted)
 }
 
 /// A buffer pair for each partition.
@@ -229,7 +237,7 @@ const PAIRS: &str = "call 8001 84000066 90000000 90001000 1\n\
     call 8003 84000066 c0000000 c0001000 1\n";
 
 /// What a script writes after the buffer pairs are there.
-fn expect_after_pairs<M: TableMem + Drop>(
+fn expect_after_pairs(
     rt: &impl Abort,
     alloc: Global,
     lines: &str,
@@ -238,7 +246,7 @@ fn expect_after_pairs<M: TableMem + Drop>(
     let pair = "reply 84000061 00000000 00000000 00000000 00000000 00000000 00000000 00000000\n";
     let script = format!(in alloc; "{PAIRS}{lines}")?;
     let wanted = format!(in alloc; "{pair}{pair}{pair}{wanted}")?;
-    expect_text::<M>(rt, alloc, &script, None, &wanted)
+    expect_text(rt, alloc, &script, None, &wanted)
 }
 
 /// Pages across two chunks, a whole chunk, ranges that touch, and two receivers.
@@ -270,7 +278,7 @@ fn lends_ranges(rt: HostRuntime) -> Result<(), Fail> {
         maps 8002 2\n\
         00b0000000 2 rw- normal\n\
         00d0000000 1 r-- normal\n";
-    expect_after_pairs::<ListPool>(&rt, rt.alloc(), lines, wanted)
+    expect_after_pairs(&rt, rt.alloc(), lines, wanted)
 }
 
 /// A share leaves its sender the pages. A page with two grants and a TX buffer cannot be shared, and
@@ -291,7 +299,7 @@ fn shares_pages(rt: HostRuntime) -> Result<(), Fail> {
         reply {SUCCESS} 00000000 00000000 00000000 00000000\n\
         reply {INVALID} 00000000 00000000 00000000 00000000\n"
     )?;
-    expect_after_pairs::<ListPool>(&rt, alloc, lines, &wanted)
+    expect_after_pairs(&rt, alloc, lines, &wanted)
 }
 
 /// An address near 2^64, one page more than a transaction may have, as many pages as it may have, of
@@ -318,7 +326,7 @@ fn refuses_lends(rt: HostRuntime) -> Result<(), Fail> {
         0080200000 512 rwx normal\n\
         0090000000 2 rw- normal\n\
         00d0000000 1 rw- normal\n";
-    expect_after_pairs::<ListPool>(&rt, rt.alloc(), lines, wanted)
+    expect_after_pairs(&rt, rt.alloc(), lines, wanted)
 }
 
 /// Lengths that are not the descriptor's use no number.
@@ -336,7 +344,7 @@ fn refuses_lengths(rt: HostRuntime) -> Result<(), Fail> {
         reply 84000060 00000000 fffffffe 00000000 00000000 00000000 00000000 00000000\n\
         reply 84000060 00000000 fffffffe 00000000 00000000 00000000 00000000 00000000\n\
         reply 84000061 00000000 00000001 00008001 00000000 00000000 00000000 00000000\n";
-    expect_after_pairs::<ListPool>(&rt, alloc, &lines, wanted)
+    expect_after_pairs(&rt, alloc, &lines, wanted)
 }
 
 /// A lend of each second page, from TX buffers of three pages.
@@ -352,5 +360,5 @@ fn lends_many_ranges(rt: HostRuntime) -> Result<(), Fail> {
     writeln!(&mut script)?;
     let wanted = "reply 84000061 00000000 00000000 00000000 00000000 00000000 00000000 00000000\n\
         reply 84000061 00000000 00000001 00008001 00000000 00000000 00000000 00000000\n";
-    expect_text::<ListPool>(&rt, alloc, &script, None, wanted)
+    expect_text(&rt, alloc, &script, None, wanted)
 }

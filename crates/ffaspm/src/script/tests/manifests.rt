@@ -2,7 +2,6 @@
 
 use super::documents::many_document;
 use super::expect_text_from;
-use pool::ListPool;
 use std::test::Fail;
 
 /// The first and the last of 64 partitions reach their pages.
@@ -17,5 +16,5 @@ fn boots_64_partitions(rt: HostRuntime) -> Result<(), Fail> {
         L1 0080000000 table\n\
         L2 0087e00000 table\n\
         L3 0087e00000 0040000087e007ff\n";
-    expect_text_from::<ListPool>(&rt, alloc, &document, script, None, wanted)
+    expect_text_from(&rt, alloc, &document, script, None, wanted)
 }

@@ -2,7 +2,6 @@
 
 use super::documents::sparse_document;
 use super::{expect_after_pairs, expect_text, expect_text_from};
-use pool::ListPool;
 use std::alloc::Global;
 use std::test::Fail;
 
@@ -19,7 +18,7 @@ const DENIED: &str =
 #[test]
 fn has_none_where_no_table_changes(rt: HostRuntime) -> Result<(), Fail> {
     let alloc = rt.alloc();
-    expect_text::<ListPool>(
+    expect_text(
         &rt,
         alloc,
         "ops\nmaps 8004\nops\n",
@@ -44,7 +43,7 @@ fn has_none_where_no_table_changes(rt: HostRuntime) -> Result<(), Fail> {
         {DENIED}\
         ops 0\n"
     )?;
-    expect_after_pairs::<ListPool>(&rt, alloc, &lines, &wanted)
+    expect_after_pairs(&rt, alloc, &lines, &wanted)
 }
 
 /// A whole chunk: the block's word is made invalid, and then its translations.
@@ -58,7 +57,7 @@ fn invalidates_a_block(rt: HostRuntime) -> Result<(), Fail> {
         set 5 0 0000000000000000\n\
         inv 8001 0080000000 512\n"
     )?;
-    expect_after_pairs::<ListPool>(&rt, alloc, lines, &wanted)
+    expect_after_pairs(&rt, alloc, lines, &wanted)
 }
 
 /// The split of a block that begins at an address, at an index of the level 2 table in a pool page: the
@@ -91,7 +90,7 @@ fn splits_a_block(rt: HostRuntime) -> Result<(), Fail> {
     write!(&mut wanted, "{FIRST}ops 514\n")?;
     push_split(&mut wanted, 5, 9, 0, 0x8000_0000, 1)?;
     let lines = "lend 8001 0 8002:02 80001000+1\nops\n";
-    expect_after_pairs::<ListPool>(&rt, alloc, lines, &wanted)
+    expect_after_pairs(&rt, alloc, lines, &wanted)
 }
 
 #[test]
@@ -102,7 +101,7 @@ fn splits_two_blocks(rt: HostRuntime) -> Result<(), Fail> {
     push_split(&mut wanted, 5, 9, 0, 0x8000_0000, 511)?;
     push_split(&mut wanted, 5, 10, 1, 0x8020_0000, 0)?;
     let lines = "lend 8001 0 8002:02 801ff000+2\nops\n";
-    expect_after_pairs::<ListPool>(&rt, alloc, lines, &wanted)
+    expect_after_pairs(&rt, alloc, lines, &wanted)
 }
 
 /// Pages of a table: first all words upward, and then each range.
@@ -121,7 +120,7 @@ fn invalidates_pages(rt: HostRuntime) -> Result<(), Fail> {
         inv 8001 0080003000 2\n\
         inv 8001 0080006000 1\n"
     )?;
-    expect_after_pairs::<ListPool>(&rt, alloc, lines, &wanted)
+    expect_after_pairs(&rt, alloc, lines, &wanted)
 }
 
 /// The last pages of a chunk: its table is unlinked before its own words are made 0.
@@ -137,7 +136,7 @@ fn unlinks_a_table(rt: HostRuntime) -> Result<(), Fail> {
     for page in 256..512u64 {
         writeln!(&mut wanted, "set 9 {page} 0000000000000000")?;
     }
-    expect_after_pairs::<ListPool>(&rt, alloc, lines, &wanted)
+    expect_after_pairs(&rt, alloc, lines, &wanted)
 }
 
 /// A lend of all pages of a gigabyte, and of one page of a block behind it.
@@ -165,5 +164,5 @@ fn splits_into_a_page_given_back(rt: HostRuntime) -> Result<(), Fail> {
         inv 8001 0000000000 262144\n",
     )?;
     push_split(&mut wanted, 4, 2, 0, 0x8000_0000, 1)?;
-    expect_text_from::<ListPool>(&rt, alloc, &document, &script, None, &wanted)
+    expect_text_from(&rt, alloc, &document, &script, None, &wanted)
 }

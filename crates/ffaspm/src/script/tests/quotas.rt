@@ -3,7 +3,6 @@
 use super::documents::common_document;
 use super::tables::BOOT;
 use super::{MAPS, PAIRS, expect_text_from};
-use pool::{ListPool, TableMem};
 use std::alloc::Global;
 use std::process::Abort;
 use std::test::Fail;
@@ -15,7 +14,7 @@ const NO_MEMORY: &str =
     "reply 84000060 00000000 fffffffd 00000000 00000000 00000000 00000000 00000000\n";
 
 /// What lines write after the buffer pairs are there, with these quotas of 0x8001 and 0x8002.
-fn expect_with<M: TableMem + Drop>(
+fn expect_with(
     rt: &impl Abort,
     alloc: Global,
     quotas: (u32, u32),
@@ -25,7 +24,7 @@ fn expect_with<M: TableMem + Drop>(
     let document = common_document(alloc, quotas.0, quotas.1)?;
     let script = format!(in alloc; "{PAIRS}{lines}")?;
     let wanted = format!(in alloc; "{PAIR}{PAIR}{PAIR}{wanted}")?;
-    expect_text_from::<M>(rt, alloc, &document, &script, None, &wanted)
+    expect_text_from(rt, alloc, &document, &script, None, &wanted)
 }
 
 /// A quota without a page for the split of a block: the send is refused and changes nothing.
@@ -43,7 +42,7 @@ fn refuses_a_split_beyond_the_quota(rt: HostRuntime) -> Result<(), Fail> {
         {MAPS}{BOOT}\
         reply 84000061 00000000 00000001 00008001 00000000 00000000 00000000 00000000\n"
     )?;
-    expect_with::<ListPool>(&rt, alloc, (6, 16), lines, &wanted)
+    expect_with(&rt, alloc, (6, 16), lines, &wanted)
 }
 
 /// A quota with one page for a split: one block is split, and a second is not.
@@ -58,7 +57,7 @@ fn splits_within_the_quota(rt: HostRuntime) -> Result<(), Fail> {
         reply 84000061 00000000 00000001 00008001 00000000 00000000 00000000 00000000\n\
         {NO_MEMORY}"
     )?;
-    expect_with::<ListPool>(&rt, alloc, (7, 16), lines, &wanted)
+    expect_with(&rt, alloc, (7, 16), lines, &wanted)
 }
 
 /// A receiver's quota is not looked at by a send.
@@ -70,5 +69,5 @@ fn lends_to_a_receiver_of_few_tables(rt: HostRuntime) -> Result<(), Fail> {
     let wanted = "reply 84000061 00000000 00000001 00008001 00000000 00000000 00000000 00000000\n\
         reply 84000061 00000000 00000002 00008001 00000000 00000000 00000000 00000000\n\
         reply 84000061 00000000 00000003 00008001 00000000 00000000 00000000 00000000\n";
-    expect_with::<ListPool>(&rt, rt.alloc(), (16, 5), lines, wanted)
+    expect_with(&rt, rt.alloc(), (16, 5), lines, wanted)
 }

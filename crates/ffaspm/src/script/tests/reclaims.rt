@@ -2,7 +2,6 @@
 
 use super::tables::BOOT;
 use super::{MAPS, PAIRS, expect_text};
-use pool::{ListPool, TableMem};
 use std::alloc::Global;
 use std::process::Abort;
 use std::test::Fail;
@@ -11,15 +10,10 @@ const SUCCESS: &str =
     "reply 84000061 00000000 00000000 00000000 00000000 00000000 00000000 00000000\n";
 
 /// What lines write after the buffer pairs are there.
-fn expect<M: TableMem + Drop>(
-    rt: &impl Abort,
-    alloc: Global,
-    lines: &str,
-    wanted: &str,
-) -> Result<(), Fail> {
+fn expect(rt: &impl Abort, alloc: Global, lines: &str, wanted: &str) -> Result<(), Fail> {
     let script = format!(in alloc; "{PAIRS}{lines}")?;
     let wanted = format!(in alloc; "{SUCCESS}{SUCCESS}{SUCCESS}{wanted}")?;
-    expect_text::<M>(rt, alloc, &script, None, &wanted)
+    expect_text(rt, alloc, &script, None, &wanted)
 }
 
 /// The words of the table that a merge sets to 0: all but that of the page that was lent.
@@ -56,7 +50,7 @@ fn merges_a_block(rt: HostRuntime) -> Result<(), Fail> {
     write_zeros(&mut wanted)?;
     let refused = "reply 84000060 00000000 fffffffe 00000000 00000000 00000000 00000000 00000000\n";
     let wanted = format!(in alloc; "{wanted}{refused}{MAPS}{BOOT}")?;
-    expect::<ListPool>(&rt, alloc, lines, &wanted)
+    expect(&rt, alloc, lines, &wanted)
 }
 
 /// A partition has 32 live transactions at most, and a reclaim makes room for another.
@@ -85,5 +79,5 @@ fn makes_room_for_a_transaction(rt: HostRuntime) -> Result<(), Fail> {
         {SUCCESS}\
         reply 84000061 00000000 00000021 00008001 00000000 00000000 00000000 00000000\n"
     )?;
-    expect::<ListPool>(&rt, alloc, &lines, &wanted)
+    expect(&rt, alloc, &lines, &wanted)
 }

@@ -1,7 +1,6 @@
 //! The entries of tables, at boot and after lends.
 
 use super::{expect_after_pairs, expect_text};
-use pool::ListPool;
 use std::alloc::Global;
 use std::test::Fail;
 
@@ -40,9 +39,9 @@ fn writes_the_tables_of_boot(rt: HostRuntime) -> Result<(), Fail> {
         L3 00c0001000 00400000c00017ff\n\
         tables 8004 0\n\
         tables 0000 0\n";
-    expect_text::<ListPool>(&rt, alloc, "tables 8001\n", None, BOOT)?;
+    expect_text(&rt, alloc, "tables 8001\n", None, BOOT)?;
     let script = "tables 8002\ntables 8003\ntables 8004\ntables 0000";
-    expect_text::<ListPool>(&rt, alloc, script, None, others)
+    expect_text(&rt, alloc, script, None, others)
 }
 
 /// A whole chunk leaves its gigabyte's other words, and no table comes or goes.
@@ -62,7 +61,7 @@ fn leaves_no_entry_for_a_whole_chunk(rt: HostRuntime) -> Result<(), Fail> {
         L1 00c0000000 table\n\
         L2 00d0000000 table\n\
         L3 00d0000000 00400000d00007ff\n";
-    expect_after_pairs::<ListPool>(&rt, rt.alloc(), lines, wanted)
+    expect_after_pairs(&rt, rt.alloc(), lines, wanted)
 }
 
 /// The lines of a chunk of executable pages, without that of one page.
@@ -102,7 +101,7 @@ fn splits_a_block(rt: HostRuntime) -> Result<(), Fail> {
     push_chunk(&mut wanted, 0x8000_0000, 1)?;
     write!(&mut wanted, "L2 0080200000 00000000802007fd\n{AFTER}")?;
     let lines = "lend 8001 0 8002:02 80001000+1\ntables 8001\n";
-    expect_after_pairs::<ListPool>(&rt, alloc, lines, &wanted)
+    expect_after_pairs(&rt, alloc, lines, &wanted)
 }
 
 /// A range across two blocks splits both.
@@ -118,5 +117,5 @@ fn splits_two_blocks(rt: HostRuntime) -> Result<(), Fail> {
     push_chunk(&mut wanted, 0x8020_0000, 0)?;
     wanted.push_str(AFTER)?;
     let lines = "lend 8001 0 8002:02 801ff000+2\ntables 8001\n";
-    expect_after_pairs::<ListPool>(&rt, alloc, lines, &wanted)
+    expect_after_pairs(&rt, alloc, lines, &wanted)
 }

@@ -5,12 +5,12 @@ ghost use Rattle.lines.specs.Lines.{HasParts};
 
 use super::super::Run;
 use super::PAIRS;
-use super::documents::sparse_document;
+use super::documents::{common_document, sparse_document};
 use super::operations::GIVEN_BACK;
 use base::{Access, OutOfMemory, Page, PartitionId};
 use lines::{Line, read_line};
-use manifest::{Manifest, Region, common_manifest, read};
-use pool::{Image, ListPool, Op, TableMem};
+use manifest::{Manifest, Region, read};
+use pool::{Image, ListPool, Op, RawPool, TableMem};
 use spm::Spm;
 use stage2::{Walked, walk_image};
 use std::alloc::Global;
@@ -247,7 +247,7 @@ fn watch_line<M: TableMem + Drop>(
 
 /// Runs a script up to its first bad line, and looks at what walkers see at every write. Answers how
 /// many calls changed tables.
-fn watch_script<M: TableMem + Drop>(
+fn watch_over<M: TableMem + Drop>(
     rt: &impl Abort,
     alloc: Global,
     manifest: Manifest,
@@ -264,6 +264,18 @@ fn watch_script<M: TableMem + Drop>(
             changes = changes.saturating_add(1);
         }
     }
+    Ok(changes)
+}
+
+/// The same over either table memory, from what a document says.
+fn watch_script(rt: &impl Abort, alloc: Global, document: &str, script: &str) -> Result<u32, Fail> {
+    let manifest = read(alloc, document.as_bytes())?;
+    let changes = watch_over::<ListPool>(rt, alloc, manifest, script)?;
+    let manifest = read(alloc, document.as_bytes())?;
+    assert_eq!(rt;
+        watch_over::<RawPool>(rt, alloc, manifest, script)?,
+        changes
+    );
     Ok(changes)
 }
 
@@ -362,9 +374,10 @@ const ROWS: [(&str, u32); 9] = [
 #[test]
 fn sees_old_new_or_none_in_rows(rt: HostRuntime) -> Result<(), Fail> {
     let alloc = rt.alloc();
+    let document = common_document(alloc, 16, 16)?;
     for (lines, wanted) in ROWS {
         let script = format!(in alloc; "{PAIRS}{lines}")?;
-        let changes = watch_script::<ListPool>(&rt, alloc, common_manifest(alloc)?, &script)?;
+        let changes = watch_script(&rt, alloc, &document, &script)?;
         assert_eq!(rt; changes, wanted, "{lines}");
     }
     Ok(())
@@ -374,8 +387,7 @@ fn sees_old_new_or_none_in_rows(rt: HostRuntime) -> Result<(), Fail> {
 #[test]
 fn sees_no_table_that_was_given_back(rt: HostRuntime) -> Result<(), Fail> {
     let alloc = rt.alloc();
-    let manifest = read(alloc, sparse_document(alloc)?.as_bytes())?;
-    let changes = watch_script::<ListPool>(&rt, alloc, manifest, GIVEN_BACK)?;
+    let changes = watch_script(&rt, alloc, &sparse_document(alloc)?, GIVEN_BACK)?;
     assert_eq!(rt; changes, 1);
     Ok(())
 }
@@ -384,11 +396,12 @@ fn sees_no_table_that_was_given_back(rt: HostRuntime) -> Result<(), Fail> {
 #[test]
 fn sees_old_new_or_none_in_drawn_lends(rt: HostRuntime) -> Result<(), Fail> {
     let alloc = rt.alloc();
+    let document = common_document(alloc, 16, 16)?;
     let mut draw = Draw { state: 1 };
     let mut changes = 0u32;
     for _ in 0..20 {
         let script = draw.script(alloc)?;
-        let changed = watch_script::<ListPool>(&rt, alloc, common_manifest(alloc)?, &script)?;
+        let changed = watch_script(&rt, alloc, &document, &script)?;
         changes = changes.saturating_add(changed);
     }
     assert!(rt; 600 < changes && changes < 950, "{changes}");

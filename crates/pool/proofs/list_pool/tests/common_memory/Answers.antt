@@ -1,4 +1,0 @@
-use Rattle.pool.proofs.list_pool.tests.common_memory.Goals as goal
-
-pub returns : goal.returns
-returns g c = rw c.in_ok-manifest.ensures at c.make.ensures

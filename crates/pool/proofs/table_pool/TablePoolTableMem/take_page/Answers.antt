@@ -1,0 +1,61 @@
+use Rattle.std.proofs.Common.{◌≡◌, ◌==◌, ◌∙◌, sym, arith, length, Some}
+use Rattle.std.proofs.Math.ListN.{length-set}
+use Rattle.std.specs.List.{position}
+use Rattle.base.specs.Manifest.{row_of}
+use Rattle.pool.specs.Pool.{share_start}
+use Rattle.pool.proofs.Shares.{share_inside}
+use Rattle.pool.proofs.Kept.{pages_in, free_zero-mark, roots-mark, taken_of-read, searched-first, searched-next, searched-within, searched-found, position-found, row_of-within, row_of-found}
+use Rattle.pool.proofs.table_pool.TablePoolTableMem.take_page.Goals as goal
+
+pub unwrap-row-requires : goal.unwrap-row-requires
+unwrap-row-requires g c =
+    let old = c.args.self.now in
+    rw (c.row_of.ensures, c.deref.ensures.value) (position-found old.ids.items c.args.p (row_of-within (pages_in old) c.args.p old.ids_whole c.requires.free))
+
+pub loop-page-init : goal.loop-page-init
+loop-page-init g c =
+    let old = c.args.self.now in
+    let found : position (λ id. id == c.args.p) old.ids.items ≡ Some c.unwrap-row.result = rw (← c.deref.ensures.value) (sym c.row_of.ensures ∙ c.unwrap-row.ensures) in
+    let is : row_of old.ids.items c.args.p ≡ c.unwrap-row.result = (row_of-found old.ids.items c.args.p c.unwrap-row.result found).0 in
+    let start : c.share_start-page.result ≡ share_start old.quotas.items (row_of old.ids.items c.args.p) = rw (is, ← c.deref-2.ensures.value) c.share_start-page.ensures in
+    rw start (searched-first (pages_in old) c.args.p c.requires.free)
+
+pub index-requires : goal.index-requires
+index-requires g c = omega (arith, c.args.self.now.taken.ok.0, searched-within c.args.self.now _ _ c.loop-page.invariant)
+
+pub overflow_add-page : goal.overflow_add-page
+overflow_add-page g c = omega (arith, c.args.self.now.fits, share_inside _ _ _ c.loop-page.invariant.inside)
+
+pub loop-page-smaller : goal.loop-page-smaller
+loop-page-smaller g c = omega (arith, share_inside _ _ _ c.loop-page.invariant.inside)
+
+pub loop-page-preserved : goal.loop-page-preserved
+loop-page-preserved g c =
+    let old = c.args.self.now in
+    let inside = searched-within old _ _ c.loop-page.invariant in
+    searched-next (pages_in old) c.args.p c.loop-page.page c.requires.free c.loop-page.invariant (taken_of-read old.taken.items _ _ c.index.ensures inside ∙ c.loop-page-test.true)
+
+pub index_mut-requires : goal.index_mut-requires
+index_mut-requires g c = omega (arith, c.args.self.now.taken.ok.0, searched-within c.args.self.now _ _ c.loop-page.invariant)
+
+pub returns-clause-lowest : goal.returns-clause-lowest
+returns-clause-lowest g c =
+    let old = c.args.self.now in
+    let inside = searched-within old _ _ c.loop-page.invariant in
+    searched-found (pages_in old) (row_of old.ids.items c.args.p) c.loop-page.page c.loop-page.invariant (taken_of-read old.taken.items _ _ c.index.ensures inside ∙ c.loop-page-test.false)
+
+pub invariant_of-self-clause-taken_whole : goal.invariant_of-self-clause-taken_whole
+invariant_of-self-clause-taken_whole g c = length-set c.args.self.now.taken.items _ _ ∙ c.args.self.now.taken_whole
+
+pub invariant_of-self-clause-free_zero : goal.invariant_of-self-clause-free_zero
+invariant_of-self-clause-free_zero g c =
+    let old = c.args.self.now in
+    let inside = searched-within old _ _ c.loop-page.invariant in
+    let free = taken_of-read old.taken.items _ _ c.index.ensures inside ∙ c.loop-page-test.false in
+    free_zero-mark (g.S.WordStore.words old.store) old.taken.items c.loop-page.page _ inside (λ i. old.free_zero c.loop-page.page i free) old.free_zero
+
+pub invariant_of-self-clause-roots : goal.invariant_of-self-clause-roots
+invariant_of-self-clause-roots g c =
+    let old = c.args.self.now in
+    let inside = searched-within old _ _ c.loop-page.invariant in
+    roots-mark old.taken.items (length old.quotas.items) c.loop-page.page _ inside (omega (arith, c.loop-page.invariant.inside.from)) old.roots

@@ -1,0 +1,57 @@
+use super::Block;
+use crate::raw_pool::RawPool;
+use crate::table_mem::TableMem;
+use crate::word_store::WordStore;
+use base::PartitionId;
+use manifest::read;
+use std::fs::File;
+use std::io::{self, Read};
+use std::test::Fail;
+
+/// Two partitions with 1,026 table pages, which take 4,202,496 bytes.
+const LARGE: &str = "pool = 0x40000000\n\
+    [[partition]]\n\
+    id = 0x8001\n\
+    quota = 512\n\
+    [[partition]]\n\
+    id = 0x8002\n\
+    quota = 512\n\
+    [[region]]\n\
+    base = 0x80000000\n\
+    pages = 1\n\
+    kind = \"normal\"\n\
+    owner = 0x8001\n\
+    grants = [ { id = 0x8001, data = \"rw\", exec = false } ]\n";
+
+/// How much memory the process holds, in KB.
+fn resident(rt: &HostRuntime) -> io::Result<u64> {
+    let mut text = String::new(rt.alloc());
+    File::open(rt, "/proc/self/status")?
+        .take(65_536)
+        .read_to_string(&mut text)?;
+    let row = text.lines().find(|line| line.starts_with("VmRSS:"));
+    let number = row.and_then(|row| row.split_whitespace().nth(1));
+    Ok(number.and_then(|number| number.parse().ok()).unwrap_or(0))
+}
+
+/// A hundred memories that are ended hold less than a hundred take, which is 410,400 KB.
+#[test]
+fn gives_its_block_back(rt: HostRuntime) -> Result<(), Fail> {
+    let manifest = read(rt.alloc(), LARGE.as_bytes())?;
+    let before = resident(&rt)?;
+    assert!(rt; before > 0);
+    for _ in 0..100 {
+        let memory = RawPool::make(rt.alloc(), &manifest)?;
+        assert_eq!(rt; memory.free(PartitionId::new(0x8001)), 512);
+        let _start = memory.address();
+    }
+    assert!(rt; resident(&rt)? < before.saturating_add(350_000));
+    Ok(())
+}
+
+#[test]
+fn holds_no_words(rt: HostRuntime) -> Result<(), Fail> {
+    let block = Block::zeroed(rt.alloc(), 0)?;
+    assert!(rt; block.copy(rt.alloc())?.is_empty());
+    Ok(())
+}

@@ -1,0 +1,23 @@
+ghost use Rattle.std.specs.Prelude.{◌≡◌};
+ghost use Rattle.pool.specs.Address.{address_of};
+
+use crate::block::Block;
+use crate::table_pool::TablePool;
+
+/// Table memory in one block of raw memory: the word of page j at index i stands at place
+/// `512 * j + i` from `address` on, as a processor reads it that walks the tables.
+///
+/// The block has 4,096 bytes for each page, and is asked for in one piece, aligned to 8 bytes. Where
+/// a processor is to walk the tables, the allocator below `Global` has to align a block of whole pages
+/// to 4,096: `Global` refuses a wish for more than 16.
+pub type RawPool = TablePool<Block>;
+
+impl TablePool<Block> {
+    /// Where the word of page 0 at index 0 lies. The pointer is good as long as the memory is, and
+    /// gives no right to read or write there.
+    pub fn address(&self) -> *const u64
+        ensures { result ≡ address_of self.now }
+    {
+        self.store.address()
+    }
+}

@@ -1,0 +1,201 @@
+ghost use Rattle.std.specs.Prelude.{◌≡◌, ℕ, ◌+◌, ◌*◌, ◌<◌, ◌≤◌, ◌^◌, ◌==◌, ◌++◌, length, position, sum, count_by, replicate, not, true, false, IfOk};
+ghost use Rattle.base.specs.Manifest.{page_count};
+ghost use Rattle.base.specs.Manifest as rows;
+ghost use Rattle.pool.specs.Pool.{words_of, taken_of};
+ghost use Rattle.pool.specs.Pool as shares;
+
+use crate::image::Image;
+use crate::operation::Op;
+use crate::table_mem::TableMem;
+use crate::word_store::WordStore;
+use base::{OutOfMemory, PartitionId, Run};
+use manifest::{Manifest, Partition};
+use std::alloc::Global;
+
+#[cfg(test)]
+mod tests;
+
+/// Table memory whose words stand in a store, 512 for each page, page by page. `taken` has a mark for
+/// each page.
+#[derive(Drop)]
+pub struct TablePool<S: WordStore> {
+    ids: Vec<PartitionId>,
+    quotas: Vec<u32>,
+    pub(crate) store: S,
+    taken: Vec<bool>,
+    operations: Vec<Op>,
+    made: u64,
+    ghost ids_whole: { length ids.items ≡ length quotas.items },
+    ghost words_whole: { length (S.words store) ≡ 512 * page_count quotas.items },
+    ghost taken_whole: { length taken.items ≡ page_count quotas.items },
+    ghost fits: { page_count quotas.items ≤ 2 ^ 27 },
+    ghost roots: { (row : ℕ) → row < length quotas.items → taken_of taken.items row ≡ true },
+    ghost free_zero: { (page index : ℕ) → taken_of taken.items page ≡ false
+        → words_of (S.words store) page index ≡ 0 },
+}
+
+/// The identifiers of the partitions.
+fn ids_of(alloc: Global, partitions: &[Partition]) -> Result<Vec<PartitionId>, OutOfMemory>
+    ensures { IfOk result (λ ids. ids.items ≡ rows.ids_of partitions.now) }
+{
+    Ok(partitions.iter().map(|row| row.id).collect(alloc)?)
+}
+
+/// The quotas of the partitions.
+fn quotas_of(alloc: Global, partitions: &[Partition]) -> Result<Vec<u32>, OutOfMemory>
+    ensures { IfOk result (λ quotas. quotas.items ≡ rows.quotas_of partitions.now) }
+{
+    Ok(partitions.iter().map(|row| row.quota).collect(alloc)?)
+}
+
+/// The marks of pages, the first of which are taken and the others free.
+fn marks(alloc: Global, taken: usize, free: usize) -> Result<Vec<bool>, OutOfMemory>
+    requires { taken + free < 2 ^ 64 }
+    ensures { IfOk result (λ marks. marks.items ≡ replicate taken true ++ replicate free false) }
+{
+    let mut marks = vec![in alloc; true; taken]?;
+    marks.resize(taken + free, false)?;
+    Ok(marks)
+}
+
+/// The row of a partition.
+fn row_of(ids: &[PartitionId], p: PartitionId) -> Option<usize>
+    ensures { result ≡ position (λ id. id == p) ids.now }
+{
+    ids.iter().position(|id| *id == p)
+}
+
+/// The sum of the quotas.
+fn total(quotas: &[u32]) -> u32
+    requires { sum quotas.now < 2 ^ 32 }
+    ensures { result ≡ sum quotas.now }
+{
+    quotas.iter().sum()
+}
+
+/// The first page of a row's share.
+fn share_start(quotas: &[u32], row: usize) -> u32
+    requires partition { row ≤ length quotas.now }
+    requires fits { page_count quotas.now ≤ 2 ^ 27 }
+    ensures { result ≡ shares.share_start quotas.now row }
+{
+    quotas.len() as u32 + total(&quotas[..row])
+}
+
+/// How many pages are free, by whether each is taken.
+fn free_count(taken: &[bool]) -> usize
+    ensures { result ≡ count_by not taken.now }
+{
+    taken.iter().filter(|is_taken| !**is_taken).count()
+}
+
+impl<S: WordStore> TableMem for TablePool<S> {
+    ghost use Rattle.std.specs.Prelude.{◌-◌, vec_len, vec_capacity, reverse};
+
+    ghost state = { λ m. record {
+      memory = record {
+        ids = m.ids.items;
+        quotas = m.quotas.items;
+        words = S.words m.store;
+        taken = m.taken.items;
+      };
+      operations = reverse m.operations.items;
+      made = m.made;
+    } };
+
+    ghost room = { λ m. vec_capacity m.operations - vec_len m.operations };
+
+    ghost whole = { λ m. record {
+      ids = m.ids_whole;
+      words = m.words_whole;
+      taken = m.taken_whole;
+    } };
+
+    ghost roots_are_taken = { λ m row h. m.roots row h };
+
+    ghost free_is_zero = { λ m page index h. m.free_zero page index h };
+
+    fn make(alloc: Global, manifest: &Manifest) -> Result<Self, OutOfMemory> {
+        let partitions = manifest.partitions();
+        let ids = ids_of(alloc, partitions)?;
+        let quotas = quotas_of(alloc, partitions)?;
+        let roots = partitions.len();
+        let shares = total(&quotas) as usize;
+        Ok(TablePool {
+            ids,
+            quotas,
+            store: S::zeroed(alloc, 512 * (roots + shares))?,
+            taken: marks(alloc, roots, shares)?,
+            operations: Vec::new(alloc),
+            made: 0,
+        })
+    }
+
+    fn word(&self, page: u32, index: u32) -> u64 {
+        self.store.word(512 * page as usize + index as usize)
+    }
+
+    fn set_word(&mut self, page: u32, index: u32, word: u64) {
+        self.store
+            .set_word(512 * page as usize + index as usize, word);
+        self.operations.push_reserved(Op::Set { page, index, word });
+        self.made = self.made.wrapping_add(1);
+    }
+
+    fn invalidate(&mut self, p: PartitionId, run: Run) {
+        self.operations
+            .push_reserved(Op::Invalidate { who: p, run });
+        self.made = self.made.wrapping_add(1);
+    }
+
+    fn clear(&mut self, run: Run) {
+        self.operations.push_reserved(Op::Clear { run });
+        self.made = self.made.wrapping_add(1);
+    }
+
+    fn take_page(&mut self, p: PartitionId) -> u32 {
+        let row = row_of(&self.ids, p).unwrap();
+        let mut page = share_start(&self.quotas, row);
+        while self.taken[page as usize] {
+            page += 1;
+        }
+        self.taken[page as usize] = true;
+        page
+    }
+
+    fn give_page(&mut self, _p: PartitionId, page: u32) {
+        self.taken[page as usize] = false;
+    }
+
+    fn free(&self, p: PartitionId) -> u32 {
+        match row_of(&self.ids, p) {
+            None => 0,
+            Some(row) => {
+                let start = share_start(&self.quotas, row) as usize;
+                let end = start + self.quotas[row] as usize;
+                free_count(&self.taken[start..end]) as u32
+            }
+        }
+    }
+
+    fn ready(&mut self, operations: usize) -> Result<(), OutOfMemory> {
+        self.operations.reserve(operations)?;
+        Ok(())
+    }
+
+    fn begin(&mut self) {
+        self.operations.clear();
+    }
+
+    fn ops(&self) -> &[Op] {
+        self.operations.as_slice()
+    }
+
+    fn made(&self) -> u64 {
+        self.made
+    }
+
+    fn image(&self, alloc: Global) -> Result<Image, OutOfMemory> {
+        Ok(Image::new(self.taken.len(), self.store.copy(alloc)?))
+    }
+}
