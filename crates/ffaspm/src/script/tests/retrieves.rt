@@ -3,7 +3,6 @@
 use super::documents::common_document;
 use super::tables::BOOT;
 use super::{MAPS, PAIRS, expect_text_from};
-use pool::{ListPool, TableMem};
 use std::alloc::Global;
 use std::process::Abort;
 use std::test::Fail;
@@ -41,9 +40,9 @@ const RESPONSE: &str =
     00000000000000000280060040000000000000000000000001000000010000000000000000000000\
     00100080000000000100000000000000\n";
 
-/// After the buffers are registered, each line writes what stands beside it, with these quotas of 0x8001
-/// and 0x8002.
-fn expect_with<M: TableMem + Drop>(
+/// After the buffers are registered, each line writes what stands beside it, with these quotas of
+/// 0x8001 and 0x8002.
+fn expect_with(
     rt: &impl Abort,
     alloc: Global,
     quotas: (u32, u32),
@@ -56,15 +55,15 @@ fn expect_with<M: TableMem + Drop>(
         writeln!(&mut script, "{line}")?;
         write!(&mut wanted, "{writes}")?;
     }
-    expect_text_from::<M>(rt, alloc, &document, &script, None, &wanted)
+    expect_text_from(rt, alloc, &document, &script, None, &wanted)
 }
 
-fn expect<M: TableMem + Drop>(
+fn expect(
     rt: &impl Abort,
     alloc: Global,
     lines: &[(&str, &str)],
 ) -> Result<(), Fail> {
-    expect_with::<M>(rt, alloc, (16, 16), lines)
+    expect_with(rt, alloc, (16, 16), lines)
 }
 
 /// The table that the page hangs in is filled before it is linked.
@@ -84,7 +83,7 @@ fn maps_what_is_retrieved(rt: HostRuntime) -> Result<(), Fail> {
         ("ops", operations),
         ("maps 8002", reached),
     ];
-    expect::<ListPool>(&rt, rt.alloc(), &lines)
+    expect(&rt, rt.alloc(), &lines)
 }
 
 const TWO_RANGES: &str =
@@ -111,7 +110,7 @@ fn joins_ranges_to_a_block(rt: HostRuntime) -> Result<(), Fail> {
         (GET, TWO_RANGES),
         ("tables 8002", tables),
     ];
-    expect::<ListPool>(&rt, rt.alloc(), &lines)
+    expect(&rt, rt.alloc(), &lines)
 }
 
 const SECOND_LEND: &str = "retrieve 8002 800100000002 8001 0 2 02";
@@ -136,7 +135,7 @@ fn waits_for_rx(rt: HostRuntime) -> Result<(), Fail> {
         (release, OK),
         (release, DENIED),
     ];
-    expect::<ListPool>(&rt, rt.alloc(), &lines)
+    expect(&rt, rt.alloc(), &lines)
 }
 
 /// A second retrieve is refused before RX is looked at, and one that is no receiver learns nothing.
@@ -152,7 +151,7 @@ fn tells_a_stranger_nothing(rt: HostRuntime) -> Result<(), Fail> {
         ("relinquish 8003 800100000099", INVALID),
         ("relinquish 8001 800100000001", INVALID),
     ];
-    expect::<ListPool>(&rt, rt.alloc(), &lines)
+    expect(&rt, rt.alloc(), &lines)
 }
 
 const GIVEN: &str =
@@ -186,7 +185,7 @@ fn completes_donations(rt: HostRuntime) -> Result<(), Fail> {
         ("retrieve 8001 800200000001 8002 0 3 00", GIVEN_BACK),
         ("maps 8001", reached),
     ];
-    expect::<ListPool>(&rt, rt.alloc(), &lines)
+    expect(&rt, rt.alloc(), &lines)
 }
 
 /// A lend is reclaimed once it is given back, and all is as at boot.
@@ -208,7 +207,7 @@ fn returns_what_was_lent(rt: HostRuntime) -> Result<(), Fail> {
         ("maps 8001", MAPS),
         ("tables 8001", BOOT),
     ];
-    expect::<ListPool>(&rt, rt.alloc(), &lines)
+    expect(&rt, rt.alloc(), &lines)
 }
 
 const OF_TWO: &str =
@@ -241,7 +240,7 @@ fn lends_to_two(rt: HostRuntime) -> Result<(), Fail> {
         ("retrieve 8003 800100000001 8001 0 0 00 alone", OF_TWO_TO_ANOTHER),
         ("maps 8002\nmaps 8003", reached),
     ];
-    expect::<ListPool>(&rt, rt.alloc(), &lines)
+    expect(&rt, rt.alloc(), &lines)
 }
 
 const TO_EXECUTE: &str =
@@ -270,7 +269,7 @@ fn executes_what_is_read_only(rt: HostRuntime) -> Result<(), Fail> {
         ("retrieve 8002 800100000001 8001 0 2 09", TO_EXECUTE),
         ("tables 8002", tables),
     ];
-    expect::<ListPool>(&rt, rt.alloc(), &lines)
+    expect(&rt, rt.alloc(), &lines)
 }
 
 /// A request with another tag or type, or for more than was shared, changes nothing.
@@ -286,7 +285,7 @@ fn refuses_what_was_not_shared(rt: HostRuntime) -> Result<(), Fail> {
         ("relinquish 8002 800100000001", DENIED),
         ("maps 8001", MAPS),
     ];
-    expect::<ListPool>(&rt, rt.alloc(), &lines)
+    expect(&rt, rt.alloc(), &lines)
 }
 
 const RESPONSE_1_0: &str =
@@ -303,7 +302,7 @@ fn responds_in_the_layout_of_the_version(rt: HostRuntime) -> Result<(), Fail> {
         (LEND, FIRST),
         (GET, RESPONSE_1_0),
     ];
-    expect::<ListPool>(&rt, rt.alloc(), &lines)
+    expect(&rt, rt.alloc(), &lines)
 }
 
 const HALF: &str =
@@ -343,5 +342,5 @@ fn splits_no_block_beyond_the_quota(rt: HostRuntime) -> Result<(), Fail> {
         ("relinquish 8002 800100000003", OK),
         ("relinquish 8002 800100000001", OK),
     ];
-    expect_with::<ListPool>(&rt, rt.alloc(), (16, 5), &lines)
+    expect_with(&rt, rt.alloc(), (16, 5), &lines)
 }
