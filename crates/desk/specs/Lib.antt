@@ -1,0 +1,5 @@
+pub mod Receipts
+pub mod Books
+pub mod Passes
+pub mod Names
+pub mod Seats
