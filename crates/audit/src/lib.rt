@@ -1,0 +1,9 @@
+//! The audit: the texts that show a state to a person, and tables that are made again from the ledger.
+//!
+//! Each text is a function of the manifest, the views and the owners alone; its `specs/` define it.
+#![tactic(auto)]
+
+mod check;
+mod text;
+
+pub use check::check_text;
