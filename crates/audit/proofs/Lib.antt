@@ -1,1 +1,3 @@
+pub mod EachBelow
 pub mod Padding
+pub mod WordReads

@@ -1,1 +1,3 @@
+pub mod Entries
+pub mod Reads
 pub mod Texts

@@ -4,6 +4,7 @@
 #![tactic(auto)]
 
 mod check;
+mod entries;
 mod text;
 
 pub use check::check_text;
