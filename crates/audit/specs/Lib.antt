@@ -1,3 +1,4 @@
 pub mod Entries
 pub mod Reads
+pub mod Runs
 pub mod Texts

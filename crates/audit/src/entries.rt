@@ -1,6 +1,6 @@
 //! The valid entries of a partition's tables, in address order.
 
-ghost use Rattle.std.specs.Prelude.{◌≡◌, ◌==◌, ◌<◌, ◌≤◌, ◌++◌, ◌∷◌, [], ◌/◌, ◌+◌, ◌^◌, ℕ, Some, is_some, position, IfOk, OnOk};
+ghost use Rattle.std.specs.Prelude.{◌≡◌, ◌==◌, ◌<◌, ◌≤◌, ◌++◌, ◌∷◌, [], ◌/◌, ◌+◌, ◌%◌, ◌^◌, ℕ, Some, is_some, position, IfOk, OnOk};
 ghost use Rattle.stage2.specs.Slot.{layout_of, slot_from};
 ghost use Rattle.stage2.specs.Walk.{next_page};
 ghost use Rattle.stage2.specs.Tables.{view_of, AreCanonical};
@@ -27,22 +27,47 @@ const GIGABYTE: u32 = WORDS * CHUNK;
 /// A valid entry: a table, or a block or page with its access.
 #[derive(Clone, Copy, Debug, PartialEq, Eq)]
 pub(crate) struct TableEntry {
-    /// The level of the table that it stands in.
-    pub(crate) level: u8,
-    /// The first page that it stands for.
-    pub(crate) first: Page,
-    /// The access of a block or a page; None for a table.
-    pub(crate) leaf: Option<Access>,
+    level: u8,
+    first: Page,
+    leaf: Option<Access>,
 }
 
 impl Model for TableEntry {
+    ghost use Rattle.std.specs.Prelude.{◌≡◌, ◌%◌};
     ghost use Rattle.audit.specs.Entries as spec;
 
     ghost Value = { spec.TableEntry };
 
     ghost view = { λ e. record { level = e.level; first = e.first; leaf = e.leaf } };
 
+    ghost invariant = { λ e. e.level ≡ 2 → e.first % 512 ≡ 0 };
+
     ghost inverse = { λ e. record { level = e.level; first = e.first; leaf = e.leaf } };
+}
+
+impl TableEntry {
+    /// The level of the table that it stands in.
+    pub(crate) fn level(self) -> u8
+        ensures same { result ≡ self.level }
+        ensures aligned { self.level ≡ 2 → self.first % 512 ≡ 0 }
+    {
+        self.level
+    }
+
+    /// The first page that it stands for.
+    pub(crate) fn first(self) -> Page
+        ensures same { result ≡ self.first }
+        ensures aligned { self.level ≡ 2 → self.first % 512 ≡ 0 }
+    {
+        self.first
+    }
+
+    /// The access of a block or a page; None for a table.
+    pub(crate) fn leaf(self) -> Option<Access>
+        ensures { result ≡ self.leaf }
+    {
+        self.leaf
+    }
 }
 
 /// The row of a partition.
@@ -224,7 +249,8 @@ fn push_pages<M: TableMem + Drop>(
 
 /// Appends a table that begins at a page.
 fn push_table(level: u8, first: u32, entries: &mut Vec<TableEntry>) -> Result<(), OutOfMemory>
-    requires { first < 2 ^ 27 }
+    requires in_range { first < 2 ^ 27 }
+    requires aligned { level ≡ 2 → first % 512 ≡ 0 }
     ensures { OnOk result
         (entries.new.items ≡ entries.old.items ++ spec.table_entry level first ∷ []) }
 {
@@ -244,7 +270,8 @@ fn push_leaf<M: TableMem + Drop>(
     first: u32,
     entries: &mut Vec<TableEntry>,
 ) -> Result<(), OutOfMemory>
-    requires { first < 2 ^ 27 }
+    requires in_range { first < 2 ^ 27 }
+    requires aligned { level ≡ 2 → first % 512 ≡ 0 }
     ensures { OnOk result (entries.new.items
         ≡ entries.old.items ++ spec.leaf_entries level first (view_of tables.now p first)) }
 {

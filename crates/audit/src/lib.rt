@@ -5,6 +5,8 @@
 
 mod check;
 mod entries;
+mod tables;
 mod text;
 
 pub use check::check_text;
+pub use tables::tables_text;
