@@ -1,3 +1,5 @@
 pub mod EachBelow
+pub mod EntryRuns
+pub mod MaximalRuns
 pub mod Padding
 pub mod WordReads

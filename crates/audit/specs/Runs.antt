@@ -10,6 +10,10 @@ pub record ValuedRun (A : Type 0) : Type 0 where
   pub run : PageRun
   pub value : A
 
+-- pages that are reached alike
+abbrev pub ReachedRun : Type 0
+ReachedRun = ValuedRun Access
+
 -- so many pages from one on, with a value
 abbrev pub valued : {A : Type 0} → ℕ → ℕ → A → ValuedRun A
 valued first count value = record { run = record { first = first; count = count }; value = value }

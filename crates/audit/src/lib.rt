@@ -5,8 +5,10 @@
 
 mod check;
 mod entries;
+mod maps;
 mod tables;
 mod text;
 
 pub use check::check_text;
+pub use maps::maps_text;
 pub use tables::tables_text;
