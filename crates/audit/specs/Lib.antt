@@ -1,4 +1,6 @@
+pub mod Alike
 pub mod Entries
+pub mod Laws
 pub mod Reads
 pub mod Runs
 pub mod Texts

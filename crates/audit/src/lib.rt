@@ -3,6 +3,7 @@
 //! Each text is a function of the manifest, the views and the owners alone; its `specs/` define it.
 #![tactic(auto)]
 
+mod alike;
 mod check;
 mod entries;
 mod maps;
