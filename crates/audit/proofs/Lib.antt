@@ -1,6 +1,8 @@
 pub mod AlikePages
 pub mod EachBelow
 pub mod EntryRuns
+pub mod FillUpward
+pub mod FillViews
 pub mod MaximalRuns
 pub mod Padding
 pub mod WordReads

@@ -1,19 +1,19 @@
 -- In each reached state what a partition reaches fits its quota.
-use Rattle.std.proofs.Common.{◌≡◌, ℕ, zero, suc, ◌+◌, ◌*◌, ◌^◌, ◌<◌, ◌≤◌, Bool, true, false, not, ◌&&◌, cond, eqb, leb, List, [], ◌∷◌, Option, Some, None, IsTrue, find, refl, sym, ap, ap₂, subst, ◌∙◌, arith, inl, inr}
-use Rattle.std.specs.List.{list_all, list_any}
+use Rattle.std.proofs.Common.{◌≡◌, ℕ, zero, suc, ◌+◌, ◌*◌, ◌/◌, ◌%◌, ◌^◌, ◌<◌, ◌≤◌, Bool, true, false, not, ◌&&◌, cond, eqb, leb, List, [], ◌∷◌, Option, Some, None, IsTrue, length, get_or, find, refl, sym, ap, ap₂, subst, ◌∙◌, arith, inl, inr}
 use Rattle.std.specs.Option.{option_map_or}
-use Rattle.std.proofs.lemmas.Bool.{leb-true, eqb-true, cases_Bool}
+use Rattle.std.proofs.lemmas.Bool.{leb-true, eqb-true, cases_Bool, cases_lt}
 use Rattle.base.specs.Access.{View}
 use Rattle.base.specs.Counts.{count_below}
-use Rattle.base.specs.Manifest.{PartitionRow, RegionRow, ManifestRows, is_partition, grant}
+use Rattle.base.specs.Manifest.{PartitionRow, ManifestRows, ids_of, quotas_of, row_of, grant}
 use Rattle.base.specs.Need.{is_mixed, is_reached, need, grow, reaching}
 use Rattle.base.specs.Pages.{covers}
 use Rattle.base.specs.State.{State, sees, start}
 use Rattle.base.proofs.Booleans.{both}
-use Rattle.manifest.specs.Valid.{is_valid, quota_of, granted_by, fits_quota}
-use Rattle.manifest.proofs.Facts.{facts}
-use Rattle.pool.proofs.Count.{count_below-same}
-use Rattle.stage2.proofs.Counting.Needs.{mixed-same, reached-same}
+use Rattle.manifest.specs.Valid.{is_valid, quota_of}
+use Rattle.manifest.proofs.Facts.{facts, fits_of, stranger}
+use Rattle.pool.proofs.Count.{count_below-same, count_below-none, count_below-some}
+use Rattle.stage2.proofs.Counting.Needs.{mixed-same, reached-same, mixed-none, reached-none}
+use Rattle.stage2.proofs.Editing.Gigabyte.{not-reached}
 use Rattle.wire.specs.declared.request.Request.{Request}
 use Rattle.rules.specs.Call.{CallWords, IsCall}
 use Rattle.rules.specs.Rule.{Edit, with_edit, fits}
@@ -57,22 +57,40 @@ need-grows v w =
 
 -- ---- before any call
 
-granted-fits : (regions : List RegionRow) (rows : List PartitionRow) (p : ℕ) → list_all (fits_quota regions) rows ≡ true → list_any (λ row. eqb row.id p) rows ≡ true → need (granted_by regions p) ≤ option_map_or (λ (row : PartitionRow). row.quota) (find (λ row. eqb row.id p) rows) 0
-granted-fits regions [] p all known = absurd (cc)
-granted-fits regions (row ∷ rows) p all known =
-    let here = both (fits_quota regions row) (list_all (fits_quota regions) rows) all in
-    elim (cases_Bool (eqb row.id p)) [
-      | inl t ↦
-          let same : row.id ≡ p = eqb-true _ _ t in
-          let le : need (granted_by regions row.id) ≤ row.quota = leb-true _ _ here.0 in
-          rw t (subst (λ q. need (granted_by regions q) ≤ row.quota) same le)
-      | inr f ↦
-          let rest : list_any (λ (r : PartitionRow). eqb r.id p) rows ≡ true = rw f at known in
-          rw f (granted-fits regions rows p here.1 rest)
+pub quota_at : (rows : List PartitionRow) (p : ℕ) → get_or (quotas_of rows) (row_of (ids_of rows) p) 0 ≡ option_map_or (λ (row : PartitionRow). row.quota) (find (λ row. eqb row.id p) rows) 0
+quota_at [] p = refl
+quota_at (row ∷ rows) p =
+    elim (eqb row.id p) as (λ b. get_or (row.quota ∷ quotas_of rows) (cond (not b) (1 + row_of (ids_of rows) p) 0) 0 ≡ option_map_or (λ (r : PartitionRow). r.quota) (cond b (Some row) (find (λ r. eqb r.id p) rows)) 0) [
+      | true ↦ refl
+      | false ↦ let next : 1 + row_of (ids_of rows) p ≡ suc (row_of (ids_of rows) p) = omega arith in rw next (quota_at rows p)
     ]
 
+-- views that reach nothing need no tables, and the other way round
+need-none : (v : ℕ → View) → ((n : ℕ) → v n ≡ None) → need v ≡ 0
+unfolding need
+need-none v none =
+    let gigabytes = count_below-none (is_reached v) 512 (λ g small. reached-none v g (λ i lt. none (262144 * g + i))) in
+    let chunks = count_below-none (is_mixed v) 262144 (λ c small. mixed-none v c (λ i lt. none (512 * c + i))) in
+    omega (arith, gigabytes, chunks)
+
+pub none-needed : (v : ℕ → View) → need v ≤ 0 → (n : ℕ) → n < 2 ^ 27 → v n ≡ None
+unfolding need
+none-needed v le n small = elim (cases_Bool (is_reached v (n / 262144))) [
+  | inl t ↦
+      let some = count_below-some (is_reached v) 512 (n / 262144) (omega (arith, small)) t in
+      absurd (omega (arith, some, le))
+  | inr f ↦
+      let place : 262144 * (n / 262144) + n % 262144 ≡ n = omega arith in
+      ap v (sym place) ∙ not-reached v (n / 262144) (n % 262144) f (omega arith)
+]
+
 starts : (m : ManifestRows) → IsTrue (is_valid m) → AreWithinQuotas (start m)
-starts m valid = record { fits = λ p known. granted-fits m.regions m.partitions p (facts m valid).fits known }
+starts m valid = record {
+  fits = λ p. elim (cases_lt (row_of (ids_of m.partitions) p) (length (ids_of m.partitions))) [
+    | inl lt ↦ subst (λ k. need (grant m p) ≤ k) (quota_at m.partitions p) (fits_of m p (facts m valid) lt)
+    | inr le ↦ let none = need-none (grant m p) (λ n. stranger m p n (facts m valid) le) in omega (arith, none)
+  ];
+}
 
 -- ---- after a call
 
@@ -95,11 +113,10 @@ edited-fits s (Some edit) p before fit = elim (cases_Bool (eqb p edit.who)) [
 
 keeps : (s : State) (c : CallWords) (r : Request) → IsReached s → IsCall c → Passes s c r → AreWithinQuotas s → AreWithinQuotas (rule_of s c r).next
 keeps s c r reached is passes before = record {
-  fits = λ p known.
+  fits = λ p.
       let m = manifest_stays s c r in
-      let known_then : is_partition s.manifest p ≡ true = sym (ap (λ (x : ManifestRows). is_partition x p) m) ∙ known in
       let edits = edits_the_view s c r reached passes in
-      let then = edited-fits s (rule_of s c r).edit p (before.fits p known_then) passes.fits in
+      let then = edited-fits s (rule_of s c r).edit p (before.fits p) passes.fits in
       let alike : need (sees (rule_of s c r).next p) ≡ need (with_edit (rule_of s c r).edit (sees s) p) = need-same (with_edit (rule_of s c r).edit (sees s) p) (sees (rule_of s c r).next p) (λ n small. edits.views p n) in
       subst (λ k. k ≤ quota_of (rule_of s c r).next.manifest p) (sym alike) (subst (λ (x : ManifestRows). need (with_edit (rule_of s c r).edit (sees s) p) ≤ quota_of x p) (sym m) then);
 }

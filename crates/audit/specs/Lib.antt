@@ -1,5 +1,6 @@
 pub mod Alike
 pub mod Entries
+pub mod Filling
 pub mod Laws
 pub mod Reads
 pub mod Runs

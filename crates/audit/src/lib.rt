@@ -7,9 +7,11 @@ mod alike;
 mod check;
 mod entries;
 mod maps;
+mod rebuilt;
 mod tables;
 mod text;
 
 pub use check::check_text;
 pub use maps::maps_text;
+pub use rebuilt::rebuild;
 pub use tables::tables_text;
