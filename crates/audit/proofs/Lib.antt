@@ -5,5 +5,6 @@ pub mod FillUpward
 pub mod FillViews
 pub mod MaximalRuns
 pub mod Padding
+pub mod SameEntries
 pub mod WordReads
 pub mod Quotas

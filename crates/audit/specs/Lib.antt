@@ -1,4 +1,5 @@
 pub mod Alike
+pub mod Audit
 pub mod Entries
 pub mod Filling
 pub mod Laws

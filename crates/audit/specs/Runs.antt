@@ -1,8 +1,11 @@
 -- Maximal runs of pages that have one value.
-use Rattle.std.specs.Prelude.{ℕ, zero, suc, ◌+◌, ◌^◌, Bool, ◌&&◌, ◌==◌, List, [], ◌∷◌, Option, if◌then◌else◌}
+use Rattle.std.specs.Prelude.{ℕ, zero, suc, ◌+◌, ◌-◌, ◌^◌, Bool, ◌&&◌, ◌==◌, List, [], ◌∷◌, Option, Some, None, if◌then◌else◌}
 use Rattle.std.specs.Option.{option_map_or}
 use Rattle.base.specs.Access.{Access, View, is_same}
+use Rattle.base.specs.Ledger.{owner, home}
+use Rattle.base.specs.Manifest.{ManifestRows}
 use Rattle.base.specs.Pages.{PageRun}
+use Rattle.base.specs.Transactions.{Donation}
 use Rattle.audit.specs.Entries.{TableEntry}
 
 -- pages in a row, and the value of each of them
@@ -46,6 +49,41 @@ maximal_runs same value (suc n) =
 -- the maximal runs of all pages that are reached alike
 abbrev pub reached_runs : (ℕ → View) → List (ValuedRun Access)
 reached_runs view = maximal_runs is_same view (2 ^ 27)
+
+-- ---- owners
+
+-- the owner of a page, and what the page is to it
+pub record Ownership : Type 0 where
+  pub owner : ℕ
+  pub home : Access
+
+-- pages of one owner and one home
+abbrev pub OwnedRun : Type 0
+OwnedRun = ValuedRun Ownership
+
+-- an owner and a home, where there are both
+abbrev pub ownership_of : Option ℕ → View → Option Ownership
+ownership_of None home = None
+ownership_of (Some owner) None = None
+ownership_of (Some owner) (Some home) = Some (record { owner = owner; home = home })
+
+-- the owner and the home of a page
+abbrev pub ownership : ManifestRows → List Donation → ℕ → Option Ownership
+ownership m ds n = ownership_of (owner m ds n) (home m ds n)
+
+abbrev pub is_same_ownership : Ownership → Ownership → Bool
+is_same_ownership a b = (a.owner == b.owner) && is_same a.home b.home
+
+-- the maximal runs of all pages with one owner and one home
+abbrev pub owned_runs : ManifestRows → List Donation → List OwnedRun
+owned_runs m ds = maximal_runs is_same_ownership (ownership m ds) (2 ^ 27)
+
+-- these runs and the next pages, where they have an owner
+abbrev pub with_owned : List OwnedRun → ℕ → ℕ → Option Ownership → List OwnedRun
+with_owned runs first end value =
+    option_map_or (λ a. with_next is_same_ownership runs (valued first (end - first) a)) value runs
+
+-- ---- entries
 
 -- how many pages a block or a page stands for
 abbrev pub pages_at : ℕ → ℕ

@@ -7,7 +7,8 @@ use Rattle.base.specs.Manifest.{PartitionRow, ManifestRows, grant}
 use Rattle.base.specs.Need.{need}
 use Rattle.words.specs.Words.{leaf_word_of}
 use Rattle.audit.specs.Entries.{TableEntry, entries}
-use Rattle.audit.specs.Runs.{ValuedRun, reached_runs}
+use Rattle.base.specs.Transactions.{Donation}
+use Rattle.audit.specs.Runs.{ValuedRun, OwnedRun, reached_runs, owned_runs}
 
 -- ---- words and numbers
 
@@ -56,6 +57,22 @@ maps_line r =
 unfoldable pub maps_text : ℕ → (ℕ → View) → List ℕ
 maps_text p view =
     maps_header p (length (reached_runs view)) ++ flat_map maps_line (reached_runs view)
+
+-- ---- owners
+
+abbrev pub owners_header : ℕ → List ℕ
+owners_header count = codes "owners " ++ decimal count ++ codes "\n"
+
+-- the line of pages with one owner and one home
+abbrev pub owners_line : OwnedRun → List ℕ
+owners_line r =
+    address_text r.run.first ++ codes " " ++ decimal r.run.count ++ codes " " ++ hex 4 r.value.owner
+    ++ codes " " ++ access_text r.value.home ++ codes " " ++ kind_text r.value.home ++ codes "\n"
+
+-- the maximal runs of pages with one owner and one home
+unfoldable pub owners_text : ManifestRows → List Donation → List ℕ
+owners_text m ds =
+    owners_header (length (owned_runs m ds)) ++ flat_map owners_line (owned_runs m ds)
 
 -- ---- the tables of a partition
 

@@ -4,14 +4,18 @@
 #![tactic(auto)]
 
 mod alike;
+mod audited;
 mod check;
 mod entries;
 mod maps;
+mod owners;
 mod rebuilt;
 mod tables;
 mod text;
 
+pub use audited::audit_text;
 pub use check::check_text;
 pub use maps::maps_text;
+pub use owners::owners_text;
 pub use rebuilt::rebuild;
 pub use tables::tables_text;

@@ -54,7 +54,7 @@ impl Reached {
 }
 
 /// Whether the two are alike in rights, execution and kind.
-fn is_same(a: Access, b: Access) -> bool
+pub(crate) fn is_same(a: Access, b: Access) -> bool
     ensures { result ≡ is_same a b }
 {
     a.rights() == b.rights() && a.is_executable() == b.is_executable() && a.kind() == b.kind()
