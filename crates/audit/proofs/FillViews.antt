@@ -51,7 +51,6 @@ not-filled m ds live i id item t f lt is same so n small =
 module _ (m : ManifestRows) (ds : List Donation) (live : List Live) where
   -- what a view is, by what covers the page
   abbrev by : ℕ → Option RegionRow → Option Donation → Option Live → View
-
   by p region donation transaction =
       option_map_or (λ t. view_under t (option_map_or (λ (d : Donation). Some d.access) donation (option_and_then (λ (r : RegionRow). granted_in r r.owner) region)) p) transaction
       (option_map_or (λ (d : Donation). cond (eqb d.taker p) (Some d.access) None) donation (option_and_then (λ (r : RegionRow). granted_in r p) region))

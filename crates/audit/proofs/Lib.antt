@@ -4,6 +4,7 @@ pub mod EntryRuns
 pub mod FillUpward
 pub mod FillViews
 pub mod MaximalRuns
+pub mod OwnedRuns
 pub mod Padding
 pub mod SameEntries
 pub mod WordReads

@@ -8,7 +8,7 @@ use Rattle.base.specs.Need.{need}
 use Rattle.words.specs.Words.{leaf_word_of}
 use Rattle.audit.specs.Entries.{TableEntry, entries}
 use Rattle.base.specs.Transactions.{Donation}
-use Rattle.audit.specs.Runs.{ValuedRun, OwnedRun, reached_runs, owned_runs}
+use Rattle.audit.specs.Runs.{ValuedRun, Ownership, OwnedRun, reached_runs, owned_runs}
 
 -- ---- words and numbers
 
@@ -63,11 +63,16 @@ maps_text p view =
 abbrev pub owners_header : ℕ → List ℕ
 owners_header count = codes "owners " ++ decimal count ++ codes "\n"
 
+-- an owner and a home
+abbrev pub ownership_text : Ownership → List ℕ
+ownership_text o =
+    hex 4 o.owner ++ codes " " ++ access_text o.home ++ codes " " ++ kind_text o.home
+
 -- the line of pages with one owner and one home
 abbrev pub owners_line : OwnedRun → List ℕ
 owners_line r =
-    address_text r.run.first ++ codes " " ++ decimal r.run.count ++ codes " " ++ hex 4 r.value.owner
-    ++ codes " " ++ access_text r.value.home ++ codes " " ++ kind_text r.value.home ++ codes "\n"
+    address_text r.run.first ++ codes " " ++ decimal r.run.count ++ codes " "
+    ++ ownership_text r.value ++ codes "\n"
 
 -- the maximal runs of pages with one owner and one home
 unfoldable pub owners_text : ManifestRows → List Donation → List ℕ

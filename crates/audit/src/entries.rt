@@ -200,7 +200,14 @@ fn push_gigabyte<M: TableMem + Drop>(
     };
     push_table(1, GIGABYTE * gigabyte, entries)?;
     for index in 0..WORDS {
-        push_chunk(manifest, tables, p, table, WORDS * gigabyte + index, entries)?;
+        push_chunk(
+            manifest,
+            tables,
+            p,
+            table,
+            WORDS * gigabyte + index,
+            entries,
+        )?;
     }
     Ok(())
 }

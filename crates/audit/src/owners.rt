@@ -198,11 +198,20 @@ fn write_line(text: &mut String, owned: Owned) -> Result<(), OutOfMemory>
         (string_bytes text.new ≡ string_bytes text.old ++ spec.owners_line owned) }
 {
     let count = owned.run.count();
-    let access = access_text(owned.ownership.home);
-    let kind = kind_text(owned.ownership.home);
     write_address(text, owned.run.first())?;
     write!(text, " {count} ")?;
-    write_id(text, owned.ownership.owner)?;
-    writeln!(text, " {access} {kind}")?;
+    write_ownership(text, owned.ownership)?;
+    writeln!(text)?;
+    Ok(())
+}
+
+fn write_ownership(text: &mut String, ownership: Ownership) -> Result<(), OutOfMemory>
+    ensures { OnOk result
+        (string_bytes text.new ≡ string_bytes text.old ++ spec.ownership_text ownership) }
+{
+    let access = access_text(ownership.home);
+    let kind = kind_text(ownership.home);
+    write_id(text, ownership.owner)?;
+    write!(text, " {access} {kind}")?;
     Ok(())
 }
