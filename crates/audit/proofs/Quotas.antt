@@ -21,8 +21,8 @@ use Rattle.rules.specs.Run.{rule_of, IsReached}
 use Rattle.rules.specs.Laws.EditsTheView.{Passes}
 use Rattle.rules.proofs.Laws.EditsTheView.{edits_the_view}
 use Rattle.rules.proofs.Laws.ManifestStays.{manifest_stays}
-use Rattle.rules.proofs.Reached.{all_reached}
-use Rattle.audit.specs.Laws.{AreWithinQuotas}
+use Rattle.rules.proofs.Reached.{all_reached, IsReached-start}
+use Rattle.audit.specs.Laws.{AreWithinQuotas, AreOfReached}
 
 -- ---- what views need
 
@@ -123,3 +123,13 @@ keeps s c r reached is passes before = record {
 
 pub within_quotas : (s : State) → IsReached s → AreWithinQuotas s
 within_quotas = all_reached AreWithinQuotas starts keeps
+
+-- before any call nothing is shared
+pub boot-reached : (m : ManifestRows) → IsTrue (is_valid m) → AreOfReached m [] []
+boot-reached m valid = record {
+  state = start m;
+  reached = IsReached-start m valid;
+  of_manifest = refl;
+  of_donations = refl;
+  of_live = refl;
+}
