@@ -1,0 +1,191 @@
+-- Tables of one partition, filled upward.
+use Rattle.std.proofs.Common.{◌≡◌, ◌≢◌, ℕ, ◌+◌, ◌-◌, ◌^◌, ◌<◌, ◌≤◌, Bool, true, false, ◌&&◌, cond, eqb, ltb, List, [], ◌∷◌, length, get_or, Option, Some, None, refl, sym, ap, subst, ◌∙◌, ◌⊎◌, arith, inl, inr, eq-eqb}
+use Rattle.std.proofs.lemmas.Bool.{cases_Bool, cases_eq, cases_lt, eqb-true}
+use Rattle.std.proofs.lemmas.Bool.Decides.{nat_tests}
+use Rattle.base.specs.Access.{Access, View}
+use Rattle.base.specs.Manifest.{ManifestRows, ids_of, quotas_of, row_of}
+use Rattle.base.specs.Need.{is_alike, need, grow}
+use Rattle.base.specs.Pages.{PageRun, covers}
+use Rattle.manifest.specs.Valid.{quota_of}
+use Rattle.manifest.proofs.Tables.{alike-same}
+use Rattle.stage2.specs.Boot.{IsEdge, view_below}
+use Rattle.stage2.specs.Chunks.{edited}
+use Rattle.stage2.specs.Orderly.{answer_of}
+use Rattle.stage2.specs.Slot.{Layout, layout_of}
+use Rattle.stage2.specs.Tables.{TablesView, walk_in, view_of, AreCanonical, Fits, quota_in, ReachSo}
+use Rattle.stage2.specs.Walk.{walked}
+use Rattle.stage2.proofs.Counting.Needs.{alike-self}
+use Rattle.stage2.proofs.Editing.BootRegions.{fronts-fit}
+use Rattle.stage2.proofs.Editing.ChunkKeeps.{answer-walked}
+use Rattle.audit.specs.Filling.{pending_runs, CanMap, IsFilling, KeepsOthers, IsFilled}
+use Rattle.audit.proofs.Quotas.{quota_at}
+
+pub below-in : (seen : ℕ → View) (b n : ℕ) → n < b → view_below seen b n ≡ seen n
+below-in seen b n lt = let t : ltb n b ≡ true = grind (arith, nat_tests) in rw t refl
+
+pub below-out : (seen : ℕ → View) (b n : ℕ) → b ≤ n → view_below seen b n ≡ None
+below-out seen b n le = let t : ltb n b ≡ false = grind (arith, nat_tests) in rw t refl
+
+-- the quota that the tables know
+quota-of : (m : ManifestRows) (t : TablesView) (p : ℕ) → t.layout ≡ layout_of m → AreCanonical t → quota_in t p ≡ quota_of m p
+quota-of m t p placed canonical =
+    ap (λ (q : List ℕ). get_or q (row_of t.layout.ids p) 0) (sym canonical.trees.orderly.quotas)
+    ∙ ap (λ (l : Layout). get_or l.quotas (row_of l.ids p) 0) placed ∙ quota_at m.partitions p
+
+-- fits is said of the layout and the pool alone
+pub fits-same : (p : ℕ) (runs : List PageRun) (access : View) (t u : TablesView) → u.layout ≡ t.layout → u.pool ≡ t.pool → Fits p runs access t → Fits p runs access u
+fits-same p runs access t u same_layout same_pool h =
+    subst (λ l. Fits p runs access (record { layout = l; pool = u.pool; room = u.room })) (sym same_layout)
+    (subst (λ x. Fits p runs access (record { layout = t.layout; pool = x; room = u.room })) (sym same_pool) h)
+
+module _ (m : ManifestRows) (seen : ℕ → View) (p first number : ℕ) (access : View) (t : TablesView) (h : IsFilling m seen p first number access t) where
+  before : (n : ℕ) → n < 2 ^ 27 → view_of t p n ≡ view_below seen first n
+  before n small = ap answer_of (h.walks n small) ∙ answer-walked n (view_below seen first n)
+
+  -- the pending pages as one run, and their views
+  after : (n : ℕ) → n < 2 ^ 27 → edited (pending_runs first number access) access (view_below seen first) n ≡ view_below seen number n
+  after n small = elim (cases_lt n first) [
+    | inl lt ↦
+        edited-out n (inl lt) ∙ below-in seen first n lt ∙ sym (below-in seen number n (let o = h.ordered in omega (arith, lt, o)))
+    | inr le ↦ elim (cases_lt n number) [
+      | inl lt ↦ edited-in n le lt ∙ sym (below-in seen number n lt ∙ h.alike n le lt)
+      | inr past ↦ edited-out n (inr past) ∙ below-out seen first n le ∙ sym (below-out seen number n past)
+    ]
+  ]
+    where
+      out : (a : View) (n : ℕ) → (n < first) ⊎ (number ≤ n) → first ≤ number → covers (pending_runs first number a) n ≡ false
+      out None n apart o = refl
+      out (Some a) n apart o = elim apart [
+        | inl lt ↦ grind (arith, nat_tests)
+        | inr past ↦ grind (arith, nat_tests)
+      ]
+
+      edited-out : (n : ℕ) → (n < first) ⊎ (number ≤ n) → edited (pending_runs first number access) access (view_below seen first) n ≡ view_below seen first n
+      edited-out n apart = rw (out access n apart h.ordered) refl
+
+      inside : (a : View) (n : ℕ) → first ≤ n → n < number → cond (covers (pending_runs first number a) n) a (view_below seen first n) ≡ a
+      inside None n le lt = below-out seen first n le
+      inside (Some a) n le lt =
+          let on : covers (pending_runs first number (Some a)) n ≡ true = grind (arith, nat_tests, le, lt) in
+          rw on refl
+
+      edited-in : (n : ℕ) → first ≤ n → n < number → edited (pending_runs first number access) access (view_below seen first) n ≡ access
+      edited-in n le lt = inside access n le lt
+
+  same-edit : (n : ℕ) → n < 2 ^ 27 → edited (pending_runs first number access) access (view_of t p) n ≡ view_below seen number n
+  same-edit n small =
+      ap (λ v. cond (covers (pending_runs first number access) n) access v) (before n small) ∙ after n small
+
+  pub can-map : (a : Access) → access ≡ Some a → IsEdge seen number → need seen ≤ quota_of m p → CanMap p first number a t
+  can-map a is edge enough = record {
+    some = let o = h.ordered in elim (cases_lt first number) [
+      | inl lt ↦ lt
+      | inr le ↦
+          let same : first ≡ number = omega (arith, o, le) in
+          let none = (h.some same).1 in
+          absurd (cc)
+    ];
+    inside = h.inside;
+    fits =
+        let all = fronts-fit seen (view_of t p) (edited (pending_runs first number access) access (view_of t p)) first number h.edge edge before same-edit in
+        let quota = quota-of m t p h.placed h.canonical in
+        let most : need (view_of t p) + grow (view_of t p) (edited (pending_runs first number access) access (view_of t p)) ≤ quota_in t p = omega (arith, all, enough, quota) in
+        subst (λ o. need (view_of t p) + grow (view_of t p) (edited (pending_runs first number o) o (view_of t p)) ≤ quota_in t p) is most;
+  }
+
+  -- when they are mapped
+  pub mapped : (new : TablesView) → ReachSo p (pending_runs first number access) access t new → (n : ℕ) → n < 2 ^ 27 → walk_in new p n ≡ walked n (view_below seen number n)
+  mapped new reach n small =
+      reach p n small ∙ (let own : eqb p p ≡ true = eq-eqb p p refl in rw own (chosen (covers (pending_runs first number access) n) refl)) ∙ ap (walked n) (after n small)
+    where
+      chosen : (b : Bool) → covers (pending_runs first number access) n ≡ b → cond b (walked n access) (walk_in t p n) ≡ walked n (cond b access (view_below seen first n))
+      chosen true e = refl
+      chosen false e = h.walks n small
+
+  pub others : (new : TablesView) → ReachSo p (pending_runs first number access) access t new → KeepsOthers p t new
+  others new reach = record {
+    walks = λ q n small other.
+        let off : eqb q p ≡ false = grind (arith, nat_tests, other) in
+        reach q n small ∙ rw off refl;
+  }
+
+pub others-more : (p : ℕ) (a b c : TablesView) → KeepsOthers p a b → KeepsOthers p b c → KeepsOthers p a c
+others-more p a b c x y = record { walks = λ q n small other. y.walks q n small other ∙ x.walks q n small other }
+
+pub others-none : (p : ℕ) (a : TablesView) → KeepsOthers p a a
+others-none p a = record { walks = λ q n small other. refl }
+
+-- ---- from one segment to the next
+
+-- the next pages are not as the pending ones: there is an edge before them
+pub edge-between : (m : ManifestRows) (seen : ℕ → View) (p first number : ℕ) (access : View) (t : TablesView) → IsFilling m seen p first number access t → is_alike access (seen number) ≡ false → IsEdge seen number
+edge-between m seen p first number access t h unlike = elim (cases_lt first number) [
+  | inl lt ↦ inr (λ same.
+      let last : seen (number - 1) ≡ access = h.alike (number - 1) (omega (arith, lt)) (omega (arith, lt)) in
+      let both : access ≡ seen number = sym last ∙ same in
+      let alike : is_alike access (seen number) ≡ true = rw (← both) (alike-refl access) in
+      absurd (cc))
+  | inr le ↦ inl (h.some (let o = h.ordered in omega (arith, o, le))).0
+]
+  where
+    alike-refl : (a : View) → is_alike a a ≡ true
+    alike-refl None = refl
+    alike-refl (Some a) = alike-self (Some a) a refl
+
+-- they are as the pending ones, and so are those behind them
+pub filling-more : (m : ManifestRows) (seen : ℕ → View) (p first number end : ℕ) (access : View) (t : TablesView) → IsFilling m seen p first number access t → is_alike access (seen number) ≡ true → number < end → end ≤ 2 ^ 27 → ((n : ℕ) → number ≤ n → n < end → seen n ≡ seen number) → IsFilling m seen p first end access t
+filling-more m seen p first number end access t h alike behind inside all = record {
+  placed = h.placed;
+  canonical = h.canonical;
+  walks = h.walks;
+  ordered = let o = h.ordered in omega (arith, o, behind);
+  inside = inside;
+  some = λ same. let o = h.ordered in absurd (omega (arith, same, o, behind));
+  alike = λ n le lt. elim (cases_lt n number) [
+    | inl before ↦ h.alike n le before
+    | inr from ↦ all n from lt ∙ sym (alike-same access (seen number) alike)
+  ];
+  edge = h.edge;
+}
+
+-- they are others, and the pending ones are mapped
+pub filling-next : (m : ManifestRows) (seen : ℕ → View) (p number end : ℕ) (new : TablesView) → new.layout ≡ layout_of m → AreCanonical new → ((n : ℕ) → n < 2 ^ 27 → walk_in new p n ≡ walked n (view_below seen number n)) → IsEdge seen number → number < end → end ≤ 2 ^ 27 → ((n : ℕ) → number ≤ n → n < end → seen n ≡ seen number) → IsFilling m seen p number end (seen number) new
+filling-next m seen p number end new placed canonical walks edge behind inside all = record {
+  placed = placed;
+  canonical = canonical;
+  walks = walks;
+  ordered = omega (arith, behind);
+  inside = inside;
+  some = λ same. absurd (omega (arith, same, behind));
+  alike = all;
+  edge = edge;
+}
+
+-- after a segment, by what became of the pending pages
+pub filling-after : (m : ManifestRows) (seen : ℕ → View) (p first number end : ℕ) (access : View) (t : TablesView) → IsFilling m seen p first end access t → (first_now : ℕ) → first_now ≡ first → (access_now : View) → access_now ≡ access → (t_now : TablesView) → t_now ≡ t → IsFilling m seen p first_now end access_now t_now
+filling-after m seen p first number end access t h first_now same_first access_now same_access t_now same_t =
+    subst (λ f. IsFilling m seen p f end access_now t_now) (sym same_first)
+    (subst (λ a. IsFilling m seen p first end a t_now) (sym same_access)
+    (subst (λ x. IsFilling m seen p first end access x) (sym same_t) h))
+
+-- the last of the pending pages: behind them nothing is reached
+pub edge-last : (m : ManifestRows) (all : ℕ → View) (p first number : ℕ) (access : View) (a : Access) (t : TablesView) → IsFilling m (view_below all (2 ^ 27)) p first number access t → 2 ^ 27 ≤ number → access ≡ Some a → IsEdge (view_below all (2 ^ 27)) number
+edge-last m all p first number access a t h past is = elim (cases_lt first number) [
+  | inl lt ↦ inr (λ same.
+      let last = h.alike (number - 1) (omega (arith, lt)) (omega (arith, lt)) in
+      let none : view_below all (2 ^ 27) number ≡ None = below-out all (2 ^ 27) number past in
+      let bad : Some a ≡ None = sym is ∙ sym last ∙ same ∙ none in
+      absurd (cc))
+  | inr le ↦
+      let none = (h.some (let o = h.ordered in omega (arith, o, le))).1 in
+      let bad : Some a ≡ None = sym is ∙ none in
+      absurd (cc)
+]
+
+-- all pages are mapped
+pub filled : (m : ManifestRows) (all : ℕ → View) (p first number : ℕ) (access : View) (t new : TablesView) → IsFilling m (view_below all (2 ^ 27)) p first number access t → 2 ^ 27 ≤ number → ReachSo p (pending_runs first number access) access t new → IsFilled all p new
+filled m all p first number access t new h past reach = record {
+  walks = λ n small.
+      mapped m (view_below all (2 ^ 27)) p first number access t h new reach n small
+      ∙ ap (walked n) (below-in (view_below all (2 ^ 27)) number n (omega (arith, small, past)) ∙ below-in all (2 ^ 27) n small);
+}

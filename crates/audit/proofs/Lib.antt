@@ -1,0 +1,11 @@
+pub mod AlikePages
+pub mod EachBelow
+pub mod EntryRuns
+pub mod FillUpward
+pub mod FillViews
+pub mod MaximalRuns
+pub mod OwnedRuns
+pub mod Padding
+pub mod SameEntries
+pub mod WordReads
+pub mod Quotas

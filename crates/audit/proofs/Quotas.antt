@@ -1,0 +1,135 @@
+-- In each reached state what a partition reaches fits its quota.
+use Rattle.std.proofs.Common.{◌≡◌, ℕ, zero, suc, ◌+◌, ◌*◌, ◌/◌, ◌%◌, ◌^◌, ◌<◌, ◌≤◌, Bool, true, false, not, ◌&&◌, cond, eqb, leb, List, [], ◌∷◌, Option, Some, None, IsTrue, length, get_or, find, refl, sym, ap, ap₂, subst, ◌∙◌, arith, inl, inr}
+use Rattle.std.specs.Option.{option_map_or}
+use Rattle.std.proofs.lemmas.Bool.{leb-true, eqb-true, cases_Bool, cases_lt}
+use Rattle.base.specs.Access.{View}
+use Rattle.base.specs.Counts.{count_below}
+use Rattle.base.specs.Manifest.{PartitionRow, ManifestRows, ids_of, quotas_of, row_of, grant}
+use Rattle.base.specs.Need.{is_mixed, is_reached, need, grow, reaching}
+use Rattle.base.specs.Pages.{covers}
+use Rattle.base.specs.State.{State, sees, start}
+use Rattle.base.proofs.Booleans.{both}
+use Rattle.manifest.specs.Valid.{is_valid, quota_of}
+use Rattle.manifest.proofs.Facts.{facts, fits_of, stranger}
+use Rattle.pool.proofs.Count.{count_below-same, count_below-none, count_below-some}
+use Rattle.stage2.proofs.Counting.Needs.{mixed-same, reached-same, mixed-none, reached-none}
+use Rattle.stage2.proofs.Editing.Gigabyte.{not-reached}
+use Rattle.wire.specs.declared.request.Request.{Request}
+use Rattle.rules.specs.Call.{CallWords, IsCall}
+use Rattle.rules.specs.Rule.{Edit, with_edit, fits}
+use Rattle.rules.specs.Run.{rule_of, IsReached}
+use Rattle.rules.specs.Laws.EditsTheView.{Passes}
+use Rattle.rules.proofs.Laws.EditsTheView.{edits_the_view}
+use Rattle.rules.proofs.Laws.ManifestStays.{manifest_stays}
+use Rattle.rules.proofs.Reached.{all_reached, IsReached-start}
+use Rattle.audit.specs.Laws.{AreWithinQuotas, AreOfReached}
+
+-- ---- what views need
+
+-- views that are alike on all pages need as many tables
+pub need-same : (v w : ℕ → View) → ((n : ℕ) → n < 2 ^ 27 → w n ≡ v n) → need w ≡ need v
+unfolding need
+need-same v w alike =
+    ap₂ (λ (a b : ℕ). a + b)
+    (count_below-same (is_reached v) (is_reached w) 512 (λ g small. reached-same v w g (λ i lt. alike (262144 * g + i) (omega (arith, small, lt)))))
+    (count_below-same (is_mixed v) (is_mixed w) 262144 (λ c small. mixed-same v w c (λ i lt. alike (512 * c + i) (omega (arith, small, lt)))))
+
+count-most : (f g : ℕ → Bool) (n : ℕ) → count_below g n ≤ count_below f n + count_below (λ k. g k && not (f k)) n
+unfolding count_below
+count-most f g zero = omega arith
+count-most f g (suc n) = let rest = count-most f g n in let here = one (f n) (g n) in omega (arith, rest, here)
+  where
+    one : (a b : Bool) → cond b 1 0 ≤ cond a 1 0 + cond (b && not a) 1 0
+    one true true = omega arith
+    one true false = omega arith
+    one false true = omega arith
+    one false false = omega arith
+
+-- new views need no more than the old ones and what they grow by
+need-grows : (v w : ℕ → View) → need w ≤ need v + grow v w
+unfolding need grow
+need-grows v w =
+    numbers (count_below (is_reached v) 512) (count_below (is_mixed v) 262144) (count_below (λ g. is_reached w g && not (is_reached v g)) 512) (count_below (λ c. is_mixed w c && not (is_mixed v c)) 262144) (count_below (is_reached w) 512) (count_below (is_mixed w) 262144)
+    (count-most (is_reached v) (is_reached w) 512) (count-most (is_mixed v) (is_mixed w) 262144)
+  where
+    numbers : (a b c d e f : ℕ) → e ≤ a + c → f ≤ b + d → e + f ≤ (a + b) + (c + d)
+    numbers a b c d e f x y = omega arith
+
+-- ---- before any call
+
+pub quota_at : (rows : List PartitionRow) (p : ℕ) → get_or (quotas_of rows) (row_of (ids_of rows) p) 0 ≡ option_map_or (λ (row : PartitionRow). row.quota) (find (λ row. eqb row.id p) rows) 0
+quota_at [] p = refl
+quota_at (row ∷ rows) p =
+    elim (eqb row.id p) as (λ b. get_or (row.quota ∷ quotas_of rows) (cond (not b) (1 + row_of (ids_of rows) p) 0) 0 ≡ option_map_or (λ (r : PartitionRow). r.quota) (cond b (Some row) (find (λ r. eqb r.id p) rows)) 0) [
+      | true ↦ refl
+      | false ↦ let next : 1 + row_of (ids_of rows) p ≡ suc (row_of (ids_of rows) p) = omega arith in rw next (quota_at rows p)
+    ]
+
+-- views that reach nothing need no tables, and the other way round
+need-none : (v : ℕ → View) → ((n : ℕ) → v n ≡ None) → need v ≡ 0
+unfolding need
+need-none v none =
+    let gigabytes = count_below-none (is_reached v) 512 (λ g small. reached-none v g (λ i lt. none (262144 * g + i))) in
+    let chunks = count_below-none (is_mixed v) 262144 (λ c small. mixed-none v c (λ i lt. none (512 * c + i))) in
+    omega (arith, gigabytes, chunks)
+
+pub none-needed : (v : ℕ → View) → need v ≤ 0 → (n : ℕ) → n < 2 ^ 27 → v n ≡ None
+unfolding need
+none-needed v le n small = elim (cases_Bool (is_reached v (n / 262144))) [
+  | inl t ↦
+      let some = count_below-some (is_reached v) 512 (n / 262144) (omega (arith, small)) t in
+      absurd (omega (arith, some, le))
+  | inr f ↦
+      let place : 262144 * (n / 262144) + n % 262144 ≡ n = omega arith in
+      ap v (sym place) ∙ not-reached v (n / 262144) (n % 262144) f (omega arith)
+]
+
+starts : (m : ManifestRows) → IsTrue (is_valid m) → AreWithinQuotas (start m)
+starts m valid = record {
+  fits = λ p. elim (cases_lt (row_of (ids_of m.partitions) p) (length (ids_of m.partitions))) [
+    | inl lt ↦ subst (λ k. need (grant m p) ≤ k) (quota_at m.partitions p) (fits_of m p (facts m valid) lt)
+    | inr le ↦ let none = need-none (grant m p) (λ n. stranger m p n (facts m valid) le) in omega (arith, none)
+  ];
+}
+
+-- ---- after a call
+
+edited-fits : (s : State) (edit : Option Edit) (p : ℕ) → need (sees s p) ≤ quota_of s.manifest p → fits s edit ≡ true → need (with_edit edit (sees s) p) ≤ quota_of s.manifest p
+unfolding fits
+edited-fits s None p before fit = before
+edited-fits s (Some edit) p before fit = elim (cases_Bool (eqb p edit.who)) [
+  | inl t ↦
+      let same : p ≡ edit.who = eqb-true _ _ t in
+      let after = reaching edit.runs edit.to (sees s edit.who) in
+      let le : need (sees s edit.who) + grow (sees s edit.who) after ≤ quota_of s.manifest edit.who = leb-true _ _ fit in
+      let most = need-grows (sees s edit.who) after in
+      let alike : need (with_edit (Some edit) (sees s) p) ≡ need after = need-same after (with_edit (Some edit) (sees s) p) (λ n small. rw t (ap (λ q. cond (covers edit.runs n) edit.to (sees s q n)) same)) in
+      let enough : need after ≤ quota_of s.manifest edit.who = omega (arith, le, most) in
+      subst (λ k. k ≤ quota_of s.manifest p) (sym alike) (subst (λ q. need after ≤ quota_of s.manifest q) (sym same) enough)
+  | inr f ↦
+      let alike : need (with_edit (Some edit) (sees s) p) ≡ need (sees s p) = need-same (sees s p) (with_edit (Some edit) (sees s) p) (λ n small. rw f refl) in
+      subst (λ k. k ≤ quota_of s.manifest p) (sym alike) before
+]
+
+keeps : (s : State) (c : CallWords) (r : Request) → IsReached s → IsCall c → Passes s c r → AreWithinQuotas s → AreWithinQuotas (rule_of s c r).next
+keeps s c r reached is passes before = record {
+  fits = λ p.
+      let m = manifest_stays s c r in
+      let edits = edits_the_view s c r reached passes in
+      let then = edited-fits s (rule_of s c r).edit p (before.fits p) passes.fits in
+      let alike : need (sees (rule_of s c r).next p) ≡ need (with_edit (rule_of s c r).edit (sees s) p) = need-same (with_edit (rule_of s c r).edit (sees s) p) (sees (rule_of s c r).next p) (λ n small. edits.views p n) in
+      subst (λ k. k ≤ quota_of (rule_of s c r).next.manifest p) (sym alike) (subst (λ (x : ManifestRows). need (with_edit (rule_of s c r).edit (sees s) p) ≤ quota_of x p) (sym m) then);
+}
+
+pub within_quotas : (s : State) → IsReached s → AreWithinQuotas s
+within_quotas = all_reached AreWithinQuotas starts keeps
+
+-- before any call nothing is shared
+pub boot-reached : (m : ManifestRows) → IsTrue (is_valid m) → AreOfReached m [] []
+boot-reached m valid = record {
+  state = start m;
+  reached = IsReached-start m valid;
+  of_manifest = refl;
+  of_donations = refl;
+  of_live = refl;
+}

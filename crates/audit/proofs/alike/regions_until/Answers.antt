@@ -1,0 +1,8 @@
+use Rattle.base.specs.Pages.{in_run, covers}
+use Rattle.base.specs.Manifest.{RegionRow}
+use Rattle.base.specs.Transactions.{Live}
+use Rattle.audit.proofs.AlikePages.{find-until}
+use Rattle.audit.proofs.alike.regions_until.Goals as goal
+
+pub returns : goal.returns
+returns c = find-until _ _ c.loop-region.region-index c.args.page c.loop-region.end c.args.limit c.loop-region.invariant c.loop-region-test.false

@@ -1,0 +1,11 @@
+use Rattle.std.proofs.Common.{◌≡◌, ◌++◌, string_bytes, length, take}
+use Rattle.std.specs.List.{flat_map}
+use Rattle.stage2.specs.Tables.{view_of}
+use Rattle.audit.specs.Runs.{reached_runs}
+use Rattle.audit.specs.Texts as spec
+use Rattle.audit.proofs.maps.maps_text.Given as goal
+
+-- the header, and the lines of the runs before this one
+abbrev pub invariant-loop-reached : goal.invariant-loop-reached
+invariant-loop-reached g l =
+    string_bytes l.text ≡ spec.maps_header l.fn.p (length l.reached-items) ++ flat_map spec.maps_line (take l.reached-index l.reached-items)

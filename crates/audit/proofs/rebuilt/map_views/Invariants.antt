@@ -1,0 +1,14 @@
+use Rattle.std.proofs.Common.{◌≡◌, ◌-◌}
+use Rattle.stage2.specs.Slot.{layout_of}
+use Rattle.audit.specs.Filling.{views, IsFilling, KeepsOthers}
+use Rattle.audit.proofs.rebuilt.map_views.Given as goal
+
+-- the pages below the pending ones are mapped
+abbrev pub invariant-loop-number : goal.invariant-loop-number
+invariant-loop-number l = record {
+  filling : IsFilling l.manifest (views l.manifest l.donations l.live l.p) l.p l.first l.number l.access l.tables;
+  others : KeepsOthers l.p l.fn.tables l.tables;
+}
+
+abbrev pub decreases-loop-number : goal.decreases-loop-number
+decreases-loop-number l = 134217728 - l.number

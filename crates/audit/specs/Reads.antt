@@ -1,0 +1,28 @@
+-- What a read of the tables finds of the places where tables hang.
+use Rattle.std.specs.Prelude.{◌≡◌, ℕ, ◌<◌, Bool, Option, Some, length}
+use Rattle.base.specs.Manifest.{row_of}
+use Rattle.base.specs.Need.{is_mixed, is_reached}
+use Rattle.pool.specs.Pool.{words_of}
+use Rattle.stage2.specs.Slot.{slot}
+use Rattle.stage2.specs.Tables.{TablesView, view_of}
+use Rattle.stage2.specs.Walk.{Gigabyte, next_page, table_at}
+
+-- the pool page of the table that a word points at
+abbrev pub next_in : TablesView → ℕ → ℕ → ℕ → Option ℕ
+next_in t level table index =
+    next_page (slot t.layout level (words_of t.pool.memory.words table index))
+
+-- this pool page is the level 2 table of a gigabyte of a partition
+pub record IsLevel2 (t : TablesView) (p g j : ℕ) : Type 0 where
+  pub row : row_of t.layout.ids p < length t.layout.ids
+  pub hangs : table_at t.layout (words_of t.pool.memory.words) (Gigabyte (row_of t.layout.ids p) g)
+      ≡ Some j
+  pub inside : j < t.layout.pages
+
+-- a page of the gigabyte is reached
+abbrev pub is_reached_in : TablesView → ℕ → ℕ → Bool
+is_reached_in t p g = is_reached (view_of t p) g
+
+-- the pages of the chunk are not all reached alike
+abbrev pub is_mixed_in : TablesView → ℕ → ℕ → Bool
+is_mixed_in t p c = is_mixed (view_of t p) c

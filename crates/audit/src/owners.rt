@@ -1,0 +1,217 @@
+//! The text of who owns which pages.
+
+ghost use Rattle.std.specs.Prelude.{◌≡◌, ◌++◌, ℕ, ◌<◌, ◌≤◌, ◌^◌, true, length, IfOk, OnOk, string_bytes};
+ghost use Rattle.audit.specs.Runs as runs;
+ghost use Rattle.audit.specs.Runs.{ownership, ownership_of, is_same_ownership};
+ghost use Rattle.audit.specs.Texts as spec;
+
+use crate::alike::segment_end;
+use crate::maps::is_same;
+use crate::text::{access_text, kind_text, write_address, write_id};
+use base::{Access, OutOfMemory, Page, PartitionId, Run};
+use ledger::Ledger;
+use manifest::Manifest;
+use std::alloc::Global;
+use std::marker::Model;
+
+/// The owner of pages, and what they are to it.
+#[derive(Clone, Copy, Debug, PartialEq, Eq)]
+struct Ownership {
+    owner: PartitionId,
+    home: Access,
+}
+
+impl Model for Ownership {
+    ghost use Rattle.audit.specs.Runs as runs;
+
+    ghost Value = { runs.Ownership };
+
+    ghost view = { λ o. record { owner = o.owner; home = o.home } };
+
+    ghost inverse = { λ o. record { owner = o.owner; home = o.home } };
+}
+
+impl Ownership {
+    /// An owner and a home, where there are both.
+    fn of(owner: Option<PartitionId>, home: Option<Access>) -> Option<Self>
+        ensures { result ≡ ownership_of owner home }
+    {
+        match (owner, home) {
+            (Some(owner), Some(home)) => Some(Ownership { owner, home }),
+            _ => None,
+        }
+    }
+
+    fn is_same(self, other: Self) -> bool
+        ensures { result ≡ is_same_ownership self other }
+    {
+        self.owner == other.owner && is_same(self.home, other.home)
+    }
+}
+
+/// Pages with one owner and one home.
+#[derive(Clone, Copy, Debug, PartialEq, Eq)]
+struct Owned {
+    run: Run,
+    ownership: Ownership,
+}
+
+impl Model for Owned {
+    ghost use Rattle.audit.specs.Runs as runs;
+
+    ghost Value = { runs.OwnedRun };
+
+    ghost view = { λ o. record { run = o.run; value = o.ownership } };
+
+    ghost inverse = { λ o. record { run = o.run; ownership = o.value } };
+}
+
+impl Owned {
+    /// Whether the next pages begin where these end, and have the same owner and home.
+    fn is_followed_by(self, next: Self) -> bool
+        ensures { result ≡ runs.is_followed_by is_same_ownership self next }
+    {
+        self.run.end() == next.run.first().number() && self.ownership.is_same(next.ownership)
+    }
+
+    /// These pages and the next, which follow them.
+    fn joined(self, next: Self) -> Self
+        requires { runs.is_followed_by is_same_ownership self next ≡ true }
+        ensures { result ≡ runs.joined self next }
+    {
+        Owned {
+            run: Run::new(self.run.first(), self.run.count() + next.run.count()),
+            ownership: self.ownership,
+        }
+    }
+}
+
+/// `owners N`, and then the N maximal runs of pages with one owner and one home, upward, as
+/// `ADDRESS COUNT OWNER ACCESS KIND`. The manifest is that of the ledger.
+#[tactic(auto, unfolding(crate::specs::Texts::owners_text))]
+pub fn owners_text(
+    alloc: Global,
+    manifest: &Manifest,
+    ledger: &Ledger,
+) -> Result<String, OutOfMemory>
+    requires manifest { ledger.now.manifest ≡ manifest.now }
+    ensures { IfOk result
+        (λ text. string_bytes text ≡ spec.owners_text manifest.now ledger.now.donations) }
+{
+    let runs = owned_runs(alloc, manifest, ledger)?;
+    let mut text = String::new(alloc);
+    write_header(&mut text, runs.len())?;
+    for owned in &runs {
+        write_line(&mut text, *owned)?;
+    }
+    Ok(text)
+}
+
+/// The maximal runs of pages with one owner and one home, upward.
+fn owned_runs(
+    alloc: Global,
+    manifest: &Manifest,
+    ledger: &Ledger,
+) -> Result<Vec<Owned>, OutOfMemory>
+    requires manifest { ledger.now.manifest ≡ manifest.now }
+    ensures { IfOk result
+        (λ found. found.items ≡ runs.owned_runs manifest.now ledger.now.donations) }
+{
+    let mut found = Vec::new(alloc);
+    let mut number = 0;
+    while number < Page::COUNT {
+        let page = Page::new(number);
+        let end = segment_until(manifest, ledger, page);
+        push_pages(&mut found, ledger, page, end)?;
+        number = end;
+    }
+    Ok(found)
+}
+
+/// The number of a page up to which all pages from a page on have its owner and home. In a region it is
+/// found by halving, and else by a look at each range.
+fn segment_until(manifest: &Manifest, ledger: &Ledger, page: Page) -> u32
+    requires manifest { ledger.now.manifest ≡ manifest.now }
+    ensures behind { page < result }
+    ensures in_range { result ≤ 2 ^ 27 }
+    ensures alike { (n : ℕ) → page ≤ n → n < result
+        → ownership manifest.now ledger.now.donations n
+        ≡ ownership manifest.now ledger.now.donations page }
+{
+    if manifest.region_at(page).is_some() {
+        ledger.segment(page).end
+    } else {
+        segment_end(manifest, ledger.donations(), ledger.live(), page)
+    }
+}
+
+/// Appends the pages up to an end, which have one owner and one home, if they have an owner.
+fn push_pages(
+    found: &mut Vec<Owned>,
+    ledger: &Ledger,
+    page: Page,
+    end: u32,
+) -> Result<(), OutOfMemory>
+    requires some { page < end }
+    requires in_range { end ≤ 2 ^ 27 }
+    ensures { OnOk result (found.new.items ≡ runs.with_owned found.old.items page end
+        (ownership ledger.now.manifest ledger.now.donations page)) }
+{
+    match Ownership::of(ledger.owner(page), ledger.home(page)) {
+        Some(ownership) => {
+            let run = Run::new(page, end - page.number());
+            push_run(found, Owned { run, ownership })
+        }
+        None => Ok(()),
+    }
+}
+
+/// Appends pages, to the last run where they follow it with the same owner and home.
+fn push_run(found: &mut Vec<Owned>, next: Owned) -> Result<(), OutOfMemory>
+    ensures { OnOk result
+        (found.new.items ≡ runs.with_next is_same_ownership found.old.items next) }
+{
+    match found.pop() {
+        Some(last) => {
+            if last.is_followed_by(next) {
+                found.push(last.joined(next))?;
+            } else {
+                found.push(last)?;
+                found.push(next)?;
+            }
+        }
+        None => found.push(next)?,
+    }
+    Ok(())
+}
+
+fn write_header(text: &mut String, count: usize) -> Result<(), OutOfMemory>
+    ensures { OnOk result
+        (string_bytes text.new ≡ string_bytes text.old ++ spec.owners_header count) }
+{
+    writeln!(text, "owners {count}")?;
+    Ok(())
+}
+
+fn write_line(text: &mut String, owned: Owned) -> Result<(), OutOfMemory>
+    ensures { OnOk result
+        (string_bytes text.new ≡ string_bytes text.old ++ spec.owners_line owned) }
+{
+    let count = owned.run.count();
+    write_address(text, owned.run.first())?;
+    write!(text, " {count} ")?;
+    write_ownership(text, owned.ownership)?;
+    writeln!(text)?;
+    Ok(())
+}
+
+fn write_ownership(text: &mut String, ownership: Ownership) -> Result<(), OutOfMemory>
+    ensures { OnOk result
+        (string_bytes text.new ≡ string_bytes text.old ++ spec.ownership_text ownership) }
+{
+    let access = access_text(ownership.home);
+    let kind = kind_text(ownership.home);
+    write_id(text, ownership.owner)?;
+    write!(text, " {access} {kind}")?;
+    Ok(())
+}
