@@ -3,9 +3,8 @@
 ghost use Rattle.lines.specs.Lines.{HasParts, IsWhole};
 
 use crate::fault::RunFault;
-use crate::maps::write_maps;
 use crate::operations::write_operations;
-use crate::tables::write_tables;
+use audit::{maps_text, tables_text};
 use base::{Handle, Kind, MemoryAttributes, OutOfMemory, PartitionId};
 use descw::{HeaderFields, SendFields, write_send};
 use lines::{Line, SendLine, read_line};
@@ -80,8 +79,16 @@ impl<M: TableMem + Drop> Run<M> {
                 let reply = self.call(id, regs)?;
                 write_reply(self.alloc, &reply, text)
             }
-            Line::Maps(id) => write_maps(self.alloc, &self.spm, id, text),
-            Line::Tables(id) => write_tables(&self.spm, id, text),
+            Line::Maps(id) => {
+                let maps = maps_text(self.alloc, self.spm.manifest(), self.spm.tables(), id)?;
+                text.push_str(&maps)?;
+                Ok(())
+            }
+            Line::Tables(id) => {
+                let entries = tables_text(self.alloc, self.spm.manifest(), self.spm.tables(), id)?;
+                text.push_str(&entries)?;
+                Ok(())
+            }
             Line::Operations => write_operations(&self.spm, text),
         }
     }
