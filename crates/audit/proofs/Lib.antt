@@ -7,5 +7,6 @@ pub mod MaximalRuns
 pub mod OwnedRuns
 pub mod Padding
 pub mod SameEntries
+pub mod SameTexts
 pub mod WordReads
 pub mod Quotas

@@ -4,9 +4,9 @@
 #![tactic(auto)]
 
 use arguments::{Task, read_arguments, words_of};
+use audit::check_text;
 use fault::Fault;
 use files::{read_manifest, read_script};
-use needs::write_needs;
 use pool::RawPool;
 use script::run_script;
 use std::io::{self, Write};
@@ -15,11 +15,8 @@ use std::process::ExitCode;
 mod arguments;
 mod fault;
 mod files;
-mod maps;
-mod needs;
 mod operations;
 mod script;
-mod tables;
 
 /// The manifest is read and judged before the script is opened.
 fn perform(rt: &HostRuntime, task: &Task<'_>) -> Result<(), Fault> {
@@ -34,8 +31,7 @@ fn perform(rt: &HostRuntime, task: &Task<'_>) -> Result<(), Fault> {
             Ok(outcome?)
         }
         Task::Check { manifest } => {
-            let mut text = String::new(alloc);
-            write_needs(&read_manifest(rt, manifest)?, &mut text)?;
+            let text = check_text(alloc, &read_manifest(rt, manifest)?)?;
             write_text(rt, &text)
         }
     }

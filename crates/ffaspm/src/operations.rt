@@ -1,7 +1,10 @@
 //! The text of the operations of the last call.
 
+ghost use Rattle.std.specs.Prelude.{◌≡◌, ◌*◌};
+
 use crate::fault::RunFault;
-use crate::maps::address_of;
+use base::Page;
+use base::limits::PAGE_SIZE;
 use pool::{Op, TableMem};
 use spm::Spm;
 
@@ -38,10 +41,17 @@ fn write_operation(operation: &Op, text: &mut String) -> Result<(), RunFault> {
     Ok(())
 }
 
+/// The address at which a page begins.
+fn address_of(page: Page) -> u64
+    ensures { result ≡ 4096 * page }
+{
+    PAGE_SIZE * u64::from(page.number())
+}
+
 #[cfg(test)]
 mod tests {
     use super::*;
-    use base::{Page, Run};
+    use base::Run;
     use std::test::Fail;
 
     #[test]

@@ -3,9 +3,8 @@
 ghost use Rattle.lines.specs.Lines.{HasParts, IsWhole};
 
 use crate::fault::RunFault;
-use crate::maps::write_maps;
 use crate::operations::write_operations;
-use crate::tables::write_tables;
+use audit::{audit_text, maps_text, owners_text, tables_text};
 use base::{Handle, Kind, MemoryAttributes, OutOfMemory, PartitionId};
 use descw::{
     HeaderFields, RelinquishFields, RetrieveFields, SendFields, write_relinquish, write_retrieve, write_send,
@@ -89,10 +88,32 @@ impl<M: TableMem + Drop> Run<M> {
                 let reply = self.call(id, reclaim_registers(handle))?;
                 write_reply(self.alloc, &reply, text)
             }
-            Line::Maps(id) => write_maps(self.alloc, &self.spm, id, text),
-            Line::Tables(id) => write_tables(&self.spm, id, text),
+            Line::Maps(id) => {
+                let maps = maps_text(self.alloc, self.spm.manifest(), self.spm.tables(), id)?;
+                text.push_str(&maps)?;
+                Ok(())
+            }
+            Line::Tables(id) => {
+                let entries = tables_text(self.alloc, self.spm.manifest(), self.spm.tables(), id)?;
+                text.push_str(&entries)?;
+                Ok(())
+            }
+            Line::Owners => {
+                let owners = owners_text(self.alloc, self.spm.manifest(), self.spm.ledger())?;
+                text.push_str(&owners)?;
+                Ok(())
+            }
             Line::Operations => write_operations(&self.spm, text),
+            Line::Audit => self.audit(text),
         }
+    }
+
+    /// Writes whether the tables are those that are made again from the ledger.
+    fn audit(&self, text: &mut String) -> Result<(), RunFault> {
+        let manifest = self.spm.manifest();
+        let audited = audit_text(self.alloc, manifest, self.spm.tables(), self.spm.ledger())?;
+        text.push_str(&audited)?;
+        Ok(())
     }
 
     /// A send whose descriptor is in the layout of the sender's version. The bytes that are kept for it

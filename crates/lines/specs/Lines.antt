@@ -3,7 +3,7 @@ use Rattle.std.specs.Prelude.{◌≡◌, ℕ, ◌+◌, ◌≤◌, ◌^◌, Bool,
 use Rattle.std.specs.List.{list_all}
 use Rattle.std.specs.Str.Parse.{digits_value}
 use Rattle.lines.specs.declared.line.Line.{Line}
-use Rattle.lines.specs.declared.line.Line.TheVariants.{Nothing, Tx, Call, Send, Retrieve, Relinquish, Reclaim, Maps, Tables, Operations}
+use Rattle.lines.specs.declared.line.Line.TheVariants.{Nothing, Tx, Call, Send, Retrieve, Relinquish, Reclaim, Maps, Tables, Owners, Operations, Audit}
 use Rattle.lines.specs.declared.send.SendLine.{SendLine}
 
 -- 0 to 9 and a to f
@@ -64,4 +64,6 @@ HasParts (Relinquish fields) = Unit {0}
 HasParts (Reclaim id handle) = Unit {0}
 HasParts (Maps id) = Unit {0}
 HasParts (Tables id) = Unit {0}
+HasParts Owners = Unit {0}
 HasParts Operations = Unit {0}
+HasParts Audit = Unit {0}

@@ -47,8 +47,13 @@ pub enum Line {
     Maps(PartitionId),
     /// `tables ID`: the valid entries of ID's translation tables.
     Tables(PartitionId),
+    /// `owners`: who owns which pages.
+    Owners,
     /// `ops`: the operations on the tables during the last call.
     Operations,
+    /// `audit`: whether the tables are those that are made again from the donations and the live
+    /// transactions.
+    Audit,
 }
 
 /// The line that the bytes are, without their line feed; None where they are none. Words are parted by
@@ -91,7 +96,9 @@ pub fn read_line(alloc: Global, bytes: &[u8]) -> Result<Option<Line>, OutOfMemor
         ["reclaim", id, handle] => Ok(read_reclaim(id, handle)),
         ["maps", id] => Ok(read_id(id).map(Line::Maps)),
         ["tables", id] => Ok(read_id(id).map(Line::Tables)),
+        ["owners"] => Ok(Some(Line::Owners)),
         ["ops"] => Ok(Some(Line::Operations)),
+        ["audit"] => Ok(Some(Line::Audit)),
         _ => Ok(None),
     }
 }

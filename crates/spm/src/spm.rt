@@ -104,6 +104,7 @@ impl<M: TableMem + Drop> Spm<M> {
 
     /// The live transactions and the completed donations.
     pub fn ledger(&self) -> &Ledger
+        ensures manifest { result.now.manifest ≡ self.now.state.manifest }
         ensures donations { result.now.donations ≡ self.now.state.donations }
         ensures live { result.now.live ≡ self.now.state.live }
         ensures agrees { WalksAgree self.now.state self.now.pool }

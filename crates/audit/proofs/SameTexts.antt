@@ -1,0 +1,19 @@
+-- The texts of views that are alike on all pages are the same.
+use Rattle.std.proofs.Common.{◌≡◌, ℕ, ◌^◌, ◌<◌, ◌++◌, List, length, refl, sym, ap, ap₂, ◌∙◌}
+use Rattle.std.specs.List.{flat_map}
+use Rattle.base.specs.Access.{Access, View, is_same}
+use Rattle.base.specs.Need.{need}
+use Rattle.audit.specs.Entries.{TableEntry, entries}
+use Rattle.audit.specs.Runs.{ReachedRun, reached_runs}
+use Rattle.audit.specs.Texts.{maps_header, maps_line, maps_text, tables_header, entry_line, tables_text}
+use Rattle.audit.proofs.MaximalRuns.{runs-same}
+use Rattle.audit.proofs.Quotas.{need-same}
+use Rattle.audit.proofs.SameEntries.{entries-same}
+
+pub maps-same : (p : ℕ) (v w : ℕ → View) → ((n : ℕ) → n < 2 ^ 27 → w n ≡ v n) → maps_text p w ≡ maps_text p v
+unfolding maps_text
+maps-same p v w alike = ap (λ (runs : List ReachedRun). maps_header p (length runs) ++ flat_map maps_line runs) (runs-same is_same v w (2 ^ 27) alike)
+
+pub tables-same : (p : ℕ) (v w : ℕ → View) → ((n : ℕ) → n < 2 ^ 27 → w n ≡ v n) → tables_text p w ≡ tables_text p v
+unfolding tables_text
+tables-same p v w alike = ap₂ (λ (count : ℕ) (es : List TableEntry). tables_header p count ++ flat_map entry_line es) (need-same v w alike) (entries-same v w alike)
