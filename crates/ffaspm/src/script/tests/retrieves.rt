@@ -41,7 +41,7 @@ const RESPONSE: &str =
     00100080000000000100000000000000\n";
 
 /// After the buffers are registered, each line writes what stands beside it, with these quotas of
-/// 0x8001 and 0x8002.
+/// 0x8001 and 0x8002. The tables are always those that the ledger gives.
 fn expect_with(
     rt: &impl Abort,
     alloc: Global,
@@ -52,8 +52,8 @@ fn expect_with(
     let mut script = String::from_str(alloc, PAIRS)?;
     let mut wanted = format!(in alloc; "{OK}{OK}{OK}")?;
     for (line, writes) in lines {
-        writeln!(&mut script, "{line}")?;
-        write!(&mut wanted, "{writes}")?;
+        writeln!(&mut script, "{line}\naudit")?;
+        writeln!(&mut wanted, "{writes}equal")?;
     }
     expect_text_from(rt, alloc, &document, &script, None, &wanted)
 }
@@ -222,6 +222,16 @@ const OF_TWO_TO_ANOTHER: &str =
     00000000000000000380060040000000000000000000000001000000010000000000000000000000\
     00002080000000000100000000000000\n";
 
+/// Who owns which pages at boot.
+const OWNERS: &str = "owners 7\n\
+    0009000000 1 8001 rw- device\n\
+    0080000000 1024 8001 rwx normal\n\
+    0090000000 2 8001 rw- normal\n\
+    00a0000000 512 8002 rw- normal\n\
+    00b0000000 2 8002 rw- normal\n\
+    00c0000000 2 8003 rw- normal\n\
+    00d0000000 1 8001 rw- normal\n";
+
 /// Two receivers of one lend both write its page. Each says that it does not name the other.
 #[test]
 fn lends_to_two(rt: HostRuntime) -> Result<(), Fail> {
@@ -239,6 +249,7 @@ fn lends_to_two(rt: HostRuntime) -> Result<(), Fail> {
         ("retrieve 8002 800100000001 8001 0 2 02 alone", OF_TWO),
         ("retrieve 8003 800100000001 8001 0 0 00 alone", OF_TWO_TO_ANOTHER),
         ("maps 8002\nmaps 8003", reached),
+        ("owners", OWNERS),
     ];
     expect(&rt, rt.alloc(), &lines)
 }
@@ -343,4 +354,42 @@ fn splits_no_block_beyond_the_quota(rt: HostRuntime) -> Result<(), Fail> {
         ("relinquish 8002 800100000001", OK),
     ];
     expect_with(&rt, rt.alloc(), (16, 5), &lines)
+}
+
+const FOUR_GIVEN: &str =
+    "reply 84000075 00000060 00000060 00000000 00000000 00000000 00000000 00000000\n\
+    rx 01802f00180000000100000001800000000000000000000010000000010000003000000000000000\
+    00000000000000000280060040000000000000000000000004000000010000000000000000000000\
+    00000080000000000400000000000000\n";
+
+const ONE_GIVEN_BACK: &str =
+    "reply 84000075 00000060 00000060 00000000 00000000 00000000 00000000 00000000\n\
+    rx 02802f00180000000100000002800000000000000000000010000000010000003000000000000000\
+    00000000000000000180060040000000000000000000000001000000010000000000000000000000\
+    00100080000000000100000000000000\n";
+
+/// Each page is its last taker's.
+#[test]
+fn names_the_owners(rt: HostRuntime) -> Result<(), Fail> {
+    let second = "reply 84000061 00000000 00000001 00008002 00000000 00000000 00000000 00000000\n";
+    let owners = "owners 10\n\
+        0009000000 1 8001 rw- device\n\
+        0080000000 1 8002 rw- normal\n\
+        0080001000 1 8001 rw- normal\n\
+        0080002000 2 8002 rw- normal\n\
+        0080004000 1020 8001 rwx normal\n\
+        0090000000 2 8001 rw- normal\n\
+        00a0000000 512 8002 rw- normal\n\
+        00b0000000 2 8002 rw- normal\n\
+        00c0000000 2 8003 rw- normal\n\
+        00d0000000 1 8001 rw- normal\n";
+    let lines = [
+        ("owners", OWNERS),
+        ("donate 8001 0 8002:00 80000000+4", FIRST),
+        ("retrieve 8002 800100000001 8001 0 3 00", FOUR_GIVEN),
+        ("donate 8002 0 8001:00 80001000+1", second),
+        ("retrieve 8001 800200000001 8002 0 3 00", ONE_GIVEN_BACK),
+        ("owners", owners),
+    ];
+    expect(&rt, rt.alloc(), &lines)
 }

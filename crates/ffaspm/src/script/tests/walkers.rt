@@ -232,7 +232,11 @@ fn watch_line<M: TableMem + Drop>(
     requires { HasParts line }
 {
     match line {
-        Line::Call(..) | Line::Send(..) => {
+        Line::Call(..)
+        | Line::Send(..)
+        | Line::Retrieve(..)
+        | Line::Relinquish(..)
+        | Line::Reclaim(..) => {
             let watch = take_watch(run.alloc, &run.spm)?;
             run.line(line, text)?;
             expect_replay(rt, run.alloc, &run.spm, watch)?;
@@ -298,8 +302,9 @@ impl Draw {
         (self.state >> 33) as u32 % limit
     }
 
-    /// Appends a lend of one to three ranges of the pages from an address on.
-    fn push_lend(
+    /// Appends a lend, or now and then a donation, of one to three ranges of the pages from an address
+    /// on.
+    fn push_send(
         &mut self,
         text: &mut String,
         from: &str,
@@ -308,7 +313,11 @@ impl Draw {
     ) -> Result<(), Fail>
         requires { 0 < pages }
     {
-        write!(text, "lend {from} 0 8003:02 ")?;
+        if self.below(8) == 0 {
+            write!(text, "donate {from} 0 8003:00 ")?;
+        } else {
+            write!(text, "lend {from} 0 8003:02 ")?;
+        }
         for i in 0..=self.below(3) {
             let comma = if i == 0 { "" } else { "," };
             let (first, count) = self.range(pages);
@@ -331,22 +340,42 @@ impl Draw {
         }
     }
 
-    /// A script of lends by two partitions, after which neither has 32 live transactions.
+    /// Appends a call on one of so many transactions of a sender.
+    fn push_step(&mut self, text: &mut String, from: &str, sends: u32) -> Result<(), Fail>
+        requires { 0 < sends }
+    {
+        let number = 1 + self.below(sends);
+        match self.below(4) {
+            0 => writeln!(text, "reclaim {from} {from}{number:08x}")?,
+            1 => writeln!(text, "relinquish 8003 {from}{number:08x}")?,
+            _ => writeln!(
+                text,
+                "retrieve 8003 {from}{number:08x} {from} 0 0 00\ncall 8003 84000065"
+            )?,
+        }
+        Ok(())
+    }
+
+    /// A script of sends by two partitions, after which neither has 32 live transactions, and of calls
+    /// on them.
     fn script(&mut self, alloc: Global) -> Result<String, Fail> {
         let mut text = String::from_str(alloc, PAIRS)?;
-        for i in 0..50 {
+        for i in 0..50u32 {
+            let sends = 1 + i / 2;
             if i % 2 == 0 {
-                self.push_lend(&mut text, "8002", 0xa000_0000, 512)?;
+                self.push_send(&mut text, "8002", 0xa000_0000, 512)?;
+                self.push_step(&mut text, "8002", sends)?;
             } else {
-                self.push_lend(&mut text, "8001", 0x8000_0000, 1024)?;
+                self.push_send(&mut text, "8001", 0x8000_0000, 1024)?;
+                self.push_step(&mut text, "8001", sends)?;
             }
         }
         Ok(text)
     }
 }
 
-/// Sends after the buffer pairs are there, and how many of them change tables.
-const ROWS: [(&str, u32); 9] = [
+/// Calls after the buffer pairs are there, and how many of them change tables.
+const ROWS: [(&str, u32); 12] = [
     ("lend 8001 0 8002:02 80001000+1\n", 1),
     (
         "share 8001 5 8002:01 80000000+1\nlend 8001 0 8002:02 d0000000+1\n",
@@ -368,9 +397,30 @@ const ROWS: [(&str, u32); 9] = [
         "lend 8001 0 8002:02 80000000+256\nlend 8001 0 8002:02 80100000+256\n",
         2,
     ),
+    (
+        "lend 8001 0 8002:02 80001000+1\n\
+        retrieve 8002 800100000001 8001 0 2 02\n\
+        reclaim 8001 800100000001\n\
+        relinquish 8002 800100000001\n\
+        reclaim 8001 800100000001\n",
+        4,
+    ),
+    (
+        "donate 8001 0 8002:00 80001000+1\n\
+        retrieve 8002 800100000001 8001 0 3 01\n\
+        donate 8002 0 8001:00 80001000+1\n\
+        retrieve 8001 800200000001 8002 0 3 00\n",
+        4,
+    ),
+    (
+        "lend 8001 0 8002:02,8003:02 80200000+1\n\
+        retrieve 8002 800100000001 8001 0 2 02 alone\n\
+        retrieve 8003 800100000001 8001 0 0 00 alone\n",
+        3,
+    ),
 ];
 
-/// The sends whose operations other tests list.
+/// The calls whose operations other tests list.
 #[test]
 fn sees_old_new_or_none_in_rows(rt: HostRuntime) -> Result<(), Fail> {
     let alloc = rt.alloc();
@@ -392,18 +442,18 @@ fn sees_no_table_that_was_given_back(rt: HostRuntime) -> Result<(), Fail> {
     Ok(())
 }
 
-/// A thousand drawn lends, of which some are refused.
+/// A thousand drawn calls, of which some are refused.
 #[test]
-fn sees_old_new_or_none_in_drawn_lends(rt: HostRuntime) -> Result<(), Fail> {
+fn sees_old_new_or_none_in_drawn_calls(rt: HostRuntime) -> Result<(), Fail> {
     let alloc = rt.alloc();
     let document = common_document(alloc, 16, 16)?;
     let mut draw = Draw { state: 1 };
     let mut changes = 0u32;
-    for _ in 0..20 {
+    for _ in 0..10 {
         let script = draw.script(alloc)?;
         let changed = watch_script(&rt, alloc, &document, &script)?;
         changes = changes.saturating_add(changed);
     }
-    assert!(rt; 600 < changes && changes < 950, "{changes}");
+    assert!(rt; 300 < changes && changes < 1000, "{changes}");
     Ok(())
 }
