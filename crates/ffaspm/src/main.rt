@@ -5,7 +5,7 @@
 
 use arguments::{Task, read_arguments, words_of};
 use audit::check_text;
-use fault::Fault;
+use fault::{Fault, RunFault};
 use files::{read_manifest, read_script};
 use pool::RawPool;
 use script::run_script;
@@ -31,7 +31,8 @@ fn perform(rt: &HostRuntime, task: &Task<'_>) -> Result<(), Fault> {
             Ok(outcome?)
         }
         Task::Check { manifest } => {
-            let text = check_text(alloc, &read_manifest(rt, manifest)?)?;
+            let manifest = read_manifest(rt, manifest)?;
+            let text = check_text(alloc, &manifest).map_err(|_| Fault::Run(RunFault::Memory))?;
             write_text(rt, &text)
         }
     }
