@@ -16,8 +16,9 @@ use spm::{Call, Spm};
 use std::alloc::Global;
 use std::marker::Model;
 
-/// The manager, and the calls that it has answered since it was booted, in order, each with its seat.
-/// In every value of the type the manager's state is that of the run of its manifest over the calls.
+/// The manager, and the calls that it has answered since it was booted, in order, each with its
+/// seat. In every value of the type the manager's state is that of the run of its manifest over the
+/// calls.
 #[derive(Drop)]
 pub struct Book {
     spm: Spm<ListPool>,

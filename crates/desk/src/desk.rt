@@ -157,8 +157,8 @@ impl Opened {
 }
 
 impl<J: Naming> Desk<J> {
-    /// Answers a call, for which the seat then has a receipt. It waits until no other seat's call is
-    /// being answered. Want of memory leaves the seat as it was.
+    /// Answers a call, for which the seat then has a receipt. It waits until no other seat's call
+    /// is being answered. Want of memory leaves the seat as it was.
     pub fn submit<R: Wait>(&self, rt: &R, seat: &mut Seat<J>, call: Call) -> Result<(), OutOfMemory>
         ensures number { seat.new.number ≡ seat.old.number }
 
@@ -207,7 +207,8 @@ fn bring_home<J: Naming>(
     requires keeper { IsKeeper keeper.old.me }
     requires nobody_home { (known_of keeper.old.me.0).home ≡ [] }
     ensures receipts { items_of result ≡ receipts_of seats }
-    ensures whole { AllByRecursion (λ s. s.receipts ≡ receipts_at J.manifest s.number (known_of keeper.old.me.0).history) seats }
+    ensures whole { AllByRecursion (λ s. s.receipts
+        ≡ receipts_at J.manifest s.number (known_of keeper.old.me.0).history) seats }
     ensures below { AllByRecursion (λ n. n < 8) (numbers_of seats) }
     ensures apart { AreDistinct (numbers_of seats) }
 {

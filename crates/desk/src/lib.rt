@@ -1,6 +1,6 @@
 //! A desk: one book under a lock, and eight seats, from which threads make calls. Each call is
-//! answered as one thread would answer all of them, in the order in which they stand in the book, and
-//! its seat has a receipt for it.
+//! answered as one thread would answer all of them, in the order in which they stand in the book,
+//! and its seat has a receipt for it.
 #![tactic(auto)]
 
 mod book;

@@ -1,7 +1,7 @@
 use std::marker::Brand;
 
-/// Names a desk, so that its seats, its book and its lock are known to belong together. Each call that
-/// is passed the name `Brand` picks which desk that is.
+/// Names a desk, so that its seats, its book and its lock are known to belong together. Each call
+/// that is passed the name `Brand` picks which desk that is.
 pub trait Naming {
     ghost use Rattle.atomic_table.specs.Seated.{TableId};
     ghost use Rattle.base.specs.Manifest.{ManifestRows};

@@ -1,4 +1,5 @@
-//! What ties the seats to the book: passes, which take no bytes, and what each knows of the history.
+//! What ties the seats to the book: passes, which take no bytes, and what each knows of the
+//! history.
 
 ghost use Rattle.std.specs.Prelude.{◌≡◌, [], ◌∷◌, ◌++◌, IfOk};
 ghost use Rattle.desk.specs.declared.pass.View.TheVariants.{Keeper, Seated, Meeting};
@@ -10,7 +11,8 @@ use std::alloc::{AllocError, Global};
 use std::collections::LinkedList;
 use std::mem;
 
-/// What the keeper knows: the whole history, the seats that came home, and how many seats there are.
+/// What the keeper knows: the whole history, the seats that came home, and how many seats there
+/// are.
 pub struct Known {
     pub history: LinkedList<Entry>,
     pub home: LinkedList<u8>,
@@ -117,9 +119,11 @@ pub(crate) fn deal(passes: &Passes, keeper: &mut Pass) -> Pass
     requires same { keeper.old.table_id ≡ passes.now.shared.table_id }
     requires keeper { IsKeeper keeper.old.me }
     requires nobody_home { (known_of keeper.old.me.0).home ≡ [] }
-    ensures same { (keeper.new.table_id ≡ keeper.old.table_id) × (result.table_id ≡ keeper.old.table_id) }
+    ensures same { (keeper.new.table_id ≡ keeper.old.table_id) × (result.table_id
+        ≡ keeper.old.table_id) }
     ensures keeper { keeper.new.me ≡ (Keeper (with_seat (known_of keeper.old.me.0)), []) }
-    ensures seat { result.me ≡ (Seated (known_of keeper.old.me.0).seats (known_of keeper.old.me.0).history, []) }
+    ensures seat { result.me
+        ≡ (Seated (known_of keeper.old.me.0).seats (known_of keeper.old.me.0).history, []) }
 {
     passes.shared.split_seat::<Issue>(keeper)
 }
@@ -127,12 +131,15 @@ pub(crate) fn deal(passes: &Passes, keeper: &mut Pass) -> Pass
 /// Adds a call of a seat to what the keeper and the seat know.
 pub(crate) fn note(passes: &Passes, keeper: &mut Pass, seat: &mut Pass, entry: &Entry)
     requires words { passes.now.shared.table_id.words ≡ 1 }
-    requires same { (keeper.old.table_id ≡ passes.now.shared.table_id) × (seat.old.table_id ≡ passes.now.shared.table_id) }
+    requires same { (keeper.old.table_id ≡ passes.now.shared.table_id) × (seat.old.table_id
+        ≡ passes.now.shared.table_id) }
     requires keeper { IsKeeper keeper.old.me }
     requires seat { IsSeat entry.now.seat seat.old.me }
-    ensures same { (keeper.new.table_id ≡ keeper.old.table_id) × (seat.new.table_id ≡ seat.old.table_id) }
+    ensures same { (keeper.new.table_id ≡ keeper.old.table_id) × (seat.new.table_id
+        ≡ seat.old.table_id) }
     ensures keeper { keeper.new.me ≡ (Keeper (with_call (known_of keeper.old.me.0) entry.now), []) }
-    ensures seat { seat.new.me ≡ (Seated entry.now.seat ((known_of keeper.old.me.0).history ++ entry.now ∷ []), []) }
+    ensures seat { seat.new.me
+        ≡ (Seated entry.now.seat ((known_of keeper.old.me.0).history ++ entry.now ∷ []), []) }
     ensures known { IsOut (known_of keeper.old.me.0) entry.now.seat (seen_of seat.old.me.0) }
 {
     let spare = passes.shared.split_seat::<Spare>(keeper);
@@ -147,11 +154,13 @@ pub(crate) fn note(passes: &Passes, keeper: &mut Pass, seat: &mut Pass, entry: &
 /// Takes a seat's pass home.
 pub(crate) fn take_home(passes: &Passes, keeper: &mut Pass, seat: Pass)
     requires words { passes.now.shared.table_id.words ≡ 1 }
-    requires same { (keeper.old.table_id ≡ passes.now.shared.table_id) × (seat.table_id ≡ passes.now.shared.table_id) }
+    requires same { (keeper.old.table_id ≡ passes.now.shared.table_id) × (seat.table_id
+        ≡ passes.now.shared.table_id) }
     requires keeper { IsKeeper keeper.old.me }
     requires seat { IsSeat (number_of seat.me.0) seat.me }
     ensures same { keeper.new.table_id ≡ keeper.old.table_id }
-    ensures keeper { keeper.new.me ≡ (Keeper (with_home (known_of keeper.old.me.0) (number_of seat.me.0)), []) }
+    ensures keeper { keeper.new.me
+        ≡ (Keeper (with_home (known_of keeper.old.me.0) (number_of seat.me.0)), []) }
     ensures known { IsOut (known_of keeper.old.me.0) (number_of seat.me.0) (seen_of seat.me.0) }
 {
     passes.shared.join_seat::<Meet>(keeper, seat);

@@ -11,8 +11,9 @@ use crate::receipt::Receipt;
 use std::alloc::Global;
 use std::marker::{Model, PhantomData};
 
-/// A seat at a desk, from which one thread at a time makes calls. It keeps the receipts of its calls, in
-/// order. Contracts see its number, its receipts, and the calls of the desk up to its own last one.
+/// A seat at a desk, from which one thread at a time makes calls. It keeps the receipts of its
+/// calls, in order. Contracts see its number, its receipts, and the calls of the desk up to its own
+/// last one.
 #[derive(Drop)]
 pub struct Seat<J: Naming> {
     pub(crate) number: u8,
@@ -73,8 +74,8 @@ impl<J: Naming> Seat<J> {
         self.number
     }
 
-    /// The receipts of the seat's calls, in order: those of the run of the desk's manifest over the calls
-    /// up to the seat's last one.
+    /// The receipts of the seat's calls, in order: those of the run of the desk's manifest over the
+    /// calls up to the seat's last one.
     pub fn receipts(&self) -> &[Receipt]
         ensures same { result.now ≡ self.now.receipts }
         ensures settled { AreReceiptsOf J.manifest self.now.seen self.now.number result.now }

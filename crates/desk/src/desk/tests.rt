@@ -165,8 +165,8 @@ struct Flags<'a> {
     other: &'a AtomicU64,
 }
 
-/// Makes a call in each turn, after the other thread's or before it. False if the other's call does not
-/// come.
+/// Makes a call in each turn, after the other thread's or before it. False if the other's call does
+/// not come.
 fn take_turns<J: Naming, R: Wait>(
     rt: &R,
     alloc: Global,
@@ -231,7 +231,8 @@ fn calls_of(alloc: Global, book: &Book) -> Result<Vec<Call>, OutOfMemory> {
     Ok(calls)
 }
 
-/// The receipts of a seat stand in ascending places, at calls of the seat, with the replies of the run.
+/// The receipts of a seat stand in ascending places, at calls of the seat, with the replies of the
+/// run.
 fn check_seat(rt: &impl Abort, book: &Book, replies: &[Reply], seat: u8, receipts: &[Receipt]) {
     let mut next = 0;
     for receipt in receipts {
@@ -255,8 +256,8 @@ fn has_granted_send(calls: &[Call], replies: &[Reply]) -> bool {
         && reply.regs[0] == 0x8400_0061)
 }
 
-/// One thread that answers all calls of the book gives the replies of the receipts, of which there are
-/// so many.
+/// One thread that answers all calls of the book gives the replies of the receipts, of which there
+/// are so many.
 fn check(
     rt: &impl Abort,
     alloc: Global,
