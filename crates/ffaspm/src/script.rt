@@ -7,7 +7,8 @@ use crate::operations::write_operations;
 use audit::{audit_text, maps_text, owners_text, tables_text};
 use base::{Handle, Kind, MemoryAttributes, OutOfMemory, PartitionId};
 use descw::{
-    HeaderFields, RelinquishFields, RetrieveFields, SendFields, write_relinquish, write_retrieve, write_send,
+    HeaderFields, RelinquishFields, RetrieveFields, SendFields, write_relinquish, write_retrieve,
+    write_send,
 };
 use lines::{Line, SendLine, read_line};
 use manifest::Manifest;
@@ -16,7 +17,8 @@ use spm::{Call, Reply, Spm};
 use std::alloc::Global;
 use std::collections::BTreeMap;
 use wire::identifiers::{
-    FFA_MEM_DONATE, FFA_MEM_LEND, FFA_MEM_RECLAIM, FFA_MEM_RELINQUISH, FFA_MEM_RETRIEVE_REQ, FFA_MEM_SHARE,
+    FFA_MEM_DONATE, FFA_MEM_LEND, FFA_MEM_RECLAIM, FFA_MEM_RELINQUISH, FFA_MEM_RETRIEVE_REQ,
+    FFA_MEM_SHARE,
 };
 
 #[cfg(test)]
@@ -146,7 +148,12 @@ impl<M: TableMem + Drop> Run<M> {
     }
 
     /// A call whose whole descriptor is in TX.
-    fn hand_over(&mut self, id: PartitionId, function: u32, tx: Vec<u8>) -> Result<Reply, RunFault> {
+    fn hand_over(
+        &mut self,
+        id: PartitionId,
+        function: u32,
+        tx: Vec<u8>,
+    ) -> Result<Reply, RunFault> {
         let length = tx.len() as u64;
         let call = Call {
             caller: id.number(),

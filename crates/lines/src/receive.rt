@@ -16,11 +16,7 @@ pub(crate) fn read_retrieve(words: &[&str], alone: bool) -> Option<RetrieveField
     let [id, handle, sender, tag, kind, permissions] = words else {
         return None;
     };
-    let bypass = if alone {
-        BYPASS
-    } else {
-        0
-    };
+    let bypass = if alone { BYPASS } else { 0 };
     let header = HeaderFields {
         sender: read_id(sender)?,
         attributes: MemoryAttributes::normal_write_back(),

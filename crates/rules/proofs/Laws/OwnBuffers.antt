@@ -74,8 +74,7 @@ set_kept s p handle view o = record { owned = o.owned }
 given_all : (s : State) (p : ℕ) (t : Live) (access : Access) (boxes : List Mailbox) → ((n : ℕ) → is_buffer boxes n ≡ true → covers t.ranges n ≡ false) → AllByRecursion (IsOwnBuffer s) boxes → AllByRecursion (IsOwnBuffer (with_donation s p t access)) boxes
 given_all s p t access [] away h = tt
 given_all s p t access (b ∷ boxes) away h =
-    let here = λ (n : ℕ). option_map_or (λ a. in_pair a n) b.pair false in
-    (
+    let here = λ (n : ℕ). option_map_or (λ a. in_pair a n) b.pair false in (
       λ n e. given_owner s p t access n ∙ ap (λ (k : Bool). cond k (Some p) (owner_of s n)) (away n (or_left (here n) (is_buffer boxes n) e)) ∙ h.0 n e,
       given_all s p t access boxes (λ n e. away n (or_right (here n) (is_buffer boxes n) e)) h.1,
     )

@@ -15,8 +15,8 @@ use crate::change::{Change, Stop, Update};
 use crate::state::State;
 use base::limits::PAGE_SIZE;
 use base::{
-    Access, DataAccess, Handle, InstructionAccess, Kind, OutOfMemory, PartitionId, Permissions, Rights,
-    Status, Version,
+    Access, DataAccess, Handle, InstructionAccess, Kind, OutOfMemory, PartitionId, Permissions,
+    Rights, Status, Version,
 };
 use descr::{Endpoint, RetrieveDesc, read_retrieve};
 use descw::{ResponseFields, write_response};
@@ -77,11 +77,7 @@ fn check<'a>(
 
 /// The tests of the request itself, in order: they find what it says, and the transaction that it names.
 #[tactic(auto, unfolding(base::specs::Buffers::has_pair))]
-fn check_request<'a>(
-    state: &'a State,
-    call: &Call,
-    transfer: Transfer,
-) -> Result<Named<'a>, Status>
+fn check_request<'a>(state: &'a State, call: &Call, transfer: Transfer) -> Result<Named<'a>, Status>
     requires { IsReached state.now }
     ensures refused { IfErr result (RefusesWith
         (rules.request_tests state.now call.now transfer)) }
@@ -220,13 +216,7 @@ fn granted_execution(instruction: InstructionAccess, may: bool) -> Option<bool>
 {
     match instruction {
         InstructionAccess::NotSpecified | InstructionAccess::NotExecutable => Some(false),
-        InstructionAccess::Executable => {
-            if may {
-                Some(true)
-            } else {
-                None
-            }
-        }
+        InstructionAccess::Executable => { if may { Some(true) } else { None } }
         InstructionAccess::Reserved => None,
     }
 }
@@ -273,11 +263,7 @@ fn permissions_of(access: Access) -> Permissions
         Rights::Ro => 1,
         Rights::Rw => 2,
     };
-    let instruction = if access.is_executable() {
-        2
-    } else {
-        1
-    };
+    let instruction = if access.is_executable() { 2 } else { 1 };
     Permissions::new(data + 4 * instruction)
 }
 

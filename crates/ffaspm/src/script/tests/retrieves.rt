@@ -58,11 +58,7 @@ fn expect_with(
     expect_text_from(rt, alloc, &document, &script, None, &wanted)
 }
 
-fn expect(
-    rt: &impl Abort,
-    alloc: Global,
-    lines: &[(&str, &str)],
-) -> Result<(), Fail> {
+fn expect(rt: &impl Abort, alloc: Global, lines: &[(&str, &str)]) -> Result<(), Fail> {
     expect_with(rt, alloc, (16, 16), lines)
 }
 
@@ -247,7 +243,10 @@ fn lends_to_two(rt: HostRuntime) -> Result<(), Fail> {
         ("lend 8001 0 8002:02,8003:02 80200000+1", FIRST),
         (GET, INVALID),
         ("retrieve 8002 800100000001 8001 0 2 02 alone", OF_TWO),
-        ("retrieve 8003 800100000001 8001 0 0 00 alone", OF_TWO_TO_ANOTHER),
+        (
+            "retrieve 8003 800100000001 8001 0 0 00 alone",
+            OF_TWO_TO_ANOTHER,
+        ),
         ("maps 8002\nmaps 8003", reached),
         ("owners", OWNERS),
     ];
@@ -316,8 +315,7 @@ fn responds_in_the_layout_of_the_version(rt: HostRuntime) -> Result<(), Fail> {
     expect(&rt, rt.alloc(), &lines)
 }
 
-const HALF: &str =
-    "reply 84000075 00000060 00000060 00000000 00000000 00000000 00000000 00000000\n\
+const HALF: &str = "reply 84000075 00000060 00000060 00000000 00000000 00000000 00000000 00000000\n\
     rx 01802f00100000000100000001800000000000000000000010000000010000003000000000000000\
     00000000000000000280060040000000000000000000000000010000010000000000000000000000\
     00000080000000000001000000000000\n";
