@@ -2,9 +2,10 @@
 //!
 //! Pages change only where a region, or a range of a donation or of a live transaction, begins or ends.
 
-ghost use Rattle.std.specs.Prelude.{◌≡◌, ◌<◌, ◌==◌};
+ghost use Rattle.std.specs.Prelude.{◌≡◌, ◌<◌};
 ghost use Rattle.std.specs.List.{find};
 ghost use Rattle.std.specs.Option.{option_map};
+ghost use Rattle.base.specs.Access.{is_same};
 ghost use Rattle.base.specs.Ledger as rules;
 ghost use Rattle.base.specs.Pages as pages;
 ghost use Rattle.base.specs.Pages.{in_run};
@@ -12,7 +13,7 @@ ghost use Rattle.spans.specs.Alike.{IsAlikeUntil};
 ghost use Rattle.audit.specs.Alike as spec;
 
 use base::{Access, Kind, Page, PartitionId, Run};
-use ledger::{Donation, Live, Receiver};
+use ledger::{Donation, Live};
 use manifest::{Manifest, Region};
 use spans::run_until;
 use std::marker::Model;
@@ -120,7 +121,7 @@ fn view_under(transaction: &Live, home: Option<Access>, p: PartitionId) -> Optio
     if transaction.sender == p {
         kept(transaction.kind, home)
     } else {
-        retrieved(&transaction.receivers, p)
+        transaction.retrieved(p)
     }
 }
 
@@ -132,23 +133,6 @@ fn kept(kind: Kind, home: Option<Access>) -> Option<Access>
         Kind::Share => home,
         Kind::Lend | Kind::Donate => None,
     }
-}
-
-/// What a partition has retrieved as one of the receivers.
-fn retrieved(receivers: &[Receiver], p: PartitionId) -> Option<Access>
-    ensures { result ≡ rules.retrieved receivers.now p }
-{
-    match receiver_of(receivers, p) {
-        Some(receiver) => receiver.retrieved,
-        None => None,
-    }
-}
-
-/// The receiver of this identifier.
-fn receiver_of(receivers: &[Receiver], p: PartitionId) -> Option<&Receiver>
-    ensures { option_map (λ r. r.now) result ≡ find (λ r. r.partition == p) receivers.now }
-{
-    receivers.iter().find(|receiver| receiver.partition == p)
 }
 
 /// What a partition reaches of a page that no live transaction covers.
@@ -213,4 +197,11 @@ fn is_covered(ranges: &[Run], page: Page) -> bool
     ensures { result ≡ pages.covers ranges.now page }
 {
     ranges.iter().any(|run| run.contains(page))
+}
+
+/// Whether the two are alike in rights, execution and kind.
+pub(crate) fn is_same(a: Access, b: Access) -> bool
+    ensures { result ≡ is_same a b }
+{
+    a.rights() == b.rights() && a.is_executable() == b.is_executable() && a.kind() == b.kind()
 }

@@ -7,6 +7,7 @@ ghost use Rattle.stage2.specs.Tables.{view_of};
 ghost use Rattle.audit.specs.Runs as runs;
 ghost use Rattle.audit.specs.Texts as spec;
 
+use crate::alike::is_same;
 use crate::entries::{TableEntry, table_entries};
 use crate::text::{access_text, kind_text, write_address, write_id};
 use base::{Access, OutOfMemory, PartitionId, Run};
@@ -51,13 +52,6 @@ impl Reached {
             access: self.access,
         }
     }
-}
-
-/// Whether the two are alike in rights, execution and kind.
-pub(crate) fn is_same(a: Access, b: Access) -> bool
-    ensures { result ≡ is_same a b }
-{
-    a.rights() == b.rights() && a.is_executable() == b.is_executable() && a.kind() == b.kind()
 }
 
 /// `maps ID N`, and then the N maximal runs of pages that the partition reaches alike, upward, as

@@ -5,8 +5,7 @@ ghost use Rattle.audit.specs.Runs as runs;
 ghost use Rattle.audit.specs.Runs.{ownership, ownership_of, is_same_ownership};
 ghost use Rattle.audit.specs.Texts as spec;
 
-use crate::alike::segment_end;
-use crate::maps::is_same;
+use crate::alike::{is_same, segment_end};
 use crate::text::{access_text, kind_text, write_address, write_id};
 use base::{Access, OutOfMemory, Page, PartitionId, Run};
 use ledger::Ledger;

@@ -14,7 +14,7 @@ ghost use Rattle.stage2.specs.declared.walked.Walked.TheVariants.{None as Unmapp
 ghost use Rattle.audit.specs.Filling as spec;
 ghost use Rattle.audit.specs.Laws.{AreOfReached};
 
-use crate::alike::{segment_end, view_at};
+use crate::alike::{is_same, segment_end, view_at};
 use base::{Access, OutOfMemory, Page, PartitionId, Run};
 use ledger::{Donation, Live};
 use manifest::Manifest;
@@ -83,11 +83,7 @@ fn is_alike(a: &Option<Access>, b: &Option<Access>) -> bool
 {
     match (a, b) {
         (None, None) => true,
-        (Some(a), Some(b)) => {
-            a.rights() == b.rights()
-                && a.is_executable() == b.is_executable()
-                && a.kind() == b.kind()
-        }
+        (Some(a), Some(b)) => is_same(*a, *b),
         _ => false,
     }
 }

@@ -56,6 +56,31 @@ impl Model for Live {
     } };
 }
 
+impl Live {
+    ghost use Rattle.std.specs.List.{find};
+    ghost use Rattle.base.specs.Ledger as rules;
+
+    /// What is kept of a receiver; None for a partition that is none.
+    pub fn receiver(&self, p: PartitionId) -> Option<&Receiver>
+        ensures { option_map (λ r. r.now) result
+            ≡ find (λ r. r.partition == p) self.now.receivers }
+    {
+        self.receivers
+            .iter()
+            .find(|receiver| receiver.partition == p)
+    }
+
+    /// What a partition has retrieved as a receiver, and has not relinquished since.
+    pub fn retrieved(&self, p: PartitionId) -> Option<Access>
+        ensures { result ≡ rules.retrieved self.now.receivers p }
+    {
+        match self.receiver(p) {
+            Some(receiver) => receiver.retrieved,
+            None => None,
+        }
+    }
+}
+
 /// What the receiver has retrieved is this now.
 pub(crate) fn set_retrieved(transaction: &mut Live, p: PartitionId, retrieved: Option<Access>)
     ensures { transaction.new ≡ changes.with_retrieval p retrieved transaction.old }

@@ -20,7 +20,7 @@ use Rattle.wire.specs.Replies.{ReplyWords, success, error}
 use Rattle.wire.specs.declared.request.Transfer.{Transfer}
 use Rattle.rules.specs.Call.{CallWords}
 use Rattle.rules.specs.Calls.Relinquish.{given_up, given_back_by, relinquish_rule}
-use Rattle.rules.specs.Calls.Retrieve.{asked, granted, request_tests, transaction_tests, retrieve_tests, Retrieval, retrieval_with, retrieval_of, retrieved_by, responding, with_retrieved, with_donation, with_rx_filled, with_retrieval_of_kind, retrieve_rule}
+use Rattle.rules.specs.Calls.Retrieve.{asked, granted, request_tests, transaction_tests, retrieve_tests, Retrieval, retrieval_with, retrieval_of, retrieved_by, responding, after_retrieve, with_donation, with_rx_filled, with_retrieval_of_kind, retrieve_rule}
 use Rattle.rules.specs.Laws.SentPages.{IsWithinLimits}
 use Rattle.rules.specs.Receivers.{is_received_by, received_with, with_retrieval_by}
 use Rattle.rules.specs.Rule.{Edit}
@@ -125,8 +125,8 @@ retrieve_granted s c x p t access handle edit reply reached k who is same orderl
       edit = subst (λ (o : Option Retrieval). AreSameEdits (option_map (retrieved_by c.caller) o) edit) (sym one) (subst (λ (q : ℕ). AreSameEdits (Some (record { who = q; runs = t.ranges; to = Some access })) edit) who same);
       orderly = subst (λ (q : ℕ). AreOrderly q edit) who orderly;
       next =
-          ap (λ (o : Option Live). option_map_or (λ (u : Live). with_retrieved s c.caller (record { transaction = u; access = access })) o s) live
-          ∙ ap (λ (o : Option Retrieval). option_map_or (with_retrieved s c.caller) o s) (sym one);
+          ap (λ (o : Option Live). option_map_or (λ (u : Live). after_retrieve s c.caller (record { transaction = u; access = access })) o s) live
+          ∙ ap (λ (o : Option Retrieval). option_map_or (after_retrieve s c.caller) o s) (sym one);
       can = record { live = ap (λ (o : Option Live). is_some o) live; fills = fills s c x t access k };
       reply = replies ∙ ap (λ (q : ℕ). responding (caller_version s c) q (record { transaction = t; access = access })) who ∙ ap (λ (o : Option Retrieval). option_map_or (responding (caller_version s c) c.caller) o (error Denied)) (sym one);
       memory_taken = λ e. refl;

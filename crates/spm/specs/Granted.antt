@@ -19,7 +19,7 @@ use Rattle.rules.specs.Calls.Version.{with_version}
 use Rattle.rules.specs.Calls.Buffers.{with_pair, with_rx_released}
 use Rattle.rules.specs.Calls.Send.{with_transaction}
 use Rattle.rules.specs.Calls.Reclaim.{ended}
-use Rattle.rules.specs.Calls.Retrieve.{with_retrieved}
+use Rattle.rules.specs.Calls.Retrieve.{after_retrieve}
 use Rattle.rules.specs.Receivers.{with_retrieval_by}
 use Rattle.spm.specs.declared.change.Update.{Update}
 use Rattle.spm.specs.declared.change.Update.TheVariants.{Nothing, SetVersion, MapBuffers, UnmapBuffers, ReleaseRx, Open, Close, Retrieve, Relinquish}
@@ -33,7 +33,7 @@ use Rattle.spm.specs.declared.change.Stop.TheVariants.{Refused, NoMemory}
 -- the transaction of the handle is retrieved, and its receiver holds RX
 abbrev pub after_retrieval : State → ℕ → ℕ → Access → State
 after_retrieval s p handle access =
-    option_map_or (λ t. with_retrieved s p (record { transaction = t; access = access })) (found s.live handle) s
+    option_map_or (λ t. after_retrieve s p (record { transaction = t; access = access })) (found s.live handle) s
 
 -- the state after an update by a partition
 abbrev pub updated : State → ℕ → Update → State

@@ -10,7 +10,7 @@ use Rattle.base.specs.Transactions.{Live}
 use Rattle.base.specs.State.{State}
 use Rattle.wire.specs.declared.request.Transfer.{Transfer}
 use Rattle.rules.specs.Call.{CallWords}
-use Rattle.rules.specs.Calls.Retrieve.{asked, granted, request_tests, transaction_tests, retrieve_tests, Retrieval, retrieval_with, retrieval_of, with_retrieval_of_kind, with_donation, with_rx_filled, with_retrieved, retrieve_rule}
+use Rattle.rules.specs.Calls.Retrieve.{asked, granted, request_tests, transaction_tests, retrieve_tests, Retrieval, retrieval_with, retrieval_of, with_retrieval_of_kind, with_donation, with_rx_filled, after_retrieve, retrieve_rule}
 use Rattle.rules.specs.Receivers.{is_received_by, received_with, has_retrieved, with_retrieval_by}
 use Rattle.rules.proofs.Calls.Reclaim.{has_one}
 use Rattle.rules.proofs.Calls.Relinquish.{receiver_is}
@@ -63,7 +63,7 @@ retrieve_passes s c x e =
     }
 
 -- the state after it
-pub retrieved_is : (s : State) (c : CallWords) (x : Transfer) (k : RetrievePasses s c x) → (retrieve_rule s c x).next ≡ with_retrieved s c.caller (record { transaction = k.transaction; access = k.access })
+pub retrieved_is : (s : State) (c : CallWords) (x : Transfer) (k : RetrievePasses s c x) → (retrieve_rule s c x).next ≡ after_retrieve s c.caller (record { transaction = k.transaction; access = k.access })
 retrieved_is s c x k = rw k.named refl
 
 -- what the receiver reaches

@@ -14,7 +14,7 @@ use Rattle.rules.specs.Calls.Version.{with_version}
 use Rattle.rules.specs.Calls.Buffers.{with_pair, with_rx_released}
 use Rattle.rules.specs.Calls.Send.{sent, opened, with_transaction}
 use Rattle.rules.specs.Calls.Reclaim.{ended}
-use Rattle.rules.specs.Calls.Retrieve.{Retrieval, retrieval_of, with_retrieval_of_kind, with_donation, with_rx_filled, with_retrieved}
+use Rattle.rules.specs.Calls.Retrieve.{Retrieval, retrieval_of, with_retrieval_of_kind, with_donation, with_rx_filled, after_retrieve}
 use Rattle.rules.specs.Receivers.{with_retrieval_by}
 use Rattle.rules.specs.Run.{rule_of}
 
@@ -29,7 +29,7 @@ retrieved_keeps Share s p t access = refl
 retrieved_keeps Lend s p t access = refl
 retrieved_keeps Donate s p t access = refl
 
-retrieval_keeps : (s : State) (p : _) (o : Option Retrieval) → (option_map_or (with_retrieved s p) o s).manifest ≡ s.manifest
+retrieval_keeps : (s : State) (p : _) (o : Option Retrieval) → (option_map_or (after_retrieve s p) o s).manifest ≡ s.manifest
 retrieval_keeps s p None = refl
 retrieval_keeps s p (Some r) = retrieved_keeps r.transaction.kind s p r.transaction r.access
 

@@ -202,8 +202,8 @@ retrieved_by p r =
     record { who = p; runs = r.transaction.ranges; to = Some r.access }
 
 -- the state after it, in which the receiver holds RX
-abbrev pub with_retrieved : State → ℕ → Retrieval → State
-with_retrieved s p r =
+abbrev pub after_retrieve : State → ℕ → Retrieval → State
+after_retrieve s p r =
     with_rx_filled (with_retrieval_of_kind r.transaction.kind s p r.transaction r.access) p
 
 -- the length of the response in the registers, and the response in RX
@@ -213,6 +213,7 @@ responding version p r =
       rx = Some (response_text version (response_for p r.transaction r.access));
     }
 
+-- a request that names no transaction, or is granted nothing of it, fails a test
 abbrev pub retrieve_rule : State → CallWords → Transfer → Rule
 retrieve_rule s c x =
     let p = c.caller in
@@ -220,6 +221,6 @@ retrieve_rule s c x =
     record {
       tests = retrieve_tests s c x;
       edit = option_map (retrieved_by p) retrieval;
-      next = option_map_or (with_retrieved s p) retrieval s;
+      next = option_map_or (after_retrieve s p) retrieval s;
       reply = option_map_or (responding (caller_version s c) p) retrieval (error Denied);
     }

@@ -1,9 +1,7 @@
 //! What a receiver has of a transaction, and what it reaches of its pages.
 
-ghost use Rattle.std.specs.Prelude.{◌≡◌, ◌==◌, true, IfOk, Some};
-ghost use Rattle.std.specs.List.{find};
+ghost use Rattle.std.specs.Prelude.{◌≡◌, true, IfOk, Some};
 ghost use Rattle.std.specs.Option.{option_map};
-ghost use Rattle.base.specs.Ledger as ledger;
 ghost use Rattle.base.specs.Pages.{are_disjoint};
 ghost use Rattle.rules.specs.Receivers as rules;
 ghost use Rattle.rules.specs.Run.{IsReached};
@@ -12,7 +10,7 @@ ghost use Rattle.spm.specs.Granted.{AreSameEdits, AreOrderly};
 use crate::change::Edit;
 use crate::state::State;
 use base::{Access, Handle, OutOfMemory, PartitionId, normal};
-use ledger::{Live, Receiver};
+use ledger::Live;
 use std::alloc::Global;
 
 /// The live transaction of a handle of which a partition is a receiver.
@@ -36,27 +34,6 @@ fn is_received_by(transaction: &Live, p: PartitionId) -> bool
         .receivers
         .iter()
         .any(|receiver| receiver.partition == p)
-}
-
-/// What is kept of a partition as a receiver of the transaction.
-pub(crate) fn receiver_of(transaction: &Live, p: PartitionId) -> Option<&Receiver>
-    ensures { option_map (λ r. r.now) result
-        ≡ find (λ r. r.partition == p) transaction.now.receivers }
-{
-    transaction
-        .receivers
-        .iter()
-        .find(|receiver| receiver.partition == p)
-}
-
-/// What a partition has retrieved, and has not relinquished since.
-pub(crate) fn retrieved(transaction: &Live, p: PartitionId) -> Option<Access>
-    ensures { result ≡ ledger.retrieved transaction.now.receivers p }
-{
-    match receiver_of(transaction, p) {
-        Some(receiver) => receiver.retrieved,
-        None => None,
-    }
 }
 
 /// The receiver reaches all pages of the transaction with this access, or none of them.

@@ -9,7 +9,7 @@ ghost use Rattle.spm.specs.Checked.{IsRelinquished};
 ghost use Rattle.spm.specs.Granted.{IsGranted, IsStopped};
 
 use crate::call::Call;
-use crate::calls::receiver::{received_with, receiver_edit, retrieved};
+use crate::calls::receiver::{received_with, receiver_edit};
 use crate::change::{Change, Stop, Update};
 use crate::state::State;
 use base::{Handle, PartitionId, Status};
@@ -59,7 +59,7 @@ fn check<'a>(state: &'a State, call: &Call) -> Result<&'a Live, Status>
     let Some(transaction) = received_with(state, p, desc.handle) else {
         return Err(Status::InvalidParameters);
     };
-    if retrieved(transaction, p).is_none() {
+    if transaction.retrieved(p).is_none() {
         return Err(Status::Denied);
     }
     Ok(transaction)

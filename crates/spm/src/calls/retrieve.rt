@@ -9,7 +9,7 @@ ghost use Rattle.spm.specs.Checked.{IsNamed, IsRetrieved};
 ghost use Rattle.spm.specs.Granted.{IsGranted, IsStopped, CanRetrieve, after_retrieval};
 
 use crate::call::Call;
-use crate::calls::receiver::{received_with, receiver_edit, receiver_of, retrieved};
+use crate::calls::receiver::{received_with, receiver_edit};
 use crate::calls::transfer::{are_lengths, names_tx};
 use crate::change::{Change, Stop, Update};
 use crate::state::State;
@@ -125,7 +125,7 @@ fn check_transaction(
     if !is_asked_rightly(request, transaction) {
         return Err(Status::InvalidParameters);
     }
-    if retrieved(transaction, p).is_some() {
+    if transaction.retrieved(p).is_some() {
         return Err(Status::Denied);
     }
     let Some(access) = granted(request.endpoint.permissions, p, transaction) else {
@@ -180,7 +180,7 @@ fn granted(permissions: Permissions, p: PartitionId, transaction: &Live) -> Opti
 fn cap_of(transaction: &Live, p: PartitionId) -> Option<Rights>
     ensures { result ≡ rules.cap_of p transaction.now }
 {
-    match receiver_of(transaction, p) {
+    match transaction.receiver(p) {
         Some(receiver) => Some(receiver.cap),
         None => None,
     }
