@@ -2,7 +2,7 @@
 
 use super::documents::common_document;
 use super::tables::BOOT;
-use super::{MAPS, PAIRS, expect_text_from};
+use super::{MAPS, PAIRS, expect_text, expect_text_from};
 use std::alloc::Global;
 use std::process::Abort;
 use std::test::Fail;
@@ -49,13 +49,20 @@ fn expect_with(
     lines: &[(&str, &str)],
 ) -> Result<(), Fail> {
     let document = common_document(alloc, quotas.0, quotas.1)?;
+    let (script, wanted) = audited(alloc, lines)?;
+    expect_text_from(rt, alloc, &document, &script, None, &wanted)
+}
+
+/// The script that registers the buffers and then has these lines, each with an audit behind it, and its
+/// text.
+fn audited(alloc: Global, lines: &[(&str, &str)]) -> Result<(String, String), Fail> {
     let mut script = String::from_str(alloc, PAIRS)?;
     let mut wanted = format!(in alloc; "{OK}{OK}{OK}")?;
     for (line, writes) in lines {
         writeln!(&mut script, "{line}\naudit")?;
         writeln!(&mut wanted, "{writes}equal")?;
     }
-    expect_text_from(rt, alloc, &document, &script, None, &wanted)
+    Ok((script, wanted))
 }
 
 fn expect(rt: &impl Abort, alloc: Global, lines: &[(&str, &str)]) -> Result<(), Fail> {
@@ -184,9 +191,8 @@ fn completes_donations(rt: HostRuntime) -> Result<(), Fail> {
     expect(&rt, rt.alloc(), &lines)
 }
 
-/// A lend is reclaimed once it is given back, and all is as at boot.
-#[test]
-fn returns_what_was_lent(rt: HostRuntime) -> Result<(), Fail> {
+/// The script of the whole life of a lend, and its text.
+pub(super) fn whole_life(alloc: Global) -> Result<(String, String), Fail> {
     let operations = "ops 3\n\
         set 19 0 0000000000000000\n\
         inv 8002 0080000000 512\n\
@@ -203,7 +209,15 @@ fn returns_what_was_lent(rt: HostRuntime) -> Result<(), Fail> {
         ("maps 8001", MAPS),
         ("tables 8001", BOOT),
     ];
-    expect(&rt, rt.alloc(), &lines)
+    audited(alloc, &lines)
+}
+
+/// A lend is reclaimed once it is given back, and all is as at boot.
+#[test]
+fn returns_what_was_lent(rt: HostRuntime) -> Result<(), Fail> {
+    let alloc = rt.alloc();
+    let (script, wanted) = whole_life(alloc)?;
+    expect_text(&rt, alloc, &script, None, &wanted)
 }
 
 const OF_TWO: &str =
