@@ -6,4 +6,5 @@ mod ReceiverLemmas
 mod QuotaLemmas
 mod ShownLemmas
 mod ConsistencyLemmas
+mod ClearingLemmas
 mod MadeLemmas
