@@ -1,5 +1,5 @@
 -- What is known of each page of some runs that are free for a partition.
-use Rattle.std.proofs.Common.{◌≡◌, ℕ, zero, suc, ◌+◌, ◌<◌, ◌≤◌, Bool, true, false, ◌&&◌, ◌||◌, not, cond, leb, ltb, eqb, List, [], ◌∷◌, length, Option, Some, None, is_some, find, refl, sym, ap, ◌∙◌, subst, arith}
+use Rattle.std.proofs.Common.{◌≡◌, ◌≢◌, ℕ, zero, suc, ◌+◌, ◌<◌, ◌≤◌, Bool, true, false, ◌&&◌, ◌||◌, not, cond, leb, ltb, eqb, List, [], ◌∷◌, length, Option, Some, None, is_some, find, refl, sym, ap, ◌∙◌, subst, arith}
 use Rattle.std.specs.Option.{option_map, option_and_then, option_map_or}
 use Rattle.std.proofs.lemmas.Bool.{leb-true, eqb-true, eq-eqb}
 use Rattle.std.proofs.lemmas.Bool.Decides.{nat_tests}
@@ -139,6 +139,9 @@ common_at s p runs home e n c =
     has_free_home s p n home (reached_with home (free_home s p n) (each_page_in_at (is_free_with s p home) runs n (common_pages s p runs home e) c))
 
 -- ---- what partitions reach of a free page
+
+pub not_eqb : (a b : ℕ) → a ≢ b → eqb a b ≡ false
+not_eqb a b h = elim (eqb a b) as (λ k. eqb a b ≡ k → k ≡ false) [ true ↦ λ e. absurd (h (eqb-true a b e)) | false ↦ λ e. refl ] refl
 
 pub eqb_sym : (a b : ℕ) → eqb a b ≡ eqb b a
 eqb_sym a b =

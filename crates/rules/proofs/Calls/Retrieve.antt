@@ -11,6 +11,7 @@ use Rattle.base.specs.State.{State}
 use Rattle.wire.specs.declared.request.Transfer.{Transfer}
 use Rattle.rules.specs.Call.{CallWords}
 use Rattle.rules.specs.Calls.Retrieve.{asked, granted, request_tests, transaction_tests, retrieve_tests, Retrieval, retrieval_with, retrieval_of, with_retrieval_of_kind, with_donation, with_rx_filled, after_retrieve, retrieve_rule}
+use Rattle.rules.specs.Rule.{given_to}
 use Rattle.rules.specs.Receivers.{is_received_by, received_with, has_retrieved, with_retrieval_by}
 use Rattle.rules.proofs.Calls.Reclaim.{has_one}
 use Rattle.rules.proofs.Calls.Relinquish.{receiver_is}
@@ -67,7 +68,7 @@ pub retrieved_is : (s : State) (c : CallWords) (x : Transfer) (k : RetrievePasse
 retrieved_is s c x k = rw k.named refl
 
 -- what the receiver reaches
-pub edit_is : (s : State) (c : CallWords) (x : Transfer) (k : RetrievePasses s c x) → (retrieve_rule s c x).edit ≡ Some (record { who = c.caller; runs = k.transaction.ranges; to = Some k.access })
+pub edit_is : (s : State) (c : CallWords) (x : Transfer) (k : RetrievePasses s c x) → (retrieve_rule s c x).edit ≡ Some (given_to c.caller k.transaction.ranges k.access false)
 edit_is s c x k = rw k.named refl
 
 -- what each kind of it makes of the state: RX is filled, and a share or a lend is retrieved, or a donation is completed
