@@ -4,6 +4,7 @@
 
 mod access;
 mod apart;
+mod flags;
 mod law;
 mod layout;
 mod numbers;
