@@ -5,14 +5,14 @@ ghost use Rattle.std.specs.Prelude.{◌≡◌};
 ghost use Rattle.base.specs.Descriptors.Send as spec;
 
 /// Whether no bit but bit 0 is set.
-pub(crate) fn are_clear_flags(flags: u32) -> bool
+pub fn are_clear_flags(flags: u32) -> bool
     ensures { result ≡ spec.are_clear_flags flags }
 {
     matches!(flags, 0 | 1)
 }
 
 /// Whether the pages are to be cleared.
-pub(crate) fn orders_clear(flags: u32) -> bool
+pub fn orders_clear(flags: u32) -> bool
     ensures { result ≡ spec.orders_clear flags }
 {
     flags == 1

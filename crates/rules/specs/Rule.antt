@@ -39,6 +39,11 @@ abbrev pub with_edit : Option Edit → (ℕ → ℕ → View) → ℕ → ℕ �
 with_edit None view p n = view p n
 with_edit (Some edit) view p n = if (p == edit.who) && covers edit.runs n then edit.to else view p n
 
+-- the pages that are cleared with it
+abbrev pub clears_page : Option Edit → ℕ → Bool
+clears_page None n = false
+clears_page (Some edit) n = edit.clears && covers edit.runs n
+
 -- The tables of the edit fit the partition's quota: those that its views need, and those that its new views need where the old ones need none.
 unfoldable pub fits : State → Option Edit → Bool
 fits s None = true

@@ -7,4 +7,5 @@ mod QuotaLemmas
 mod ShownLemmas
 mod ConsistencyLemmas
 mod ClearingLemmas
+mod ClearedLemmas
 mod MadeLemmas

@@ -1,5 +1,5 @@
 -- What walkers see of an edit of the tables and of the clears of its pages.
-use Rattle.std.specs.Prelude.{◌≡◌, ◌≢◌, ℕ, ◌^◌, ◌<◌, true, List, [], length, reverse, None, if◌then◌else◌}
+use Rattle.std.specs.Prelude.{◌≡◌, ◌≢◌, ℕ, ◌^◌, ◌<◌, true, List, [], Option, Some, length, reverse, None, if◌then◌else◌}
 use Rattle.base.specs.Access.{View}
 use Rattle.base.specs.Manifest.{row_of}
 use Rattle.base.specs.Pages.{PageRun, covers}
@@ -14,6 +14,10 @@ use Rattle.rules.specs.Rule.{Edit}
 -- the runs that an edit clears, the latest first
 abbrev pub clears_of : Edit → List PageRun
 clears_of edit = if edit.clears then reverse edit.runs else []
+
+abbrev pub clears_in : Option Edit → List PageRun
+clears_in None = []
+clears_in (Some edit) = clears_of edit
 
 -- each row is that of a partition
 abbrev pub AreRowsOfPartitions : List ℕ → Type 0

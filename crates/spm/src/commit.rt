@@ -5,7 +5,7 @@ ghost use Rattle.base.specs.Manifest.{is_partition};
 ghost use Rattle.base.specs.Pages.{are_normal};
 ghost use Rattle.stage2.specs.Slot.{layout_of};
 ghost use Rattle.stage2.specs.Tables.{Fits, ReachSo, edit_operations, has_root};
-ghost use Rattle.spm.specs.Clearing.{ClearsInCall, ShowsOne};
+ghost use Rattle.spm.specs.Clearing.{AreRowsOfPartitions, ClearsInCall, ShowsOne};
 ghost use Rattle.spm.specs.Granted.{updated, CanUpdate, needs_room, AreOrderly, IsOrderly, wants_memory};
 ghost use Rattle.spm.specs.Machine.{AreEditedBy, ShowsEdit, fits_in};
 
@@ -58,6 +58,7 @@ pub(crate) fn commit<M: TableMem + Drop>(
     change: Change,
 ) -> Result<Reply, OutOfMemory>
     requires layout { tables.old.layout ≡ layout_of state.old.manifest }
+    requires rows { AreRowsOfPartitions tables.old.layout.ids }
     requires known { is_partition state.old.manifest p ≡ true }
     requires can { CanUpdate state.old p change.update }
     requires orderly { AreOrderly p change.edit }
@@ -93,6 +94,7 @@ fn edit_and_apply<M: TableMem + Drop>(
     update: Update,
 ) -> Result<(), OutOfMemory>
     requires layout { tables.old.layout ≡ layout_of state.old.manifest }
+    requires rows { AreRowsOfPartitions tables.old.layout.ids }
     requires known { is_partition state.old.manifest p ≡ true }
     requires can { CanUpdate state.old p update }
     requires orderly { IsOrderly p edit }
@@ -114,6 +116,7 @@ fn edit_and_apply<M: TableMem + Drop>(
 /// mapped, or when they are unmapped. There is room for the operations.
 fn edit_tables<M: TableMem + Drop>(tables: &mut Tables<M>, edit: &Edit)
     requires root { has_root tables.old edit.now.who ≡ true }
+    requires rows { AreRowsOfPartitions tables.old.layout.ids }
     requires normal { are_normal edit.now.runs ≡ true }
     requires fits { Fits edit.now.who edit.now.runs edit.now.to tables.old }
     requires ready { edit_operations edit.now.who edit.now.runs tables.old
