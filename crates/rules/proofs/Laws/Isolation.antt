@@ -22,21 +22,21 @@ use Rattle.base.specs.Pages.{PageRun, covers}
 use Rattle.base.specs.Refusals.{Test, first_refusal}
 use Rattle.base.specs.Transactions.{Live, without, with_retrieval, with_retrieval_of}
 use Rattle.base.specs.Ledger.{live_at}
-use Rattle.base.specs.State.{State, PartitionState, state_of, sends_of, version_of, with_partition, owner_of, owns, home_of, is_free, free_home, is_free_with, common_home, each_page, each_page_in, sees}
+use Rattle.base.specs.State.{State, PartitionState, state_of, with_partition, owner_of, owns, home_of, is_free, free_home, is_free_with, common_home, each_page, each_page_in, sees}
 use Rattle.wire.specs.declared.request.Request.{Request}
 use Rattle.wire.specs.declared.request.Transfer.{Transfer}
 use Rattle.wire.specs.declared.request.Request.TheVariants.{Version, Features, RxRelease, RxtxMap, RxtxUnmap, IdGet, Send, Retrieve, Relinquish, Reclaim}
 use Rattle.wire.specs.Requests.{request_of}
-use Rattle.wire.specs.Replies.{ReplyWords, error}
+use Rattle.wire.specs.Replies.{error}
 use Rattle.rules.specs.Call.{CallWords}
 use Rattle.rules.specs.Rule.{Edit, taken_from, given_to, Rule, refused, fits, all_tests, reply_of, next_of, with_edit}
 use Rattle.rules.specs.Calls.Version.{naming, with_version}
 use Rattle.rules.specs.Calls.Buffers.{with_pair, with_rx_released, may_be_buffer, may_be_buffers, map_tests}
 use Rattle.rules.specs.Transfers.{has_lengths, caller_version, bytes_of}
-use Rattle.rules.specs.Calls.Send.{sent, is_receiver, are_distinct, are_parties, suits, are_capped, has_room, next_handle, opened, counting, with_transaction, sender_edit, send_tests, send_rule}
+use Rattle.rules.specs.Calls.Send.{sent, is_receiver, are_distinct, are_parties, has_room, next_handle, opened, counting, with_transaction, sender_edit, send_tests, send_rule}
 use Rattle.rules.specs.Calls.Reclaim.{sent_with, returned, returned_by, ended, reclaim_tests, reclaim_rule}
 use Rattle.rules.specs.Calls.Relinquish.{given_up, given_back_by, relinquish_tests, relinquish_rule}
-use Rattle.rules.specs.Calls.Retrieve.{asked, granted, fits_rx, request_tests, transaction_tests, retrieve_tests, Retrieval, retrieval_with, retrieval_of, retrieved_by, responding, with_donation, with_rx_filled, with_retrieval_of_kind, retrieve_rule}
+use Rattle.rules.specs.Calls.Retrieve.{asked, fits_rx, request_tests, transaction_tests, retrieve_tests, Retrieval, retrieval_with, retrieval_of, retrieved_by, responding, with_donation, with_rx_filled, with_retrieval_of_kind, retrieve_rule}
 use Rattle.rules.specs.Receivers.{is_received_by, received_with, with_retrieval_by}
 use Rattle.rules.specs.Run.{rule_of, rule, answer, step, IsReached}
 use Rattle.rules.specs.Laws.EditsTheView.{Passes}
