@@ -10,7 +10,7 @@ use Rattle.base.specs.declared.access.MemoryKind.TheVariants.{Normal, Device}
 use Rattle.base.specs.Pages.{PageRun, in_run, covers}
 use Rattle.base.specs.Access.{Access, View, is_same, is_same_bool, is_rw, is_normal, is_reached_with}
 use Rattle.base.specs.Manifest.{GrantRow, RegionRow, region_at, granted_in, access_of_grant, is_sharable}
-use Rattle.base.specs.Transactions.{Live, Donation}
+use Rattle.base.specs.Transactions.{Donation}
 use Rattle.base.specs.Ledger.{live_at, donation_at, settled_view, is_idle}
 use Rattle.base.specs.Buffers.{is_buffer}
 use Rattle.base.specs.State.{State, is_free, free_home, is_free_with, common_home, home_of, owns, each_page, each_page_in}

@@ -1,4 +1,4 @@
--- Who may order that pages are cleared (FF-A 1.1, "Flags usage").
+-- Who may order that pages are cleared (FF-A 1.1, "Flags usage", "Descriptor to relinquish a memory region", "FFA_MEM_RECLAIM").
 use Rattle.std.specs.Prelude.{ℕ, Bool, true, false, ◌&&◌, ◌||◌, ◌==◌, not, List, length, Some}
 use Rattle.std.specs.Option.{option_map_or}
 use Rattle.base.specs.declared.transaction.Kind.{Kind}

@@ -11,7 +11,7 @@ use Rattle.base.specs.State.{State, sees}
 use Rattle.manifest.specs.Valid.{quota_of}
 use Rattle.wire.specs.Replies.{ReplyWords, error}
 
--- Whose view changes, of which pages, and to what. Where it clears them, it does so while no partition reaches them: after they are taken away, or before they are given.
+-- Whose view changes, of which pages, and to what; and whether these pages are cleared. What a call clears is always what it edits, while no partition reaches it: a send and a relinquish clear the pages after they are taken away, a reclaim before they are given.
 pub record Edit : Type 0 where
   pub who : ℕ
   pub runs : List PageRun

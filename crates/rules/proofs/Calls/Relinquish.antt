@@ -1,5 +1,5 @@
 -- What is known of a relinquish that passes its tests.
-use Rattle.std.proofs.Common.{◌≡◌, ℕ, true, false, ◌&&◌, eqb, Option, Some, None, is_some, find, refl}
+use Rattle.std.proofs.Common.{◌≡◌, ℕ, true, ◌&&◌, eqb, Some, None}
 use Rattle.std.proofs.lemmas.Bool.{eqb-true}
 use Rattle.base.specs.Refusals.{first_refusal}
 use Rattle.base.specs.Transactions.{Live}

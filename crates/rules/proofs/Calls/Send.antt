@@ -1,5 +1,5 @@
 -- What is known of a send that passes its tests.
-use Rattle.std.proofs.Common.{◌≡◌, ℕ, true, Option, Some, None, is_some, refl}
+use Rattle.std.proofs.Common.{◌≡◌, true, Some, None, is_some, refl}
 use Rattle.base.specs.declared.transaction.Kind.{Kind}
 use Rattle.base.specs.Access.{Access, View}
 use Rattle.base.specs.Buffers.{has_pair}

@@ -1,5 +1,5 @@
 -- The law that a rule's edit is what the call changes of the views.
-use Rattle.std.proofs.Common.{◌≡◌, ℕ, Bool, true, false, ◌&&◌, not, cond, eqb, List, [], ◌∷◌, Option, Some, None, is_some, find, refl, sym, eq-eqb, ◌∙◌, ap, subst, inl, inr, ◌⊎◌}
+use Rattle.std.proofs.Common.{◌≡◌, ℕ, Bool, true, false, ◌&&◌, not, cond, eqb, List, [], ◌∷◌, Option, Some, None, is_some, find, refl, sym, eq-eqb, ◌∙◌, ap, subst, inl, inr}
 use Rattle.std.specs.List.{list_all}
 use Rattle.std.specs.Option.{option_map, option_map_or, option_and_then}
 use Rattle.std.proofs.lemmas.Bool.{eqb-true}
@@ -8,7 +8,7 @@ use Rattle.base.specs.Descriptors.Send.{orders_clear}
 use Rattle.base.specs.Ledger.{live_at, donation_at, settled_view, kept, retrieved, view_under}
 use Rattle.base.specs.Manifest.{region_at}
 use Rattle.base.specs.Pages.{PageRun, covers}
-use Rattle.base.specs.Transactions.{Receiver, Live, without, with_retrieved, with_retrieval}
+use Rattle.base.specs.Transactions.{Receiver, Live, with_retrieved, with_retrieval}
 use Rattle.base.proofs.Booleans.{both}
 use Rattle.base.specs.declared.transaction.Kind.{Kind}
 use Rattle.base.specs.declared.transaction.Kind.TheVariants.{Share, Lend, Donate}
@@ -21,7 +21,7 @@ use Rattle.rules.specs.Rule.{Edit, given_to, with_edit}
 use Rattle.rules.specs.Calls.Version.{with_version}
 use Rattle.rules.specs.Calls.Buffers.{with_pair, with_rx_released}
 use Rattle.rules.specs.Calls.Send.{sent, send_rule}
-use Rattle.rules.specs.Calls.Reclaim.{sent_with, is_given_back, returned, returned_by, ended, reclaim_rule}
+use Rattle.rules.specs.Calls.Reclaim.{returned, returned_by, ended, reclaim_rule}
 use Rattle.rules.specs.Calls.Relinquish.{given_up, given_back_by, relinquish_rule}
 use Rattle.rules.specs.Calls.Retrieve.{with_donation, with_rx_filled, retrieve_rule}
 use Rattle.rules.specs.Receivers.{is_received_by, with_retrieval_by}
@@ -39,7 +39,7 @@ use Rattle.rules.proofs.FreePages.{common_at, settled, eqb_sym}
 use Rattle.rules.proofs.Laws.Handles.{handles_used_once}
 use Rattle.rules.proofs.Laws.OneOwner.{owned_once, first_is}
 use Rattle.rules.proofs.Laws.SentPages.{transactions_kept}
-use Rattle.rules.proofs.ViewLemmas.{IsSeenAlike, seen_alike, opened_view}
+use Rattle.rules.proofs.ViewLemmas.{opened_view}
 
 send : (s : State) (c : CallWords) (k : Kind) (t : Transfer) → SendPasses s c k t → (q n : ℕ) → sees (send_rule s c k t).next q n ≡ with_edit (send_rule s c k t).edit (sees s) q n
 send s c k t passes q n =

@@ -21,22 +21,22 @@ use Rattle.base.specs.Manifest.{PartitionRow, is_partition}
 use Rattle.base.specs.Pages.{PageRun, covers}
 use Rattle.base.specs.Refusals.{Test, first_refusal}
 use Rattle.base.specs.Transactions.{Live, without, with_retrieval, with_retrieval_of}
-use Rattle.base.specs.Ledger.{live_at}
-use Rattle.base.specs.State.{State, PartitionState, state_of, sends_of, version_of, with_partition, owner_of, owns, home_of, is_free, free_home, is_free_with, common_home, each_page, each_page_in, sees}
+use Rattle.base.specs.Ledger.{live_at, view}
+use Rattle.base.specs.State.{State, PartitionState, state_of, with_partition, owner_of, owns, home_of, is_free, free_home, is_free_with, common_home, each_page, each_page_in, sees}
 use Rattle.wire.specs.declared.request.Request.{Request}
 use Rattle.wire.specs.declared.request.Transfer.{Transfer}
 use Rattle.wire.specs.declared.request.Request.TheVariants.{Version, Features, RxRelease, RxtxMap, RxtxUnmap, IdGet, Send, Retrieve, Relinquish, Reclaim}
 use Rattle.wire.specs.Requests.{request_of}
-use Rattle.wire.specs.Replies.{ReplyWords, error}
+use Rattle.wire.specs.Replies.{error}
 use Rattle.rules.specs.Call.{CallWords}
 use Rattle.rules.specs.Rule.{Edit, taken_from, given_to, Rule, refused, fits, all_tests, reply_of, next_of, with_edit}
 use Rattle.rules.specs.Calls.Version.{naming, with_version}
 use Rattle.rules.specs.Calls.Buffers.{with_pair, with_rx_released, may_be_buffer, may_be_buffers, map_tests}
 use Rattle.rules.specs.Transfers.{has_lengths, caller_version, bytes_of}
-use Rattle.rules.specs.Calls.Send.{sent, is_receiver, are_distinct, are_parties, suits, are_capped, has_room, next_handle, opened, counting, with_transaction, sender_edit, send_tests, send_rule}
+use Rattle.rules.specs.Calls.Send.{sent, is_receiver, are_distinct, are_parties, has_room, next_handle, opened, counting, with_transaction, sender_edit, send_tests, send_rule}
 use Rattle.rules.specs.Calls.Reclaim.{sent_with, returned, returned_by, ended, reclaim_tests, reclaim_rule}
 use Rattle.rules.specs.Calls.Relinquish.{given_up, given_back_by, relinquish_tests, relinquish_rule}
-use Rattle.rules.specs.Calls.Retrieve.{asked, granted, fits_rx, request_tests, transaction_tests, retrieve_tests, Retrieval, retrieval_with, retrieval_of, retrieved_by, responding, with_donation, with_rx_filled, with_retrieval_of_kind, retrieve_rule}
+use Rattle.rules.specs.Calls.Retrieve.{asked, fits_rx, request_tests, transaction_tests, retrieve_tests, Retrieval, retrieval_with, retrieval_of, retrieved_by, responding, with_donation, with_rx_filled, with_retrieval_of_kind, retrieve_rule}
 use Rattle.rules.specs.Receivers.{is_received_by, received_with, with_retrieval_by}
 use Rattle.rules.specs.Run.{rule_of, rule, answer, step, IsReached}
 use Rattle.rules.specs.Laws.EditsTheView.{Passes}
@@ -225,6 +225,25 @@ not_named p h ts t e kept =
       | false ↦ λ other. refl
     ] refl
 
+-- ---- two states that are alike, with other parts
+
+-- as alike as the parts are that changed: what is kept of each partition, its buffers, the transactions, and with them what is reached
+parts_alike : (p : ℕ) (s t : State) → AreAlikeTo p s t → {us ut : List Live} {bs bt : List Mailbox} {rs rt : List PartitionState} → state_of rs p ≡ state_of rt p → mailboxes_of p bs ≡ mailboxes_of p bt → transactions_of p us ≡ transactions_of p ut
+    → ((n : ℕ) → view s.manifest s.donations us p n ≡ view t.manifest t.donations ut p n)
+    → AreAlikeTo p (record s { live = us; mailboxes = bs; partitions = rs }) (record t { live = ut; mailboxes = bt; partitions = rt })
+parts_alike p s t same state boxes kept seen = record {
+  partitions = same.partitions;
+  quota = same.quota;
+  grants = same.grants;
+  state = state;
+  buffers = boxes;
+  owned = same.owned;
+  homes = same.homes;
+  sharable = same.sharable;
+  transactions = kept;
+  views = seen;
+}
+
 -- ---- RX
 
 rx_alike : (p : ℕ) (held : Bool) (b c : List Mailbox) → mailboxes_of p b ≡ mailboxes_of p c → mailboxes_of p (pairs.with_rx p held b) ≡ mailboxes_of p (pairs.with_rx p held c)
@@ -234,18 +253,8 @@ rx_alike p held b c e =
 
 filled_alike : (p : ℕ) (u v : State) → AreAlikeTo p u v → AreAlikeTo p (with_rx_filled u p) (with_rx_filled v p)
 unfolding with_rx_filled
-filled_alike p u v same = record {
-  partitions = same.partitions;
-  quota = same.quota;
-  grants = same.grants;
-  state = same.state;
-  buffers = rx_alike p true u.mailboxes v.mailboxes same.buffers;
-  owned = same.owned;
-  homes = same.homes;
-  sharable = same.sharable;
-  transactions = same.transactions;
-  views = same.views;
-}
+filled_alike p u v same =
+    parts_alike p u v same same.state (rx_alike p true u.mailboxes v.mailboxes same.buffers) same.transactions same.views
 
 -- ---- what agrees at each page or element
 
@@ -379,48 +388,15 @@ module _ (p : ℕ) (s t : State) (same : AreAlikeTo p s t) (sends_s : AllByRecur
 
   named : (word : ℕ) → AreAlikeTo p (with_version s p word) (with_version t p word)
   unfolding with_version
-  named word = record {
-    partitions = same.partitions;
-    quota = same.quota;
-    grants = same.grants;
-    state = same_state_after (naming word) (λ r. refl);
-    buffers = same.buffers;
-    owned = same.owned;
-    homes = same.homes;
-    sharable = same.sharable;
-    transactions = same.transactions;
-    views = same.views;
-  }
+  named word = parts_alike p s t same (same_state_after (naming word) (λ r. refl)) same.buffers same.transactions same.views
 
   paired : (pair : Option Pair) → AreAlikeTo p (with_pair s p pair) (with_pair t p pair)
   unfolding with_pair
-  paired pair = record {
-    partitions = same.partitions;
-    quota = same.quota;
-    grants = same.grants;
-    state = same.state;
-    buffers = same_boxes_after pair;
-    owned = same.owned;
-    homes = same.homes;
-    sharable = same.sharable;
-    transactions = same.transactions;
-    views = same.views;
-  }
+  paired pair = parts_alike p s t same same.state (same_boxes_after pair) same.transactions same.views
 
   released : AreAlikeTo p (with_rx_released s p) (with_rx_released t p)
   unfolding with_rx_released
-  released = record {
-    partitions = same.partitions;
-    quota = same.quota;
-    grants = same.grants;
-    state = same.state;
-    buffers = rx_alike p false s.mailboxes t.mailboxes same.buffers;
-    owned = same.owned;
-    homes = same.homes;
-    sharable = same.sharable;
-    transactions = same.transactions;
-    views = same.views;
-  }
+  released = parts_alike p s t same same.state (rx_alike p false s.mailboxes t.mailboxes same.buffers) same.transactions same.views
 
   -- what an edit of its own needs fits in both, or in none
   same_fits : (edit : Option Edit) → ((e : Edit) → edit ≡ Some e → e.who ≡ p) → fits s edit ≡ fits t edit
@@ -450,34 +426,12 @@ module _ (p : ℕ) (s t : State) (same : AreAlikeTo p s t) (sends_s : AllByRecur
   -- but for what is reached, which the edit decides
   ended_alike : (h : ℕ) → transactions_of p (without h s.live) ≡ transactions_of p (without h t.live) → ((n : ℕ) → sees (ended s h) p n ≡ sees (ended t h) p n) → AreAlikeTo p (ended s h) (ended t h)
   unfolding ended
-  ended_alike h kept seen = record {
-    partitions = same.partitions;
-    quota = same.quota;
-    grants = same.grants;
-    state = same.state;
-    buffers = same.buffers;
-    owned = same.owned;
-    homes = same.homes;
-    sharable = same.sharable;
-    transactions = kept;
-    views = seen;
-  }
+  ended_alike h kept seen = parts_alike p s t same same.state same.buffers kept seen
 
   set_alike : (h : ℕ) (view : View) → transactions_of p (with_retrieval_of h p view s.live) ≡ transactions_of p (with_retrieval_of h p view t.live) → ((n : ℕ) → sees (with_retrieval_by s p h view) p n ≡ sees (with_retrieval_by t p h view) p n)
       → AreAlikeTo p (with_retrieval_by s p h view) (with_retrieval_by t p h view)
   unfolding with_retrieval_by
-  set_alike h view kept seen = record {
-    partitions = same.partitions;
-    quota = same.quota;
-    grants = same.grants;
-    state = same.state;
-    buffers = same.buffers;
-    owned = same.owned;
-    homes = same.homes;
-    sharable = same.sharable;
-    transactions = kept;
-    views = seen;
-  }
+  set_alike h view kept seen = parts_alike p s t same same.state same.buffers kept seen
 
   given_alike : (u : Live) (access : Access) → AreSentPages s u → AreSentPages t u → transactions_of p (without u.handle s.live) ≡ transactions_of p (without u.handle t.live) → ((n : ℕ) → sees (with_donation s p u access) p n ≡ sees (with_donation t p u access) p n)
       → AreAlikeTo p (with_donation s p u access) (with_donation t p u access)
@@ -513,18 +467,8 @@ module _ (p : ℕ) (s t : State) (same : AreAlikeTo p s t) (sends_s : AllByRecur
   opened_alike k v home seen =
       let us = opened s p k v home in
       let ut = opened t p k v home in
-      record {
-        partitions = same.partitions;
-        quota = same.quota;
-        grants = same.grants;
-        state = same_state_after counting (λ r. refl);
-        buffers = same.buffers;
-        owned = same.owned;
-        homes = same.homes;
-        sharable = same.sharable;
-        transactions = transactions_push p s.live us ∙ ap (λ ts. ts ++ transactions_of p (us ∷ [])) same.transactions ∙ ap (λ (u : Live). transactions_of p t.live ++ transactions_of p (u ∷ [])) (same_opened k v home) ∙ sym (transactions_push p t.live ut);
-        views = seen;
-      }
+      let kept = transactions_push p s.live us ∙ ap (λ ts. ts ++ transactions_of p (us ∷ [])) same.transactions ∙ ap (λ (u : Live). transactions_of p t.live ++ transactions_of p (u ∷ [])) (same_opened k v home) ∙ sym (transactions_push p t.live ut) in
+      parts_alike p s t same (same_state_after counting (λ r. refl)) same.buffers kept seen
 
 -- ---- a call of the partition
 
@@ -853,18 +797,8 @@ module _ (p : ℕ) (s : State) (c : CallWords) (is : IsReached s) (ne : eqb c.ca
   other_opened : (t : Live) → t.sender ≡ c.caller → transactions_of p (with_transaction s t).live ≡ transactions_of p s.live → ((n : ℕ) → sees (with_transaction s t) p n ≡ sees s p n) → AreAlikeTo p s (with_transaction s t)
   unfolding with_transaction
   other_opened t sends kept seen =
-      record {
-        partitions = refl;
-        quota = refl;
-        grants = λ n. refl;
-        state = other_state counting (λ r. refl) ∙ ap (λ (q : ℕ). state_of (with_partition q counting s.partitions) p) (sym sends);
-        buffers = refl;
-        owned = λ n. refl;
-        homes = λ n e. refl;
-        sharable = λ n e. refl;
-        transactions = sym kept;
-        views = λ n. sym (seen n);
-      }
+      let counted = other_state counting (λ r. refl) ∙ ap (λ (q : ℕ). state_of (with_partition q counting s.partitions) p) (sym sends) in
+      parts_alike p s s alike counted refl (sym kept) (λ n. sym (seen n))
 
   other_send : (k : Kind) (x : Transfer) → SendPasses s c k x → ((n : ℕ) → sees (send_rule s c k x).next p n ≡ with_edit (send_rule s c k x).edit (sees s) p n) → transactions_of p (send_rule s c k x).next.live ≡ transactions_of p s.live → AreAlikeTo p s (send_rule s c k x).next
   other_send k x a edited kept =
@@ -874,23 +808,23 @@ module _ (p : ℕ) (s : State) (c : CallWords) (is : IsReached s) (ne : eqb c.ca
 
   other_pair : (pair : Option Pair) → AreAlikeTo p s (with_pair s c.caller pair)
   unfolding with_pair
-  other_pair pair = record { partitions = refl; quota = refl; grants = λ n. refl; state = refl; buffers = sym (mailboxes_other p c.caller pair ne s.mailboxes); owned = λ n. refl; homes = λ n e. refl; sharable = λ n e. refl; transactions = refl; views = λ n. refl }
+  other_pair pair = parts_alike p s s alike refl (sym (mailboxes_other p c.caller pair ne s.mailboxes)) refl (λ n. refl)
 
   other_released : AreAlikeTo p s (with_rx_released s c.caller)
   unfolding with_rx_released
-  other_released = record { partitions = refl; quota = refl; grants = λ n. refl; state = refl; buffers = sym (mailboxes_other p c.caller (option_map (holding false) (pair_of s.mailboxes c.caller)) ne s.mailboxes); owned = λ n. refl; homes = λ n e. refl; sharable = λ n e. refl; transactions = refl; views = λ n. refl }
+  other_released = parts_alike p s s alike refl (sym (mailboxes_other p c.caller (option_map (holding false) (pair_of s.mailboxes c.caller)) ne s.mailboxes)) refl (λ n. refl)
 
   other_named : (word : ℕ) → AreAlikeTo p s (with_version s c.caller word)
   unfolding with_version
-  other_named word = record { partitions = refl; quota = refl; grants = λ n. refl; state = other_state (naming word) (λ r. refl); buffers = refl; owned = λ n. refl; homes = λ n e. refl; sharable = λ n e. refl; transactions = refl; views = λ n. refl }
+  other_named word = parts_alike p s s alike (other_state (naming word) (λ r. refl)) refl refl (λ n. refl)
 
   other_ended : (h : ℕ) → transactions_of p (ended s h).live ≡ transactions_of p s.live → ((n : ℕ) → sees (ended s h) p n ≡ sees s p n) → AreAlikeTo p s (ended s h)
   unfolding ended
-  other_ended h kept seen = record { partitions = refl; quota = refl; grants = λ n. refl; state = refl; buffers = refl; owned = λ n. refl; homes = λ n e. refl; sharable = λ n e. refl; transactions = sym kept; views = λ n. sym (seen n) }
+  other_ended h kept seen = parts_alike p s s alike refl refl (sym kept) (λ n. sym (seen n))
 
   other_set : (h : ℕ) (view : View) → transactions_of p (with_retrieval_by s c.caller h view).live ≡ transactions_of p s.live → ((n : ℕ) → sees (with_retrieval_by s c.caller h view) p n ≡ sees s p n) → AreAlikeTo p s (with_retrieval_by s c.caller h view)
   unfolding with_retrieval_by
-  other_set h view kept seen = record { partitions = refl; quota = refl; grants = λ n. refl; state = refl; buffers = refl; owned = λ n. refl; homes = λ n e. refl; sharable = λ n e. refl; transactions = sym kept; views = λ n. sym (seen n) }
+  other_set h view kept seen = parts_alike p s s alike refl refl (sym kept) (λ n. sym (seen n))
 
   -- a donation to another partition, by a sender that is another too
   not_given : (u : Live) (access : Access) → find (λ w. eqb w.handle u.handle) s.live ≡ Some u → names p u ≡ false → (n : ℕ) → covers u.ranges n ≡ true → owns s p n ≡ false
@@ -923,18 +857,7 @@ module _ (p : ℕ) (s : State) (c : CallWords) (is : IsReached s) (ne : eqb c.ca
 
   other_filled : (u : State) → AreAlikeTo p s u → AreAlikeTo p s (with_rx_filled u c.caller)
   unfolding with_rx_filled
-  other_filled u same = record {
-    partitions = same.partitions;
-    quota = same.quota;
-    grants = same.grants;
-    state = same.state;
-    buffers = same.buffers ∙ sym (mailboxes_other p c.caller (option_map (holding true) (pair_of u.mailboxes c.caller)) ne u.mailboxes);
-    owned = same.owned;
-    homes = same.homes;
-    sharable = same.sharable;
-    transactions = same.transactions;
-    views = same.views;
-  }
+  other_filled u same = parts_alike p s u same same.state (same.buffers ∙ sym (mailboxes_other p c.caller (option_map (holding true) (pair_of u.mailboxes c.caller)) ne u.mailboxes)) same.transactions same.views
 
   other_kind : (k : Kind) (u : Live) (access : Access) → find (λ w. eqb w.handle u.handle) s.live ≡ Some u → transactions_of p (with_retrieval_of_kind k s c.caller u access).live ≡ transactions_of p s.live
       → ((n : ℕ) → sees (with_retrieval_of_kind k s c.caller u access) p n ≡ sees s p n) → AreAlikeTo p s (with_retrieval_of_kind k s c.caller u access)

@@ -1,5 +1,5 @@
 -- FFA_MEM_RELINQUISH: a receiver gives up what it has retrieved (FF-A 1.1, "FFA_MEM_RELINQUISH").
-use Rattle.std.specs.Prelude.{ℕ, Bool, false, ◌==◌, List, [], ◌∷◌, Option, Some, None, is_some}
+use Rattle.std.specs.Prelude.{ℕ, Bool, false, ◌==◌, List, [], ◌∷◌, None, is_some}
 use Rattle.std.specs.Option.{option_map, option_map_or}
 use Rattle.base.specs.declared.status.Status.TheVariants.{InvalidParameters, Denied}
 use Rattle.base.specs.Buffers.{has_pair}

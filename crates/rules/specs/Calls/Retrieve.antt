@@ -18,7 +18,7 @@ use Rattle.base.specs.Descriptors.Encoding.{response_text}
 use Rattle.base.specs.Descriptors.Permissions.{data_in, instruction_in}
 use Rattle.base.specs.Descriptors.Response.{Response}
 use Rattle.base.specs.Descriptors.Retrieve.{Retrieve, is_retrieve, retrieve_of}
-use Rattle.base.specs.Descriptors.Send.{Endpoint, header_size}
+use Rattle.base.specs.Descriptors.Send.{header_size}
 use Rattle.base.specs.Refusals.{Test, ◌otherwise◌}
 use Rattle.base.specs.State.{State, version_of}
 use Rattle.base.specs.Transactions.{Receiver, Live, without, completed}
