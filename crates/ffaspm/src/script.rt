@@ -86,8 +86,9 @@ impl<M: TableMem + Drop> Run<M> {
                 let reply = self.relinquish(&fields)?;
                 write_reply(self.alloc, &reply, text)
             }
-            Line::Reclaim(id, handle) => {
-                let reply = self.call(id, reclaim_registers(handle))?;
+            Line::Reclaim(reclaim) => {
+                let regs = reclaim_registers(reclaim.handle, reclaim.clears);
+                let reply = self.call(reclaim.caller, regs)?;
                 write_reply(self.alloc, &reply, text)
             }
             Line::Maps(id) => {
@@ -126,7 +127,7 @@ impl<M: TableMem + Drop> Run<M> {
         let header = HeaderFields {
             sender: send.sender,
             attributes: attributes_of(kind, send.receivers.len()),
-            flags: 0,
+            flags: u32::from(send.clears),
             handle: Handle::from_bits(0),
             tag: send.tag,
         };
@@ -188,10 +189,11 @@ impl<M: TableMem + Drop> Run<M> {
     }
 }
 
-/// The registers of a reclaim without a flag.
-fn reclaim_registers(handle: Handle) -> [u64; 8] {
+/// The registers of a reclaim. The flag that orders a clear is bit 0 of w3.
+fn reclaim_registers(handle: Handle, clears: bool) -> [u64; 8] {
     let (low, high) = (u64::from(handle.low()), u64::from(handle.high()));
-    [u64::from(FFA_MEM_RECLAIM), low, high, 0, 0, 0, 0, 0]
+    let flags = u64::from(clears);
+    [u64::from(FFA_MEM_RECLAIM), low, high, flags, 0, 0, 0, 0]
 }
 
 /// The identifier of the 32-bit call that sends.

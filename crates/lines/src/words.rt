@@ -1,10 +1,18 @@
-//! The numbers that words of a line write.
+//! The numbers that words of a line write, and its last word.
 
 ghost use Rattle.std.specs.Prelude.{◌≡◌, ◌^◌};
 ghost use Rattle.std.specs.List.{list_all};
 ghost use Rattle.lines.specs.Lines.{is_lower_hex_digit, is_digit, number_of, id_of, permissions_of, count_of};
 
 use base::{PartitionId, Permissions};
+
+/// The words before a last word `zero`, and whether it is there.
+pub(crate) fn before_zero<'a, 'b>(words: &'a [&'b str]) -> (&'a [&'b str], bool) {
+    match words {
+        [before @ .., "zero"] => (before, true),
+        _ => (words, false),
+    }
+}
 
 /// The identifier that four digits are.
 #[tactic(auto, using(crate::proofs::Digits::parsed))]
