@@ -11,7 +11,6 @@ use Rattle.pool.specs.Pool.{Pool, words_of}
 use Rattle.stage2.specs.Slot.{Layout, layout_of}
 use Rattle.stage2.specs.Walk.{translation, walked, Agrees}
 use Rattle.wire.specs.declared.request.Request.{Request}
-use Rattle.wire.specs.declared.request.Request.TheVariants.{Version, Features, RxRelease, RxtxMap, RxtxUnmap, IdGet, Send, Retrieve, Relinquish, Reclaim}
 use Rattle.wire.specs.Requests.{request_of}
 use Rattle.rules.specs.Call.{CallWords, IsCall}
 use Rattle.rules.specs.Rule.{Edit, Rule, with_edit, fits, all_tests}

@@ -3,9 +3,10 @@ use Rattle.std.specs.Prelude.{◌≡◌, ◌≢◌, ℕ, ◌^◌, ◌<◌, true,
 use Rattle.base.specs.Access.{View}
 use Rattle.base.specs.Manifest.{row_of}
 use Rattle.base.specs.Pages.{PageRun, covers}
-use Rattle.pool.specs.Pool.{words_of}
+use Rattle.pool.specs.Pool.{Pool, words_of}
 use Rattle.stage2.specs.declared.walked.Walked.TheVariants.{None as Unmapped}
 use Rattle.stage2.specs.Moments.{Moments, cleared_by}
+use Rattle.stage2.specs.Slot.{Layout}
 use Rattle.stage2.specs.Steps.{with_pages}
 use Rattle.stage2.specs.Tables.{TablesView, AreFreeFor, IsCallInStep}
 use Rattle.stage2.specs.Walk.{walk, Agrees}
@@ -43,10 +44,9 @@ AreUnreachedByOthers edit view =
     → view p n ≡ None
 
 -- what walkers see of the edit and its clears, which are those that it orders
-pub record IsShown (edit : Edit) (old new : TablesView) (before : ℕ → ℕ → View) : Type 0 where
-  pub moments : Moments old.layout old.pool new.pool before
-      (with_pages edit.who edit.runs edit.to before)
-  pub cleared : cleared_by new.pool.operations ≡ clears_of edit
+pub record IsShown (edit : Edit) (layout : Layout) (old new : Pool) (before : ℕ → ℕ → View) : Type 0 where
+  pub moments : Moments layout old new before (with_pages edit.who edit.runs edit.to before)
+  pub cleared : cleared_by new.operations ≡ clears_of edit
 
 -- so it is where they are all that is done to the tables
 abbrev pub ShowsOne : Edit → TablesView → TablesView → Type 0
@@ -54,4 +54,4 @@ ShowsOne edit old new =
     old.pool.operations ≡ [] → (before : ℕ → ℕ → View)
     → Agrees old.layout (words_of old.pool.memory.words) before
     → AreFreeFor edit.who edit.runs edit.to before → AreUnreachedByOthers edit before
-    → IsShown edit old new before
+    → IsShown edit old.layout old.pool new.pool before

@@ -254,7 +254,13 @@ fn change(
     let p = call.partition();
     let transaction = transaction(state, p, kind, checked)?;
     let handle = transaction.handle;
-    let edit = sender_edit(state.alloc, kind, p, &transaction.ranges, checked.desc.clears)?;
+    let edit = sender_edit(
+        state.alloc,
+        kind,
+        p,
+        &transaction.ranges,
+        checked.desc.clears,
+    )?;
     Ok(Change {
         edit,
         update: Update::Open(transaction),
