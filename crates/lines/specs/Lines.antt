@@ -1,5 +1,6 @@
 -- The parts of script lines.
-use Rattle.std.specs.Prelude.{◌≡◌, ℕ, ◌+◌, ◌≤◌, ◌^◌, Bool, true, not, ◌&&◌, ◌||◌, ◌==◌, nat_le, nat_lt, slice_index, sum_by, IsTrue, List, [], ◌∷◌, length, Option, Some, None, if◌then◌else◌}
+use Rattle.std.specs.Prelude.{◌≡◌, ℕ, ◌+◌, ◌≤◌, ◌^◌, Bool, true, not, ◌&&◌, ◌||◌, ◌==◌, nat_le, nat_lt, slice_index, sum_by, IsTrue, List, [], ◌∷◌, ◌++◌, length, map, codes, Option, Some, None, if◌then◌else◌}
+use Rattle.std.specs.Borrow.{Bor}
 use Rattle.std.specs.List.{list_all}
 use Rattle.std.specs.Str.Parse.{digits_value}
 use Rattle.base.specs.Descriptors.Send.{are_clear_flags}
@@ -43,6 +44,14 @@ count_of word =
     if nat_le 1 (length word) && list_all is_digit word && not (has_leading_zero word)
     && nat_lt (digits_value 10 word) (2 ^ 32)
     then Some (digits_value 10 word) else None
+
+-- what the words write
+abbrev pub texts : List (Bor (List ℕ)) → List (List ℕ)
+texts words = map (λ word. word.now) words
+
+-- the words are these, and then `zero`
+abbrev pub EndsInZero : List (List ℕ) → List (List ℕ) → Type 0
+EndsInZero words before = words ≡ before ++ codes "zero" ∷ []
 
 -- the total is the sum of the ranges' counts, and there are at most 512 ranges
 abbrev pub IsWhole : SendLine → Type 0
