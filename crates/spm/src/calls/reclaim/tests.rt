@@ -16,7 +16,13 @@ type ReclaimCase = (&'static str, u16, [u64; 2], u64, Result<(), u64>);
 
 /// The first lend is not reclaimed but by its sender, once, and with no reserved flag.
 const RECLAIMS: [ReclaimCase; 6] = [
-    ("a reserved flag", 0x8001, [1, 0x8001], 2, Err(INVALID_PARAMETERS)),
+    (
+        "a reserved flag",
+        0x8001,
+        [1, 0x8001],
+        2,
+        Err(INVALID_PARAMETERS),
+    ),
     (
         "a count that was not used",
         0x8001,
