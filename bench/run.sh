@@ -1,7 +1,7 @@
 #!/bin/sh
 # run.sh NAME CRATES: proves, builds and runs NAME.rt.in, which uses these crates of the repository and
 # thiserror. It does so in a folder of its own, so that the gate has no timed part; the program is no .rt
-# file here, since the gate reads those.
+# file here, since the gate reads those, and neither is the proof of its function `time`, NAME.time.in.
 set -e
 top=$(cd "$(dirname "$0")/.." && pwd)
 name=$1
@@ -22,7 +22,12 @@ copy() {
 }
 
 copy $2
+cp "$top/HANDLES" "$work/"
 cp "$top/bench/$name.rt.in" "$work/crates/$name/src/main.rt"
+if [ -e "$top/bench/$name.time.in" ]; then
+    mkdir -p "$work/crates/$name/proofs/time"
+    cp "$top/bench/$name.time.in" "$work/crates/$name/proofs/time/Invariants.antt"
+fi
 echo "$name: $2 thiserror" >> "$work/crates.txt"
 git init -q "$work"
 cd "$work/crates/$name"

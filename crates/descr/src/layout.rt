@@ -5,6 +5,7 @@ ghost use Rattle.std.specs.Prelude.{◌≡◌, ◌^◌, ◌<◌, ◌≤◌, leng
 ghost use Rattle.base.specs.Descriptors.Send as spec;
 ghost use Rattle.descr.specs.Inside.{IsInside};
 
+use crate::flags::are_clear_flags;
 use crate::numbers::{u16_at, u32_at, u64_at};
 use base::limits::{MOST_RANGES, MOST_RECEIVERS};
 use base::{MemoryAttributes, Version};
@@ -108,7 +109,7 @@ pub(crate) fn is_header(version: Version, bytes: &[u8]) -> bool
     ensures { result ≡ spec.is_header version bytes.now }
 {
     attributes_of(bytes).are_legal()
-        && u32_at(bytes, 4) == 0
+        && are_clear_flags(u32_at(bytes, 4))
         && u64_at(bytes, 8) == 0
         && is_rest_of_header(version, bytes)
 }

@@ -4,6 +4,7 @@
 
 mod access;
 mod apart;
+mod flags;
 mod law;
 mod layout;
 mod numbers;
@@ -13,6 +14,7 @@ mod retrieve;
 mod send;
 
 pub use access::Endpoint;
+pub use flags::{are_clear_flags, orders_clear};
 pub use law::{layouts_are_apart, retrieve_layouts_are_apart};
 pub use ranges::Ranges;
 pub use relinquish::{RelinquishDesc, read_relinquish};

@@ -7,6 +7,7 @@ ghost use Rattle.descr.specs.Parts.{has_receivers, SpellsReceivers, has_memory, 
 
 use crate::access::{Endpoint, read_endpoints};
 use crate::apart::are_disjoint;
+use crate::flags::orders_clear;
 use crate::layout::{PART_SIZE, array_at, attributes_of, composite_at, has_layout, is_header};
 use crate::numbers::{u16_at, u32_at, u64_at};
 use crate::ranges::{Ranges, is_composite, read_ranges};
@@ -25,6 +26,8 @@ pub struct SendDesc<'a> {
     pub sender: PartitionId,
     /// The memory region attributes, from bytes 2 and 3: 0 or 0x2f.
     pub attributes: MemoryAttributes,
+    /// Whether the pages are to be cleared: bit 0 of the flags, bytes 4 to 7.
+    pub clears: bool,
     /// The tag, from bytes 16 to 23.
     pub tag: u64,
     /// The receivers, 1 to 8, in the order of the access descriptors.
@@ -40,6 +43,7 @@ impl<'a> Model for SendDesc<'a> {
     ghost view = { λ d. record {
       sender = d.sender;
       attributes = d.attributes;
+      clears = d.clears;
       tag = d.tag;
       receivers = d.receivers.items;
       ranges = d.ranges;
@@ -102,6 +106,7 @@ pub fn read_send(bytes: &[u8], version: Version) -> Option<SendDesc<'_>>
     Some(SendDesc {
         sender: PartitionId::new(u16_at(bytes, 0)),
         attributes: attributes_of(bytes),
+        clears: orders_clear(u32_at(bytes, 4)),
         tag: u64_at(bytes, 16),
         receivers,
         ranges,

@@ -4,7 +4,7 @@ use Rattle.std.proofs.lemmas.Bool.Decides.{nat_tests}
 use Rattle.byteorder.specs.Numbers.{little_number-reads_back}
 use Rattle.base.specs.declared.partition.Version.{Version}
 use Rattle.base.specs.declared.partition.Version.TheVariants.{V10, V11}
-use Rattle.base.specs.Descriptors.Send.{u16_at, u32_at, u64_at, header_size, array_at, receiver_count, is_rest_of_header}
+use Rattle.base.specs.Descriptors.Send.{u16_at, u32_at, u64_at, header_size, array_at, receiver_count, are_clear_flags, is_rest_of_header}
 use Rattle.base.specs.Descriptors.Permissions.{are_attributes}
 use Rattle.base.specs.Descriptors.Encoding.{HeaderFields, header_text}
 
@@ -55,3 +55,7 @@ length-header_text V11 h count = refl
 -- attributes that keep their rule fit their bytes
 pub attributes_small : (a : ℕ) → are_attributes a ≡ true → a < 2 ^ 16
 attributes_small a h = grind (arith, nat_tests)
+
+-- and so do flags that may order a clear
+pub clear_flags_small : (flags : ℕ) → are_clear_flags flags ≡ true → flags < 2 ^ 32
+clear_flags_small flags h = grind (arith, nat_tests)

@@ -12,7 +12,7 @@ use Rattle.descw.specs.Fields.{are_retrieve_fields, asked_by, are_relinquish_fie
 use Rattle.descw.specs.Inside.{FitsHeader}
 use Rattle.base.proofs.Booleans.{and_true, left, right}
 use Rattle.descw.proofs.Reading.{byte_behind, u16_here, is_access-text}
-use Rattle.descw.proofs.Header.{attributes_small, count-text, array-text, rest-text, behind-header, length-header_text, sender-text, attributes-text, flags-text, handle-text, tag-text}
+use Rattle.descw.proofs.Header.{attributes_small, clear_flags_small, count-text, array-text, rest-text, behind-header, length-header_text, sender-text, attributes-text, flags-text, handle-text, tag-text}
 
 flags_small : (flags : ℕ) → are_flags flags ≡ true → flags < 2 ^ 32
 unfolding are_flags
@@ -84,8 +84,7 @@ pub relinquish_text-spells : (f : RelinquishFields) (bytes : List ℕ) → bytes
     → are_relinquish_fields f ≡ true → SpellsRelinquish bytes (given_up_by f)
 unfolding relinquish_text are_relinquish_fields is_relinquish relinquish_of u16_at u32_at u64_at
 relinquish_text-spells f bytes is fits identifier valid =
-    let none = eqb-true f.flags 0 valid in
     let handle = little_number-reads_back 8 f.handle [] fits in
-    let flags = little_number-reads_back 4 f.flags [] (omega arith) in
+    let flags = little_number-reads_back 4 f.flags [] (clear_flags_small f.flags valid) in
     let endpoint = little_number-reads_back 2 f.endpoint [] identifier in
-    rw is (and_true _ true (eq-eqb _ _ (flags ∙ none)) refl, rw (handle, endpoint) refl)
+    rw is (and_true _ true (rw flags valid) refl, rw (handle, flags, endpoint) refl)

@@ -4,19 +4,19 @@ use Rattle.std.specs.List.{list_all}
 use Rattle.std.proofs.lemmas.Bool.{leb-true, eqb-true}
 use Rattle.base.specs.declared.partition.Version.{Version}
 use Rattle.base.specs.Pages.{are_disjoint}
-use Rattle.base.specs.Descriptors.Send.{Endpoint, pages_in, is_header, is_send, send_of, SpellsSend}
+use Rattle.base.specs.Descriptors.Send.{Endpoint, u32_at, pages_in, are_clear_flags, is_header, is_send, send_of, SpellsSend}
 use Rattle.base.specs.Descriptors.Permissions.{are_attributes, are_permissions}
 use Rattle.base.specs.Descriptors.Encoding.{HeaderFields, RangeFields, SendFields, header_text, send_text}
 use Rattle.descw.specs.Fields.{are_range_fields, runs_of, are_send_fields, sent_by}
 use Rattle.descw.specs.Inside.{FitsHeader, AreIdentifiers}
 use Rattle.base.proofs.Booleans.{and_true, left, right}
-use Rattle.descw.proofs.Header.{attributes_small}
+use Rattle.descw.proofs.Header.{attributes_small, clear_flags_small}
 use Rattle.descw.proofs.Order as order
 
 -- the rules one by one
 pub record KeepsSend (h : HeaderFields) (es : List Endpoint) (total : ℕ) (rs : List RangeFields) : Type 0 where
   pub attributes : are_attributes h.attributes ≡ true
-  pub flags : h.flags ≡ 0
+  pub flags : are_clear_flags h.flags ≡ true
   pub handle : h.handle ≡ 0
   pub some_receivers : 1 ≤ length es
   pub few_receivers : length es ≤ 8
@@ -43,7 +43,7 @@ keeps_send f h =
     let l10 = left _ _ l9 in
     record {
       attributes = left _ _ l10;
-      flags = eqb-true f.header.flags 0 (right _ _ l10);
+      flags = right _ _ l10;
       handle = eqb-true f.header.handle 0 (right _ _ l9);
       some_receivers = leb-true 1 (length f.receivers) (right _ _ l8);
       few_receivers = leb-true (length f.receivers) 8 (right _ _ l7);
@@ -64,11 +64,11 @@ module _ (version : Version) (h : HeaderFields) (e : Endpoint) (es : List Endpoi
   is_header-text =
       let small = attributes_small h.attributes k.attributes in
       let attributes = order.attributes version h e es total rs bytes parts k.few_receivers k.few_ranges small in
-      let none = k.flags in
-      let flags = order.flags version h e es total rs bytes parts k.few_receivers k.few_ranges (omega arith) ∙ k.flags in
+      let flags = order.flags version h e es total rs bytes parts k.few_receivers k.few_ranges (clear_flags_small h.flags k.flags) in
+      let ordered : are_clear_flags (u32_at bytes 4) ≡ true = rw flags k.flags in
       let handle = order.handle version h e es total rs bytes parts k.few_receivers k.few_ranges fits.handle ∙ k.handle in
       let rest = order.rest_of_header version h e es total rs bytes parts k.few_receivers k.few_ranges in
-      and_true _ _ (and_true _ _ (and_true _ _ (rw attributes k.attributes) (eq-eqb _ _ flags)) (eq-eqb _ _ handle)) rest
+      and_true _ _ (and_true _ _ (and_true _ _ (rw attributes k.attributes) ordered) (eq-eqb _ _ handle)) rest
 
   is_send-text : is_send version bytes ≡ true
   unfolding is_send
@@ -86,10 +86,11 @@ module _ (version : Version) (h : HeaderFields) (e : Endpoint) (es : List Endpoi
       let small = attributes_small h.attributes k.attributes in
       let sender = order.sender version h e es total rs bytes parts k.few_receivers k.few_ranges fits.sender in
       let attributes = order.attributes version h e es total rs bytes parts k.few_receivers k.few_ranges small in
+      let flags = order.flags version h e es total rs bytes parts k.few_receivers k.few_ranges (clear_flags_small h.flags k.flags) in
       let tag = order.tag version h e es total rs bytes parts k.few_receivers k.few_ranges fits.tag in
       let endpoints = order.endpoints version h e es total rs bytes parts k.few_receivers k.few_ranges identifiers in
       let read = order.ranges_read version h e es total rs bytes parts k.few_receivers k.few_ranges k.valid in
-      rw (sender, attributes, tag, endpoints, read) refl
+      rw (sender, attributes, flags, tag, endpoints, read) refl
 
 spells : (version : Version) (h : HeaderFields) (es : List Endpoint) (total : ℕ) (rs : List RangeFields) (bytes : List ℕ)
     → bytes ≡ header_text version h (length es) ++ order.behind_header version es total rs → FitsHeader h → AreIdentifiers es → KeepsSend h es total rs

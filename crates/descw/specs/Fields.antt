@@ -2,7 +2,7 @@
 use Rattle.std.specs.Prelude.{◌+◌, ◌/◌, ◌%◌, ◌^◌, Bool, ◌&&◌, ◌==◌, nat_le, List, length, map}
 use Rattle.std.specs.List.{list_all}
 use Rattle.base.specs.Pages.{PageRun, are_disjoint}
-use Rattle.base.specs.Descriptors.Send.{Send, pages_in}
+use Rattle.base.specs.Descriptors.Send.{Send, are_clear_flags, orders_clear, pages_in}
 use Rattle.base.specs.Descriptors.Permissions.{are_attributes, are_permissions}
 use Rattle.base.specs.Descriptors.Retrieve.{Retrieve, are_flags, kind_in}
 use Rattle.base.specs.Descriptors.Relinquish.{Relinquish}
@@ -25,11 +25,11 @@ runs_of ranges = map run_of ranges
 
 -- ---- the rules
 
--- Attributes that a header may have, no flag and no handle; 1 to 8 receivers with permissions that each may have; 1 to 512 ranges that share no page, and a total that is the sum of their pages and at most 262,144 (1 GB).
+-- Attributes that a header may have, no flag but one that orders a clear, and no handle; 1 to 8 receivers with permissions that each may have; 1 to 512 ranges that share no page, and a total that is the sum of their pages and at most 262,144 (1 GB).
 unfoldable pub are_send_fields : SendFields → Bool
 are_send_fields f =
     are_attributes f.header.attributes
-    && (f.header.flags == 0)
+    && are_clear_flags f.header.flags
     && (f.header.handle == 0)
     && nat_le 1 (length f.receivers) && nat_le (length f.receivers) 8
     && list_all (λ e. are_permissions e.permissions) f.receivers
@@ -46,9 +46,9 @@ are_retrieve_fields f =
     && are_flags f.header.flags
     && are_permissions f.endpoint.permissions
 
--- No flag.
+-- No flag but one that orders a clear.
 unfoldable pub are_relinquish_fields : RelinquishFields → Bool
-are_relinquish_fields f = f.flags == 0
+are_relinquish_fields f = are_clear_flags f.flags
 
 -- Permissions that are granted; 1 to 512 ranges that share no page, of at most 262,144 pages together.
 unfoldable pub are_response_fields : Response → Bool
@@ -65,6 +65,7 @@ sent_by f =
     record {
       sender = f.header.sender;
       attributes = f.header.attributes;
+      clears = orders_clear f.header.flags;
       tag = f.header.tag;
       receivers = f.receivers;
       ranges = runs_of f.ranges;
@@ -83,4 +84,5 @@ asked_by f =
     }
 
 abbrev pub given_up_by : RelinquishFields → Relinquish
-given_up_by f = record { handle = f.handle; endpoint = f.endpoint }
+given_up_by f =
+    record { handle = f.handle; clears = orders_clear f.flags; endpoint = f.endpoint }

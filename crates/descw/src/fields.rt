@@ -12,7 +12,7 @@ pub struct HeaderFields {
     pub sender: PartitionId,
     /// The memory region attributes, bytes 2 and 3. In 1.0 byte 3 is reserved.
     pub attributes: MemoryAttributes,
-    /// The flags, bytes 4 to 7.
+    /// The flags, bytes 4 to 7. Bit 0 of those of a send orders that the pages are cleared.
     pub flags: u32,
     /// The handle of the transaction, bytes 8 to 15.
     pub handle: Handle,
@@ -111,7 +111,7 @@ impl Model for RetrieveFields {
 pub struct RelinquishFields {
     /// The handle of the transaction, bytes 0 to 7.
     pub handle: Handle,
-    /// The flags, bytes 8 to 11.
+    /// The flags, bytes 8 to 11. Bit 0 orders that the pages are cleared.
     pub flags: u32,
     /// The one borrower that gives its access up, bytes 16 and 17.
     pub endpoint: PartitionId,

@@ -50,7 +50,10 @@ impl<M: TableMem + Drop> Session<M> {
             Line::Send(kind, send) => self.send(kind, &send, text),
             Line::Retrieve(fields) => self.retrieve(&fields, text),
             Line::Relinquish(fields) => self.relinquish(&fields, text),
-            Line::Reclaim(id, handle) => self.call(id, reclaim_registers(handle), text),
+            Line::Reclaim(reclaim) => {
+                let regs = reclaim_registers(reclaim.handle, reclaim.clears);
+                self.call(reclaim.caller, regs, text)
+            }
             Line::Maps(id) => self.maps(id, text),
             Line::Tables(id) => self.tables(id, text),
             Line::Owners => self.owners(text),
@@ -99,7 +102,7 @@ impl<M: TableMem + Drop> Session<M> {
         let header = HeaderFields {
             sender: send.sender,
             attributes: attributes_of(kind, send.receivers.len()),
-            flags: 0,
+            flags: u32::from(send.clears),
             handle: Handle::from_bits(0),
             tag: send.tag,
         };
@@ -188,10 +191,11 @@ fn answer<M: TableMem + Drop>(
     Ok(write_reply(&reply, text)?)
 }
 
-/// The registers of a reclaim without a flag.
-fn reclaim_registers(handle: Handle) -> [u64; 8] {
+/// The registers of a reclaim. The flag that orders a clear is bit 0 of w3.
+fn reclaim_registers(handle: Handle, clears: bool) -> [u64; 8] {
     let (low, high) = (u64::from(handle.low()), u64::from(handle.high()));
-    [u64::from(FFA_MEM_RECLAIM), low, high, 0, 0, 0, 0, 0]
+    let flags = u64::from(clears);
+    [u64::from(FFA_MEM_RECLAIM), low, high, flags, 0, 0, 0, 0]
 }
 
 /// The identifier of the 32-bit call that sends.

@@ -1,7 +1,9 @@
 -- The parts of script lines.
-use Rattle.std.specs.Prelude.{◌≡◌, ℕ, ◌+◌, ◌≤◌, ◌^◌, Bool, true, not, ◌&&◌, ◌||◌, ◌==◌, nat_le, nat_lt, slice_index, sum_by, List, [], ◌∷◌, length, Option, Some, None, if◌then◌else◌}
+use Rattle.std.specs.Prelude.{◌≡◌, ℕ, ◌+◌, ◌≤◌, ◌^◌, Bool, true, not, ◌&&◌, ◌||◌, ◌==◌, nat_le, nat_lt, slice_index, sum_by, IsTrue, List, [], ◌∷◌, ◌++◌, length, map, codes, Option, Some, None, if◌then◌else◌}
+use Rattle.std.specs.Borrow.{Bor}
 use Rattle.std.specs.List.{list_all}
 use Rattle.std.specs.Str.Parse.{digits_value}
+use Rattle.base.specs.Descriptors.Send.{are_clear_flags}
 use Rattle.lines.specs.declared.line.Line.{Line}
 use Rattle.lines.specs.declared.line.Line.TheVariants.{Nothing, Tx, Call, Send, Retrieve, Relinquish, Reclaim, Maps, Tables, Owners, Operations, Audit}
 use Rattle.lines.specs.declared.send.SendLine.{SendLine}
@@ -43,6 +45,14 @@ count_of word =
     && nat_lt (digits_value 10 word) (2 ^ 32)
     then Some (digits_value 10 word) else None
 
+-- what the words write
+abbrev pub texts : List (Bor (List ℕ)) → List (List ℕ)
+texts words = map (λ word. word.now) words
+
+-- the words are these, and then `zero`
+abbrev pub EndsInZero : List (List ℕ) → List (List ℕ) → Type 0
+EndsInZero words before = words ≡ before ++ codes "zero" ∷ []
+
 -- the total is the sum of the ranges' counts, and there are at most 512 ranges
 abbrev pub IsWhole : SendLine → Type 0
 IsWhole send =
@@ -53,15 +63,15 @@ abbrev pub is_nothing : List ℕ → Bool
 is_nothing [] = true
 is_nothing (byte ∷ bytes) = (byte == 35) && nat_le (1 + length bytes) 66000
 
--- a copy of a TX buffer has at most 32,768 bytes, and a send has its total and not too many ranges
+-- a copy of a TX buffer has at most 32,768 bytes, a send has its total and not too many ranges, and a relinquish no flag but one that orders a clear
 abbrev pub HasParts : Line → Type 0
 HasParts Nothing = Unit {0}
 HasParts (Tx id bytes) = length bytes.items ≤ 32768
 HasParts (Call id registers) = Unit {0}
 HasParts (Send kind send) = IsWhole send
 HasParts (Retrieve fields) = Unit {0}
-HasParts (Relinquish fields) = Unit {0}
-HasParts (Reclaim id handle) = Unit {0}
+HasParts (Relinquish fields) = IsTrue (are_clear_flags fields.flags)
+HasParts (Reclaim reclaim) = Unit {0}
 HasParts (Maps id) = Unit {0}
 HasParts (Tables id) = Unit {0}
 HasParts Owners = Unit {0}

@@ -7,4 +7,4 @@ mod send;
 mod words;
 
 pub use line::{Line, read_line};
-pub use send::SendLine;
+pub use send::{ReclaimLine, SendLine};

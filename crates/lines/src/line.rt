@@ -2,10 +2,10 @@ ghost use Rattle.std.specs.Prelude.{◌≡◌, ◌<◌, length, Some, None, IfSo
 ghost use Rattle.lines.specs.Lines.{is_nothing, HasParts};
 
 use crate::receive::{read_relinquish, read_retrieve};
-use crate::send::{SendLine, read_send};
+use crate::send::{ReclaimLine, SendLine, read_reclaim, read_send};
 use crate::words::{read_id, read_number};
 use arrayvec::ArrayVec;
-use base::{Handle, Kind, OutOfMemory, PartitionId};
+use base::{Kind, OutOfMemory, PartitionId};
 use descw::{RelinquishFields, RetrieveFields};
 use hex::FromHexError;
 use std::alloc::Global;
@@ -32,17 +32,20 @@ pub enum Line {
     Tx(PartitionId, Vec<u8>),
     /// `call ID NUM ..`: a call with these registers, of which 1 to 8 are named and the others are 0.
     Call(PartitionId, [u64; 8]),
-    /// `share`, `lend` or `donate`, then `ID NUM RECEIVERS RANGES`: a send of this kind by ID with tag NUM.
-    /// RECEIVERS are 1 to 8 of `ID:PERM` and RANGES 1 to 512 of `NUM+COUNT`, both parted by commas.
+    /// `share`, `lend` or `donate`, then `ID NUM RECEIVERS RANGES`, and the same with a last word `zero`: a
+    /// send of this kind by ID with tag NUM. RECEIVERS are 1 to 8 of `ID:PERM` and RANGES 1 to 512 of
+    /// `NUM+COUNT`, both parted by commas. `zero` orders that the pages are cleared.
     Send(Kind, SendLine),
     /// `retrieve ID NUM ID NUM TYPE PERM`, and the same with a last word `alone`: a retrieve request by the
     /// first ID of the transaction whose handle is the first NUM, with the sender, the tag, the type and
     /// the permissions. `alone` bypasses the check that all borrowers are named.
     Retrieve(RetrieveFields),
-    /// `relinquish ID NUM`: ID relinquishes the transaction whose handle is NUM.
+    /// `relinquish ID NUM`, and the same with a last word `zero`: ID relinquishes the transaction whose
+    /// handle is NUM. `zero` orders that its pages are cleared.
     Relinquish(RelinquishFields),
-    /// `reclaim ID NUM`: a reclaim by ID of the transaction whose handle is NUM.
-    Reclaim(PartitionId, Handle),
+    /// `reclaim ID NUM`, and the same with a last word `zero`: a reclaim by ID of the transaction whose
+    /// handle is NUM. `zero` orders that its pages are cleared.
+    Reclaim(ReclaimLine),
     /// `maps ID`: what ID reaches.
     Maps(PartitionId),
     /// `tables ID`: the valid entries of ID's translation tables.
@@ -68,7 +71,8 @@ pub fn read_line(alloc: Global, bytes: &[u8]) -> Result<Option<Line>, OutOfMemor
     ensures nothing { IsTrue (is_nothing bytes.now)
         → IfOk result (λ line. line ≡ Some Line.Nothing) }
 
-    // A copy of a TX buffer is no longer than one, and a send has its total and not too many ranges.
+    // A copy of a TX buffer is no longer than one, a send has its total and not too many ranges, and a
+    // relinquish no flag but one that orders a clear.
     ensures parts { IfOk result (λ line. IfSome line HasParts) }
 {
     if bytes.len() > MOST_BYTES {
@@ -92,8 +96,8 @@ pub fn read_line(alloc: Global, bytes: &[u8]) -> Result<Option<Line>, OutOfMemor
         ["donate", words @ ..] => read_send_line(alloc, Kind::Donate, words),
         ["retrieve", words @ .., "alone"] => Ok(read_retrieve(words, true).map(Line::Retrieve)),
         ["retrieve", words @ ..] => Ok(read_retrieve(words, false).map(Line::Retrieve)),
-        ["relinquish", id, handle] => Ok(read_relinquish(id, handle).map(Line::Relinquish)),
-        ["reclaim", id, handle] => Ok(read_reclaim(id, handle)),
+        ["relinquish", words @ ..] => Ok(read_relinquish(words).map(Line::Relinquish)),
+        ["reclaim", words @ ..] => Ok(read_reclaim(words).map(Line::Reclaim)),
         ["maps", id] => Ok(read_id(id).map(Line::Maps)),
         ["tables", id] => Ok(read_id(id).map(Line::Tables)),
         ["owners"] => Ok(Some(Line::Owners)),
@@ -132,10 +136,7 @@ fn read_tx(alloc: Global, id: &str, hex: &str) -> Result<Option<Line>, OutOfMemo
 fn read_send_line(alloc: Global, kind: Kind, words: &[&str]) -> Result<Option<Line>, OutOfMemory>
     ensures { IfOk result (λ line. IfSome line HasParts) }
 {
-    let [id, tag, receivers, ranges] = words else {
-        return Ok(None);
-    };
-    match read_send(alloc, id, tag, receivers, ranges)? {
+    match read_send(alloc, words)? {
         Some(send) => Ok(Some(Line::Send(kind, send))),
         None => Ok(None),
     }
@@ -153,12 +154,4 @@ fn read_call(id: &str, words: &[&str]) -> Option<Line>
         *registers.get_mut(i)? = read_number(word)?;
     }
     Some(Line::Call(id, registers))
-}
-
-fn read_reclaim(id: &str, handle: &str) -> Option<Line>
-    ensures { IfSome result HasParts }
-{
-    let id = read_id(id)?;
-    let handle = read_number(handle)?;
-    Some(Line::Reclaim(id, Handle::from_bits(handle)))
 }

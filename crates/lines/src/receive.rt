@@ -1,14 +1,18 @@
 //! Lines of receivers.
 
-ghost use Rattle.std.specs.Prelude.{◌≤◌, IfSome};
+ghost use Rattle.std.specs.Prelude.{◌≤◌, IfSome, IsTrue};
+ghost use Rattle.base.specs.Descriptors.Send.{are_clear_flags};
 
-use crate::words::{read_id, read_number, read_permissions};
+use crate::words::{before_zero, read_id, read_number, read_permissions};
 use base::{Handle, MemoryAttributes};
 use descr::Endpoint;
 use descw::{HeaderFields, RelinquishFields, RetrieveFields};
 
 /// Bit 10 of the flags of a retrieve request: the check that it names all borrowers is bypassed.
 const BYPASS: u32 = 0x400;
+
+/// Bit 0 of the flags of a relinquish: the pages are to be cleared.
+const CLEAR: u32 = 1;
 
 /// The retrieve request that the words `ID NUM ID NUM TYPE PERM` say: who asks, the handle, the sender,
 /// the tag, the type and the permissions; where other borrowers are not named, `alone`.
@@ -44,11 +48,18 @@ fn read_kind(word: &str) -> Option<u32>
     }
 }
 
-/// The relinquish that the words `ID NUM` say: who gives up, and the handle.
-pub(crate) fn read_relinquish(id: &str, handle: &str) -> Option<RelinquishFields> {
+/// The relinquish that the words `ID NUM` say: who gives up, and the handle; where the pages are to be
+/// cleared, with a last word `zero`.
+pub(crate) fn read_relinquish(words: &[&str]) -> Option<RelinquishFields>
+    ensures { IfSome result (λ fields. IsTrue (are_clear_flags fields.flags)) }
+{
+    let (words, clears) = before_zero(words);
+    let [id, handle] = words else {
+        return None;
+    };
     Some(RelinquishFields {
         handle: Handle::from_bits(read_number(handle)?),
-        flags: 0,
+        flags: if clears { CLEAR } else { 0 },
         endpoint: read_id(id)?,
     })
 }

@@ -1,12 +1,12 @@
-//! Lines that send pages.
+//! Lines of senders.
 
 ghost use Rattle.std.specs.Prelude.{◌≡◌, ◌≤◌, length, sum_by, IfSome, IfOk};
 ghost use Rattle.lines.specs.Lines.{IsWhole};
 
-use crate::words::{read_count, read_id, read_number, read_permissions};
+use crate::words::{before_zero, read_count, read_id, read_number, read_permissions};
 use arrayvec::ArrayVec;
 use base::limits::MOST_RANGES;
-use base::{OutOfMemory, PartitionId};
+use base::{Handle, OutOfMemory, PartitionId};
 use descr::Endpoint;
 use descw::RangeFields;
 use std::alloc::Global;
@@ -16,6 +16,8 @@ use std::alloc::Global;
 pub struct SendLine {
     /// The partition that sends.
     pub sender: PartitionId,
+    /// Whether the pages are to be cleared.
+    pub clears: bool,
     /// The tag.
     pub tag: u64,
     /// The receivers, 1 to 8, in the order of the line.
@@ -26,29 +28,46 @@ pub struct SendLine {
     pub total: u32,
 }
 
-/// The send that the words `ID NUM RECEIVERS RANGES` say.
-pub(crate) fn read_send(
-    alloc: Global,
-    id: &str,
-    tag: &str,
-    receivers: &str,
-    ranges: &str,
-) -> Result<Option<SendLine>, OutOfMemory>
+/// What a line says of a reclaim.
+#[derive(Clone, Copy, Debug, PartialEq, Eq)]
+pub struct ReclaimLine {
+    /// The partition that reclaims.
+    pub caller: PartitionId,
+    /// The handle of the transaction.
+    pub handle: Handle,
+    /// Whether its pages are to be cleared.
+    pub clears: bool,
+}
+
+/// The send that the words `ID NUM RECEIVERS RANGES` say; where the pages are to be cleared, with a last
+/// word `zero`.
+pub(crate) fn read_send(alloc: Global, words: &[&str]) -> Result<Option<SendLine>, OutOfMemory>
     ensures { IfOk result (λ line. IfSome line (λ send. IsWhole send)) }
 {
+    let (words, clears) = before_zero(words);
+    let [id, tag, receivers, ranges] = words else {
+        return Ok(None);
+    };
     let Some(ranges) = read_ranges(alloc, ranges)? else {
         return Ok(None);
     };
-    Ok(send_of(id, tag, receivers, ranges))
+    Ok(send_of(id, tag, receivers, ranges, clears))
 }
 
-fn send_of(id: &str, tag: &str, receivers: &str, ranges: Vec<RangeFields>) -> Option<SendLine>
+fn send_of(
+    id: &str,
+    tag: &str,
+    receivers: &str,
+    ranges: Vec<RangeFields>,
+    clears: bool,
+) -> Option<SendLine>
     requires { length ranges.items ≤ 512 }
     ensures { IfSome result (λ send. IsWhole send) }
 {
     let total = page_count(&ranges)?;
     Some(SendLine {
         sender: read_id(id)?,
+        clears,
         tag: read_number(tag)?,
         receivers: read_receivers(receivers)?,
         ranges,
@@ -95,6 +114,20 @@ fn read_range(word: &str) -> Option<RangeFields> {
     Some(RangeFields {
         address: read_number(address)?,
         count: read_count(count)?,
+    })
+}
+
+/// The reclaim that the words `ID NUM` say: who reclaims, and the handle; where the pages are to be
+/// cleared, with a last word `zero`.
+pub(crate) fn read_reclaim(words: &[&str]) -> Option<ReclaimLine> {
+    let (words, clears) = before_zero(words);
+    let [id, handle] = words else {
+        return None;
+    };
+    Some(ReclaimLine {
+        caller: read_id(id)?,
+        handle: Handle::from_bits(read_number(handle)?),
+        clears,
     })
 }
 

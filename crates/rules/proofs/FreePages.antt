@@ -1,5 +1,5 @@
 -- What is known of each page of some runs that are free for a partition.
-use Rattle.std.proofs.Common.{◌≡◌, ℕ, zero, suc, ◌+◌, ◌<◌, ◌≤◌, Bool, true, false, ◌&&◌, ◌||◌, not, cond, leb, ltb, eqb, List, [], ◌∷◌, length, Option, Some, None, is_some, find, refl, sym, ap, ◌∙◌, subst, arith}
+use Rattle.std.proofs.Common.{◌≡◌, ◌≢◌, ℕ, zero, suc, ◌+◌, ◌<◌, ◌≤◌, Bool, true, false, ◌&&◌, ◌||◌, not, cond, leb, ltb, eqb, List, [], ◌∷◌, length, Option, Some, None, is_some, find, refl, sym, ap, ◌∙◌, subst, arith}
 use Rattle.std.specs.Option.{option_map, option_and_then, option_map_or}
 use Rattle.std.proofs.lemmas.Bool.{leb-true, eqb-true, eq-eqb}
 use Rattle.std.proofs.lemmas.Bool.Decides.{nat_tests}
@@ -10,7 +10,7 @@ use Rattle.base.specs.declared.access.MemoryKind.TheVariants.{Normal, Device}
 use Rattle.base.specs.Pages.{PageRun, in_run, covers}
 use Rattle.base.specs.Access.{Access, View, is_same, is_same_bool, is_rw, is_normal, is_reached_with}
 use Rattle.base.specs.Manifest.{GrantRow, RegionRow, region_at, granted_in, access_of_grant, is_sharable}
-use Rattle.base.specs.Transactions.{Live, Donation}
+use Rattle.base.specs.Transactions.{Donation}
 use Rattle.base.specs.Ledger.{live_at, donation_at, settled_view, is_idle}
 use Rattle.base.specs.Buffers.{is_buffer}
 use Rattle.base.specs.State.{State, is_free, free_home, is_free_with, common_home, home_of, owns, each_page, each_page_in}
@@ -139,6 +139,9 @@ common_at s p runs home e n c =
     has_free_home s p n home (reached_with home (free_home s p n) (each_page_in_at (is_free_with s p home) runs n (common_pages s p runs home e) c))
 
 -- ---- what partitions reach of a free page
+
+pub not_eqb : (a b : ℕ) → a ≢ b → eqb a b ≡ false
+not_eqb a b h = elim (eqb a b) as (λ k. eqb a b ≡ k → k ≡ false) [ true ↦ λ e. absurd (h (eqb-true a b e)) | false ↦ λ e. refl ] refl
 
 pub eqb_sym : (a b : ℕ) → eqb a b ≡ eqb b a
 eqb_sym a b =

@@ -1,8 +1,8 @@
 -- A donation is completed: its pages have a new owner and a new home, and all others theirs.
-use Rattle.std.proofs.Common.{◌≡◌, ℕ, Bool, true, false, cond, eqb, List, [], ◌∷◌, ◌++◌, Option, Some, None, refl, sym, ap, ◌∙◌, find, subst}
+use Rattle.std.proofs.Common.{◌≡◌, ℕ, Bool, true, false, cond, eqb, List, [], ◌∷◌, ◌++◌, Option, Some, None, refl, ap, ◌∙◌, find, subst}
 use Rattle.std.specs.List.{AllByRecursion}
 use Rattle.std.specs.Option.{option_map, option_and_then, option_map_or}
-use Rattle.base.specs.Access.{Access, View}
+use Rattle.base.specs.Access.{Access}
 use Rattle.base.specs.Ledger.{donation_at, settled_view}
 use Rattle.base.specs.Manifest.{RegionRow, region_at, granted_in, grant}
 use Rattle.base.specs.Pages.{covers}

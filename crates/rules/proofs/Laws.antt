@@ -1,6 +1,7 @@
 -- The laws, a file each, and in it a case for each call.
 pub mod ManifestStays
 pub mod EditsTheView
+pub mod Clears
 pub mod OneOwner
 pub mod Handles
 pub mod BuffersApart

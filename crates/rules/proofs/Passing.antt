@@ -1,5 +1,5 @@
 -- Where no test of a table fails, each passes; and a test at the end of a table.
-use Rattle.std.proofs.Common.{◌≡◌, Bool, true, false, ◌&&◌, List, [], ◌∷◌, ◌++◌, Some, None, cond, refl}
+use Rattle.std.proofs.Common.{◌≡◌, Bool, true, false, List, [], ◌∷◌, ◌++◌, Some, None, cond, refl}
 use Rattle.base.specs.declared.status.Status.{Status}
 use Rattle.std.specs.List.{AllByRecursion}
 use Rattle.base.specs.Refusals.{Test, ◌otherwise◌, first_refusal}

@@ -13,7 +13,7 @@ use Rattle.wire.specs.declared.request.Request.{Request}
 use Rattle.wire.specs.Requests.{request_of}
 use Rattle.rules.specs.Call.{CallWords, IsCall}
 use Rattle.rules.specs.Rule.{Rule, refused, fits, all_tests, next_of}
-use Rattle.rules.specs.Run.{rule_of, rule, refusal, answer, step, state_from, IsReached}
+use Rattle.rules.specs.Run.{rule_of, rule, step, state_from, IsReached}
 use Rattle.rules.specs.Laws.EditsTheView.{Passes}
 use Rattle.rules.proofs.Passing.{before_last, last_decides}
 use Rattle.rules.proofs.Laws.ManifestStays.{manifest_stays}

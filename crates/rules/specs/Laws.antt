@@ -6,3 +6,4 @@ pub mod BuffersApart
 pub mod Writers
 pub mod Isolation
 pub mod SentPages
+pub mod Clears

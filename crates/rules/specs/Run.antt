@@ -1,5 +1,5 @@
 -- The rule of each call, what the call is answered, the state after it, and runs of calls.
-use Rattle.std.specs.Prelude.{◌≡◌, List, [], ◌∷◌, Option, IsTrue, if◌then◌else◌}
+use Rattle.std.specs.Prelude.{◌≡◌, ℕ, Bool, false, List, [], ◌∷◌, Option, IsTrue, if◌then◌else◌}
 use Rattle.std.specs.List.{AllByRecursion}
 use Rattle.std.specs.Option.{option_map_or}
 use Rattle.base.specs.declared.status.Status.{Status}
@@ -13,7 +13,7 @@ use Rattle.wire.specs.declared.request.Request.TheVariants.{Version, Features, R
 use Rattle.wire.specs.Requests.{request_of}
 use Rattle.wire.specs.Replies.{ReplyWords}
 use Rattle.rules.specs.Call.{CallWords, IsCall}
-use Rattle.rules.specs.Rule.{Rule, refused, all_tests, reply_of, next_of}
+use Rattle.rules.specs.Rule.{Rule, clears_page, refused, all_tests, reply_of, next_of}
 use Rattle.rules.specs.Calls.Version.{version_rule}
 use Rattle.rules.specs.Calls.Features.{features_rule}
 use Rattle.rules.specs.Calls.IdGet.{id_get_rule}
@@ -52,6 +52,10 @@ refusal s c = first_refusal (all_tests s (rule s c))
 -- the reply to a call
 unfoldable pub answer : State → CallWords → ReplyWords
 answer s c = reply_of s (rule s c)
+
+-- the pages that a call clears; a refused call clears none
+unfoldable pub clears : State → CallWords → ℕ → Bool
+clears s c n = option_map_or (λ status. false) (refusal s c) (clears_page (rule s c).edit n)
 
 -- the state after a call
 unfoldable pub step : State → CallWords → State

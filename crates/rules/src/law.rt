@@ -5,8 +5,9 @@ ghost use Rattle.rules.specs.Laws.Writers.{AreWritersAllowed};
 ghost use Rattle.rules.specs.Laws.Isolation.{AreAlikeTo, IsIsolated, transactions_of};
 ghost use Rattle.rules.specs.Laws.SentPages.{AreTransactionsKept};
 ghost use Rattle.rules.specs.Laws.EditsTheView.{Passes, EditsTheView};
+ghost use Rattle.rules.specs.Laws.Clears.{AreClearedUnreached};
 ghost use Rattle.rules.specs.Call.{CallWords};
-ghost use Rattle.rules.specs.Run.{IsReached, step};
+ghost use Rattle.rules.specs.Run.{IsReached, rule_of, step};
 ghost use Rattle.std.specs.Prelude.{◌≡◌, ◌≢◌, ℕ};
 ghost use Rattle.base.specs.State.{State};
 ghost use Rattle.wire.specs.declared.request.Request.{Request};
@@ -22,6 +23,13 @@ pub fn pages_have_one_owner()
 pub fn edits_the_view()
     ensures { (s : State) → (c : CallWords) → (r : Request) → IsReached s → Passes s c r →
         EditsTheView s c r }
+{}
+
+/// In every state that some list of calls reaches, no partition but the one whose view a call edits
+/// reaches a page that the call clears.
+pub fn cleared_pages_are_unreached()
+    ensures { (s : State) → (c : CallWords) → (r : Request) → IsReached s → Passes s c r →
+        AreClearedUnreached s (rule_of s c r).edit }
 {}
 
 /// In every state that some list of calls reaches, no two live transactions have one handle, and no

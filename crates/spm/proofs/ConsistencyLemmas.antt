@@ -11,7 +11,6 @@ use Rattle.pool.specs.Pool.{Pool, words_of}
 use Rattle.stage2.specs.Slot.{Layout, layout_of}
 use Rattle.stage2.specs.Walk.{translation, walked, Agrees}
 use Rattle.wire.specs.declared.request.Request.{Request}
-use Rattle.wire.specs.declared.request.Request.TheVariants.{Version, Features, RxRelease, RxtxMap, RxtxUnmap, IdGet, Send, Retrieve, Relinquish, Reclaim}
 use Rattle.wire.specs.Requests.{request_of}
 use Rattle.rules.specs.Call.{CallWords, IsCall}
 use Rattle.rules.specs.Rule.{Edit, Rule, with_edit, fits, all_tests}
@@ -103,6 +102,10 @@ module _ (s : State) (c : CallWords) (r : Request) (known : is_partition s.manif
   unfolding step
   refused_step status e = let f = earlier_decides (rule_of s c r).tests (fits s (rule_of s c r).edit) NoMemory status e in rw (is, f) refl
 
+  pub refused_is : (status : Status) → first_refusal (rule_of s c r).tests ≡ Some status → refusal s c ≡ Some status
+  unfolding refusal
+  refused_is status e = let f = earlier_decides (rule_of s c r).tests (fits s (rule_of s c r).edit) NoMemory status e in rw (is, f) refl
+
   -- its edit does not fit
   unfit : first_refusal (rule_of s c r).tests ≡ None → fits s (rule_of s c r).edit ≡ false → first_refusal (all_tests s (rule_of s c r)) ≡ Some NoMemory
   unfit e f = last_decides (rule_of s c r).tests (fits s (rule_of s c r).edit) NoMemory e ∙ ap (λ (b : Bool). cond b None (Some NoMemory)) f
@@ -114,6 +117,10 @@ module _ (s : State) (c : CallWords) (r : Request) (known : is_partition s.manif
   pub unfit_step : first_refusal (rule_of s c r).tests ≡ None → fits s (rule_of s c r).edit ≡ false → step s c ≡ s
   unfolding step
   unfit_step e f = let g = unfit e f in rw (is, g) refl
+
+  pub unfit_is : first_refusal (rule_of s c r).tests ≡ None → fits s (rule_of s c r).edit ≡ false → refusal s c ≡ Some NoMemory
+  unfolding refusal
+  unfit_is e f = let g = unfit e f in rw (is, g) refl
 
   -- it is granted
   granted : first_refusal (rule_of s c r).tests ≡ None → fits s (rule_of s c r).edit ≡ true → first_refusal (all_tests s (rule_of s c r)) ≡ None

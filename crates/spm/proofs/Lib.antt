@@ -6,4 +6,6 @@ mod ReceiverLemmas
 mod QuotaLemmas
 mod ShownLemmas
 mod ConsistencyLemmas
+mod ClearingLemmas
+mod ClearedLemmas
 mod MadeLemmas

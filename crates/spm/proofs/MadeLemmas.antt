@@ -1,19 +1,19 @@
 -- What a granted call comes to, where its edit fits and where it does not.
-use Rattle.std.proofs.Common.{◌≡◌, true, false, None, sym, ap, subst, ◌∙◌}
+use Rattle.std.proofs.Common.{◌≡◌, true, false, Some, None, sym, ap, subst, ◌∙◌}
 use Rattle.base.specs.declared.status.Status.TheVariants.{NoMemory}
 use Rattle.base.specs.State.{State}
 use Rattle.stage2.specs.Tables.{TablesView}
 use Rattle.wire.specs.declared.request.Request.{Request}
 use Rattle.wire.specs.Replies.{error}
 use Rattle.rules.specs.Call.{CallWords}
-use Rattle.rules.specs.Rule.{fits}
+use Rattle.rules.specs.Rule.{Rule, fits}
 use Rattle.rules.specs.Run.{rule_of, rule, answer, refusal, step}
 use Rattle.rules.specs.Laws.EditsTheView.{Passes}
-use Rattle.rules.proofs.Reached.{step_is}
+use Rattle.rules.proofs.Reached.{step_is, rule_is}
 use Rattle.spm.specs.declared.change.Change.{Change}
-use Rattle.spm.specs.Granted.{updated, AreSameEdits, IsGrantedCall}
+use Rattle.spm.specs.Granted.{updated, AreSameEdits, AreOrderly, IsGrantedCall}
 use Rattle.spm.specs.Machine.{Machine, IsConsistent, fits_in}
-use Rattle.spm.proofs.ConsistencyLemmas.{unfit_answer, unfit_step, granted_answer, not_refused, no_edit}
+use Rattle.spm.proofs.ConsistencyLemmas.{unfit_answer, unfit_step, unfit_is, granted_answer, not_refused, no_edit}
 use Rattle.spm.proofs.QuotaLemmas.{all_passes, unfits}
 
 -- the change of a call that passes all tests, in the state as it is built
@@ -26,11 +26,14 @@ pub record IsMade (now : Machine) (s : State) (call : CallWords) (change : Chang
   pub state : updated s call.caller change.update ≡ step now.state call
   pub accepted : refusal now.state call ≡ None
   pub still : (rule now.state call).edit ≡ None → change.edit ≡ None
+  pub edits : AreSameEdits (rule now.state call).edit change.edit
+  pub orderly : AreOrderly call.caller change.edit
 
 -- the call is answered NO_MEMORY, and nothing changes
 pub record IsUnfit (now : Machine) (s : State) (call : CallWords) : Type 0 where
   pub reply : error NoMemory ≡ answer now.state call
   pub state : s ≡ step now.state call
+  pub refuses : refusal now.state call ≡ Some NoMemory
 
 module _ (now : Machine) (s : State) (t : TablesView) (call : CallWords) (change : Change) (built : record { state = s; pool = t.pool } ≡ now) (asked : IsGrantedCall now.state call change) (kept : IsConsistent s t.layout t.pool) where
   granted : IsGrantedCall s call change
@@ -48,6 +51,8 @@ module _ (now : Machine) (s : State) (t : TablesView) (call : CallWords) (change
         reply = granted.granted.reply ∙ sym (granted_answer s call r granted.known granted.named passes.passed passes.fits) ∙ ap (λ (m : Machine). answer m.state call) built;
         state = granted.granted.next ∙ sym (step_is s call r passes) ∙ ap (λ (m : Machine). step m.state call) built;
         accepted = ap (λ (m : Machine). refusal m.state call) (sym built) ∙ not_refused s call r granted.known granted.named passes.passed passes.fits;
+        edits = subst (λ (m : Machine). AreSameEdits (rule m.state call).edit change.edit) built (subst (λ (x : Rule). AreSameEdits x.edit change.edit) (sym (rule_is s call r granted.known granted.named)) granted.granted.edit);
+        orderly = granted.granted.orderly;
         still = λ e. no_edit s call r granted.known granted.named change.edit granted.granted.edit (ap (λ (m : Machine). (rule m.state call).edit) built ∙ e);
       }
 
@@ -58,4 +63,5 @@ module _ (now : Machine) (s : State) (t : TablesView) (call : CallWords) (change
       record {
         reply = sym (unfit_answer s call r granted.known granted.named granted.granted.passed out) ∙ ap (λ (m : Machine). answer m.state call) built;
         state = sym (unfit_step s call r granted.known granted.named granted.granted.passed out) ∙ ap (λ (m : Machine). step m.state call) built;
+        refuses = ap (λ (m : Machine). refusal m.state call) (sym built) ∙ unfit_is s call r granted.known granted.named granted.granted.passed out;
       }

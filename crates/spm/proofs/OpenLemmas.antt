@@ -51,7 +51,7 @@ can_open s c kind transfer desc home sends reached checked =
 
 -- the change of a send that passes its tests is its rule's
 pub send_granted : (s : State) (c : CallWords) (kind : Kind) (transfer : Transfer) (desc : descriptor.Send) (home : Access) (sends : ℕ) (t : Live) (edit : Option Edit) (reply : ReplyWords) → IsReached s → IsChecked s c kind transfer desc home sends
-    → t ≡ opened s c.caller kind desc home → AreSameEdits (sender_edit kind c.caller t.ranges) edit → AreOrderly c.caller edit → reply ≡ success (low_half t.handle) (high_half t.handle)
+    → t ≡ opened s c.caller kind desc home → AreSameEdits (sender_edit kind c.caller t.ranges desc.clears) edit → AreOrderly c.caller edit → reply ≡ success (low_half t.handle) (high_half t.handle)
     → IsGranted s c.caller (send_rule s c kind transfer) true (record { edit = edit; update = Open t; reply = reply })
 send_granted s c kind transfer desc home sends t edit reply reached checked is same orderly replied =
     let v = sent s c transfer in
@@ -60,7 +60,7 @@ send_granted s c kind transfer desc home sends t edit reply reached checked is s
     let transaction : t ≡ opened s c.caller kind v home = is ∙ ap (λ (d : descriptor.Send). opened s c.caller kind d home) checked.said in
     record {
       passed = checked.passed;
-      edit = subst (λ (rs : List PageRun). AreSameEdits (sender_edit kind c.caller rs) edit) ranges same;
+      edit = subst (λ (d : descriptor.Send). AreSameEdits (sender_edit kind c.caller v.ranges d.clears) edit) checked.said (subst (λ (rs : List PageRun). AreSameEdits (sender_edit kind c.caller rs desc.clears) edit) ranges same);
       orderly = orderly;
       next = ap (with_transaction s) transaction ∙ sym (ap (λ (o : View). option_map_or (λ (a : Access). with_transaction s (opened s c.caller kind v a)) o s) common);
       can = subst (CanOpen s) (sym is) (can_open s c kind transfer desc home sends reached checked);

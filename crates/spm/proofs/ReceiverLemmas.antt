@@ -1,5 +1,5 @@
 -- The transaction of which a partition is a receiver.
-use Rattle.std.proofs.Common.{◌≡◌, ℕ, Bool, true, false, ◌&&◌, not, eqb, cond, List, [], ◌∷◌, ◌++◌, Option, Some, None, Result, Ok, Err, IfErr, OnOk, is_some, find, refl, sym, ap, ap₂, ◌∙◌, subst}
+use Rattle.std.proofs.Common.{◌≡◌, ℕ, Bool, true, false, ◌&&◌, not, eqb, cond, List, [], ◌∷◌, ◌++◌, Option, Some, None, Result, Ok, Err, IfErr, OnOk, is_some, refl, sym, ap, ap₂, ◌∙◌, subst}
 use Rattle.std.specs.Option.{option_map, option_map_or, option_and_then}
 use Rattle.base.specs.declared.status.Status.{Status}
 use Rattle.base.specs.declared.status.Status.TheVariants.{Denied}
@@ -54,13 +54,15 @@ module _ (s : State) (p handle : ℕ) (t : Live) (reached : IsReached s) (receiv
 
 -- ---- a relinquish
 
-pub relinquish_granted : (s : State) (c : CallWords) (p : ℕ) (t : Live) (handle : ℕ) (edit : Option Edit) (reply : ReplyWords) → IsRelinquished s c t → p ≡ c.caller → handle ≡ t.handle → AreSameEdits (Some (record { who = p; runs = t.ranges; to = None })) edit → AreOrderly p edit → reply ≡ success 0 0
+pub relinquish_granted : (s : State) (c : CallWords) (p : ℕ) (t : Live) (clears : Bool) (handle : ℕ) (edit : Option Edit) (reply : ReplyWords) → IsRelinquished s c t clears → p ≡ c.caller → handle ≡ t.handle → AreSameEdits (Some (record { who = p; runs = t.ranges; to = None; clears = clears })) edit → AreOrderly p edit → reply ≡ success 0 0
     → IsGranted s c.caller (relinquish_rule s c) true (record { edit = edit; update = Relinquish handle; reply = reply })
-relinquish_granted s c p t handle edit reply k who is same orderly replies =
+relinquish_granted s c p t clears handle edit reply k who is same orderly replies =
     let own : t.handle ≡ (given_up c).handle = (receiver_is s c.caller (given_up c).handle t k.found).0 in
     record {
       passed = k.passed;
-      edit = subst (λ (o : Option Live). AreSameEdits (option_map (given_back_by c.caller) o) edit) (sym k.found) (subst (λ (q : ℕ). AreSameEdits (Some (record { who = q; runs = t.ranges; to = None })) edit) who same);
+      edit = subst (λ (o : Option Live). AreSameEdits (option_map (given_back_by c.caller (given_up c).clears) o) edit) (sym k.found)
+          (subst (λ (b : Bool). AreSameEdits (Some (record { who = c.caller; runs = t.ranges; to = None; clears = b })) edit) k.ordered
+          (subst (λ (q : ℕ). AreSameEdits (Some (record { who = q; runs = t.ranges; to = None; clears = clears })) edit) who same));
       orderly = subst (λ (q : ℕ). AreOrderly q edit) who orderly;
       next = ap (λ (h : ℕ). with_retrieval_by s c.caller h None) (is ∙ own);
       can = tt;
@@ -114,7 +116,7 @@ fills s c x t access k =
     rw (pair, free) refl
 
 pub retrieve_granted : (s : State) (c : CallWords) (x : Transfer) (p : ℕ) (t : Live) (access : Access) (handle : ℕ) (edit : Option Edit) (reply : ReplyWords) → IsReached s → IsRetrieved s c x t access → p ≡ c.caller → handle ≡ t.handle
-    → AreSameEdits (Some (record { who = p; runs = t.ranges; to = Some access })) edit → AreOrderly p edit → reply ≡ responding (caller_version s c) p (record { transaction = t; access = access })
+    → AreSameEdits (Some (record { who = p; runs = t.ranges; to = Some access; clears = false })) edit → AreOrderly p edit → reply ≡ responding (caller_version s c) p (record { transaction = t; access = access })
     → IsGranted s c.caller (retrieve_rule s c x) true (record { edit = edit; update = Retrieve handle access; reply = reply })
 retrieve_granted s c x p t access handle edit reply reached k who is same orderly replies =
     let one = is_one s c x t access k in
@@ -122,7 +124,7 @@ retrieve_granted s c x p t access handle edit reply reached k who is same orderl
     let live : found s.live handle ≡ Some t = ap (found s.live) (is ∙ own) ∙ its_handle s c.caller (asked s c x).handle t reached k.found in
     record {
       passed = k.passed;
-      edit = subst (λ (o : Option Retrieval). AreSameEdits (option_map (retrieved_by c.caller) o) edit) (sym one) (subst (λ (q : ℕ). AreSameEdits (Some (record { who = q; runs = t.ranges; to = Some access })) edit) who same);
+      edit = subst (λ (o : Option Retrieval). AreSameEdits (option_map (retrieved_by c.caller) o) edit) (sym one) (subst (λ (q : ℕ). AreSameEdits (Some (record { who = q; runs = t.ranges; to = Some access; clears = false })) edit) who same);
       orderly = subst (λ (q : ℕ). AreOrderly q edit) who orderly;
       next =
           ap (λ (o : Option Live). option_map_or (λ (u : Live). after_retrieve s c.caller (record { transaction = u; access = access })) o s) live

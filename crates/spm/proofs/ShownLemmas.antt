@@ -1,4 +1,4 @@
--- What walkers see of a call.
+-- What walkers see of a call, and what it clears.
 use Rattle.std.proofs.Common.{◌≡◌, ℕ, [], Option, Some, None, Result, Ok, Err, refl, sym, ap, subst, ◌∙◌, inl, inr}
 use Rattle.std.specs.Prelude.{OnOk, OnErr}
 use mathlib.Core.Path.{fun_ext}
@@ -7,7 +7,7 @@ use Rattle.base.specs.State.{State, sees}
 use Rattle.pool.specs.Pool.{Pool, emptied, words_of}
 use Rattle.stage2.specs.Slot.{Layout, layout_of}
 use Rattle.stage2.specs.Walk.{Agrees}
-use Rattle.stage2.specs.Moments.{Moments}
+use Rattle.stage2.specs.Moments.{Moments, cleared_by}
 use Rattle.stage2.specs.Steps.{with_pages}
 use Rattle.stage2.specs.Tables.{TablesView, AreFreeFor}
 use Rattle.stage2.proofs.Walkers.WholeEdit.{moments-none}
@@ -16,7 +16,10 @@ use Rattle.rules.specs.Call.{CallWords}
 use Rattle.rules.specs.Rule.{Edit, with_edit}
 use Rattle.rules.specs.Run.{rule_of, IsReached}
 use Rattle.rules.specs.Laws.EditsTheView.{Passes, AreNotReached}
+use Rattle.rules.specs.Laws.Clears.{AreClearedUnreached}
 use Rattle.rules.proofs.Laws.EditsTheView.{edits_the_view}
+use Rattle.rules.proofs.Laws.Clears.{cleared_unreached}
+use Rattle.spm.specs.Clearing.{clears_in, AreUnreachedByOthers}
 use Rattle.spm.specs.Granted.{IsSameEdit, AreSameEdits}
 use Rattle.spm.specs.Machine.{Machine, WalksAgree, ShowsEdit, ShowsCall, unchanged}
 
@@ -55,25 +58,51 @@ free_alike s a b same free n small here =
       | inr e ↦ inr (ap (λ p. sees s p n) same.who ∙ e)
     ]
 
+others_alike : (s : State) (a b : Edit) → IsSameEdit a b → AreClearedUnreached s (Some a) → AreUnreachedByOthers b (sees s)
+others_alike s a b same alone ordered p n here other = alone (sym same.clears ∙ ordered) p n (sym (same.pages n) ∙ here) (λ e. other (e ∙ sym same.who))
+
+-- what walkers see of a call, and what it clears
+pub record IsCallShown (s t : State) (old new : TablesView) (edit : Option Edit) : Type 0 where
+  pub moments : Moments (layout_of s.manifest) old.pool new.pool (sees s) (sees t)
+  pub cleared : cleared_by new.pool.operations ≡ clears_in edit
+
 edit-shown : (s t : State) (old new : TablesView) (a b : Option Edit) → old.layout ≡ layout_of s.manifest → layout_of t.manifest ≡ layout_of s.manifest → WalksAgree s old.pool → WalksAgree t new.pool → old.pool.operations ≡ []
-    → AreSameEdits a b → AreNotReached s a → ((p n : ℕ) → sees t p n ≡ with_edit a (sees s) p n) → ShowsEdit b old new → (b ≡ None → new.pool ≡ old.pool) → Moments (layout_of s.manifest) old.pool new.pool (sees s) (sees t)
-edit-shown s t old new None None placed stays agrees after begun same free views shown still = still-shown s t old.pool new.pool agrees after stays begun (still refl)
-edit-shown s t old new None (Some b) placed stays agrees after begun same free views shown still = absurd same
-edit-shown s t old new (Some a) None placed stays agrees after begun same free views shown still = absurd same
-edit-shown s t old new (Some a) (Some b) placed stays agrees after begun same free views shown still =
+    → AreSameEdits a b → AreNotReached s a → AreClearedUnreached s a → ((p n : ℕ) → sees t p n ≡ with_edit a (sees s) p n) → ShowsEdit b old new → (b ≡ None → new.pool ≡ old.pool) → IsCallShown s t old new b
+edit-shown s t old new None None placed stays agrees after begun same free alone views shown still = record {
+  moments = still-shown s t old.pool new.pool agrees after stays begun (still refl);
+  cleared = ap (λ (p : Pool). cleared_by p.operations) (still refl) ∙ ap cleared_by begun;
+}
+edit-shown s t old new None (Some b) placed stays agrees after begun same free alone views shown still = absurd same
+edit-shown s t old new (Some a) None placed stays agrees after begun same free alone views shown still = absurd same
+edit-shown s t old new (Some a) (Some b) placed stays agrees after begun same free alone views shown still =
     let starts : Agrees old.layout (words_of old.pool.memory.words) (sees s) = subst (λ (l : Layout). Agrees l (words_of old.pool.memory.words) (sees s)) (sym placed) agrees.walks in
-    let one = shown begun (sees s) starts (free_alike s a b same free) in
-    let two = subst (λ (l : Layout). Moments l old.pool new.pool (sees s) (with_pages b.who b.runs b.to (sees s))) placed one in
-    moments-as (layout_of s.manifest) old.pool new.pool (sees s) (with_pages b.who b.runs b.to (sees s)) (sees t) (λ p n. same_pages a b (sees s) p n same ∙ sym (views p n)) two
+    let one = shown begun (sees s) starts (free_alike s a b same free) (others_alike s a b same alone) in
+    let two = subst (λ (l : Layout). Moments l old.pool new.pool (sees s) (with_pages b.who b.runs b.to (sees s))) placed one.moments in
+    record {
+      moments = moments-as (layout_of s.manifest) old.pool new.pool (sees s) (with_pages b.who b.runs b.to (sees s)) (sees t) (λ p n. same_pages a b (sees s) p n same ∙ sym (views p n)) two;
+      cleared = one.cleared;
+    }
 
 -- the commit of a change that is granted
-pub commit-shown : {A B : Type 0} (result : Result A B) (s t next : State) (c : CallWords) (r : Request) (old new : TablesView) (edit : Option Edit)
-    → old.layout ≡ layout_of s.manifest → layout_of t.manifest ≡ layout_of s.manifest → WalksAgree s old.pool → WalksAgree t new.pool → old.pool.operations ≡ []
-    → IsReached s → Passes s c r → AreSameEdits (rule_of s c r).edit edit → next ≡ (rule_of s c r).next
-    → OnOk result (t ≡ next) → OnOk result (ShowsEdit edit old new) → (edit ≡ None → new.pool ≡ old.pool) → OnErr result (t ≡ s) → OnErr result (new.pool ≡ old.pool)
-    → Moments (layout_of s.manifest) old.pool new.pool (sees s) (sees t)
-commit-shown (Ok x) s t next c r old new edit placed stays agrees after begun reached k same is changed shown still err_state err_pool =
-    let law = edits_the_view s c r reached k in
-    edit-shown s t old new (rule_of s c r).edit edit placed stays agrees after begun same law.free (λ p n. ap (λ (u : State). sees u p n) (changed ∙ is) ∙ law.views p n) shown still
-commit-shown (Err x) s t next c r old new edit placed stays agrees after begun reached k same is changed shown still err_state err_pool =
-    still-shown s t old.pool new.pool agrees after stays begun err_pool
+module _ {A B : Type 0} (result : Result A B) (s t next : State) (c : CallWords) (r : Request) (old new : TablesView) (edit : Option Edit)
+    (placed : old.layout ≡ layout_of s.manifest) (stays : layout_of t.manifest ≡ layout_of s.manifest) (agrees : WalksAgree s old.pool) (after : WalksAgree t new.pool) (begun : old.pool.operations ≡ [])
+    (reached : IsReached s) (k : Passes s c r) (same : AreSameEdits (rule_of s c r).edit edit) (is : next ≡ (rule_of s c r).next)
+    (changed : OnOk result (t ≡ next)) (shown : OnOk result (ShowsEdit edit old new)) (still : edit ≡ None → new.pool ≡ old.pool) where
+  call-shown : t ≡ next → ShowsEdit edit old new → IsCallShown s t old new edit
+  call-shown goes shows =
+      let law = edits_the_view s c r reached k in
+      edit-shown s t old new (rule_of s c r).edit edit placed stays agrees after begun same law.free (cleared_unreached s c r reached k) (λ p n. ap (λ (u : State). sees u p n) (goes ∙ is) ∙ law.views p n) shows still
+
+  pub commit-shown : OnErr result (t ≡ s) → OnErr result (new.pool ≡ old.pool) → Moments (layout_of s.manifest) old.pool new.pool (sees s) (sees t)
+  commit-shown err_state err_pool = of_result result changed shown err_pool
+    where
+      of_result : (x : Result A B) → OnOk x (t ≡ next) → OnOk x (ShowsEdit edit old new) → OnErr x (new.pool ≡ old.pool) → Moments (layout_of s.manifest) old.pool new.pool (sees s) (sees t)
+      of_result (Ok a) goes shows pool = (call-shown goes shows).moments
+      of_result (Err b) goes shows pool = still-shown s t old.pool new.pool agrees after stays begun pool
+
+  pub commit-cleared : OnOk result (cleared_by new.pool.operations ≡ clears_in edit)
+  commit-cleared = of_result result changed shown
+    where
+      of_result : (x : Result A B) → OnOk x (t ≡ next) → OnOk x (ShowsEdit edit old new) → OnOk x (cleared_by new.pool.operations ≡ clears_in edit)
+      of_result (Ok a) goes shows = (call-shown goes shows).cleared
+      of_result (Err b) goes shows = tt

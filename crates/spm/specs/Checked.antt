@@ -1,5 +1,5 @@
 -- What the tests of calls find.
-use Rattle.std.specs.Prelude.{◌≡◌, ℕ, ◌-◌, ◌<◌, ◌^◌, Some, None}
+use Rattle.std.specs.Prelude.{◌≡◌, ℕ, ◌-◌, ◌<◌, ◌^◌, Bool, Some, None}
 use Rattle.base.specs.declared.transaction.Kind.{Kind}
 use Rattle.base.specs.Access.{Access}
 use Rattle.base.specs.Descriptors.Retrieve as descriptors
@@ -28,9 +28,10 @@ pub record IsReclaimed (s : State) (p handle flags : ℕ) (t : Live) : Type 0 wh
   pub passed : NoneRefuses (reclaim_tests s p handle flags)
   pub found : sent_with s p handle ≡ Some t
 
--- the tests of a relinquish pass, and this is the transaction
-pub record IsRelinquished (s : State) (c : CallWords) (t : Live) : Type 0 where
+-- the tests of a relinquish pass, and this is the transaction, and whether its pages are to be cleared
+pub record IsRelinquished (s : State) (c : CallWords) (t : Live) (clears : Bool) : Type 0 where
   pub passed : NoneRefuses (relinquish_tests s c)
+  pub ordered : clears ≡ (given_up c).clears
   pub found : received_with s c.caller (given_up c).handle ≡ Some t
 
 -- the tests of a retrieve request itself pass, and this is what it says, and the transaction that it names

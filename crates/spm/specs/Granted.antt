@@ -98,6 +98,7 @@ pub record IsSameEdit (a b : Edit) : Type 0 where
   pub who : b.who ≡ a.who
   pub pages : (n : ℕ) → covers b.runs n ≡ covers a.runs n
   pub to : b.to ≡ a.to
+  pub clears : b.clears ≡ a.clears
 
 abbrev pub AreSameEdits : Option Edit → Option Edit → Type 0
 AreSameEdits None None = Unit {0}

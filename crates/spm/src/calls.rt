@@ -6,6 +6,7 @@ ghost use Rattle.spm.specs.Granted.{IsGranted, IsStopped};
 ghost use Rattle.spm.specs.Machine.{takes_memory};
 
 pub(crate) mod buffers;
+pub(crate) mod clearing;
 pub(crate) mod features;
 pub(crate) mod id_get;
 pub(crate) mod receiver;

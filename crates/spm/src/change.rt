@@ -9,12 +9,13 @@ use std::marker::Model;
 use wire::Reply;
 
 /// What a partition reaches of these pages changes: to this access, or to nothing. The runs are maximal
-/// and stand upward.
+/// and stand upward. The pages may be cleared, while nobody reaches them.
 #[derive(Drop)]
 pub(crate) struct Edit {
     pub(crate) who: PartitionId,
     pub(crate) runs: Vec<Run>,
     pub(crate) to: Option<Access>,
+    pub(crate) clears: bool,
 }
 
 impl Model for Edit {
@@ -22,7 +23,12 @@ impl Model for Edit {
 
     ghost Value = { rules.Edit };
 
-    ghost view = { λ e. record { who = e.who; runs = e.runs.items; to = e.to } };
+    ghost view = { λ e. record {
+      who = e.who;
+      runs = e.runs.items;
+      to = e.to;
+      clears = e.clears;
+    } };
 }
 
 /// A change of the state, made by the calling partition.

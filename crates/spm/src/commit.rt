@@ -1,10 +1,11 @@
 //! Makes the change of a call: the one place where tables and state change.
 
-ghost use Rattle.std.specs.Prelude.{◌≡◌, ◌≤◌, true, Some, None, IfOk, OnOk, OnErr};
+ghost use Rattle.std.specs.Prelude.{◌≡◌, ◌+◌, ◌≤◌, length, true, Some, None, IfOk, OnOk, OnErr};
 ghost use Rattle.base.specs.Manifest.{is_partition};
 ghost use Rattle.base.specs.Pages.{are_normal};
 ghost use Rattle.stage2.specs.Slot.{layout_of};
-ghost use Rattle.stage2.specs.Tables.{Fits, ReachSo, ShowsMoments, edit_operations};
+ghost use Rattle.stage2.specs.Tables.{Fits, ReachSo, edit_operations, has_root};
+ghost use Rattle.spm.specs.Clearing.{AreRowsOfPartitions, ClearsInCall, ShowsOne};
 ghost use Rattle.spm.specs.Granted.{updated, CanUpdate, needs_room, AreOrderly, IsOrderly, wants_memory};
 ghost use Rattle.spm.specs.Machine.{AreEditedBy, ShowsEdit, fits_in};
 
@@ -57,6 +58,7 @@ pub(crate) fn commit<M: TableMem + Drop>(
     change: Change,
 ) -> Result<Reply, OutOfMemory>
     requires layout { tables.old.layout ≡ layout_of state.old.manifest }
+    requires rows { AreRowsOfPartitions tables.old.layout.ids }
     requires known { is_partition state.old.manifest p ≡ true }
     requires can { CanUpdate state.old p change.update }
     requires orderly { AreOrderly p change.edit }
@@ -92,6 +94,7 @@ fn edit_and_apply<M: TableMem + Drop>(
     update: Update,
 ) -> Result<(), OutOfMemory>
     requires layout { tables.old.layout ≡ layout_of state.old.manifest }
+    requires rows { AreRowsOfPartitions tables.old.layout.ids }
     requires known { is_partition state.old.manifest p ≡ true }
     requires can { CanUpdate state.old p update }
     requires orderly { IsOrderly p edit }
@@ -105,22 +108,58 @@ fn edit_and_apply<M: TableMem + Drop>(
 {
     tables.ready(edit.who, &edit.runs, edit.to)?;
     apply(state, p, update)?;
-    edit_tables(tables, edit);
+    edit_tables(tables, &edit);
     Ok(())
 }
 
-/// Edits the tables as the edit says. There is room for its operations.
-fn edit_tables<M: TableMem + Drop>(tables: &mut Tables<M>, edit: Edit)
-    requires normal { are_normal edit.runs ≡ true }
-    requires fits { Fits edit.who edit.runs edit.to tables.old }
-    requires ready { edit_operations edit.who edit.runs tables.old ≤ tables.old.room }
+/// Edits the tables as the edit says, and clears its pages where it orders that: before they are
+/// mapped, or when they are unmapped. There is room for the operations.
+fn edit_tables<M: TableMem + Drop>(tables: &mut Tables<M>, edit: &Edit)
+    requires root { has_root tables.old edit.now.who ≡ true }
+    requires rows { AreRowsOfPartitions tables.old.layout.ids }
+    requires normal { are_normal edit.now.runs ≡ true }
+    requires fits { Fits edit.now.who edit.now.runs edit.now.to tables.old }
+    requires ready { edit_operations edit.now.who edit.now.runs tables.old
+        + length edit.now.runs ≤ tables.old.room }
     ensures layout { tables.new.layout ≡ tables.old.layout }
-    ensures walks { ReachSo edit.who edit.runs edit.to tables.old tables.new }
-    ensures shown { ShowsMoments edit.who edit.runs edit.to tables.old tables.new }
+    ensures walks { ReachSo edit.now.who edit.now.runs edit.now.to tables.old tables.new }
+    ensures shown { ShowsOne edit.now tables.old tables.new }
 {
     match edit.to {
-        Some(access) => tables.map(edit.who, &edit.runs, access),
-        None => tables.unmap(edit.who, &edit.runs),
+        Some(access) => {
+            clear_pages(tables, edit);
+            tables.map(edit.who, &edit.runs, access);
+        }
+        None => {
+            tables.unmap(edit.who, &edit.runs);
+            clear_pages(tables, edit);
+        }
+    }
+}
+
+/// Clears the pages of an edit that orders it, run by run upward.
+fn clear_pages<M: TableMem + Drop>(tables: &mut Tables<M>, edit: &Edit)
+    requires ready { length edit.now.runs ≤ tables.old.room }
+    ensures layout { tables.new.layout ≡ tables.old.layout }
+    ensures memory { tables.new.pool.memory ≡ tables.old.pool.memory }
+    ensures room { tables.old.room ≤ tables.new.room + length edit.now.runs }
+    ensures in_step { ClearsInCall edit.now tables.old tables.new }
+{
+    if edit.clears {
+        clear_runs(tables, edit);
+    }
+}
+
+fn clear_runs<M: TableMem + Drop>(tables: &mut Tables<M>, edit: &Edit)
+    requires clears { edit.now.clears ≡ true }
+    requires ready { length edit.now.runs ≤ tables.old.room }
+    ensures layout { tables.new.layout ≡ tables.old.layout }
+    ensures memory { tables.new.pool.memory ≡ tables.old.pool.memory }
+    ensures room { tables.old.room ≤ tables.new.room + length edit.now.runs }
+    ensures in_step { ClearsInCall edit.now tables.old tables.new }
+{
+    for run in &edit.runs {
+        tables.clear(*run);
     }
 }
 

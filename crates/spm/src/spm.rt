@@ -10,7 +10,7 @@ ghost use Rattle.wire.specs.Requests.{request_of};
 ghost use Rattle.rules.specs.Run as rules;
 ghost use Rattle.rules.specs.Laws.OneOwner.{IsOwnedOnce};
 ghost use Rattle.spm.specs.Granted.{IsGrantedCall};
-ghost use Rattle.spm.specs.Machine.{WalksAgree, ShowsCall, MayNeedMemory, translated, unchanged};
+ghost use Rattle.spm.specs.Machine.{WalksAgree, ShowsCall, HasCleared, MayNeedMemory, translated, unchanged};
 
 use crate::call::Call;
 use crate::calls::check;
@@ -161,6 +161,10 @@ impl<M: TableMem + Drop> Spm<M> {
 
         // What walkers see at every write: the old translation, none, or the new one.
         ensures moments { ShowsCall self.old self.new }
+
+        // What is cleared: the pages of the transaction where that is ordered, and else none.
+        ensures clears { OnOk result
+            (HasCleared (rules.clears self.old.state call.now) self.new) }
         ensures agrees { WalksAgree self.new.state self.new.pool }
         ensures reached { rules.IsReached self.new.state }
     {
@@ -187,6 +191,8 @@ impl<M: TableMem + Drop> Spm<M> {
         ensures err { OnErr result (self.new ≡ self.old) }
         ensures memory_after_the_tests { OnErr result (MayNeedMemory self.old.state call.now) }
         ensures moments { ShowsCall self.old self.new }
+        ensures clears { OnOk result
+            (HasCleared (rules.clears self.old.state call.now) self.new) }
         ensures agrees { WalksAgree self.new.state self.new.pool }
         ensures reached { rules.IsReached self.new.state }
     {
@@ -209,6 +215,8 @@ impl<M: TableMem + Drop> Spm<M> {
         ensures err { OnErr result (self.new ≡ self.old) }
         ensures memory_after_the_tests { OnErr result (MayNeedMemory self.old.state call.now) }
         ensures moments { ShowsCall self.old self.new }
+        ensures clears { OnOk result
+            (HasCleared (rules.clears self.old.state call.now) self.new) }
         ensures agrees { WalksAgree self.new.state self.new.pool }
         ensures reached { rules.IsReached self.new.state }
     {

@@ -21,6 +21,13 @@ words_after (Set page index word ∷ past) entry = put page index word (words_af
 words_after (Invalidate who run ∷ past) entry = words_after past entry
 words_after (Clear run ∷ past) entry = words_after past entry
 
+-- the runs that these operations clear, of which the latest stands first
+abbrev pub cleared_by : List Op → List PageRun
+cleared_by [] = []
+cleared_by (Set page index word ∷ past) = cleared_by past
+cleared_by (Invalidate who run ∷ past) = cleared_by past
+cleared_by (Clear run ∷ past) = run ∷ cleared_by past
+
 -- the operation invalidates page n of a row
 abbrev pub invalidates : Layout → Op → ℕ → ℕ → Bool
 invalidates layout (Set page index word) row n = false
@@ -127,7 +134,8 @@ AllClearUnreached layout entry (Clear run ∷ past) =
 
 -- ---- a call
 
--- the words at its entry, how many operations were made before it, and the pages of one row that it may disturb, with what their walks give in the end
+-- The words at its entry, how many operations were made before it, the pages of one row that it may disturb, with what their walks
+-- give in the end, and the runs that are cleared so far, of which the latest stands first.
 pub record Edit : Type 0 where
   pub layout : Layout
   pub entry : Words
@@ -135,6 +143,11 @@ pub record Edit : Type 0 where
   pub row : ℕ
   pub which : ℕ → Bool
   pub answer : ℕ → Walked
+  pub cleared : List PageRun
+
+-- one run more is cleared
+abbrev pub with_clear : PageRun → Edit → Edit
+with_clear run e = record e { cleared = run ∷ e.cleared }
 
 -- a walk may give what it gave at the entry, and for a page that is disturbed also nothing, or what it gives in the end
 abbrev pub MayGive : Edit → ℕ → ℕ → Walked → Type 0
@@ -161,6 +174,7 @@ pub record IsInStep (e : Edit) (due : ℕ → Bool) (words : Words) (past : List
   pub gives : AtEachMoment (GivesOnly e) past
   pub breaks : AllBreakFirst e.layout e.entry past
   pub clears : AllClearUnreached e.layout e.entry past
+  pub cleared : cleared_by past ≡ e.cleared
   pub stands : (q n : ℕ) → q < length e.layout.ids → n < 2 ^ 27 → (w : Walker)
       → UnderWay e.layout e.entry q n past w → Stands e.layout words ((q == e.row) && due n) q n w
 

@@ -10,7 +10,7 @@ use Rattle.stage2.specs.declared.walked.Walked.TheVariants.{None as Unmapped}
 use Rattle.stage2.specs.Chunks.{edited}
 use Rattle.stage2.specs.Entries.{word_at}
 use Rattle.stage2.specs.Parts.{operations_for}
-use Rattle.stage2.specs.Moments.{Edit, IsInStepIn, nothing, StaysInStep, Moments}
+use Rattle.stage2.specs.Moments.{cleared_by, Edit, with_clear, IsInStepIn, nothing, StaysInStep, Moments}
 use Rattle.stage2.specs.Orderly.{answer_of, IsCanonical}
 use Rattle.stage2.specs.Steps.{AreFree, disturbed, with_pages}
 use Rattle.stage2.specs.Walk.{walk, walked, translation, Agrees, Place, table_at, IsPlace}
@@ -80,22 +80,30 @@ ShowsMoments p runs access old new =
     → Agrees old.layout (words_of old.pool.memory.words) before → AreFreeFor p runs access before
     → Moments old.layout old.pool new.pool before (with_pages p runs access before)
 
+-- such an edit clears nothing
+abbrev pub ClearsNothing : ℕ → List PageRun → View → TablesView → TablesView → Type 0
+ClearsNothing p runs access old new =
+    old.pool.operations ≡ [] → AreFree (λ n. true) runs access (view_of old p)
+    → cleared_by new.pool.operations ≡ []
+
 -- ---- a call that clears pages before the edit or after it
 
--- the edit of a call that begins at these tables
-abbrev pub edit_from : TablesView → ℕ → List PageRun → View → Edit
-edit_from t p runs access = record {
+-- the edit of a call that begins at these tables and has cleared these runs so far, of which the latest stands first
+abbrev pub edit_from : TablesView → ℕ → List PageRun → View → List PageRun → Edit
+edit_from t p runs access cleared = record {
   layout = t.layout;
   entry = words_of t.pool.memory.words;
   made = t.pool.made;
   row = row_of t.layout.ids p;
   which = disturbed runs (view_of t p) (edited runs access (view_of t p));
   answer = λ n. walked n (edited runs access (view_of t p) n);
+  cleared = cleared;
 }
 
--- the call is in step here: what walkers see since its entry is what they may see
-abbrev pub IsCallInStep : TablesView → ℕ → List PageRun → View → TablesView → Type 0
-IsCallInStep entry p runs access now = IsInStepIn (edit_from entry p runs access) nothing now.pool
+-- the call is in step here: what walkers see since its entry is what they may see, and these runs are cleared
+abbrev pub IsCallInStep : TablesView → ℕ → List PageRun → View → List PageRun → TablesView → Type 0
+IsCallInStep entry p runs access cleared now =
+    IsInStepIn (edit_from entry p runs access cleared) nothing now.pool
 
 -- an edit keeps a call in step
 abbrev pub EditsInStep : ℕ → List PageRun → View → TablesView → TablesView → Type 0
@@ -111,8 +119,8 @@ AreUnmappedForAll run t =
     (row n : ℕ) → row < length t.layout.ids → n < 2 ^ 27 → in_run run n ≡ true
     → walk t.layout (words_of t.pool.memory.words) row n ≡ Unmapped
 
--- a clear of pages that no partition reaches keeps a call in step
+-- a clear of pages that no partition reaches keeps a call in step, which has cleared one run more
 abbrev pub ClearsInStep : PageRun → TablesView → TablesView → Type 0
 ClearsInStep run old new =
     AreUnmappedForAll run old → (e : Edit) → e.layout ≡ old.layout → IsInStepIn e nothing old.pool
-    → IsInStepIn e nothing new.pool
+    → IsInStepIn (with_clear run e) nothing new.pool

@@ -24,6 +24,7 @@ pub record Endpoint : Type 0 where
 pub record Send : Type 0 where
   pub sender : ℕ
   pub attributes : ℕ
+  pub clears : Bool
   pub tag : ℕ
   pub receivers : List Endpoint
   pub ranges : List PageRun
@@ -60,6 +61,13 @@ has_layout version bytes =
 
 -- ---- the header
 
+-- bit 0 of the flags orders that the pages are cleared; the other bits are reserved, and 0
+abbrev pub are_clear_flags : ℕ → Bool
+are_clear_flags flags = (flags == 0) || (flags == 1)
+
+abbrev pub orders_clear : ℕ → Bool
+orders_clear flags = flags == 1
+
 -- from byte 24 on: in 1.0 a reserved word; in 1.1 the size of an access descriptor and, behind the array's offset, reserved words
 abbrev pub is_rest_of_header : Version → List ℕ → Bool
 is_rest_of_header V10 bytes = u32_at bytes 24 == 0
@@ -71,7 +79,7 @@ is_rest_of_header V11 bytes =
 unfoldable pub is_header : Version → List ℕ → Bool
 is_header version bytes =
     are_attributes (u16_at bytes 2)
-    && (u32_at bytes 4 == 0)
+    && are_clear_flags (u32_at bytes 4)
     && (u64_at bytes 8 == 0)
     && is_rest_of_header version bytes
 
@@ -155,6 +163,7 @@ send_of version bytes =
     record {
       sender = u16_at bytes 0;
       attributes = u16_at bytes 2;
+      clears = orders_clear (u32_at bytes 4);
       tag = u64_at bytes 16;
       receivers = endpoints_at (receiver_count bytes) bytes (array_at version bytes);
       ranges = ranges_of version bytes;

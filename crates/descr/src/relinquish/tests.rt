@@ -12,7 +12,18 @@ fn reads_the_first_bytes(rt: HostRuntime) {
         let desc = read_relinquish(&RELINQUISH[..len]).expect(&rt, "a relinquish");
         assert_eq!(rt; desc.handle.bits(), 0x0807_0605_0403_0201);
         assert_eq!(rt; desc.endpoint.number(), 0x8002);
+        assert!(rt; !desc.clears);
     }
+}
+
+#[test]
+fn reads_an_ordered_clear(rt: HostRuntime) {
+    let mut bytes = RELINQUISH;
+    bytes[8] = 0x01;
+    let desc = read_relinquish(&bytes).expect(&rt, "a relinquish");
+    assert!(rt; desc.clears);
+    assert_eq!(rt; desc.handle.bits(), 0x0807_0605_0403_0201);
+    assert_eq!(rt; desc.endpoint.number(), 0x8002);
 }
 
 #[test]
@@ -23,7 +34,7 @@ fn refuses_cut_bytes_and_changed_words(rt: HostRuntime) {
             "{len} bytes"
         );
     }
-    for (at, byte) in [(8, 0x01), (12, 0x00), (12, 0x02)] {
+    for (at, byte) in [(8, 0x02), (8, 0x03), (9, 0x01), (12, 0x00), (12, 0x02)] {
         assert!(rt; at < 20);
         let mut bytes = RELINQUISH;
         bytes[at] = byte;

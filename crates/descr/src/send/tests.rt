@@ -104,6 +104,7 @@ fn reads_each_layout(rt: HostRuntime) {
         let desc = read_send(bytes, version).expect(&rt, "a send");
         assert_eq!(rt; desc.sender.number(), 0x8001);
         assert_eq!(rt; desc.attributes, MemoryAttributes::not_specified());
+        assert!(rt; !desc.clears);
         assert_eq!(rt; desc.tag, 0);
         assert_receivers(&rt, &desc, &[(0x8002, 2)]);
         assert_ranges(&rt, &desc, &[(0x80001, 1)]);
@@ -132,8 +133,22 @@ fn reads_changed_fields(rt: HostRuntime) {
 }
 
 #[test]
+fn reads_an_ordered_clear(rt: HostRuntime) {
+    let bytes = changed(&rt, LEND, &[(4, 0x01)]);
+    let desc = read_send(&bytes, Version::V11).expect(&rt, "a send");
+    assert!(rt; desc.clears);
+    assert_ranges(&rt, &desc, &[(0x80001, 1)]);
+    let bytes = changed(&rt, LEND_1_0, &[(4, 0x01)]);
+    let desc = read_send(&bytes, Version::V10).expect(&rt, "a send");
+    assert!(rt; desc.clears);
+    for other in [0x02, 0x03, 0x80, 0xff] {
+        assert!(rt; !reads(&rt, 4, other), "flags {other}");
+    }
+}
+
+#[test]
 fn refuses_reserved_bytes(rt: HostRuntime) {
-    for (first, end) in [(4, 16), (36, 48), (51, 52), (56, 64), (72, 80), (92, 96)] {
+    for (first, end) in [(5, 16), (36, 48), (51, 52), (56, 64), (72, 80), (92, 96)] {
         for at in first..end {
             assert!(rt; !reads(&rt, at, 1), "byte {at}");
         }

@@ -3,7 +3,9 @@ use crate::fields::{
     HeaderFields, RangeFields, RelinquishFields, ResponseFields, RetrieveFields, SendFields,
 };
 use base::{Handle, Kind, MemoryAttributes, Page, PartitionId, Permissions, Run, Version};
-use descr::{Endpoint, RetrieveDesc, SendDesc, read_relinquish, read_retrieve, read_send};
+use descr::{
+    Endpoint, RelinquishDesc, RetrieveDesc, SendDesc, read_relinquish, read_retrieve, read_send,
+};
 use std::process::Abort;
 
 /// 0x8001 lends page 0x80001 to 0x8002, read-write, in the layout of FF-A 1.1.
@@ -110,6 +112,24 @@ fn writes_a_send(rt: HostRuntime) {
     }
 }
 
+/// Bit 0 of the flags stands in byte 4.
+#[test]
+fn writes_a_send_that_clears(rt: HostRuntime) {
+    let fields = SendFields {
+        header: header(0, 1, 0),
+        receivers: &[endpoint(0x8002, 2)],
+        total: 1,
+        ranges: &[RangeFields {
+            address: 0x8000_1000,
+            count: 1,
+        }],
+    };
+    let mut bytes = LEND;
+    bytes[4] = 1;
+    let written = write_send(rt.alloc(), Version::V11, &fields).expect(&rt, "memory");
+    assert_eq!(rt; written.as_slice(), bytes.as_slice());
+}
+
 #[test]
 fn writes_a_response(rt: HostRuntime) {
     let fields = ResponseFields {
@@ -133,7 +153,7 @@ fn writes_a_response(rt: HostRuntime) {
 fn sends_are_read_back(rt: HostRuntime) {
     let receivers = [endpoint(0x8002, 2), endpoint(0x8003, 1)];
     let fields = SendFields {
-        header: header(0x2f, 0, 0),
+        header: header(0x2f, 1, 0),
         receivers: &receivers,
         total: 4,
         ranges: &[
@@ -152,6 +172,7 @@ fn sends_are_read_back(rt: HostRuntime) {
         let desc = read_send(&written, version).expect(&rt, "a send");
         assert_eq!(rt; desc.sender.number(), 0x8001);
         assert_eq!(rt; desc.attributes, MemoryAttributes::normal_write_back());
+        assert!(rt; desc.clears);
         assert_parts(&rt, &desc, &receivers, &[(0x80001, 1), (0x80010, 3)]);
     }
 }
@@ -179,14 +200,19 @@ fn requests_are_read_back(rt: HostRuntime) {
 
 #[test]
 fn relinquishes_are_read_back(rt: HostRuntime) {
-    let fields = RelinquishFields {
-        handle: Handle::from_bits(0x0807_0605_0403_0201),
-        flags: 0,
-        endpoint: PartitionId::new(0x8002),
-    };
-    let written = write_relinquish(rt.alloc(), &fields).expect(&rt, "memory");
-    assert_eq!(rt; written.len(), 18);
-    let desc = read_relinquish(&written).expect(&rt, "a relinquish");
-    assert_eq!(rt; desc.handle.bits(), 0x0807_0605_0403_0201);
-    assert_eq!(rt; desc.endpoint.number(), 0x8002);
+    for (flags, clears) in [(0, false), (1, true)] {
+        let fields = RelinquishFields {
+            handle: Handle::from_bits(0x0807_0605_0403_0201),
+            flags,
+            endpoint: PartitionId::new(0x8002),
+        };
+        let relinquish = RelinquishDesc {
+            handle: Handle::from_bits(0x0807_0605_0403_0201),
+            clears,
+            endpoint: PartitionId::new(0x8002),
+        };
+        let written = write_relinquish(rt.alloc(), &fields).expect(&rt, "memory");
+        assert_eq!(rt; written.len(), 18);
+        assert_eq!(rt; read_relinquish(&written), Some(relinquish));
+    }
 }

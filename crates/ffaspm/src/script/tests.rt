@@ -9,6 +9,7 @@ use std::process::Abort;
 use std::str;
 use std::test::Fail;
 
+mod clears;
 mod documents;
 mod failures;
 mod manifests;

@@ -1,9 +1,9 @@
 use super::{Line, read_line};
-use crate::send::SendLine;
+use crate::send::{ReclaimLine, SendLine};
 use arrayvec::ArrayVec;
 use base::{Handle, Kind, OutOfMemory, PartitionId, Permissions};
 use descr::Endpoint;
-use descw::RangeFields;
+use descw::{RangeFields, RelinquishFields};
 use std::alloc::Global;
 use std::process::Abort;
 use std::test::Fail;
@@ -33,12 +33,33 @@ fn reads_lines(rt: HostRuntime) -> Result<(), Fail> {
     let call = Line::Call(id, [1, 2, 3, 4, 5, 6, 7, u64::MAX]);
     let text = "call 80af 1 02 3 4 5 6 0000000000000007 ffffffffffffffff";
     expect_line(&rt, alloc, text, Some(call))?;
-    let handle = Handle::from_bits(0x8001_0000_0001);
-    let reclaim = Line::Reclaim(id, handle);
-    expect_line(&rt, alloc, "reclaim 80af 800100000001", Some(reclaim))?;
     expect_line(&rt, alloc, "maps 80af", Some(Line::Maps(id)))?;
     expect_line(&rt, alloc, "tables 80af", Some(Line::Tables(id)))?;
     expect_line(&rt, alloc, "ops", Some(Line::Operations))?;
+    Ok(())
+}
+
+#[test]
+fn reads_relinquishes_and_reclaims(rt: HostRuntime) -> Result<(), Fail> {
+    let alloc = rt.alloc();
+    let id = PartitionId::new(0x80af);
+    let handle = Handle::from_bits(0x8001_0000_0001);
+    for (last, clears) in [("", false), (" zero", true)] {
+        let relinquish = RelinquishFields {
+            handle,
+            flags: u32::from(clears),
+            endpoint: id,
+        };
+        let text = format!(in alloc; "relinquish 80af 800100000001{last}")?;
+        expect_line(&rt, alloc, &text, Some(Line::Relinquish(relinquish)))?;
+        let reclaim = ReclaimLine {
+            caller: id,
+            handle,
+            clears,
+        };
+        let text = format!(in alloc; "reclaim 80af 800100000001{last}")?;
+        expect_line(&rt, alloc, &text, Some(Line::Reclaim(reclaim)))?;
+    }
     Ok(())
 }
 
@@ -46,6 +67,7 @@ fn reads_lines(rt: HostRuntime) -> Result<(), Fail> {
 fn send_line(
     alloc: Global,
     kind: Kind,
+    clears: bool,
     receivers: ArrayVec<Endpoint, 8>,
 ) -> Result<Line, OutOfMemory> {
     let ranges = vec![in alloc;
@@ -60,6 +82,7 @@ fn send_line(
     ]?;
     let send = SendLine {
         sender: PartitionId::new(0x8001),
+        clears,
         tag: 5,
         receivers,
         ranges,
@@ -71,10 +94,13 @@ fn send_line(
 #[test]
 fn reads_sends(rt: HostRuntime) -> Result<(), Fail> {
     let alloc = rt.alloc();
-    for (word, kind) in [
-        ("share", Kind::Share),
-        ("lend", Kind::Lend),
-        ("donate", Kind::Donate),
+    for (word, kind, last, clears) in [
+        ("share", Kind::Share, "", false),
+        ("lend", Kind::Lend, "", false),
+        ("donate", Kind::Donate, "", false),
+        ("share", Kind::Share, " zero", true),
+        ("lend", Kind::Lend, " zero", true),
+        ("donate", Kind::Donate, " zero", true),
     ] {
         let mut receivers = ArrayVec::new();
         receivers.push(Endpoint {
@@ -86,9 +112,9 @@ fn reads_sends(rt: HostRuntime) -> Result<(), Fail> {
             permissions: Permissions::new(0x1f),
         });
         let text = format!(in alloc;
-            "{word} 8001 5 8002:02,8003:1f 80000000+256,ffffffffffffffff+0"
+            "{word} 8001 5 8002:02,8003:1f 80000000+256,ffffffffffffffff+0{last}"
         )?;
-        let wanted = send_line(alloc, kind, receivers)?;
+        let wanted = send_line(alloc, kind, clears, receivers)?;
         expect_line(&rt, alloc, &text, Some(wanted))?;
     }
     Ok(())
@@ -118,6 +144,41 @@ fn refuses_other_sends(rt: HostRuntime) -> Result<(), Fail> {
         "lend 8001 5 8002:02 0+4294967295,0+1",
         "lend 8001 5 0001:00,0002:00,0003:00,0004:00,0005:00,0006:00,0007:00,0008:00,0009:00 0+1",
         "lend 8001 5 8002:02 0+1 0+1",
+    ] {
+        expect_line(&rt, alloc, text, None)?;
+    }
+    Ok(())
+}
+
+/// The word `zero` stands once, at the end, and on these lines alone.
+#[test]
+fn refuses_other_last_words(rt: HostRuntime) -> Result<(), Fail> {
+    let alloc = rt.alloc();
+    for text in [
+        "share zero",
+        "share 8001 5 8002:02 0+1 zero zero",
+        "share zero 8001 5 8002:02 0+1",
+        "lend 8001 5 8002:02 zero",
+        "lend 8001 5 8002:02 0+1 alone",
+        "lend 8001 5 8002:02 0+1 Zero",
+        "lend 8001 5 8002:02 0+1 zeros",
+        "lend 8001 5 8002:02 0+1 zer",
+        "lend 8001 5 8002:02 0+1 zero ",
+        "donate 8001 5 8002:02 0+1  zero",
+        "relinquish zero",
+        "relinquish 8002 zero",
+        "relinquish 8002 1 one",
+        "relinquish 8002 1 zero zero",
+        "reclaim zero",
+        "reclaim 8001 zero",
+        "reclaim 8001 1 zer0",
+        "reclaim 8001 1 zero zero",
+        "retrieve 8002 1 8001 0 2 02 zero",
+        "retrieve 8002 1 8001 0 2 02 zero alone",
+        "maps 8001 zero",
+        "tx 8001 00 zero",
+        "call 8001 1 zero",
+        "ops zero",
     ] {
         expect_line(&rt, alloc, text, None)?;
     }

@@ -1,14 +1,12 @@
 -- What is known of a reclaim that passes its tests.
-use Rattle.std.proofs.Common.{◌≡◌, ℕ, true, false, ◌&&◌, eqb, Option, Some, None, is_some, find, refl, ap, ◌∙◌}
-use Rattle.std.specs.Option.{option_map_or}
+use Rattle.std.proofs.Common.{◌≡◌, ℕ, true, ◌&&◌, eqb, Option, Some, None, is_some, refl}
 use Rattle.std.proofs.lemmas.Bool.{eqb-true}
 use Rattle.base.specs.Refusals.{first_refusal}
 use Rattle.base.specs.Transactions.{Live}
 use Rattle.base.specs.State.{State}
 use Rattle.base.proofs.Booleans.{both}
 use Rattle.rules.specs.Calls.Reclaim.{sent_with, is_given_back, reclaim_tests}
-use Rattle.rules.specs.Run.{IsReached}
-use Rattle.rules.proofs.Ended.{found_is, found_first}
+use Rattle.rules.proofs.Ended.{found_is}
 use Rattle.rules.proofs.Passing.{all_pass}
 
 -- the transaction, which is the caller's and which no receiver has any more

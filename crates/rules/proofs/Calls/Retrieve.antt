@@ -1,5 +1,5 @@
 -- What is known of a retrieve that passes its tests.
-use Rattle.std.proofs.Common.{◌≡◌, ℕ, Bool, true, false, ◌&&◌, not, eqb, List, [], ◌++◌, Option, Some, None, is_some, find, refl, sym, ap, ◌∙◌, subst}
+use Rattle.std.proofs.Common.{◌≡◌, ℕ, true, not, [], Option, Some, None, is_some, refl, sym, ap, ◌∙◌, subst}
 use Rattle.std.specs.Option.{option_map, option_map_or, option_and_then}
 use Rattle.base.specs.declared.transaction.Kind.{Kind}
 use Rattle.base.specs.declared.transaction.Kind.TheVariants.{Share, Lend, Donate}
@@ -10,8 +10,8 @@ use Rattle.base.specs.Transactions.{Live}
 use Rattle.base.specs.State.{State}
 use Rattle.wire.specs.declared.request.Transfer.{Transfer}
 use Rattle.rules.specs.Call.{CallWords}
-use Rattle.rules.specs.Calls.Retrieve.{asked, granted, request_tests, transaction_tests, retrieve_tests, Retrieval, retrieval_with, retrieval_of, with_retrieval_of_kind, with_donation, with_rx_filled, after_retrieve, retrieve_rule}
-use Rattle.rules.specs.Receivers.{is_received_by, received_with, has_retrieved, with_retrieval_by}
+use Rattle.rules.specs.Calls.Retrieve.{asked, granted, request_tests, transaction_tests, retrieve_tests, retrieval_with, retrieval_of, retrieved_by, with_retrieval_of_kind, with_donation, with_rx_filled, after_retrieve, retrieve_rule}
+use Rattle.rules.specs.Receivers.{is_received_by, received_with, with_retrieval_by}
 use Rattle.rules.proofs.Calls.Reclaim.{has_one}
 use Rattle.rules.proofs.Calls.Relinquish.{receiver_is}
 use Rattle.rules.proofs.Passing.{all_pass, first_pass, second_decides}
@@ -67,7 +67,7 @@ pub retrieved_is : (s : State) (c : CallWords) (x : Transfer) (k : RetrievePasse
 retrieved_is s c x k = rw k.named refl
 
 -- what the receiver reaches
-pub edit_is : (s : State) (c : CallWords) (x : Transfer) (k : RetrievePasses s c x) → (retrieve_rule s c x).edit ≡ Some (record { who = c.caller; runs = k.transaction.ranges; to = Some k.access })
+pub edit_is : (s : State) (c : CallWords) (x : Transfer) (k : RetrievePasses s c x) → (retrieve_rule s c x).edit ≡ Some (retrieved_by c.caller (record { transaction = k.transaction; access = k.access }))
 edit_is s c x k = rw k.named refl
 
 -- what each kind of it makes of the state: RX is filled, and a share or a lend is retrieved, or a donation is completed

@@ -1,5 +1,5 @@
 -- What is known of a send that passes its tests.
-use Rattle.std.proofs.Common.{◌≡◌, ℕ, true, Option, Some, None, is_some, refl}
+use Rattle.std.proofs.Common.{◌≡◌, true, Some, None, is_some, refl}
 use Rattle.base.specs.declared.transaction.Kind.{Kind}
 use Rattle.base.specs.Access.{Access, View}
 use Rattle.base.specs.Buffers.{has_pair}
@@ -9,6 +9,7 @@ use Rattle.base.specs.Refusals.{first_refusal}
 use Rattle.base.specs.State.{State, common_home}
 use Rattle.wire.specs.declared.request.Transfer.{Transfer}
 use Rattle.rules.specs.Call.{CallWords}
+use Rattle.rules.specs.Clearing.{may_clear_sent}
 use Rattle.rules.specs.Transfers.{names_tx, has_lengths, caller_version, bytes_of}
 use Rattle.rules.specs.Calls.Send.{sent, are_parties, suits, are_capped, has_room, opened, with_transaction, send_tests, send_rule}
 use Rattle.base.proofs.Booleans.{both}
@@ -25,6 +26,7 @@ pub record SendPasses (s : State) (c : CallWords) (kind : Kind) (t : Transfer) :
   pub terms : suits kind (sent s c t) ≡ true
   pub common : common_home s c.caller (sent s c t).ranges ≡ Some home
   pub capped : are_capped kind (Some home) (sent s c t).receivers ≡ true
+  pub clears : may_clear_sent (sent s c t).clears (Some home) ≡ true
   pub room : has_room s c.caller ≡ true
 
 has_home : (a : View) → is_some a ≡ true → (home : Access) × (a ≡ Some home)
@@ -45,7 +47,8 @@ send_passes s c kind t e =
       terms = x.1.1.1.1.1.0;
       common = home.1;
       capped = rw home.1 at x.1.1.1.1.1.1.1.0;
-      room = x.1.1.1.1.1.1.1.1.0;
+      clears = rw home.1 at x.1.1.1.1.1.1.1.1.0;
+      room = x.1.1.1.1.1.1.1.1.1.0;
     }
 
 -- the state after it

@@ -1,5 +1,5 @@
 -- The law that no page of a live transaction lies in a registered buffer.
-use Rattle.std.proofs.Common.{◌≡◌, ℕ, Bool, true, false, ◌⊎◌, inl, inr, Some, None, is_some, refl, sym, ap, ◌∙◌}
+use Rattle.std.proofs.Common.{◌≡◌, ℕ, true, false, inl, inr, Some, None, is_some, refl, ap, ◌∙◌}
 use Rattle.base.specs.declared.transaction.Kind.{Kind}
 use Rattle.base.specs.Access.{Access, View}
 use Rattle.base.specs.Buffers as pairs
@@ -8,21 +8,19 @@ use Rattle.base.specs.Pages.{covers}
 use Rattle.base.specs.Transactions.{Live}
 use Rattle.base.specs.Ledger.{live_at}
 use Rattle.base.specs.State.{State}
-use Rattle.wire.specs.declared.request.Request.{Request}
 use Rattle.wire.specs.declared.request.Transfer.{Transfer}
 use Rattle.wire.specs.declared.request.Request.TheVariants.{Version, Features, RxRelease, RxtxMap, RxtxUnmap, IdGet, Send, Retrieve, Relinquish, Reclaim}
 use Rattle.rules.specs.Call.{CallWords}
-use Rattle.rules.specs.Calls.Version.{naming, with_version}
+use Rattle.rules.specs.Calls.Version.{with_version}
 use Rattle.rules.specs.Calls.Buffers.{with_pair, with_rx_released}
-use Rattle.rules.specs.Calls.Send.{opened, with_transaction, sent, send_rule, counting, has_room, next_handle}
+use Rattle.rules.specs.Calls.Send.{opened, with_transaction, sent, send_rule}
 use Rattle.rules.specs.Calls.Reclaim.{ended}
 use Rattle.rules.specs.Calls.Relinquish.{given_up}
 use Rattle.rules.specs.Calls.Retrieve.{with_donation, with_rx_filled, retrieve_rule}
 use Rattle.rules.specs.Receivers.{with_retrieval_by}
-use Rattle.rules.specs.Run.{rule_of, IsReached}
-use Rattle.rules.specs.Laws.EditsTheView.{Passes}
+use Rattle.rules.specs.Run.{IsReached}
 use Rattle.rules.proofs.Calls.Send.{SendPasses, send_passes, next_is}
-use Rattle.rules.proofs.Reached.{all_push, Keeps, all_reached}
+use Rattle.rules.proofs.Reached.{Keeps, all_reached}
 use Rattle.rules.specs.Laws.BuffersApart.{AreBuffersApart}
 use Rattle.rules.proofs.Calls.Buffers.{map_passes, mapped_page, buffer_after, buffer_after_rx}
 use Rattle.rules.proofs.Calls.Retrieve.{RetrievePasses, retrieve_passes, retrieve_cases}

@@ -1,13 +1,14 @@
 -- The law that a rule's edit is what the call changes of the views.
-use Rattle.std.proofs.Common.{◌≡◌, ℕ, Bool, true, false, ◌&&◌, not, cond, eqb, List, [], ◌∷◌, Option, Some, None, is_some, find, refl, sym, eq-eqb, ◌∙◌, ap, subst, inl, inr, ◌⊎◌}
+use Rattle.std.proofs.Common.{◌≡◌, ℕ, Bool, true, false, ◌&&◌, not, cond, eqb, List, [], ◌∷◌, Option, Some, None, is_some, find, refl, sym, eq-eqb, ◌∙◌, ap, subst, inl, inr}
 use Rattle.std.specs.List.{list_all}
 use Rattle.std.specs.Option.{option_map, option_map_or, option_and_then}
 use Rattle.std.proofs.lemmas.Bool.{eqb-true}
 use Rattle.base.specs.Access.{Access, View}
+use Rattle.base.specs.Descriptors.Send.{orders_clear}
 use Rattle.base.specs.Ledger.{live_at, donation_at, settled_view, kept, retrieved, view_under}
 use Rattle.base.specs.Manifest.{region_at}
 use Rattle.base.specs.Pages.{PageRun, covers}
-use Rattle.base.specs.Transactions.{Receiver, Live, without, with_retrieved, with_retrieval}
+use Rattle.base.specs.Transactions.{Receiver, Live, with_retrieved, with_retrieval}
 use Rattle.base.proofs.Booleans.{both}
 use Rattle.base.specs.declared.transaction.Kind.{Kind}
 use Rattle.base.specs.declared.transaction.Kind.TheVariants.{Share, Lend, Donate}
@@ -16,11 +17,11 @@ use Rattle.wire.specs.declared.request.Request.{Request}
 use Rattle.wire.specs.declared.request.Request.TheVariants.{Version, Features, RxRelease, RxtxMap, RxtxUnmap, IdGet, Send, Retrieve, Relinquish, Reclaim}
 use Rattle.wire.specs.declared.request.Transfer.{Transfer}
 use Rattle.rules.specs.Call.{CallWords}
-use Rattle.rules.specs.Rule.{Edit, with_edit}
+use Rattle.rules.specs.Rule.{Edit, given_to, with_edit}
 use Rattle.rules.specs.Calls.Version.{with_version}
 use Rattle.rules.specs.Calls.Buffers.{with_pair, with_rx_released}
 use Rattle.rules.specs.Calls.Send.{sent, send_rule}
-use Rattle.rules.specs.Calls.Reclaim.{sent_with, is_given_back, returned, returned_by, ended, reclaim_rule}
+use Rattle.rules.specs.Calls.Reclaim.{returned, returned_by, ended, reclaim_rule}
 use Rattle.rules.specs.Calls.Relinquish.{given_up, given_back_by, relinquish_rule}
 use Rattle.rules.specs.Calls.Retrieve.{with_donation, with_rx_filled, retrieve_rule}
 use Rattle.rules.specs.Receivers.{is_received_by, with_retrieval_by}
@@ -38,7 +39,7 @@ use Rattle.rules.proofs.FreePages.{common_at, settled, eqb_sym}
 use Rattle.rules.proofs.Laws.Handles.{handles_used_once}
 use Rattle.rules.proofs.Laws.OneOwner.{owned_once, first_is}
 use Rattle.rules.proofs.Laws.SentPages.{transactions_kept}
-use Rattle.rules.proofs.ViewLemmas.{IsSeenAlike, seen_alike, opened_view}
+use Rattle.rules.proofs.ViewLemmas.{opened_view}
 
 send : (s : State) (c : CallWords) (k : Kind) (t : Transfer) → SendPasses s c k t → (q n : ℕ) → sees (send_rule s c k t).next q n ≡ with_edit (send_rule s c k t).edit (sees s) q n
 send s c k t passes q n =
@@ -60,16 +61,16 @@ none_back (r ∷ rs) q e =
       | false ↦ none_back rs q here.1
     ]
 
-covered_return : (k : Kind) (p : ℕ) (runs : List PageRun) (home : Access) (view : ℕ → ℕ → View) (q n : ℕ) → covers runs n ≡ true → view q n ≡ cond (eqb q p) (kept k (Some home)) None
-    → with_edit (returned k p runs home) view q n ≡ cond (eqb q p) (Some home) None
-covered_return Share p runs home view q n c before = before
-covered_return Lend p runs home view q n c before = rw (c, before) (elim (eqb q p) as (λ b. cond (b && true) (Some home) (cond b None None) ≡ cond b (Some home) None) [ true ↦ refl | false ↦ refl ])
-covered_return Donate p runs home view q n c before = rw (c, before) (elim (eqb q p) as (λ b. cond (b && true) (Some home) (cond b None None) ≡ cond b (Some home) None) [ true ↦ refl | false ↦ refl ])
+covered_return : (k : Kind) (p : ℕ) (runs : List PageRun) (home : Access) (clears : Bool) (view : ℕ → ℕ → View) (q n : ℕ) → covers runs n ≡ true → view q n ≡ cond (eqb q p) (kept k (Some home)) None
+    → with_edit (returned k p runs home clears) view q n ≡ cond (eqb q p) (Some home) None
+covered_return Share p runs home clears view q n c before = before
+covered_return Lend p runs home clears view q n c before = rw (c, before) (elim (eqb q p) as (λ b. cond (b && true) (Some home) (cond b None None) ≡ cond b (Some home) None) [ true ↦ refl | false ↦ refl ])
+covered_return Donate p runs home clears view q n c before = rw (c, before) (elim (eqb q p) as (λ b. cond (b && true) (Some home) (cond b None None) ≡ cond b (Some home) None) [ true ↦ refl | false ↦ refl ])
 
-other_return : (k : Kind) (p : ℕ) (runs : List PageRun) (home : Access) (view : ℕ → ℕ → View) (q n : ℕ) → covers runs n ≡ false → with_edit (returned k p runs home) view q n ≡ view q n
-other_return Share p runs home view q n c = refl
-other_return Lend p runs home view q n c = rw c (elim (eqb q p) as (λ b. cond (b && false) (Some home) (view q n) ≡ view q n) [ true ↦ refl | false ↦ refl ])
-other_return Donate p runs home view q n c = rw c (elim (eqb q p) as (λ b. cond (b && false) (Some home) (view q n) ≡ view q n) [ true ↦ refl | false ↦ refl ])
+other_return : (k : Kind) (p : ℕ) (runs : List PageRun) (home : Access) (clears : Bool) (view : ℕ → ℕ → View) (q n : ℕ) → covers runs n ≡ false → with_edit (returned k p runs home clears) view q n ≡ view q n
+other_return Share p runs home clears view q n c = refl
+other_return Lend p runs home clears view q n c = rw c (elim (eqb q p) as (λ b. cond (b && false) (Some home) (view q n) ≡ view q n) [ true ↦ refl | false ↦ refl ])
+other_return Donate p runs home clears view q n c = rw c (elim (eqb q p) as (λ b. cond (b && false) (Some home) (view q n) ≡ view q n) [ true ↦ refl | false ↦ refl ])
 
 module _ (s : State) (p handle : ℕ) (r : IsReached s) (k : ReclaimPasses s p handle) where
   abbrev t : Live
@@ -82,34 +83,35 @@ module _ (s : State) (p handle : ℕ) (r : IsReached s) (k : ReclaimPasses s p h
   page = found_in (AreSentPages s) (λ u. eqb u.handle handle && eqb u.sender p) s.live t k.found (transactions_kept s r).pages
 
   -- its sender reaches what it kept, and all others nothing
-  lent : (q n : ℕ) → covers t.ranges n ≡ true → sees s q n ≡ cond (eqb q t.sender) (kept t.kind (Some t.home)) None
+  pub lent : (q n : ℕ) → covers t.ranges n ≡ true → sees s q n ≡ cond (eqb q t.sender) (kept t.kind (Some t.home)) None
   lent q n c =
       ap (λ (o : Option Live). option_map_or (λ (u : Live). view_under u (home_of s n) q) o (settled_view s.manifest s.donations q n)) (covered_live handle s.live t n (owned_once s r).apart first c)
       ∙ ap (λ (h : View). cond (eqb t.sender q) (kept t.kind h) (retrieved t.receivers q)) (page n c).2
       ∙ ap (λ (v : View). cond (eqb t.sender q) (kept t.kind (Some t.home)) v) (none_back t.receivers q k.given_back)
       ∙ ap (λ (b : Bool). cond b (kept t.kind (Some t.home)) None) (eqb_sym t.sender q)
 
-  ended_view : (q n : ℕ) → sees (ended s handle) q n ≡ with_edit (returned_by t) (sees s) q n
+  ended_view : (clears : Bool) (q n : ℕ) → sees (ended s handle) q n ≡ with_edit (returned_by clears t) (sees s) q n
   unfolding ended
-  ended_view q n =
+  ended_view clears q n =
       let after = λ (o : Option Live). option_map_or (λ (u : Live). view_under u (home_of s n) q) o (settled_view s.manifest s.donations q n) in
-      elim (covers t.ranges n) as (λ b. covers t.ranges n ≡ b → sees (ended s handle) q n ≡ with_edit (returned_by t) (sees s) q n) [
+      elim (covers t.ranges n) as (λ b. covers t.ranges n ≡ b → sees (ended s handle) q n ≡ with_edit (returned_by clears t) (sees s) q n) [
         | true ↦ λ c.
             let here = page n c in
             let own = settled (donation_at s.donations n) (region_at s.manifest n) t.sender q t.home here.0 here.1 here.2 in
-            ap after (covered_ended handle s.live t n (owned_once s r).apart first c) ∙ own ∙ sym (covered_return t.kind t.sender t.ranges t.home (sees s) q n c (lent q n c))
-        | false ↦ λ c. ap after (other_ended handle s.live t n first c) ∙ sym (other_return t.kind t.sender t.ranges t.home (sees s) q n c)
+            ap after (covered_ended handle s.live t n (owned_once s r).apart first c) ∙ own ∙ sym (covered_return t.kind t.sender t.ranges t.home clears (sees s) q n c (lent q n c))
+        | false ↦ λ c. ap after (other_ended handle s.live t n first c) ∙ sym (other_return t.kind t.sender t.ranges t.home clears (sees s) q n c)
       ] refl
 
 reclaim : (s : State) (c : CallWords) (handle flags : ℕ) → IsReached s → ReclaimPasses s c.caller handle → (q n : ℕ) → sees (reclaim_rule s c handle flags).next q n ≡ with_edit (reclaim_rule s c handle flags).edit (sees s) q n
 reclaim s c handle flags r k q n =
-    ended_view s c.caller handle r k q n ∙ ap (λ (o : Option Live). with_edit (option_and_then returned_by o) (sees s) q n) (sym k.found)
+    let clears = orders_clear flags in
+    ended_view s c.caller handle r k clears q n ∙ ap (λ (o : Option Live). with_edit (option_and_then (returned_by clears) o) (sees s) q n) (sym k.found)
 
 -- what a reclaim gives back was not reached: its sender kept what it shared alone
-not_kept : (k : Kind) (s : State) (p : ℕ) (runs : List PageRun) (home : Access) → ((n : ℕ) → covers runs n ≡ true → sees s p n ≡ kept k (Some home)) → AreNotReached s (returned k p runs home)
-not_kept Share s p runs home h = tt
-not_kept Lend s p runs home h = λ n c. inr (h n c)
-not_kept Donate s p runs home h = λ n c. inr (h n c)
+not_kept : (k : Kind) (s : State) (p : ℕ) (runs : List PageRun) (home : Access) (clears : Bool) → ((n : ℕ) → covers runs n ≡ true → sees s p n ≡ kept k (Some home)) → AreNotReached s (returned k p runs home clears)
+not_kept Share s p runs home clears h = tt
+not_kept Lend s p runs home clears h = λ n c. inr (h n c)
+not_kept Donate s p runs home clears h = λ n c. inr (h n c)
 
 if_own : (p : ℕ) (a : View) → cond (eqb p p) a None ≡ a
 if_own p a = let self : eqb p p ≡ true = eq-eqb p p refl in rw self refl
@@ -117,8 +119,9 @@ if_own p a = let self : eqb p p ≡ true = eq-eqb p p refl in rw self refl
 reclaimed : (s : State) (c : CallWords) (handle flags : ℕ) → IsReached s → ReclaimPasses s c.caller handle → AreNotReached s (reclaim_rule s c handle flags).edit
 reclaimed s c handle flags r k =
     let u = k.transaction in
-    let none = not_kept u.kind s u.sender u.ranges u.home (λ n covered. lent s c.caller handle r k u.sender n covered ∙ if_own u.sender (kept u.kind (Some u.home))) in
-    subst (λ (o : Option Live). AreNotReached s (option_and_then returned_by o)) (sym k.found) none
+    let clears = orders_clear flags in
+    let none = not_kept u.kind s u.sender u.ranges u.home clears (λ n covered. lent s c.caller handle r k u.sender n covered ∙ if_own u.sender (kept u.kind (Some u.home))) in
+    subst (λ (o : Option Live). AreNotReached s (option_and_then (returned_by clears) o)) (sym k.found) none
 
 -- ---- a receiver
 
@@ -150,12 +153,12 @@ module _ (s : State) (p handle : ℕ) (r : IsReached s) (u : Live) (first : find
   other = not_sender s p u (found_in IsSentToOthers (λ v. eqb v.handle handle) s.live u first (transactions_kept s r).others) receiver
 
   -- what is reached of its pages
-  under : (q n : ℕ) → covers u.ranges n ≡ true → sees s q n ≡ view_under u (home_of s n) q
+  pub under : (q n : ℕ) → covers u.ranges n ≡ true → sees s q n ≡ view_under u (home_of s n) q
   under q n c = ap (λ (o : Option Live). option_map_or (λ (v : Live). view_under v (home_of s n) q) o (settled_view s.manifest s.donations q n)) (covered_live handle s.live u n (owned_once s r).apart first c)
 
-  set_view : (view : View) (q n : ℕ) → sees (with_retrieval_by s p handle view) q n ≡ with_edit (Some (record { who = p; runs = u.ranges; to = view })) (sees s) q n
+  set_view : (view : View) (clears : Bool) (q n : ℕ) → sees (with_retrieval_by s p handle view) q n ≡ with_edit (Some (record { who = p; runs = u.ranges; to = view; clears = clears })) (sees s) q n
   unfolding with_retrieval_by
-  set_view view q n =
+  set_view view clears q n =
       let after = λ (o : Option Live). option_map_or (λ (v : Live). view_under v (home_of s n) q) o (settled_view s.manifest s.donations q n) in
       elim (covers u.ranges n) as (λ b. covers u.ranges n ≡ b → sees (with_retrieval_by s p handle view) q n ≡ cond (eqb q p && covers u.ranges n) view (sees s q n)) [
         | true ↦ λ c.
@@ -172,11 +175,12 @@ relinquish : (s : State) (c : CallWords) → IsReached s → RelinquishPasses s 
 relinquish s c r k q n =
     let p = c.caller in
     let handle = (given_up c).handle in
+    let clears = (given_up c).clears in
     let first_one = found_first s.live handle (is_received_by p) k.transaction (handles_used_once s r).distinct k.found in
-    set_view s p handle r k.transaction first_one k.receiver None q n ∙ ap (λ (o : Option Live). with_edit (option_map (given_back_by p) o) (sees s) q n) (sym k.found)
+    set_view s p handle r k.transaction first_one k.receiver None clears q n ∙ ap (λ (o : Option Live). with_edit (option_map (given_back_by p clears) o) (sees s) q n) (sym k.found)
 
 relinquished : (s : State) (c : CallWords) → RelinquishPasses s c → AreNotReached s (relinquish_rule s c).edit
-relinquished s c k = subst (λ (o : Option Live). AreNotReached s (option_map (given_back_by c.caller) o)) (sym k.found) (λ n here. inl refl)
+relinquished s c k = subst (λ (o : Option Live). AreNotReached s (option_map (given_back_by c.caller (given_up c).clears) o)) (sym k.found) (λ n here. inl refl)
 
 -- ---- a retrieve
 
@@ -189,7 +193,7 @@ untaken u home q e free =
     ]
 
 module _ (s : State) (p : ℕ) (r : IsReached s) (u : Live) (first : find (λ v. eqb v.handle u.handle) s.live ≡ Some u) (access : Access) (donated : u.kind ≡ Donate) where
-  given_sees : (q n : ℕ) → sees (with_donation s p u access) q n ≡ with_edit (Some (record { who = p; runs = u.ranges; to = Some access })) (sees s) q n
+  given_sees : (q n : ℕ) → sees (with_donation s p u access) q n ≡ with_edit (Some (given_to p u.ranges access false)) (sees s) q n
   unfolding with_donation
   given_sees q n =
       let new = with_donation s p u access in
@@ -220,8 +224,8 @@ retrieve s c x r k q n =
     let u = k.transaction in
     let first_one = first_is s c x r k in
     let edit = λ (v : Option Edit). with_edit v (sees s) q n in
-    retrieve_cases (λ v. sees v q n ≡ edit (Some (record { who = p; runs = u.ranges; to = Some k.access }))) s c x k (λ v e. filled_sees v p q n ∙ e)
-    (λ e. set_view s p u.handle r u first_one k.receiver (Some k.access) q n)
+    retrieve_cases (λ v. sees v q n ≡ edit (Some (given_to p u.ranges k.access false))) s c x k (λ v e. filled_sees v p q n ∙ e)
+    (λ e. set_view s p u.handle r u first_one k.receiver (Some k.access) false q n)
     (λ e. given_sees s p r u first_one k.access e q n)
     ∙ ap edit (sym (edit_is s c x k))
 

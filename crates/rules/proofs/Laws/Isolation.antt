@@ -14,29 +14,29 @@ use Rattle.base.specs.Need.{need, grow, reaching}
 use Rattle.base.specs.Buffers as pairs
 use Rattle.base.specs.Buffers.{Pair, Mailbox, pair_of, has_pair, holds_rx, in_pair, is_buffer, holding, named_pair}
 use Rattle.base.specs.Descriptors.Send as descriptor
-use Rattle.base.specs.Descriptors.Send.{Endpoint, is_send, send_of}
+use Rattle.base.specs.Descriptors.Send.{Endpoint, is_send, send_of, orders_clear}
 use Rattle.base.specs.Descriptors.Retrieve as descriptors
 use Rattle.base.specs.Descriptors.Retrieve.{is_retrieve, retrieve_of}
 use Rattle.base.specs.Manifest.{PartitionRow, is_partition}
 use Rattle.base.specs.Pages.{PageRun, covers}
 use Rattle.base.specs.Refusals.{Test, first_refusal}
 use Rattle.base.specs.Transactions.{Live, without, with_retrieval, with_retrieval_of}
-use Rattle.base.specs.Ledger.{live_at}
-use Rattle.base.specs.State.{State, PartitionState, state_of, sends_of, version_of, with_partition, owner_of, owns, home_of, is_free, free_home, is_free_with, common_home, each_page, each_page_in, sees}
+use Rattle.base.specs.Ledger.{live_at, view}
+use Rattle.base.specs.State.{State, PartitionState, state_of, with_partition, owner_of, owns, home_of, is_free, free_home, is_free_with, common_home, each_page, each_page_in, sees}
 use Rattle.wire.specs.declared.request.Request.{Request}
 use Rattle.wire.specs.declared.request.Transfer.{Transfer}
 use Rattle.wire.specs.declared.request.Request.TheVariants.{Version, Features, RxRelease, RxtxMap, RxtxUnmap, IdGet, Send, Retrieve, Relinquish, Reclaim}
 use Rattle.wire.specs.Requests.{request_of}
-use Rattle.wire.specs.Replies.{ReplyWords, error}
+use Rattle.wire.specs.Replies.{error}
 use Rattle.rules.specs.Call.{CallWords}
-use Rattle.rules.specs.Rule.{Edit, Rule, refused, fits, all_tests, reply_of, next_of, with_edit}
+use Rattle.rules.specs.Rule.{Edit, taken_from, given_to, Rule, refused, fits, all_tests, reply_of, next_of, with_edit}
 use Rattle.rules.specs.Calls.Version.{naming, with_version}
 use Rattle.rules.specs.Calls.Buffers.{with_pair, with_rx_released, may_be_buffer, may_be_buffers, map_tests}
 use Rattle.rules.specs.Transfers.{has_lengths, caller_version, bytes_of}
-use Rattle.rules.specs.Calls.Send.{sent, is_receiver, are_distinct, are_parties, suits, are_capped, has_room, next_handle, opened, counting, with_transaction, sender_edit, send_tests, send_rule}
+use Rattle.rules.specs.Calls.Send.{sent, is_receiver, are_distinct, are_parties, has_room, next_handle, opened, counting, with_transaction, sender_edit, send_tests, send_rule}
 use Rattle.rules.specs.Calls.Reclaim.{sent_with, returned, returned_by, ended, reclaim_tests, reclaim_rule}
 use Rattle.rules.specs.Calls.Relinquish.{given_up, given_back_by, relinquish_tests, relinquish_rule}
-use Rattle.rules.specs.Calls.Retrieve.{asked, granted, fits_rx, request_tests, transaction_tests, retrieve_tests, Retrieval, retrieval_with, retrieval_of, retrieved_by, responding, with_donation, with_rx_filled, with_retrieval_of_kind, retrieve_rule}
+use Rattle.rules.specs.Calls.Retrieve.{asked, fits_rx, request_tests, transaction_tests, retrieve_tests, Retrieval, retrieval_with, retrieval_of, retrieved_by, responding, with_donation, with_rx_filled, with_retrieval_of_kind, retrieve_rule}
 use Rattle.rules.specs.Receivers.{is_received_by, received_with, with_retrieval_by}
 use Rattle.rules.specs.Run.{rule_of, rule, answer, step, IsReached}
 use Rattle.rules.specs.Laws.EditsTheView.{Passes}
@@ -51,7 +51,7 @@ use Rattle.rules.proofs.Ended.{found_is, found_in, found_first}
 use Rattle.rules.proofs.Given.{given_owner, given_home}
 use Rattle.rules.proofs.Retrieved.{receivers_set}
 use Rattle.rules.proofs.Calls.Send.{SendPasses, send_passes, next_is}
-use Rattle.rules.proofs.FreePages.{owner_from_test}
+use Rattle.rules.proofs.FreePages.{owner_from_test, not_eqb}
 use Rattle.rules.proofs.Laws.EditsTheView.{edits_the_view, filled_sees}
 use Rattle.rules.proofs.Laws.Handles.{state_after, handles_used_once}
 use Rattle.rules.proofs.Laws.OneOwner.{owned_once, first_is}
@@ -225,6 +225,25 @@ not_named p h ts t e kept =
       | false ↦ λ other. refl
     ] refl
 
+-- ---- two states that are alike, with other parts
+
+-- as alike as the parts are that changed: what is kept of each partition, its buffers, the transactions, and with them what is reached
+parts_alike : (p : ℕ) (s t : State) → AreAlikeTo p s t → {us ut : List Live} {bs bt : List Mailbox} {rs rt : List PartitionState} → state_of rs p ≡ state_of rt p → mailboxes_of p bs ≡ mailboxes_of p bt → transactions_of p us ≡ transactions_of p ut
+    → ((n : ℕ) → view s.manifest s.donations us p n ≡ view t.manifest t.donations ut p n)
+    → AreAlikeTo p (record s { live = us; mailboxes = bs; partitions = rs }) (record t { live = ut; mailboxes = bt; partitions = rt })
+parts_alike p s t same state boxes kept seen = record {
+  partitions = same.partitions;
+  quota = same.quota;
+  grants = same.grants;
+  state = state;
+  buffers = boxes;
+  owned = same.owned;
+  homes = same.homes;
+  sharable = same.sharable;
+  transactions = kept;
+  views = seen;
+}
+
 -- ---- RX
 
 rx_alike : (p : ℕ) (held : Bool) (b c : List Mailbox) → mailboxes_of p b ≡ mailboxes_of p c → mailboxes_of p (pairs.with_rx p held b) ≡ mailboxes_of p (pairs.with_rx p held c)
@@ -234,18 +253,8 @@ rx_alike p held b c e =
 
 filled_alike : (p : ℕ) (u v : State) → AreAlikeTo p u v → AreAlikeTo p (with_rx_filled u p) (with_rx_filled v p)
 unfolding with_rx_filled
-filled_alike p u v same = record {
-  partitions = same.partitions;
-  quota = same.quota;
-  grants = same.grants;
-  state = same.state;
-  buffers = rx_alike p true u.mailboxes v.mailboxes same.buffers;
-  owned = same.owned;
-  homes = same.homes;
-  sharable = same.sharable;
-  transactions = same.transactions;
-  views = same.views;
-}
+filled_alike p u v same =
+    parts_alike p u v same same.state (rx_alike p true u.mailboxes v.mailboxes same.buffers) same.transactions same.views
 
 -- ---- what agrees at each page or element
 
@@ -379,48 +388,15 @@ module _ (p : ℕ) (s t : State) (same : AreAlikeTo p s t) (sends_s : AllByRecur
 
   named : (word : ℕ) → AreAlikeTo p (with_version s p word) (with_version t p word)
   unfolding with_version
-  named word = record {
-    partitions = same.partitions;
-    quota = same.quota;
-    grants = same.grants;
-    state = same_state_after (naming word) (λ r. refl);
-    buffers = same.buffers;
-    owned = same.owned;
-    homes = same.homes;
-    sharable = same.sharable;
-    transactions = same.transactions;
-    views = same.views;
-  }
+  named word = parts_alike p s t same (same_state_after (naming word) (λ r. refl)) same.buffers same.transactions same.views
 
   paired : (pair : Option Pair) → AreAlikeTo p (with_pair s p pair) (with_pair t p pair)
   unfolding with_pair
-  paired pair = record {
-    partitions = same.partitions;
-    quota = same.quota;
-    grants = same.grants;
-    state = same.state;
-    buffers = same_boxes_after pair;
-    owned = same.owned;
-    homes = same.homes;
-    sharable = same.sharable;
-    transactions = same.transactions;
-    views = same.views;
-  }
+  paired pair = parts_alike p s t same same.state (same_boxes_after pair) same.transactions same.views
 
   released : AreAlikeTo p (with_rx_released s p) (with_rx_released t p)
   unfolding with_rx_released
-  released = record {
-    partitions = same.partitions;
-    quota = same.quota;
-    grants = same.grants;
-    state = same.state;
-    buffers = rx_alike p false s.mailboxes t.mailboxes same.buffers;
-    owned = same.owned;
-    homes = same.homes;
-    sharable = same.sharable;
-    transactions = same.transactions;
-    views = same.views;
-  }
+  released = parts_alike p s t same same.state (rx_alike p false s.mailboxes t.mailboxes same.buffers) same.transactions same.views
 
   -- what an edit of its own needs fits in both, or in none
   same_fits : (edit : Option Edit) → ((e : Edit) → edit ≡ Some e → e.who ≡ p) → fits s edit ≡ fits t edit
@@ -450,34 +426,12 @@ module _ (p : ℕ) (s t : State) (same : AreAlikeTo p s t) (sends_s : AllByRecur
   -- but for what is reached, which the edit decides
   ended_alike : (h : ℕ) → transactions_of p (without h s.live) ≡ transactions_of p (without h t.live) → ((n : ℕ) → sees (ended s h) p n ≡ sees (ended t h) p n) → AreAlikeTo p (ended s h) (ended t h)
   unfolding ended
-  ended_alike h kept seen = record {
-    partitions = same.partitions;
-    quota = same.quota;
-    grants = same.grants;
-    state = same.state;
-    buffers = same.buffers;
-    owned = same.owned;
-    homes = same.homes;
-    sharable = same.sharable;
-    transactions = kept;
-    views = seen;
-  }
+  ended_alike h kept seen = parts_alike p s t same same.state same.buffers kept seen
 
   set_alike : (h : ℕ) (view : View) → transactions_of p (with_retrieval_of h p view s.live) ≡ transactions_of p (with_retrieval_of h p view t.live) → ((n : ℕ) → sees (with_retrieval_by s p h view) p n ≡ sees (with_retrieval_by t p h view) p n)
       → AreAlikeTo p (with_retrieval_by s p h view) (with_retrieval_by t p h view)
   unfolding with_retrieval_by
-  set_alike h view kept seen = record {
-    partitions = same.partitions;
-    quota = same.quota;
-    grants = same.grants;
-    state = same.state;
-    buffers = same.buffers;
-    owned = same.owned;
-    homes = same.homes;
-    sharable = same.sharable;
-    transactions = kept;
-    views = seen;
-  }
+  set_alike h view kept seen = parts_alike p s t same same.state same.buffers kept seen
 
   given_alike : (u : Live) (access : Access) → AreSentPages s u → AreSentPages t u → transactions_of p (without u.handle s.live) ≡ transactions_of p (without u.handle t.live) → ((n : ℕ) → sees (with_donation s p u access) p n ≡ sees (with_donation t p u access) p n)
       → AreAlikeTo p (with_donation s p u access) (with_donation t p u access)
@@ -513,38 +467,28 @@ module _ (p : ℕ) (s t : State) (same : AreAlikeTo p s t) (sends_s : AllByRecur
   opened_alike k v home seen =
       let us = opened s p k v home in
       let ut = opened t p k v home in
-      record {
-        partitions = same.partitions;
-        quota = same.quota;
-        grants = same.grants;
-        state = same_state_after counting (λ r. refl);
-        buffers = same.buffers;
-        owned = same.owned;
-        homes = same.homes;
-        sharable = same.sharable;
-        transactions = transactions_push p s.live us ∙ ap (λ ts. ts ++ transactions_of p (us ∷ [])) same.transactions ∙ ap (λ (u : Live). transactions_of p t.live ++ transactions_of p (u ∷ [])) (same_opened k v home) ∙ sym (transactions_push p t.live ut);
-        views = seen;
-      }
+      let kept = transactions_push p s.live us ∙ ap (λ ts. ts ++ transactions_of p (us ∷ [])) same.transactions ∙ ap (λ (u : Live). transactions_of p t.live ++ transactions_of p (u ∷ [])) (same_opened k v home) ∙ sym (transactions_push p t.live ut) in
+      parts_alike p s t same (same_state_after counting (λ r. refl)) same.buffers kept seen
 
 -- ---- a call of the partition
 
 -- a reclaim edits what its sender reaches
-returned_to : (k : Kind) (p : ℕ) (runs : List PageRun) (home : Access) (e : Edit) → returned k p runs home ≡ Some e → e.who ≡ p
-returned_to Share p runs home e is = absurd cc
-returned_to Lend p runs home e is = let same : record { who = p; runs = runs; to = Some home } ≡ e = cc in ap (λ (x : Edit). x.who) (sym same)
-returned_to Donate p runs home e is = let same : record { who = p; runs = runs; to = Some home } ≡ e = cc in ap (λ (x : Edit). x.who) (sym same)
+returned_to : (k : Kind) (p : ℕ) (runs : List PageRun) (home : Access) (clears : Bool) (e : Edit) → returned k p runs home clears ≡ Some e → e.who ≡ p
+returned_to Share p runs home clears e is = absurd cc
+returned_to Lend p runs home clears e is = let same : given_to p runs home clears ≡ e = cc in ap (λ (x : Edit). x.who) (sym same)
+returned_to Donate p runs home clears e is = let same : given_to p runs home clears ≡ e = cc in ap (λ (x : Edit). x.who) (sym same)
 
-own_return : (s : State) (p h : ℕ) (e : Edit) → option_and_then returned_by (sent_with s p h) ≡ Some e → e.who ≡ p
-own_return s p h e is =
-    elim (sent_with s p h) as (λ o. sent_with s p h ≡ o → option_and_then returned_by o ≡ Some e → e.who ≡ p) [
+own_return : (s : State) (p h : ℕ) (clears : Bool) (e : Edit) → option_and_then (returned_by clears) (sent_with s p h) ≡ Some e → e.who ≡ p
+own_return s p h clears e is =
+    elim (sent_with s p h) as (λ o. sent_with s p h ≡ o → option_and_then (returned_by clears) o ≡ Some e → e.who ≡ p) [
       | None ↦ λ f k. absurd cc
-      | Some u ↦ λ f k. returned_to u.kind u.sender u.ranges u.home e k ∙ eqb-true _ _ (both (eqb u.handle h) (eqb u.sender p) (found_is (λ v. eqb v.handle h && eqb v.sender p) s.live u f)).1
+      | Some u ↦ λ f k. returned_to u.kind u.sender u.ranges u.home clears e k ∙ eqb-true _ _ (both (eqb u.handle h) (eqb u.sender p) (found_is (λ v. eqb v.handle h && eqb v.sender p) s.live u f)).1
     ] refl is
 
 -- a relinquish and a retrieve edit what the receiver reaches
-own_give_back : (p : ℕ) (o : Option Live) (e : Edit) → option_map (given_back_by p) o ≡ Some e → e.who ≡ p
-own_give_back p None e is = absurd cc
-own_give_back p (Some u) e is = let same : given_back_by p u ≡ e = cc in ap (λ (x : Edit). x.who) (sym same)
+own_give_back : (p : ℕ) (clears : Bool) (o : Option Live) (e : Edit) → option_map (given_back_by p clears) o ≡ Some e → e.who ≡ p
+own_give_back p clears None e is = absurd cc
+own_give_back p clears (Some u) e is = let same : given_back_by p clears u ≡ e = cc in ap (λ (x : Edit). x.who) (sym same)
 
 own_retrieval : (p : ℕ) (o : Option Retrieval) (e : Edit) → option_map (retrieved_by p) o ≡ Some e → e.who ≡ p
 own_retrieval p None e is = absurd cc
@@ -560,10 +504,10 @@ named_receiver : (p : ℕ) (u : Live) → is_received_by p u ≡ true → names 
 named_receiver p u e = rw e (or_true (eqb u.sender p))
 
 -- a send edits what its sender reaches
-own_edit : (k : Kind) (p : ℕ) (runs : List PageRun) (e : Edit) → sender_edit k p runs ≡ Some e → e.who ≡ p
-own_edit Share p runs e is = absurd cc
-own_edit Lend p runs e is = let same : record { who = p; runs = runs; to = None } ≡ e = cc in ap (λ (x : Edit). x.who) (sym same)
-own_edit Donate p runs e is = let same : record { who = p; runs = runs; to = None } ≡ e = cc in ap (λ (x : Edit). x.who) (sym same)
+own_edit : (k : Kind) (p : ℕ) (runs : List PageRun) (clears : Bool) (e : Edit) → sender_edit k p runs clears ≡ Some e → e.who ≡ p
+own_edit Share p runs clears e is = absurd cc
+own_edit Lend p runs clears e is = let same : taken_from p runs clears ≡ e = cc in ap (λ (x : Edit). x.who) (sym same)
+own_edit Donate p runs clears e is = let same : taken_from p runs clears ≡ e = cc in ap (λ (x : Edit). x.who) (sym same)
 
 module _ (s t : State) (c : CallWords) (same : AreAlikeTo c.caller s t) (rs : IsReached s) (rt : IsReached t) where
   sends_s : AllByRecursion (IsOwnSend s) s.live
@@ -616,7 +560,7 @@ module _ (s t : State) (c : CallWords) (same : AreAlikeTo c.caller s t) (rs : Is
       let at_s : with_transaction s (opened s p k v a.home) ≡ (send_rule s c k x).next = sym (next_is s c k x a) in
       let at_t : with_transaction t (opened t p k v a.home) ≡ (send_rule t c k x).next =
       ap (λ (w : descriptor.Send). with_transaction t (opened t p k w a.home)) (same_sent x) ∙ ap (λ (h : Access). with_transaction t (opened t p k (sent t c x) h)) (same_home k x a b) ∙ sym (next_is t c k x b) in
-      let edits : (send_rule s c k x).edit ≡ (send_rule t c k x).edit = ap (λ (w : descriptor.Send). sender_edit k p w.ranges) (same_sent x) in
+      let edits : (send_rule s c k x).edit ≡ (send_rule t c k x).edit = ap (λ (w : descriptor.Send). sender_edit k p w.ranges w.clears) (same_sent x) in
       let seen : (n : ℕ) → sees (with_transaction s (opened s p k v a.home)) p n ≡ sees (with_transaction t (opened t p k v a.home)) p n = λ n.
       ap (λ (u : State). sees u p n) at_s ∙ edit_s n ∙ edit_same (send_rule s c k x).edit (sees s) (sees t) p n (same.views n) ∙ ap (λ (e : Option Edit). with_edit e (sees t) p n) edits ∙ sym (edit_t n) ∙ ap (λ (u : State). sees u p n) (sym at_t) in
       subst (λ (u : State). AreAlikeTo p (send_rule s c k x).next u) at_t (subst (λ (u : State). AreAlikeTo p u (with_transaction t (opened t p k v a.home))) at_s (opened_alike p s t same sends_s sends_t boxes_s boxes_t k v a.home seen))
@@ -627,8 +571,8 @@ module _ (s t : State) (c : CallWords) (same : AreAlikeTo c.caller s t) (rs : Is
       → AreAlikeRules c.caller s t (send_rule s c k x) (send_rule t c k x)
   send_alike k x edit_s edit_t =
       let handle = same_handle c.caller s t same sends_s sends_t boxes_s boxes_t in
-      let edits : (send_rule s c k x).edit ≡ (send_rule t c k x).edit = ap (λ (w : descriptor.Send). sender_edit k c.caller w.ranges) (same_sent x) in
-      let fit : fits s (send_rule s c k x).edit ≡ fits t (send_rule t c k x).edit = same_fits c.caller s t same sends_s sends_t boxes_s boxes_t (send_rule s c k x).edit (own_edit k c.caller (sent s c x).ranges) ∙ ap (fits t) edits in
+      let edits : (send_rule s c k x).edit ≡ (send_rule t c k x).edit = ap (λ (w : descriptor.Send). sender_edit k c.caller w.ranges w.clears) (same_sent x) in
+      let fit : fits s (send_rule s c k x).edit ≡ fits t (send_rule t c k x).edit = same_fits c.caller s t same sends_s sends_t boxes_s boxes_t (send_rule s c k x).edit (own_edit k c.caller (sent s c x).ranges (sent s c x).clears) ∙ ap (fits t) edits in
       record {
         tests = same_send_tests k x;
         fit = fit;
@@ -651,10 +595,11 @@ module _ (s t : State) (c : CallWords) (same : AreAlikeTo c.caller s t) (rs : Is
       → AreAlikeRules c.caller s t (reclaim_rule s c h flags) (reclaim_rule t c h flags)
   reclaim_alike h flags edit_s edit_t =
       let p = c.caller in
+      let clears = orders_clear flags in
       let one : sent_with s p h ≡ sent_with t p h = same_sent_with p s t same sends_s sends_t boxes_s boxes_t h in
       let tests : reclaim_tests s p h flags ≡ reclaim_tests t p h flags = rw one refl in
-      let edits : (reclaim_rule s c h flags).edit ≡ (reclaim_rule t c h flags).edit = ap (λ (o : Option Live). option_and_then returned_by o) one in
-      let fit : fits s (reclaim_rule s c h flags).edit ≡ fits t (reclaim_rule t c h flags).edit = same_fits p s t same sends_s sends_t boxes_s boxes_t (reclaim_rule s c h flags).edit (own_return s p h) ∙ ap (fits t) edits in
+      let edits : (reclaim_rule s c h flags).edit ≡ (reclaim_rule t c h flags).edit = ap (λ (o : Option Live). option_and_then (returned_by clears) o) one in
+      let fit : fits s (reclaim_rule s c h flags).edit ≡ fits t (reclaim_rule t c h flags).edit = same_fits p s t same sends_s sends_t boxes_s boxes_t (reclaim_rule s c h flags).edit (own_return s p h clears) ∙ ap (fits t) edits in
       record {
         tests = tests;
         fit = fit;
@@ -681,10 +626,11 @@ module _ (s t : State) (c : CallWords) (same : AreAlikeTo c.caller s t) (rs : Is
   relinquish_alike edit_s edit_t =
       let p = c.caller in
       let h = (given_up c).handle in
+      let clears = (given_up c).clears in
       let one : received_with s p h ≡ received_with t p h = same_received_with p s t same sends_s sends_t boxes_s boxes_t h in
       let tests : relinquish_tests s c ≡ relinquish_tests t c = rw (one, same_pair p s t same sends_s sends_t boxes_s boxes_t) refl in
-      let edits : (relinquish_rule s c).edit ≡ (relinquish_rule t c).edit = ap (λ (o : Option Live). option_map (given_back_by p) o) one in
-      let fit : fits s (relinquish_rule s c).edit ≡ fits t (relinquish_rule t c).edit = same_fits p s t same sends_s sends_t boxes_s boxes_t (relinquish_rule s c).edit (own_give_back p (received_with s p h)) ∙ ap (fits t) edits in
+      let edits : (relinquish_rule s c).edit ≡ (relinquish_rule t c).edit = ap (λ (o : Option Live). option_map (given_back_by p clears) o) one in
+      let fit : fits s (relinquish_rule s c).edit ≡ fits t (relinquish_rule t c).edit = same_fits p s t same sends_s sends_t boxes_s boxes_t (relinquish_rule s c).edit (own_give_back p clears (received_with s p h)) ∙ ap (fits t) edits in
       record {
         tests = tests;
         fit = fit;
@@ -819,13 +765,10 @@ isolated s t c rs rt same =
 
 -- ---- a call of another partition
 
-not_eqb : (a b : ℕ) → a ≢ b → eqb a b ≡ false
-not_eqb a b h = elim (eqb a b) as (λ k. eqb a b ≡ k → k ≡ false) [ true ↦ λ e. absurd (h (eqb-true a b e)) | false ↦ λ e. refl ] refl
-
-other_edit : (k : Kind) (q : ℕ) (runs : List PageRun) (view : ℕ → ℕ → View) (p n : ℕ) → eqb p q ≡ false → with_edit (sender_edit k q runs) view p n ≡ view p n
-other_edit Share q runs view p n ne = refl
-other_edit Lend q runs view p n ne = rw ne refl
-other_edit Donate q runs view p n ne = rw ne refl
+other_edit : (k : Kind) (q : ℕ) (runs : List PageRun) (clears : Bool) (view : ℕ → ℕ → View) (p n : ℕ) → eqb p q ≡ false → with_edit (sender_edit k q runs clears) view p n ≡ view p n
+other_edit Share q runs clears view p n ne = refl
+other_edit Lend q runs clears view p n ne = rw ne refl
+other_edit Donate q runs clears view p n ne = rw ne refl
 
 -- an edit of another partition
 other_edited : (edit : Option Edit) (q : ℕ) → ((e : Edit) → edit ≡ Some e → e.who ≡ q) → (view : ℕ → ℕ → View) (p n : ℕ) → eqb p q ≡ false → with_edit edit view p n ≡ view p n
@@ -854,44 +797,34 @@ module _ (p : ℕ) (s : State) (c : CallWords) (is : IsReached s) (ne : eqb c.ca
   other_opened : (t : Live) → t.sender ≡ c.caller → transactions_of p (with_transaction s t).live ≡ transactions_of p s.live → ((n : ℕ) → sees (with_transaction s t) p n ≡ sees s p n) → AreAlikeTo p s (with_transaction s t)
   unfolding with_transaction
   other_opened t sends kept seen =
-      record {
-        partitions = refl;
-        quota = refl;
-        grants = λ n. refl;
-        state = other_state counting (λ r. refl) ∙ ap (λ (q : ℕ). state_of (with_partition q counting s.partitions) p) (sym sends);
-        buffers = refl;
-        owned = λ n. refl;
-        homes = λ n e. refl;
-        sharable = λ n e. refl;
-        transactions = sym kept;
-        views = λ n. sym (seen n);
-      }
+      let counted = other_state counting (λ r. refl) ∙ ap (λ (q : ℕ). state_of (with_partition q counting s.partitions) p) (sym sends) in
+      parts_alike p s s alike counted refl (sym kept) (λ n. sym (seen n))
 
   other_send : (k : Kind) (x : Transfer) → SendPasses s c k x → ((n : ℕ) → sees (send_rule s c k x).next p n ≡ with_edit (send_rule s c k x).edit (sees s) p n) → transactions_of p (send_rule s c k x).next.live ≡ transactions_of p s.live → AreAlikeTo p s (send_rule s c k x).next
   other_send k x a edited kept =
       let t = opened s c.caller k (sent s c x) a.home in
       let at : with_transaction s t ≡ (send_rule s c k x).next = sym (next_is s c k x a) in
-      subst (λ (u : State). AreAlikeTo p s u) at (other_opened t refl (ap (λ (u : State). transactions_of p u.live) at ∙ kept) (λ n. ap (λ (u : State). sees u p n) at ∙ edited n ∙ other_edit k c.caller (sent s c x).ranges (sees s) p n en))
+      subst (λ (u : State). AreAlikeTo p s u) at (other_opened t refl (ap (λ (u : State). transactions_of p u.live) at ∙ kept) (λ n. ap (λ (u : State). sees u p n) at ∙ edited n ∙ other_edit k c.caller (sent s c x).ranges (sent s c x).clears (sees s) p n en))
 
   other_pair : (pair : Option Pair) → AreAlikeTo p s (with_pair s c.caller pair)
   unfolding with_pair
-  other_pair pair = record { partitions = refl; quota = refl; grants = λ n. refl; state = refl; buffers = sym (mailboxes_other p c.caller pair ne s.mailboxes); owned = λ n. refl; homes = λ n e. refl; sharable = λ n e. refl; transactions = refl; views = λ n. refl }
+  other_pair pair = parts_alike p s s alike refl (sym (mailboxes_other p c.caller pair ne s.mailboxes)) refl (λ n. refl)
 
   other_released : AreAlikeTo p s (with_rx_released s c.caller)
   unfolding with_rx_released
-  other_released = record { partitions = refl; quota = refl; grants = λ n. refl; state = refl; buffers = sym (mailboxes_other p c.caller (option_map (holding false) (pair_of s.mailboxes c.caller)) ne s.mailboxes); owned = λ n. refl; homes = λ n e. refl; sharable = λ n e. refl; transactions = refl; views = λ n. refl }
+  other_released = parts_alike p s s alike refl (sym (mailboxes_other p c.caller (option_map (holding false) (pair_of s.mailboxes c.caller)) ne s.mailboxes)) refl (λ n. refl)
 
   other_named : (word : ℕ) → AreAlikeTo p s (with_version s c.caller word)
   unfolding with_version
-  other_named word = record { partitions = refl; quota = refl; grants = λ n. refl; state = other_state (naming word) (λ r. refl); buffers = refl; owned = λ n. refl; homes = λ n e. refl; sharable = λ n e. refl; transactions = refl; views = λ n. refl }
+  other_named word = parts_alike p s s alike (other_state (naming word) (λ r. refl)) refl refl (λ n. refl)
 
   other_ended : (h : ℕ) → transactions_of p (ended s h).live ≡ transactions_of p s.live → ((n : ℕ) → sees (ended s h) p n ≡ sees s p n) → AreAlikeTo p s (ended s h)
   unfolding ended
-  other_ended h kept seen = record { partitions = refl; quota = refl; grants = λ n. refl; state = refl; buffers = refl; owned = λ n. refl; homes = λ n e. refl; sharable = λ n e. refl; transactions = sym kept; views = λ n. sym (seen n) }
+  other_ended h kept seen = parts_alike p s s alike refl refl (sym kept) (λ n. sym (seen n))
 
   other_set : (h : ℕ) (view : View) → transactions_of p (with_retrieval_by s c.caller h view).live ≡ transactions_of p s.live → ((n : ℕ) → sees (with_retrieval_by s c.caller h view) p n ≡ sees s p n) → AreAlikeTo p s (with_retrieval_by s c.caller h view)
   unfolding with_retrieval_by
-  other_set h view kept seen = record { partitions = refl; quota = refl; grants = λ n. refl; state = refl; buffers = refl; owned = λ n. refl; homes = λ n e. refl; sharable = λ n e. refl; transactions = sym kept; views = λ n. sym (seen n) }
+  other_set h view kept seen = parts_alike p s s alike refl refl (sym kept) (λ n. sym (seen n))
 
   -- a donation to another partition, by a sender that is another too
   not_given : (u : Live) (access : Access) → find (λ w. eqb w.handle u.handle) s.live ≡ Some u → names p u ≡ false → (n : ℕ) → covers u.ranges n ≡ true → owns s p n ≡ false
@@ -924,18 +857,7 @@ module _ (p : ℕ) (s : State) (c : CallWords) (is : IsReached s) (ne : eqb c.ca
 
   other_filled : (u : State) → AreAlikeTo p s u → AreAlikeTo p s (with_rx_filled u c.caller)
   unfolding with_rx_filled
-  other_filled u same = record {
-    partitions = same.partitions;
-    quota = same.quota;
-    grants = same.grants;
-    state = same.state;
-    buffers = same.buffers ∙ sym (mailboxes_other p c.caller (option_map (holding true) (pair_of u.mailboxes c.caller)) ne u.mailboxes);
-    owned = same.owned;
-    homes = same.homes;
-    sharable = same.sharable;
-    transactions = same.transactions;
-    views = same.views;
-  }
+  other_filled u same = parts_alike p s u same same.state (same.buffers ∙ sym (mailboxes_other p c.caller (option_map (holding true) (pair_of u.mailboxes c.caller)) ne u.mailboxes)) same.transactions same.views
 
   other_kind : (k : Kind) (u : Live) (access : Access) → find (λ w. eqb w.handle u.handle) s.live ≡ Some u → transactions_of p (with_retrieval_of_kind k s c.caller u access).live ≡ transactions_of p s.live
       → ((n : ℕ) → sees (with_retrieval_of_kind k s c.caller u access) p n ≡ sees s p n) → AreAlikeTo p s (with_retrieval_of_kind k s c.caller u access)
@@ -965,9 +887,11 @@ module _ (p : ℕ) (s : State) (c : CallWords) (is : IsReached s) (ne : eqb c.ca
       other_retrieve x (retrieve_passes s c x k.passed) (λ n. (edits_the_view s c (Retrieve x) is k).views p n ∙ other_edited (option_map (retrieved_by c.caller) (retrieval_of s c x)) c.caller (own_retrieval c.caller (retrieval_of s c x)) (sees s) p n en) kept
   other_next Relinquish k kept =
       let h = (given_up c).handle in
-      other_set h None kept (λ n. (edits_the_view s c Relinquish is k).views p n ∙ other_edited (option_map (given_back_by c.caller) (received_with s c.caller h)) c.caller (own_give_back c.caller (received_with s c.caller h)) (sees s) p n en)
+      let clears = (given_up c).clears in
+      other_set h None kept (λ n. (edits_the_view s c Relinquish is k).views p n ∙ other_edited (option_map (given_back_by c.caller clears) (received_with s c.caller h)) c.caller (own_give_back c.caller clears (received_with s c.caller h)) (sees s) p n en)
   other_next (Reclaim handle flags) k kept =
-      other_ended handle kept (λ n. (edits_the_view s c (Reclaim handle flags) is k).views p n ∙ other_edited (option_and_then returned_by (sent_with s c.caller handle)) c.caller (own_return s c.caller handle) (sees s) p n en)
+      let clears = orders_clear flags in
+      other_ended handle kept (λ n. (edits_the_view s c (Reclaim handle flags) is k).views p n ∙ other_edited (option_and_then (returned_by clears) (sent_with s c.caller handle)) c.caller (own_return s c.caller handle clears) (sees s) p n en)
 
 -- a call of another partition that changes no transaction that names it leaves what a partition may learn
 pub others_leave : (p : ℕ) (s : State) (c : CallWords) → IsReached s → c.caller ≢ p → transactions_of p (step s c).live ≡ transactions_of p s.live → AreAlikeTo p s (step s c)

@@ -1,9 +1,7 @@
 -- The law that each page of a live transaction is its sender's, and no other transaction's.
 use Rattle.std.proofs.Common.{◌≡◌, ℕ, Bool, true, false, List, [], ◌∷◌, ◌++◌, Option, Some, None, is_some, cond, eqb, refl, sym, ap, ◌∙◌, subst, find}
 use Rattle.std.specs.List.{AllByRecursion}
-use Rattle.std.specs.Option.{option_map_or, option_map}
-use Rattle.std.proofs.lemmas.Bool.{eqb-true}
-use Rattle.base.specs.declared.access.Rights.{Rights}
+use Rattle.std.specs.Option.{option_map}
 use Rattle.base.specs.declared.transaction.Kind.{Kind}
 use Rattle.base.specs.Pages.{covers}
 use Rattle.base.specs.Access.{Access, View}
@@ -12,7 +10,6 @@ use Rattle.base.specs.Transactions.{Live, without}
 use Rattle.base.specs.Ledger.{live_at}
 use Rattle.base.specs.State.{State, owner_of}
 use Rattle.base.specs.Descriptors.Send as descriptor
-use Rattle.wire.specs.declared.request.Request.{Request}
 use Rattle.wire.specs.declared.request.Transfer.{Transfer}
 use Rattle.wire.specs.declared.request.Request.TheVariants.{Version, Features, RxRelease, RxtxMap, RxtxUnmap, IdGet, Send, Retrieve, Relinquish, Reclaim}
 use Rattle.rules.specs.Call.{CallWords}
@@ -23,8 +20,7 @@ use Rattle.rules.specs.Calls.Reclaim.{ended}
 use Rattle.rules.specs.Calls.Relinquish.{given_up}
 use Rattle.rules.specs.Calls.Retrieve.{asked, with_donation, with_rx_filled, retrieve_rule}
 use Rattle.rules.specs.Receivers.{is_received_by, with_retrieval_by}
-use Rattle.rules.specs.Run.{rule_of, IsReached}
-use Rattle.rules.specs.Laws.EditsTheView.{Passes}
+use Rattle.rules.specs.Run.{IsReached}
 use Rattle.rules.specs.Laws.OneOwner.{IsOwnSend, AreApart, AreAllApart, IsOwnedOnce}
 use Rattle.rules.proofs.Calls.Send.{SendPasses, send_passes, next_is}
 use Rattle.rules.proofs.Calls.Retrieve.{RetrievePasses, retrieve_passes, retrieve_cases}

@@ -1,10 +1,9 @@
 -- The law that what a live transaction says of its pages stays true.
 use Rattle.std.proofs.Common.{◌≡◌, ℕ, zero, suc, ◌+◌, ◌≤◌, Bool, true, false, ◌&&◌, not, cond, eqb, List, [], ◌∷◌, length, map, Option, Some, None, refl, sym, ap, ◌∙◌, find, subst}
-use Rattle.std.specs.List.{AllByRecursion, list_all, list_any}
+use Rattle.std.specs.List.{list_all, list_any}
 use Rattle.std.specs.Option.{option_map_or}
 use Rattle.std.proofs.lemmas.Bool.{leb-true}
 use Rattle.base.specs.declared.transaction.Kind.{Kind}
-use Rattle.base.specs.declared.transaction.Kind.TheVariants.{Donate}
 use Rattle.base.specs.Access.{Access, View}
 use Rattle.base.specs.Descriptors.Send as descriptor
 use Rattle.base.specs.Descriptors.Send.{Endpoint, is_send, send_of, has_layout, is_composite, range_count, composite_at, ranges_at, ranges_of, pages_in}
@@ -14,7 +13,6 @@ use Rattle.base.specs.Pages.{covers, are_disjoint}
 use Rattle.base.specs.Transactions.{Receiver, Live, without, with_retrieval}
 use Rattle.base.specs.State.{State, owner_of, home_of}
 use Rattle.base.proofs.Booleans.{both}
-use Rattle.wire.specs.declared.request.Request.{Request}
 use Rattle.wire.specs.declared.request.Transfer.{Transfer}
 use Rattle.wire.specs.declared.request.Request.TheVariants.{Version, Features, RxRelease, RxtxMap, RxtxUnmap, IdGet, Send, Retrieve, Relinquish, Reclaim}
 use Rattle.rules.specs.Call.{CallWords}

@@ -1,5 +1,5 @@
 -- FFA_MEM_RELINQUISH: a receiver gives up what it has retrieved (FF-A 1.1, "FFA_MEM_RELINQUISH").
-use Rattle.std.specs.Prelude.{ℕ, false, ◌==◌, List, [], ◌∷◌, Option, Some, None, is_some}
+use Rattle.std.specs.Prelude.{ℕ, Bool, false, ◌==◌, List, [], ◌∷◌, None, is_some}
 use Rattle.std.specs.Option.{option_map, option_map_or}
 use Rattle.base.specs.declared.status.Status.TheVariants.{InvalidParameters, Denied}
 use Rattle.base.specs.Buffers.{has_pair}
@@ -9,8 +9,9 @@ use Rattle.base.specs.State.{State}
 use Rattle.base.specs.Transactions.{Live}
 use Rattle.wire.specs.Replies.{success}
 use Rattle.rules.specs.Call.{CallWords}
+use Rattle.rules.specs.Clearing.{may_clear_lent}
 use Rattle.rules.specs.Receivers.{received_with, has_retrieved, with_retrieval_by}
-use Rattle.rules.specs.Rule.{Rule, Edit}
+use Rattle.rules.specs.Rule.{Edit, taken_from, Rule}
 
 -- what the descriptor says, with which TX begins
 abbrev pub given_up : CallWords → Relinquish
@@ -26,11 +27,12 @@ relinquish_tests s c =
     ∷ ((given_up c).endpoint == p otherwise InvalidParameters)
     ∷ (is_some transaction otherwise InvalidParameters)
     ∷ (option_map_or (has_retrieved p) transaction false otherwise Denied)
+    ∷ (option_map_or (may_clear_lent (given_up c).clears p) transaction false otherwise Denied)
     ∷ []
 
 -- the receiver reaches its pages no more
-abbrev pub given_back_by : ℕ → Live → Edit
-given_back_by p t = record { who = p; runs = t.ranges; to = None }
+abbrev pub given_back_by : ℕ → Bool → Live → Edit
+given_back_by p clears t = taken_from p t.ranges clears
 
 abbrev pub relinquish_rule : State → CallWords → Rule
 relinquish_rule s c =
@@ -38,7 +40,7 @@ relinquish_rule s c =
     let handle = (given_up c).handle in
     record {
       tests = relinquish_tests s c;
-      edit = option_map (given_back_by p) (received_with s p handle);
+      edit = option_map (given_back_by p (given_up c).clears) (received_with s p handle);
       next = with_retrieval_by s p handle None;
       reply = success 0 0;
     }

@@ -18,7 +18,7 @@ use Rattle.base.specs.Descriptors.Encoding.{response_text}
 use Rattle.base.specs.Descriptors.Permissions.{data_in, instruction_in}
 use Rattle.base.specs.Descriptors.Response.{Response}
 use Rattle.base.specs.Descriptors.Retrieve.{Retrieve, is_retrieve, retrieve_of}
-use Rattle.base.specs.Descriptors.Send.{Endpoint, header_size}
+use Rattle.base.specs.Descriptors.Send.{header_size}
 use Rattle.base.specs.Refusals.{Test, ◌otherwise◌}
 use Rattle.base.specs.State.{State, version_of}
 use Rattle.base.specs.Transactions.{Receiver, Live, without, completed}
@@ -26,7 +26,7 @@ use Rattle.wire.specs.declared.request.Transfer.{Transfer}
 use Rattle.wire.specs.Replies.{ReplyWords, response, error}
 use Rattle.rules.specs.Call.{CallWords}
 use Rattle.rules.specs.Receivers.{received_with, has_retrieved, with_retrieval_by}
-use Rattle.rules.specs.Rule.{Rule, Edit}
+use Rattle.rules.specs.Rule.{Edit, given_to, Rule}
 use Rattle.rules.specs.Transfers.{names_tx, has_lengths, bytes_of, caller_version}
 
 -- ---- what is asked
@@ -196,10 +196,9 @@ retrieval_of s c x =
     let v = asked s c x in
     option_and_then (retrieval_with v.endpoint.permissions c.caller) (received_with s c.caller v.handle)
 
--- the receiver reaches its pages with the access
+-- the receiver reaches its pages with the access, and nothing is cleared
 abbrev pub retrieved_by : ℕ → Retrieval → Edit
-retrieved_by p r =
-    record { who = p; runs = r.transaction.ranges; to = Some r.access }
+retrieved_by p r = given_to p r.transaction.ranges r.access false
 
 -- the state after it, in which the receiver holds RX
 abbrev pub after_retrieve : State → ℕ → Retrieval → State

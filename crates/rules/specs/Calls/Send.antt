@@ -20,8 +20,9 @@ use Rattle.base.specs.State.{State, PartitionState, sends_of, with_partition, co
 use Rattle.wire.specs.declared.request.Transfer.{Transfer}
 use Rattle.wire.specs.Replies.{success}
 use Rattle.rules.specs.Call.{CallWords}
+use Rattle.rules.specs.Clearing.{may_clear_sent}
 use Rattle.rules.specs.Transfers.{names_tx, has_lengths, bytes_of, caller_version}
-use Rattle.rules.specs.Rule.{Edit, Rule}
+use Rattle.rules.specs.Rule.{Edit, taken_from, Rule}
 
 -- ---- the descriptor
 
@@ -54,7 +55,7 @@ gives_nothing e = e.permissions == no_permissions
 abbrev pub gives_data : Endpoint → Bool
 gives_data e = (e.permissions == read_only) || (e.permissions == read_write)
 
--- a donation has one receiver; the sender specifies the memory attributes of a share, and of a lend to several receivers
+-- a donation has one receiver; the sender specifies the memory attributes of a share, and of a lend to several receivers; what is shared is not cleared
 unfoldable pub suits : Kind → Send → Bool
 suits Donate v =
     (length v.receivers == 1) && list_all gives_nothing v.receivers
@@ -62,7 +63,8 @@ suits Donate v =
 suits Lend v =
     list_all gives_data v.receivers
     && (v.attributes == (if length v.receivers == 1 then not_specified else normal_write_back))
-suits Share v = list_all gives_data v.receivers && (v.attributes == normal_write_back)
+suits Share v =
+    not v.clears && list_all gives_data v.receivers && (v.attributes == normal_write_back)
 
 abbrev pub data_access : Endpoint → Rights
 data_access e = if e.permissions == read_write then Rw else Ro
@@ -106,6 +108,7 @@ send_tests s c kind t =
     ∷ (suits kind v otherwise InvalidParameters)
     ∷ (is_some home otherwise Denied)
     ∷ (are_capped kind home v.receivers otherwise Denied)
+    ∷ (may_clear_sent v.clears home otherwise Denied)
     ∷ (has_room s p otherwise NoMemory)
     ∷ []
 
@@ -144,10 +147,10 @@ with_transaction s t =
     }
 
 -- the sender reaches nothing of what it lends or gives away, and keeps what it shares
-abbrev pub sender_edit : Kind → ℕ → List PageRun → Option Edit
-sender_edit Share p runs = None
-sender_edit Lend p runs = Some (record { who = p; runs = runs; to = None })
-sender_edit Donate p runs = Some (record { who = p; runs = runs; to = None })
+abbrev pub sender_edit : Kind → ℕ → List PageRun → Bool → Option Edit
+sender_edit Share p runs clears = None
+sender_edit Lend p runs clears = Some (taken_from p runs clears)
+sender_edit Donate p runs clears = Some (taken_from p runs clears)
 
 -- it is answered the low and the high half of the handle
 abbrev pub send_rule : State → CallWords → Kind → Transfer → Rule
@@ -157,7 +160,7 @@ send_rule s c kind t =
     let handle = next_handle s p in
     record {
       tests = send_tests s c kind t;
-      edit = sender_edit kind p v.ranges;
+      edit = sender_edit kind p v.ranges v.clears;
       next =
           option_map_or (λ home. with_transaction s (opened s p kind v home))
           (common_home s p v.ranges) s;

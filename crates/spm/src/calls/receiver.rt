@@ -36,18 +36,25 @@ fn is_received_by(transaction: &Live, p: PartitionId) -> bool
         .any(|receiver| receiver.partition == p)
 }
 
-/// The receiver reaches all pages of the transaction with this access, or none of them.
+/// The receiver reaches all pages of the transaction with this access, or none of them, and they may be
+/// cleared.
 pub(crate) fn receiver_edit(
     alloc: Global,
     p: PartitionId,
     transaction: &Live,
     to: Option<Access>,
+    clears: bool,
 ) -> Result<Option<Edit>, OutOfMemory>
     requires apart { are_disjoint transaction.now.ranges ≡ true }
     ensures same { IfOk result (AreSameEdits
-        (Some (record { who = p; runs = transaction.now.ranges; to = to }))) }
+        (Some (record { who = p; runs = transaction.now.ranges; to = to; clears = clears }))) }
     ensures orderly { IfOk result (AreOrderly p) }
 {
     let runs = normal(alloc, &transaction.ranges)?;
-    Ok(Some(Edit { who: p, runs, to }))
+    Ok(Some(Edit {
+        who: p,
+        runs,
+        to,
+        clears,
+    }))
 }

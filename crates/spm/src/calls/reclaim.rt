@@ -11,9 +11,11 @@ ghost use Rattle.spm.specs.Checked.{IsReclaimed};
 ghost use Rattle.spm.specs.Granted.{IsGranted, IsStopped, AreSameEdits, AreOrderly};
 
 use crate::call::Call;
+use crate::calls::clearing::may_clear_returned;
 use crate::change::{Change, Edit, Stop, Update};
 use crate::state::State;
 use base::{Handle, Kind, OutOfMemory, PartitionId, Status, normal};
+use descr::{are_clear_flags, orders_clear};
 use ledger::Live;
 use std::alloc::Global;
 use wire::Reply;
@@ -37,7 +39,7 @@ pub(crate) fn reclaim(
 {
     let p = call.partition();
     match check(state, p, handle, flags) {
-        Ok(transaction) => match returned_by(state.alloc, p, transaction) {
+        Ok(transaction) => match returned_by(state.alloc, p, transaction, orders_clear(flags)) {
             Ok(edit) => Ok(Change {
                 edit,
                 update: Update::Close(handle),
@@ -55,13 +57,13 @@ fn check(state: &State, p: PartitionId, handle: Handle, flags: u32) -> Result<&L
     ensures refused { IfErr result (RefusesWith (rules.reclaim_tests state.now p handle flags)) }
     ensures passed { IfOk result (λ t. IsReclaimed state.now p handle flags t.now) }
 {
-    if flags != 0 {
+    if !are_clear_flags(flags) {
         return Err(Status::InvalidParameters);
     }
     let Some(transaction) = sent_with(state, p, handle) else {
         return Err(Status::InvalidParameters);
     };
-    if !is_given_back(transaction) {
+    if !is_given_back(transaction) || !may_clear_returned(orders_clear(flags), transaction) {
         return Err(Status::Denied);
     }
     Ok(transaction)
@@ -95,10 +97,11 @@ fn returned_by(
     alloc: Global,
     p: PartitionId,
     transaction: &Live,
+    clears: bool,
 ) -> Result<Option<Edit>, OutOfMemory>
     requires sender { transaction.now.sender ≡ p }
     requires apart { are_disjoint transaction.now.ranges ≡ true }
-    ensures same { IfOk result (AreSameEdits (rules.returned_by transaction.now)) }
+    ensures same { IfOk result (AreSameEdits (rules.returned_by clears transaction.now)) }
     ensures orderly { IfOk result (AreOrderly p) }
 {
     match transaction.kind {
@@ -109,6 +112,7 @@ fn returned_by(
                 who: p,
                 runs,
                 to: Some(transaction.home),
+                clears,
             }))
         }
     }

@@ -9,6 +9,7 @@ ghost use Rattle.spm.specs.Checked.{IsRelinquished};
 ghost use Rattle.spm.specs.Granted.{IsGranted, IsStopped};
 
 use crate::call::Call;
+use crate::calls::clearing::may_clear_lent;
 use crate::calls::receiver::{received_with, receiver_edit};
 use crate::change::{Change, Stop, Update};
 use crate::state::State;
@@ -16,6 +17,13 @@ use base::{Handle, PartitionId, Status};
 use descr::read_relinquish;
 use ledger::Live;
 use wire::Reply;
+
+/// What the tests of a relinquish found: the transaction, and whether its pages are to be cleared.
+#[derive(Clone, Copy)]
+struct Given<'a> {
+    transaction: &'a Live,
+    clears: bool,
+}
 
 /// The caller gives up what it has retrieved of the transaction that its descriptor in TX names, and
 /// reaches its pages no more.
@@ -28,23 +36,27 @@ pub(crate) fn relinquish(state: &State, call: &Call) -> Result<Change, Stop>
 {
     let p = call.partition();
     match check(state, call) {
-        Ok(transaction) => match receiver_edit(state.alloc, p, transaction, None) {
-            Ok(edit) => Ok(Change {
-                edit,
-                update: Update::Relinquish(transaction.handle),
-                reply: Reply::success(0, 0),
-            }),
-            Err(error) => Err(Stop::NoMemory(error)),
-        },
+        Ok(given) => {
+            let transaction = given.transaction;
+            match receiver_edit(state.alloc, p, transaction, None, given.clears) {
+                Ok(edit) => Ok(Change {
+                    edit,
+                    update: Update::Relinquish(transaction.handle),
+                    reply: Reply::success(0, 0),
+                }),
+                Err(error) => Err(Stop::NoMemory(error)),
+            }
+        }
         Err(status) => Err(Stop::Refused(status)),
     }
 }
 
 /// The tests of a relinquish, in order.
-fn check<'a>(state: &'a State, call: &Call) -> Result<&'a Live, Status>
+fn check<'a>(state: &'a State, call: &Call) -> Result<Given<'a>, Status>
     requires { IsReached state.now }
     ensures refused { IfErr result (RefusesWith (rules.relinquish_tests state.now call.now)) }
-    ensures passed { IfOk result (λ t. IsRelinquished state.now call.now t.now) }
+    ensures passed { IfOk result (λ given. IsRelinquished state.now call.now
+        given.transaction.now given.clears) }
 {
     let p = call.partition();
     if !state.pairs.has_pair(p) {
@@ -59,10 +71,13 @@ fn check<'a>(state: &'a State, call: &Call) -> Result<&'a Live, Status>
     let Some(transaction) = received_with(state, p, desc.handle) else {
         return Err(Status::InvalidParameters);
     };
-    if transaction.retrieved(p).is_none() {
+    if transaction.retrieved(p).is_none() || !may_clear_lent(desc.clears, p, transaction) {
         return Err(Status::Denied);
     }
-    Ok(transaction)
+    Ok(Given {
+        transaction,
+        clears: desc.clears,
+    })
 }
 
 /// The partition has retrieved nothing of the transaction of a handle.

@@ -316,7 +316,7 @@ fn change(
     let p = call.partition();
     let version = state.row(p).version;
     let reply = respond(state.alloc, version, p, transaction, access)?;
-    let edit = receiver_edit(state.alloc, p, transaction, Some(access))?;
+    let edit = receiver_edit(state.alloc, p, transaction, Some(access), false)?;
     Ok(Change {
         edit,
         update: Update::Retrieve(transaction.handle, access),

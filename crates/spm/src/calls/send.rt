@@ -12,6 +12,7 @@ ghost use Rattle.spm.specs.Granted.{IsGranted, IsStopped, AreSameEdits, AreOrder
 ghost use Rattle.spm.specs.Checked.{IsChecked};
 
 use crate::call::Call;
+use crate::calls::clearing::may_clear_sent;
 use crate::calls::transfer::{are_lengths, names_tx};
 use crate::change::{Change, Edit, Stop, Update};
 use crate::partitions::PartitionState;
@@ -93,7 +94,7 @@ fn check<'a>(
     let Some(home) = state.common_home(p, &desc) else {
         return Err(Status::Denied);
     };
-    if !are_capped(kind, home, &desc.receivers) {
+    if !are_capped(kind, home, &desc.receivers) || !may_clear_sent(desc.clears, home) {
         return Err(Status::Denied);
     }
     if !has_room(state, p, row.sends) {
@@ -157,7 +158,9 @@ fn suits(kind: Kind, desc: &SendDesc<'_>) -> bool
         }
         Kind::Lend => give_data(receivers) && desc.attributes == lend_attributes(receivers),
         Kind::Share => {
-            give_data(receivers) && desc.attributes == MemoryAttributes::normal_write_back()
+            !desc.clears
+                && give_data(receivers)
+                && desc.attributes == MemoryAttributes::normal_write_back()
         }
     }
 }
@@ -251,7 +254,13 @@ fn change(
     let p = call.partition();
     let transaction = transaction(state, p, kind, checked)?;
     let handle = transaction.handle;
-    let edit = sender_edit(state.alloc, kind, p, &transaction.ranges)?;
+    let edit = sender_edit(
+        state.alloc,
+        kind,
+        p,
+        &transaction.ranges,
+        checked.desc.clears,
+    )?;
     Ok(Change {
         edit,
         update: Update::Open(transaction),
@@ -313,10 +322,12 @@ fn sender_edit(
     kind: Kind,
     p: PartitionId,
     ranges: &[Run],
+    clears: bool,
 ) -> Result<Option<Edit>, OutOfMemory>
     requires apart { are_disjoint ranges.now ≡ true }
     requires at_most_512 { length ranges.now ≤ 512 }
-    ensures same { IfOk result (λ edit. AreSameEdits (rules.sender_edit kind p ranges.now) edit) }
+    ensures same { IfOk result (λ edit. AreSameEdits
+        (rules.sender_edit kind p ranges.now clears) edit) }
     ensures orderly { IfOk result (λ edit. AreOrderly p edit) }
 {
     match kind {
@@ -327,6 +338,7 @@ fn sender_edit(
                 who: p,
                 runs,
                 to: None,
+                clears,
             }))
         }
     }

@@ -204,7 +204,7 @@ module _ (layout : Layout) (row : ℕ) (runs : List PageRun) (access : View) (ol
 
 -- ---- the gigabytes that runs touch
 
-covers-at : (runs : List PageRun) (i n : ℕ) (run : PageRun) → i < length runs → run ≡ get_or runs i run → in_run run n ≡ true → covers runs n ≡ true
+pub covers-at : (runs : List PageRun) (i n : ℕ) (run : PageRun) → i < length runs → run ≡ get_or runs i run → in_run run n ≡ true → covers runs n ≡ true
 covers-at [] i n run lt is here = absurd (omega arith)
 covers-at (r ∷ runs) zero n run lt is here = rw (sym is, here) refl
 covers-at (r ∷ runs) (suc i) n run lt is here = rw (covers-at runs i n run (omega arith) is here) (either (in_run r n))

@@ -15,14 +15,14 @@ use Rattle.stage2.specs.declared.walked.Walked.{Walked}
 use Rattle.stage2.specs.declared.walked.Walked.TheVariants.{None as Unmapped}
 use Rattle.stage2.specs.Chunks.{edited, answers_of}
 use Rattle.stage2.specs.Gigabytes.{EditsRow, FitsRow, row_operations}
-use Rattle.stage2.specs.Moments.{StaysInStep}
+use Rattle.stage2.specs.Moments.{cleared_by, StaysInStep}
 use Rattle.stage2.specs.Orderly.{IsOrderly, IsCanonical, answers, answer_of}
 use Rattle.stage2.specs.Parts.{operations_for}
 use Rattle.stage2.specs.Slot.{Layout}
 use Rattle.stage2.specs.Steps.{AreFree, disturbed, with_pages}
-use Rattle.stage2.specs.Tables.{TablesView, walk_in, view_of, has_root, AreCanonical, Fits, edit_operations, ReachSo, ShowsMoments, EditsInStep, ClearsInStep}
+use Rattle.stage2.specs.Tables.{TablesView, walk_in, view_of, has_root, AreCanonical, Fits, edit_operations, ReachSo, ShowsMoments, ClearsNothing, EditsInStep, ClearsInStep}
 use Rattle.stage2.specs.Walk.{walk, walk_across, walked}
-use Rattle.stage2.proofs.Walkers.WholeCall.{moments-edited}
+use Rattle.stage2.proofs.Walkers.WholeCall.{moments-edited, clears-nothing}
 use Rattle.stage2.proofs.Walkers.ZeroedTables.{counted-op, stays-none}
 use Rattle.stage2.proofs.Editing.RowOfPartition.{edited-walks}
 use Rattle.stage2.proofs.Tree.EntryWords.{entries}
@@ -155,6 +155,7 @@ rootless-moments t p runs access none out begun before starts free =
 pub record IsEdited (p : ℕ) (runs : List PageRun) (access : View) (old new : TablesView) : Type 0 where
   pub walks : ReachSo p runs access old new
   pub moments : ShowsMoments p runs access old new
+  pub clears : ClearsNothing p runs access old new
   pub in_step : EditsInStep p runs access old new
   pub room : old.room ≤ new.room + edit_operations p runs old
 
@@ -169,12 +170,15 @@ pub edited-rooted : (layout : Layout) (old new : Pool) (room left p row : ℕ) (
     → room ≤ left + row_operations runs → IsEdited p runs access (view layout old room) (view layout new left)
 edited-rooted layout old new room left p row runs access is canonical edits stays enough =
     let walks = edited-walks layout p row runs access (pages_of old.memory) (pages_of new.memory) is canonical.orderly edits in
+    let root : has_root (view layout old room) p ≡ true = below-root layout.ids p row is in
+    let in_step : EditsInStep p runs access (view layout old room) (view layout new left) = subst (λ r. AreFree (λ n. true) runs access (answers layout (words_of old.memory.words) r)
+    → StaysInStep layout r (disturbed runs (answers layout (words_of old.memory.words) r) (edited runs access (answers layout (words_of old.memory.words) r))) (λ n. walked n (edited runs access (answers layout (words_of old.memory.words) r) n)) old new) is.is stays in
     record {
       walks = walks;
-      moments = λ begun before starts free. moments-edited layout old new before p row runs access is starts begun free stays walks;
-      in_step = subst (λ r. AreFree (λ n. true) runs access (answers layout (words_of old.memory.words) r)
-          → StaysInStep layout r (disturbed runs (answers layout (words_of old.memory.words) r) (edited runs access (answers layout (words_of old.memory.words) r))) (λ n. walked n (edited runs access (answers layout (words_of old.memory.words) r) n)) old new) is.is stays;
-      room = let root : has_root (view layout old room) p ≡ true = below-root layout.ids p row is in let most = row-operations runs in let all : room ≤ left + operations_for runs = omega (arith, most, enough) in rw root all;
+      moments = moments-edited (view layout old room) (view layout new left) p runs access root refl walks in_step;
+      clears = clears-nothing (view layout old room) (view layout new left) p runs access in_step;
+      in_step = in_step;
+      room = let most = row-operations runs in let all : room ≤ left + operations_for runs = omega (arith, most, enough) in rw root all;
     }
   where
     below-root : (ids : List ℕ) (p row : ℕ) → IsRow ids p row → ltb (row_of ids p) (length ids) ≡ true
@@ -184,6 +188,7 @@ pub edited-rootless : (t : TablesView) (p : ℕ) (runs : List PageRun) (access :
 edited-rootless t p runs access none out = record {
   walks = rootless-walks t p runs access none out;
   moments = rootless-moments t p runs access none out;
+  clears = λ begun free. ap cleared_by begun;
   in_step = λ free. stays-none t.layout (row_of t.layout.ids p) (disturbed runs (view_of t p) (edited runs access (view_of t p))) (λ n. walked n (edited runs access (view_of t p) n)) t.pool;
   room = omega arith;
 }

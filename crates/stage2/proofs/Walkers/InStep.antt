@@ -11,7 +11,7 @@ use Rattle.stage2.specs.declared.walked.Walked.{Walked}
 use Rattle.stage2.specs.declared.walked.Walked.TheVariants.{None as Unmapped, Leaf as Mapped, Wrong}
 use Rattle.stage2.specs.Slot.{Layout, Slot, Empty, Next, Maps, Bad, slot}
 use Rattle.stage2.specs.Walk.{index_1, index_2, index_3, at_1, at_2, at_3, walk, walk_across, Place, Gigabyte, Chunk, next_page, table_at, IsPlace}
-use Rattle.stage2.specs.Moments.{words_after, invalidates, AtEachMoment, Walker, Begins, Second, Third, Ends, from_1, from_2, goes_on, UnderWay, Stands, now, nothing, Edit, MayGive, GivesOnly, BreaksFirst, AllBreakFirst, AllClearUnreached, IsInStep}
+use Rattle.stage2.specs.Moments.{words_after, cleared_by, invalidates, AtEachMoment, Walker, Begins, Second, Third, Ends, from_1, from_2, goes_on, UnderWay, Stands, now, nothing, Edit, with_clear, MayGive, GivesOnly, BreaksFirst, AllBreakFirst, AllClearUnreached, IsInStep}
 use Rattle.stage2.proofs.Tree.WalkFrame.{table_at-chunk_in, walk-gigabyte, walk-chunk}
 use Rattle.stage2.proofs.Walkers.UnderWay.{after_op, at_start, under_way-now}
 
@@ -70,12 +70,13 @@ fits-start : (e : Edit) (due : Bool) (q n : ℕ) → q < length e.layout.ids →
 fits-start e due q n inside w u = at_start e.layout e.entry q n (Fits e e.entry due q n) tt (fits-goes_on e e.entry due q n inside (may-entry e q n)) w u
 
 -- before the first operation
-pub orderly-start : (e : Edit) (due : ℕ → Bool) → IsInStep e due e.entry []
-orderly-start e due = record {
+pub orderly-start : (e : Edit) (due : ℕ → Bool) → e.cleared ≡ [] → IsInStep e due e.entry []
+orderly-start e due none = record {
   exact = refl;
   gives = λ q n inside small a u. (fits-start e false q n inside (Ends a) u).0;
   breaks = tt;
   clears = tt;
+  cleared = sym none;
   stands = λ q n inside small w u. stands-fits e e.entry (eqb q e.row && due n) q n w (fits-start e (eqb q e.row && due n) q n inside w u);
 }
 
@@ -94,15 +95,16 @@ orderly-fits e due words past h q n inside small (Ends a) u = (at_now (GivesOnly
 -- ---- one operation more
 
 -- where each walk under way fits after an operation, the edit stays orderly
-orderly-more : (e : Edit) (due more : ℕ → Bool) (words new : Words) (past : List Op) (op : Op) → IsInStep e due words past
-    → new ≡ words_after (op ∷ past) e.entry → AllBreakFirst e.layout e.entry (op ∷ past) → AllClearUnreached e.layout e.entry (op ∷ past)
+orderly-more : (e : Edit) (more : ℕ → Bool) (new : Words) (past : List Op) (op : Op) → AtEachMoment (GivesOnly e) past
+    → new ≡ words_after (op ∷ past) e.entry → AllBreakFirst e.layout e.entry (op ∷ past) → AllClearUnreached e.layout e.entry (op ∷ past) → cleared_by (op ∷ past) ≡ e.cleared
     → ((q n : ℕ) → q < length e.layout.ids → n < 2 ^ 27 → (w : Walker) → UnderWay e.layout e.entry q n (op ∷ past) w → Fits e new (eqb q e.row && more n) q n w)
     → IsInStep e more new (op ∷ past)
-orderly-more e due more words new past op h exact breaks clears fits = record {
+orderly-more e more new past op gives exact breaks clears cleared fits = record {
   exact = exact;
-  gives = (λ q n inside small a u. (fits q n inside small (Ends a) u).0, h.gives);
+  gives = (λ q n inside small a u. (fits q n inside small (Ends a) u).0, gives);
   breaks = breaks;
   clears = clears;
+  cleared = cleared;
   stands = λ q n inside small w u. stands-fits e new (eqb q e.row && more n) q n w (fits q n inside small w u);
 }
 
@@ -138,8 +140,8 @@ pub orderly-set : (e : Edit) (due more : ℕ → Bool) (words : Words) (past : L
 orderly-set e due more words past page index word h fine breaks =
     let new = put page index word words in
     let exact : new ≡ words_after (Set page index word ∷ past) e.entry = ap (put page index word) h.exact in
-    orderly-more e due more words new past (Set page index word) h exact
-    ((λ a inside at. breaks a inside (ap (λ (x : Words). table_at e.layout x a) h.exact ∙ at)), h.breaks) h.clears
+    orderly-more e more new past (Set page index word) h.gives exact
+    ((λ a inside at. breaks a inside (ap (λ (x : Words). table_at e.layout x a) h.exact ∙ at)), h.breaks) h.clears h.cleared
     (λ q n inside small.
     let f = fine q n inside small in
     let one = eqb q e.row && more n in
@@ -175,7 +177,7 @@ pub orderly-invalidate : (e : Edit) (due more : ℕ → Bool) (words : Words) (p
     → row_of e.layout.ids who ≡ e.row → ((n : ℕ) → n < 2 ^ 27 → more n ≡ false → in_run run n ≡ false → due n ≡ false)
     → IsInStep e more words (Invalidate who run ∷ past)
 orderly-invalidate e due more words past who run h is fewer =
-    orderly-more e due more words words past (Invalidate who run) h h.exact h.breaks h.clears
+    orderly-more e more words past (Invalidate who run) h.gives h.exact h.breaks h.clears h.cleared
     (λ q n inside small.
     let one = eqb q e.row && more n in
     let may : MayGive e q n (walk e.layout words q n) = may-now e due words past h q n inside small in
@@ -186,15 +188,16 @@ orderly-invalidate e due more words past who run h is fewer =
 -- pages are cleared that no partition reaches, while nothing is due
 pub orderly-clearing : (e : Edit) (words : Words) (past : List Op) (run : PageRun) → IsInStep e nothing words past
     → ((q n : ℕ) → q < length e.layout.ids → n < 2 ^ 27 → in_run run n ≡ true → walk e.layout words q n ≡ Unmapped)
-    → IsInStep e nothing words (Clear run ∷ past)
+    → IsInStep (with_clear run e) nothing words (Clear run ∷ past)
 orderly-clearing e words past run h none =
-    orderly-more e nothing nothing words words past (Clear run) h h.exact h.breaks (
+    orderly-more (with_clear run e) nothing words past (Clear run) h.gives h.exact h.breaks (
       (λ q n a inside small here u. elim (h.stands q n inside small (Ends a) u (due_nothing (eqb q e.row))) [
         | inl unmapped ↦ unmapped
         | inr is ↦ is ∙ none q n inside small here
       ]),
       h.clears,
     )
+    (ap (λ runs. run ∷ runs) h.cleared)
     (λ q n inside small.
     let one = eqb q e.row && false in
     let may : MayGive e q n (walk e.layout words q n) = may-now e nothing words past h q n inside small in
@@ -213,6 +216,7 @@ orderly-weaker e due more words past h fewer = record {
   gives = h.gives;
   breaks = h.breaks;
   clears = h.clears;
+  cleared = h.cleared;
   stands = λ q n inside small w u.
       stands-fits e words (eqb q e.row && more n) q n w
       (fits-due e (eqb q e.row && due n) (eqb q e.row && more n) words q n (both (eqb q e.row) (due n) (more n) (fewer n small)) w (orderly-fits e due words past h q n inside small w u));
@@ -299,5 +303,6 @@ orderly-cut e due words past page index who run h each breaks =
       );
       breaks = (λ a inside at. breaks a inside (ap (λ (x : Words). table_at e.layout x a) h.exact ∙ at), h.breaks);
       clears = h.clears;
+      cleared = h.cleared;
       stands = λ q n inside small w u. stands-fits e new (eqb q e.row && due n) q n w (fits q n inside small w u);
     }

@@ -2,6 +2,7 @@
 use Rattle.std.proofs.Common.{◌≡◌, ℕ, ◌^◌, ◌<◌, Bool, true, false, ◌&&◌, eqb, List, [], ◌∷◌, refl, arith, ap, sym, ◌∙◌, ◌⊎◌, inl, inr}
 use Rattle.std.proofs.lemmas.Bool.{eqb-true}
 use Rattle.base.specs.Access.{View}
+use Rattle.base.specs.Pages.{PageRun}
 use Rattle.base.specs.Manifest.{row_of}
 use Rattle.pool.specs.Pool.{Pool, Words, words_of}
 use Rattle.pool.specs.declared.operation.Op.{Op}
@@ -24,11 +25,11 @@ stands-weaker layout words due q n (Third k) h = h
 stands-weaker layout words due q n (Ends a) h = λ e. absurd (cc)
 
 -- an edit of a row, from one pool to another
-abbrev pub edit_of : Layout → Pool → ℕ → (ℕ → Bool) → (ℕ → Walked) → Edit
-edit_of layout old row which answer = record { layout = layout; entry = words_of old.memory.words; made = old.made; row = row; which = which; answer = answer }
+abbrev pub edit_of : Layout → Pool → ℕ → (ℕ → Bool) → (ℕ → Walked) → List PageRun → Edit
+edit_of layout old row which answer cleared = record { layout = layout; entry = words_of old.memory.words; made = old.made; row = row; which = which; answer = answer; cleared = cleared }
 
-module _ (layout : Layout) (old new : Pool) (before after : ℕ → ℕ → View) (row : ℕ) (which : ℕ → Bool) (answer : ℕ → Walked)
-    (o : IsInStepIn (edit_of layout old row which answer) nothing new)
+module _ (layout : Layout) (old new : Pool) (before after : ℕ → ℕ → View) (row : ℕ) (which : ℕ → Bool) (answer : ℕ → Walked) (cleared : List PageRun)
+    (o : IsInStepIn (edit_of layout old row which answer cleared) nothing new)
     (starts : Agrees layout (words_of old.memory.words) before) (ends : Agrees layout (words_of new.memory.words) after)
     (changed : (q n : ℕ) → n < 2 ^ 27 → row_of layout.ids q ≡ row → which n ≡ true → answer n ≡ walked n (after q n))
     (kept : (q n : ℕ) → n < 2 ^ 27 → row_of layout.ids q ≡ row → which n ≡ true → IsSteady before after q n → Unmapped ≡ walked n (before q n)) where
@@ -36,7 +37,7 @@ module _ (layout : Layout) (old new : Pool) (before after : ℕ → ℕ → View
   at_row : (q n : ℕ) → (eqb (row_of layout.ids q) row && which n) ≡ true → (row_of layout.ids q ≡ row) × (which n ≡ true)
   at_row q n e = let h = both (eqb (row_of layout.ids q) row) (which n) e in (eqb-true _ _ h.0, h.1)
 
-  gives_one : (q n : ℕ) (a : Walked) → n < 2 ^ 27 → MayGive (edit_of layout old row which answer) (row_of layout.ids q) n a → (a ≡ Unmapped) ⊎ (a ≡ walked n (before q n)) ⊎ (a ≡ walked n (after q n))
+  gives_one : (q n : ℕ) (a : Walked) → n < 2 ^ 27 → MayGive (edit_of layout old row which answer cleared) (row_of layout.ids q) n a → (a ≡ Unmapped) ⊎ (a ≡ walked n (before q n)) ⊎ (a ≡ walked n (after q n))
   gives_one q n a small may = elim may [
     | inl was ↦ inr (inl (was ∙ starts q n small))
     | inr h ↦ elim h.1 [
@@ -45,7 +46,7 @@ module _ (layout : Layout) (old new : Pool) (before after : ℕ → ℕ → View
     ]
   ]
 
-  keeps_one : (q n : ℕ) (a : Walked) → n < 2 ^ 27 → IsSteady before after q n → MayGive (edit_of layout old row which answer) (row_of layout.ids q) n a → a ≡ walked n (before q n)
+  keeps_one : (q n : ℕ) (a : Walked) → n < 2 ^ 27 → IsSteady before after q n → MayGive (edit_of layout old row which answer cleared) (row_of layout.ids q) n a → a ≡ walked n (before q n)
   keeps_one q n a small steady may = elim may [
     | inl was ↦ was ∙ starts q n small
     | inr h ↦ let at = at_row q n h.0 in elim h.1 [
@@ -68,8 +69,8 @@ module _ (layout : Layout) (old new : Pool) (before after : ℕ → ℕ → View
   moments-of = record {
     exact = o.orderly.exact;
     counted = o.counted;
-    gives = at_each (GivesOnly (edit_of layout old row which answer)) (GivesOldOrNew layout (words_of old.memory.words) before after) (λ past h q n a u. gives_one q n a u.1 (h (row_of layout.ids q) n u.0 u.1 a u.2)) new.operations o.orderly.gives;
-    keeps = at_each (GivesOnly (edit_of layout old row which answer)) (KeepsAnswers layout (words_of old.memory.words) before after) (λ past h q n a same u. keeps_one q n a u.1 same (h (row_of layout.ids q) n u.0 u.1 a u.2)) new.operations o.orderly.gives;
+    gives = at_each (GivesOnly (edit_of layout old row which answer cleared)) (GivesOldOrNew layout (words_of old.memory.words) before after) (λ past h q n a u. gives_one q n a u.1 (h (row_of layout.ids q) n u.0 u.1 a u.2)) new.operations o.orderly.gives;
+    keeps = at_each (GivesOnly (edit_of layout old row which answer cleared)) (KeepsAnswers layout (words_of old.memory.words) before after) (λ past h q n a same u. keeps_one q n a u.1 same (h (row_of layout.ids q) n u.0 u.1 a u.2)) new.operations o.orderly.gives;
     breaks = o.orderly.breaks;
     clears = o.orderly.clears;
     fresh = fresh_one;
@@ -77,9 +78,9 @@ module _ (layout : Layout) (old new : Pool) (before after : ℕ → ℕ → View
   }
 
 -- before the first operation
-pub orderly-begun : (layout : Layout) (old new : Pool) (row : ℕ) (which : ℕ → Bool) (answer : ℕ → Walked) → new.memory ≡ old.memory → new.operations ≡ [] → new.made ≡ old.made → IsInStepIn (edit_of layout old row which answer) nothing new
+pub orderly-begun : (layout : Layout) (old new : Pool) (row : ℕ) (which : ℕ → Bool) (answer : ℕ → Walked) → new.memory ≡ old.memory → new.operations ≡ [] → new.made ≡ old.made → IsInStepIn (edit_of layout old row which answer []) nothing new
 orderly-begun layout old new row which answer same none made = record {
-  orderly = rw (same, none) (orderly-start (edit_of layout old row which answer) nothing);
+  orderly = rw (same, none) (orderly-start (edit_of layout old row which answer []) nothing refl);
   counted = rw (none, made) (omega arith);
 }
 
@@ -87,8 +88,6 @@ orderly-begun layout old new row which answer same none made = record {
 pub moments-none : (layout : Layout) (old new : Pool) (before after : ℕ → ℕ → View) → Agrees layout (words_of old.memory.words) before → Agrees layout (words_of new.memory.words) after
     → new.memory ≡ old.memory → new.operations ≡ [] → new.made ≡ old.made → Moments layout old new before after
 moments-none layout old new before after starts ends same none made =
-    moments-of layout old new before after 0 nothing (λ n. Unmapped) (orderly-begun layout old new 0 nothing (λ n. Unmapped) same none made) starts ends
+    moments-of layout old new before after 0 nothing (λ n. Unmapped) [] (orderly-begun layout old new 0 nothing (λ n. Unmapped) same none made) starts ends
     (λ q n small e which. absurd (cc))
     (λ q n small e which. absurd (cc))
-
--- ---- pages are unmapped

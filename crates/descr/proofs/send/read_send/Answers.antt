@@ -24,4 +24,4 @@ returns-clause-some c =
     let memory = c.in_ok-ranges.ensures.some in
     let layout = sym c.has_layout.ensures.value ∙ c.if-not-has_layout.false in
     let header = sym c.is_header.ensures ∙ c.if-not-is_header.false in
-    (is_send-true c.args.version c.args.bytes.now layout header receivers.0 memory.0, rw (c.new.ensures, c.u16_at.ensures, c.attributes_of.ensures, c.u64_at.ensures, receivers.1, memory.1) refl)
+    (is_send-true c.args.version c.args.bytes.now layout header receivers.0 memory.0, rw (c.new.ensures, c.u16_at.ensures, c.attributes_of.ensures, c.orders_clear.ensures, c.u32_at.ensures, c.u64_at.ensures, receivers.1, memory.1) refl)

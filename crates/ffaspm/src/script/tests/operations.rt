@@ -62,7 +62,7 @@ fn invalidates_a_block(rt: HostRuntime) -> Result<(), Fail> {
 
 /// The split of a block that begins at an address, at an index of the level 2 table in a pool page: the
 /// words of the new table without one of them, and then the block's word, in two steps.
-fn push_split(
+pub(super) fn push_split(
     text: &mut String,
     second: u32,
     table: u32,

@@ -17,7 +17,7 @@ fn expect(rt: &impl Abort, alloc: Global, lines: &str, wanted: &str) -> Result<(
 }
 
 /// The words of the table that a merge sets to 0: all but that of the page that was lent.
-fn write_zeros(text: &mut String) -> Result<(), Fail> {
+pub(super) fn write_zeros(text: &mut String) -> Result<(), Fail> {
     for i in 0..512 {
         if i != 1 {
             writeln!(text, "set 9 {i} 0000000000000000")?;

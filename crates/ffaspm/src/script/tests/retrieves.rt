@@ -7,16 +7,17 @@ use std::alloc::Global;
 use std::process::Abort;
 use std::test::Fail;
 
-const OK: &str = "reply 84000061 00000000 00000000 00000000 00000000 00000000 00000000 00000000\n";
+pub(super) const OK: &str =
+    "reply 84000061 00000000 00000000 00000000 00000000 00000000 00000000 00000000\n";
 
 /// The first two handles of 0x8001.
-const FIRST: &str =
+pub(super) const FIRST: &str =
     "reply 84000061 00000000 00000001 00008001 00000000 00000000 00000000 00000000\n";
 
 const SECOND: &str =
     "reply 84000061 00000000 00000002 00008001 00000000 00000000 00000000 00000000\n";
 
-const INVALID: &str =
+pub(super) const INVALID: &str =
     "reply 84000060 00000000 fffffffe 00000000 00000000 00000000 00000000 00000000\n";
 
 const NO_MEMORY: &str =
@@ -25,16 +26,16 @@ const NO_MEMORY: &str =
 const BUSY: &str =
     "reply 84000060 00000000 fffffffc 00000000 00000000 00000000 00000000 00000000\n";
 
-const DENIED: &str =
+pub(super) const DENIED: &str =
     "reply 84000060 00000000 fffffffa 00000000 00000000 00000000 00000000 00000000\n";
 
 /// A page is lent to 0x8002, which may read and write, and asks for it.
-const LEND: &str = "lend 8001 0 8002:02 80001000+1";
+pub(super) const LEND: &str = "lend 8001 0 8002:02 80001000+1";
 
-const GET: &str = "retrieve 8002 800100000001 8001 0 2 02";
+pub(super) const GET: &str = "retrieve 8002 800100000001 8001 0 2 02";
 
 /// The response to it: read-write, and not executable.
-const RESPONSE: &str =
+pub(super) const RESPONSE: &str =
     "reply 84000075 00000060 00000060 00000000 00000000 00000000 00000000 00000000\n\
     rx 01802f00100000000100000001800000000000000000000010000000010000003000000000000000\
     00000000000000000280060040000000000000000000000001000000010000000000000000000000\
@@ -65,7 +66,7 @@ fn audited(alloc: Global, lines: &[(&str, &str)]) -> Result<(String, String), Fa
     Ok((script, wanted))
 }
 
-fn expect(rt: &impl Abort, alloc: Global, lines: &[(&str, &str)]) -> Result<(), Fail> {
+pub(super) fn expect(rt: &impl Abort, alloc: Global, lines: &[(&str, &str)]) -> Result<(), Fail> {
     expect_with(rt, alloc, (16, 16), lines)
 }
 
@@ -157,7 +158,7 @@ fn tells_a_stranger_nothing(rt: HostRuntime) -> Result<(), Fail> {
     expect(&rt, rt.alloc(), &lines)
 }
 
-const GIVEN: &str =
+pub(super) const GIVEN: &str =
     "reply 84000075 00000060 00000060 00000000 00000000 00000000 00000000 00000000\n\
     rx 01802f00180000000100000001800000000000000000000010000000010000003000000000000000\
     00000000000000000280050040000000000000000000000001000000010000000000000000000000\
@@ -263,6 +264,7 @@ fn lends_to_two(rt: HostRuntime) -> Result<(), Fail> {
         ),
         ("maps 8002\nmaps 8003", reached),
         ("owners", OWNERS),
+        ("relinquish 8002 800100000001 zero", DENIED),
     ];
     expect(&rt, rt.alloc(), &lines)
 }

@@ -161,6 +161,17 @@ fn expect_walk(rt: &impl Abort, part: &Part, index: u32, walked: Walked) {
     );
 }
 
+/// No partition reaches a page that is cleared.
+fn expect_unreached(rt: &impl Abort, manifest: &Manifest, image: &Image, run: base::Run) {
+    for partition in manifest.partitions() {
+        for index in 0..run.count() {
+            let page = Page::new(run.first().number().wrapping_add(index) % Page::COUNT);
+            let walked = walk_image(manifest, image, partition.id, page);
+            assert_eq!(rt; walked, Walked::None);
+        }
+    }
+}
+
 /// Looks at a chunk in a copy of the words.
 fn expect_part(rt: &impl Abort, manifest: &Manifest, image: &Image, part: &Part) {
     assert_eq!(rt; image.pages(), manifest.table_pages() as usize);
@@ -212,6 +223,9 @@ fn expect_replay<M: TableMem + Drop>(
     look_closely(&touched, &mut parts);
     for operation in spm.last_ops() {
         apply(rt, &mut image, operation);
+        if let Op::Clear { run } = operation {
+            expect_unreached(rt, spm.manifest(), &image, *run);
+        }
         expect_parts(rt, spm.manifest(), &image, &parts);
     }
     settle(&mut parts)?;
@@ -324,8 +338,13 @@ impl Draw {
             let address = u64::from(base) + 0x1000 * u64::from(first);
             write!(text, "{comma}{address:x}+{count}")?;
         }
-        writeln!(text)?;
+        writeln!(text, "{}", self.order())?;
         Ok(())
+    }
+
+    /// Now and then the pages are to be cleared.
+    fn order(&mut self) -> &'static str {
+        if self.below(3) == 0 { " zero" } else { "" }
     }
 
     /// A few pages of so many, or now and then a whole chunk of them.
@@ -346,8 +365,8 @@ impl Draw {
     {
         let number = 1 + self.below(sends);
         match self.below(4) {
-            0 => writeln!(text, "reclaim {from} {from}{number:08x}")?,
-            1 => writeln!(text, "relinquish 8003 {from}{number:08x}")?,
+            0 => writeln!(text, "reclaim {from} {from}{number:08x}{}", self.order())?,
+            1 => writeln!(text, "relinquish 8003 {from}{number:08x}{}", self.order())?,
             _ => writeln!(
                 text,
                 "retrieve 8003 {from}{number:08x} {from} 0 0 00\ncall 8003 84000065"
@@ -375,7 +394,19 @@ impl Draw {
 }
 
 /// Calls after the buffer pairs are there, and how many of them change tables.
-const ROWS: [(&str, u32); 12] = [
+const ROWS: [(&str, u32); 14] = [
+    (
+        "lend 8001 0 8002:02 80001000+1 zero\n\
+        reclaim 8001 800100000001 zero\n",
+        2,
+    ),
+    (
+        "lend 8001 0 8002:02 80001000+1 zero\n\
+        retrieve 8002 800100000001 8001 0 2 02\n\
+        relinquish 8002 800100000001 zero\n\
+        reclaim 8001 800100000001\n",
+        4,
+    ),
     ("lend 8001 0 8002:02 80001000+1\n", 1),
     (
         "share 8001 5 8002:01 80000000+1\nlend 8001 0 8002:02 d0000000+1\n",

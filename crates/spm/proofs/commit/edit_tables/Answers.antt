@@ -1,22 +1,35 @@
-use Rattle.std.proofs.Common.{◌≡◌, ℕ, sym, ap, subst, ◌∙◌, List}
+use Rattle.std.proofs.Common.{◌≡◌, ℕ, List, sym, ap, subst, ◌∙◌}
 use Rattle.base.specs.Access.{View}
 use Rattle.base.specs.Pages.{PageRun}
-use Rattle.stage2.specs.Tables.{TablesView, ShowsMoments}
+use Rattle.stage2.specs.Tables.{ReachSo, EditsInStep}
 use Rattle.rules.specs.Rule.{Edit}
+use Rattle.spm.proofs.ClearingLemmas.{unmapped-shown, mapped-shown}
 use Rattle.spm.proofs.commit.edit_tables.Goals as goal
 
 -- what the edit's own fields say
-shown : (old new : TablesView) (edit : Edit) (who : ℕ) (runs : List PageRun) (access : View) → who ≡ edit.who → runs ≡ edit.runs → access ≡ edit.to → ShowsMoments who runs access old new → ShowsMoments edit.who edit.runs edit.to old new
-shown old new edit who runs access p rs a moments =
-    subst (λ (x : View). ShowsMoments edit.who edit.runs x old new) a
-    (subst (λ (x : List PageRun). ShowsMoments edit.who x access old new) rs (subst (λ x. ShowsMoments x runs access old new) p moments))
+of_edit : (P : ℕ → List PageRun → View → Type 0) (edit : Edit) (who : ℕ) (runs : List PageRun) (access : View) → who ≡ edit.who → runs ≡ edit.runs → access ≡ edit.to → P who runs access → P edit.who edit.runs edit.to
+of_edit P edit who runs access p rs a h = subst (λ (x : View). P edit.who edit.runs x) a (subst (λ (x : List PageRun). P edit.who x access) rs (subst (λ x. P x runs access) p h))
 
 pub returns-in-Some-clause-shown : goal.returns-in-Some-clause-shown
 returns-in-Some-clause-shown g c =
-    shown c.args.tables.now c.map.new.self c.args.edit _ _ _ (ap (λ (e : Edit). e.who) c.edit.view_is) (c.deref.ensures.value ∙ ap (λ (e : Edit). e.runs) c.edit.view_is)
-    (sym c.in-Some.is ∙ ap (λ (e : Edit). e.to) c.edit.view_is) c.map.ensures.moments
+    let old = c.args.tables.now in
+    let mid = c.clear_pages.new.tables in
+    let new = c.map.new.self in
+    let edit = c.args.edit.now in
+    let who = ap (λ (e : Edit). e.who) c.edit.view_is in
+    let runs = c.deref.ensures.value ∙ ap (λ (e : Edit). e.runs) c.edit.view_is in
+    let to = sym c.in-Some.is ∙ ap (λ (e : Edit). e.to) c.edit.view_is in
+    mapped-shown edit old mid new c.requires.root c.requires.rows c.in-Some.access (sym to) c.clear_pages.ensures.layout c.clear_pages.ensures.memory c.map.ensures.layout
+    (of_edit (λ p rs a. ReachSo p rs a mid new) edit _ _ _ who runs to c.map.ensures.walks) (of_edit (λ p rs a. EditsInStep p rs a mid new) edit _ _ _ who runs to c.map.ensures.in_step) c.clear_pages.ensures.in_step
 
-pub returns-clause-shown : goal.returns-clause-shown
-returns-clause-shown g c =
-    shown c.args.tables.now c.unmap.new.self c.args.edit _ _ _ (ap (λ (e : Edit). e.who) c.edit.view_is) (c.deref-in-None.ensures.value ∙ ap (λ (e : Edit). e.runs) c.edit.view_is)
-    (sym c.in-None.is ∙ ap (λ (e : Edit). e.to) c.edit.view_is) c.unmap.ensures.moments
+pub returns-in-None-clause-shown : goal.returns-in-None-clause-shown
+returns-in-None-clause-shown g c =
+    let old = c.args.tables.now in
+    let mid = c.unmap.new.self in
+    let new = c.clear_pages-in-None.new.tables in
+    let edit = c.args.edit.now in
+    let who = ap (λ (e : Edit). e.who) c.edit.view_is in
+    let runs = c.deref-in-None.ensures.value ∙ ap (λ (e : Edit). e.runs) c.edit.view_is in
+    let to = sym c.in-None.is ∙ ap (λ (e : Edit). e.to) c.edit.view_is in
+    unmapped-shown edit old mid new c.requires.root c.requires.rows (sym to) c.unmap.ensures.layout c.clear_pages-in-None.ensures.layout c.clear_pages-in-None.ensures.memory
+    (of_edit (λ p rs a. ReachSo p rs a old mid) edit _ _ _ who runs to c.unmap.ensures.walks) (of_edit (λ p rs a. EditsInStep p rs a old mid) edit _ _ _ who runs to c.unmap.ensures.in_step) c.clear_pages-in-None.ensures.in_step

@@ -14,9 +14,15 @@ use std::test::Fail;
 /// refused with a status.
 type ReclaimCase = (&'static str, u16, [u64; 2], u64, Result<(), u64>);
 
-/// The first lend is not reclaimed but by its sender, once, and without a flag.
+/// The first lend is not reclaimed but by its sender, once, and with no reserved flag.
 const RECLAIMS: [ReclaimCase; 6] = [
-    ("a flag", 0x8001, [1, 0x8001], 2, Err(INVALID_PARAMETERS)),
+    (
+        "a reserved flag",
+        0x8001,
+        [1, 0x8001],
+        2,
+        Err(INVALID_PARAMETERS),
+    ),
     (
         "a count that was not used",
         0x8001,
@@ -57,7 +63,10 @@ const AGAIN: [SendCase<'static>; 2] = [
 ];
 
 /// The share's page was never taken away.
-const SHARED: [ReclaimCase; 1] = [("a share", 0x8001, [2, 0x8001], 0, Ok(()))];
+const SHARED: [ReclaimCase; 2] = [
+    ("a share to be cleared", 0x8001, [2, 0x8001], 1, Err(DENIED)),
+    ("a share", 0x8001, [2, 0x8001], 0, Ok(())),
+];
 
 /// FFA_MEM_RECLAIM with registers 1 to 3.
 fn reclaim(alloc: Global, caller: u16, halves: [u64; 2], flags: u64) -> Call {

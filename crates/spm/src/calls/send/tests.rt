@@ -142,7 +142,13 @@ const DONATIONS: [SendCase<'static>; 6] = [
 ];
 
 /// Shares of page 0x80000 of 0x8001, read-only for 0x8002, with tag 5.
-const SHARES: [SendCase<'static>; 9] = [
+const SHARES: [SendCase<'static>; 10] = [
+    (
+        "a clear",
+        SHARE_ID,
+        &[(2, 0x2f), (4, 1), (50, 1), (81, 0)],
+        Err(INVALID_PARAMETERS),
+    ),
     (
         "no attributes",
         SHARE_ID,
@@ -319,7 +325,7 @@ fn refuse_cut<M: TableMem + Drop>(
     Ok(())
 }
 
-/// Each byte that must be 0 with each other value.
+/// Each byte that must be 0 with each other value, but for the flag that orders a clear.
 fn refuse_set<M: TableMem + Drop>(
     rt: &impl Abort,
     alloc: Global,
@@ -327,7 +333,8 @@ fn refuse_set<M: TableMem + Drop>(
 ) -> Result<(), OutOfMemory> {
     for zeros in [4..16, 36..48, 51..52, 56..64, 72..80, 92..96] {
         for at in zeros {
-            refuse_values(rt, alloc, spm, at)?;
+            let least = if at == 4 { 2 } else { 1 };
+            refuse_values(rt, alloc, spm, at, least)?;
         }
     }
     Ok(())
@@ -338,8 +345,9 @@ fn refuse_values<M: TableMem + Drop>(
     alloc: Global,
     spm: &mut Spm<M>,
     at: usize,
+    least: u8,
 ) -> Result<(), OutOfMemory> {
-    for value in 1..=255 {
+    for value in least..=255 {
         let call = send(rt, alloc, LEND_ID, &[(at, value)])?;
         refuse(rt, spm, &call, INVALID_PARAMETERS, "a byte that must be 0")?;
     }

@@ -1,6 +1,5 @@
-use Rattle.std.proofs.Common.{◌≡◌, ℕ, Bool, true, false, cond, Option, Some, None, refl, sym, ap, ◌∙◌}
+use Rattle.std.proofs.Common.{◌≡◌, Bool, true, false, cond, Some, None, sym, ap, ◌∙◌}
 use Rattle.std.specs.Option.{option_map}
-use Rattle.base.specs.Transactions.{Live}
 use Rattle.base.specs.State.{State}
 use Rattle.ledger.specs.Ledger.{found}
 use Rattle.rules.specs.Receivers.{is_received_by}

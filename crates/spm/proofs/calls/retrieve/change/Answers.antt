@@ -1,4 +1,4 @@
-use Rattle.std.proofs.Common.{sym, ap, ◌∙◌}
+use Rattle.std.proofs.Common.{ap, ◌∙◌}
 use Rattle.base.specs.State.{PartitionState, version_of}
 use Rattle.base.specs.Transactions.{Live}
 use Rattle.rules.specs.Calls.Retrieve.{asked, responding}

@@ -1,11 +1,14 @@
 use Rattle.std.proofs.Common.{◌≡◌, refl, sym, ap, subst, ◌∙◌}
+use Rattle.base.specs.declared.status.Status.TheVariants.{NoMemory}
 use Rattle.base.specs.Manifest.{ManifestRows}
 use Rattle.rules.specs.Run.{step}
 use Rattle.spm.specs.Granted.{updated}
 use Rattle.spm.specs.Machine.{Machine, WalksAgree, ShowsCall, fits_in}
 use Rattle.spm.proofs.ConsistencyLemmas.{commit_kept}
 use Rattle.spm.proofs.MadeLemmas.{IsMade, IsUnfit, made, unfit}
-use Rattle.spm.proofs.ShownLemmas.{commit-shown, same-shown}
+use Rattle.spm.proofs.ShownLemmas.{commit-shown, commit-cleared, same-shown}
+use Rattle.spm.proofs.ClearingLemmas.{rows_of_partitions}
+use Rattle.spm.proofs.ClearedLemmas.{refused_clears, clears_on_ok}
 use Rattle.spm.proofs.spm.Spm.make.Given.{Over}
 use Rattle.spm.proofs.spm.Spm.make.Goals as goal
 
@@ -51,16 +54,34 @@ returns-then-fits-clause-moments g c =
     c.self.invariant.agrees kept.agrees begun c.self.invariant.reached is.passes is.same (next_made g c ∙ is.next) c.commit.ensures.state c.commit.ensures.shown c.commit.ensures.moves_no_page c.commit.ensures.err_state c.commit.ensures.err_pool in
     subst (λ (m : Machine). ShowsCall m (record { state = c.commit.new.state; pool = c.commit.new.tables.pool })) c.self.view_is shown
 
+change_unfit : (g : Over) (c : goal.Joined-change-3 g) → IsUnfit c.args.self.now c.self.inside.state c.args.call.now
+change_unfit g c =
+    unfit c.args.self.now c.self.inside.state c.self.inside.tables c.args.call.now c.args.change c.self.view_is c.requires.granted c.self.invariant
+    (ap (λ (m : ManifestRows). fits_in m c.self.inside.tables c.args.change.edit) (sym c.manifest.ensures) ∙ sym c.fits.ensures ∙ c.if-fits.false)
+
+pub commit-requires-clause-rows : goal.commit-requires-clause-rows
+commit-requires-clause-rows g c = rows_of_partitions c.self.inside.state.manifest c.self.inside.tables.layout c.self.invariant.layout_of_manifest c.self.invariant.reached.valid
+
+pub returns-then-fits-clause-clears : goal.returns-then-fits-clause-clears
+returns-then-fits-clause-clears g c =
+    let s = c.self.inside.state in
+    let t = c.self.inside.tables in
+    let is = change_made g c in
+    let kept = invariant_of-self g c in
+    let placed = c.self.invariant.layout_of_manifest in
+    let begun = ap (λ (m : Machine). m.pool.operations) c.self.view_is ∙ c.requires.begun in
+    let cleared = commit-cleared c.commit.result s c.commit.new.state (updated s c.partition-p.result c.args.change.update) c.args.call.now is.request t c.commit.new.tables c.args.change.edit placed (sym kept.layout_of_manifest ∙ c.commit.ensures.layout ∙ placed)
+    c.self.invariant.agrees kept.agrees begun c.self.invariant.reached is.passes is.same (next_made g c ∙ is.next) c.commit.ensures.state c.commit.ensures.shown c.commit.ensures.moves_no_page in
+    clears_on_ok c.commit.result c.args.self.now.state c.args.call.now (record { state = c.commit.new.state; pool = c.commit.new.tables.pool }) c.args.change.edit is.accepted is.edits is.orderly cleared
+
+pub returns-else-fits-clause-clears : goal.returns-else-fits-clause-clears
+returns-else-fits-clause-clears g c = refused_clears c.args.self.now.state c.args.call.now c.args.self.now NoMemory (change_unfit g c).refuses c.requires.begun
+
 pub returns-then-fits-clause-agrees : goal.returns-then-fits-clause-agrees
 returns-then-fits-clause-agrees g c = (invariant_of-self g c).agrees
 
 pub returns-then-fits-clause-reached : goal.returns-then-fits-clause-reached
 returns-then-fits-clause-reached g c = (invariant_of-self g c).reached
-
-change_unfit : (g : Over) (c : goal.Joined-change-3 g) → IsUnfit c.args.self.now c.self.inside.state c.args.call.now
-change_unfit g c =
-    unfit c.args.self.now c.self.inside.state c.self.inside.tables c.args.call.now c.args.change c.self.view_is c.requires.granted c.self.invariant
-    (ap (λ (m : ManifestRows). fits_in m c.self.inside.tables c.args.change.edit) (sym c.manifest.ensures) ∙ sym c.fits.ensures ∙ c.if-fits.false)
 
 pub returns-else-fits-clause-reply : goal.returns-else-fits-clause-reply
 returns-else-fits-clause-reply g c = c.error.ensures ∙ (change_unfit g c).reply

@@ -1,8 +1,9 @@
 use Rattle.std.proofs.Common.{refl, sym, ap, subst, ◌∙◌}
 use Rattle.base.specs.Manifest.{is_partition}
-use Rattle.rules.specs.Run.{answer, step}
+use Rattle.rules.specs.Run.{answer, step, refusal}
 use Rattle.spm.specs.Machine.{Machine, WalksAgree, MayNeedMemory}
-use Rattle.spm.proofs.ConsistencyLemmas.{refused_answer, refused_step, may_need}
+use Rattle.spm.proofs.ConsistencyLemmas.{refused_answer, refused_step, refused_is, may_need}
+use Rattle.spm.proofs.ClearedLemmas.{refused_clears}
 use Rattle.spm.proofs.ShownLemmas.{same-shown}
 use Rattle.spm.proofs.spm.Spm.serve.Goals as goal
 
@@ -21,6 +22,14 @@ returns-in-Err-Refused-clause-state g c =
     let r = c.args.request in
     let known = ap (λ (m : Machine). is_partition m.state.manifest call.caller) c.self.view_is ∙ c.requires.known in
     ap (λ (m : Machine). m.state) (sym c.self.view_is) ∙ sym (refused_step s call r known c.requires.request_decoded c.in-Err-Refused.status (rw c.in-Err-Refused.field-0-is at c.in-Err-Refused.ensures.stopped)) ∙ ap (λ (m : Machine). step m.state call) c.self.view_is
+
+pub returns-in-Err-Refused-clause-clears : goal.returns-in-Err-Refused-clause-clears
+returns-in-Err-Refused-clause-clears g c =
+    let s = c.self.inside.state in
+    let call = c.args.call.now in
+    let known = ap (λ (m : Machine). is_partition m.state.manifest call.caller) c.self.view_is ∙ c.requires.known in
+    let refuses = refused_is s call c.args.request known c.requires.request_decoded c.in-Err-Refused.status (rw c.in-Err-Refused.field-0-is at c.in-Err-Refused.ensures.stopped) in
+    refused_clears c.args.self.now.state call c.args.self.now c.in-Err-Refused.status (ap (λ (m : Machine). refusal m.state call) (sym c.self.view_is) ∙ refuses) c.requires.begun
 
 pub returns-in-Err-Refused-clause-moments : goal.returns-in-Err-Refused-clause-moments
 returns-in-Err-Refused-clause-moments g c =

@@ -37,6 +37,9 @@ returns-in-Some-clause-walks g c = (edit g c).walks
 pub returns-in-Some-clause-moments : goal.returns-in-Some-clause-moments
 returns-in-Some-clause-moments g c = (edit g c).moments
 
+pub returns-in-Some-clause-clears : goal.returns-in-Some-clause-clears
+returns-in-Some-clause-clears g c = (edit g c).clears
+
 pub returns-in-Some-clause-in_step : goal.returns-in-Some-clause-in_step
 returns-in-Some-clause-in_step g c = (edit g c).in_step
 
@@ -62,6 +65,9 @@ returns-in_default-clause-walks g c = (no-edit g c).walks
 
 pub returns-in_default-clause-moments : goal.returns-in_default-clause-moments
 returns-in_default-clause-moments g c = (no-edit g c).moments
+
+pub returns-in_default-clause-clears : goal.returns-in_default-clause-clears
+returns-in_default-clause-clears g c = (no-edit g c).clears
 
 pub returns-in_default-clause-in_step : goal.returns-in_default-clause-in_step
 returns-in_default-clause-in_step g c = (no-edit g c).in_step
