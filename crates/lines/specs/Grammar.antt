@@ -1,13 +1,14 @@
 -- The grammar of lines of scripts.
-use Rattle.std.specs.Prelude.{ℕ, ◌+◌, ◌-◌, ◌*◌, ◌^◌, Bool, true, false, ◌&&◌, ◌==◌, nat_le, nat_lt, sum_by, List, [], ◌∷◌, ◌++◌, length, replicate, codes, bytes_eq, Option, Some, None, if◌then◌else◌}
+use Rattle.std.specs.Prelude.{ℕ, ◌+◌, ◌-◌, ◌*◌, ◌^◌, Bool, true, false, ◌&&◌, ◌==◌, nat_le, nat_lt, sum_by, List, [], ◌∷◌, ◌++◌, length, replicate, codes, bytes_eq, option_map, Option, Some, None, if◌then◌else◌}
 use Rattle.std.specs.List.{slice_split, position_or_len, before_first, after_first}
 use Rattle.hex.specs.Hex.{hex_digit_value}
 use Rattle.base.specs.declared.transaction.Kind.{Kind}
 use Rattle.base.specs.declared.transaction.Kind.TheVariants.{Share, Lend, Donate}
 use Rattle.base.specs.Descriptors.Send.{Endpoint}
-use Rattle.base.specs.Descriptors.Encoding.{RangeFields}
+use Rattle.base.specs.Descriptors.Encoding.{HeaderFields, RangeFields, RetrieveFields, RelinquishFields}
+use Rattle.lines.specs.declared.send.ReclaimLine.{ReclaimLine}
 use Rattle.lines.specs.Lines.{number_of, id_of, permissions_of, count_of, is_nothing}
-use Rattle.lines.specs.Said.{Said, Nothing, Tx, Call, Send, Retrieve, Relinquish, Reclaim, Maps, Tables, Owners, Operations, Audit}
+use Rattle.lines.specs.Said.{Said, SaidSend, Nothing, Tx, Call, Send, Retrieve, Relinquish, Reclaim, Maps, Tables, Owners, Operations, Audit}
 
 -- a part is read, and what follows with it; where it is not one, nothing is
 infixl 10 ◌>>=◌
@@ -114,44 +115,55 @@ tx_of (id ∷ hex ∷ []) = do
   Some (Tx p bytes)
 tx_of (id ∷ hex ∷ next ∷ more) = None
 
--- `ID NUM ..`: 1 to 8 registers; the others are 0
+-- `NUM ..`: the first 1 to 8 of eight registers; the others are 0
+abbrev pub registers_of : List (List ℕ) → Option (List ℕ)
+registers_of words = do
+  registers ← one_to 8 number_of words
+  Some (registers ++ replicate (8 - length registers) 0)
+
+-- `ID NUM ..`
 abbrev pub call_of : List (List ℕ) → Option Said
 call_of [] = None
 call_of (id ∷ numbers) = do
   p ← id_of id
-  registers ← one_to 8 number_of numbers
-  Some (Call p (registers ++ replicate (8 - length registers) 0))
+  registers ← registers_of numbers
+  Some (Call p registers)
 
--- `ID NUM RECEIVERS RANGES`, and the same with a last word `zero`
-abbrev pub send_of : Kind → List (List ℕ) → Option Said
-send_of kind (id ∷ number ∷ endpoints ∷ pages ∷ last) = do
-  p ← id_of id
+-- `ID NUM RECEIVERS`, then these ranges, and the last words: none, or `zero`
+abbrev pub send_with : List ℕ → List ℕ → List ℕ → List RangeFields → List (List ℕ) → Option SaidSend
+send_with id number endpoints ranges last = do
+  sender ← id_of id
   tag ← number_of number
   receivers ← receivers_of endpoints
-  ranges ← ranges_of pages
   total ← total_of ranges
   clears ← last_word (codes "zero") last
-  Some (Send kind (record {
-    sender = p;
+  Some (record {
+    sender = sender;
     clears = clears;
     tag = tag;
     receivers = receivers;
     ranges = ranges;
     total = total;
-  }))
-send_of kind words = None
+  })
+
+-- `ID NUM RECEIVERS RANGES`, and the same with a last word `zero`
+abbrev pub send_of : List (List ℕ) → Option SaidSend
+send_of (id ∷ number ∷ endpoints ∷ pages ∷ last) = do
+  ranges ← ranges_of pages
+  send_with id number endpoints ranges last
+send_of words = None
 
 -- `ID NUM ID NUM TYPE PERM`, and the same with a last word `alone`, which is bit 10 of the flags: the caller, the handle, the sender, the tag, the type and the permissions; the attributes are normal memory, write-back, inner shareable
-abbrev pub retrieve_of : List (List ℕ) → Option Said
+abbrev pub retrieve_of : List (List ℕ) → Option RetrieveFields
 retrieve_of (id ∷ number ∷ owner ∷ label ∷ digit ∷ rights ∷ last) = do
-  p ← id_of id
+  caller ← id_of id
   handle ← number_of number
   sender ← id_of owner
   tag ← number_of label
   kind ← type_of digit
   permissions ← permissions_of rights
   alone ← last_word (codes "alone") last
-  Some (Retrieve (record {
+  Some (record {
     header = record {
       sender = sender;
       attributes = 47;
@@ -159,40 +171,38 @@ retrieve_of (id ∷ number ∷ owner ∷ label ∷ digit ∷ rights ∷ last) = 
       handle = handle;
       tag = tag;
     };
-    endpoint = record { partition = p; permissions = permissions };
-  }))
+    endpoint = record { partition = caller; permissions = permissions };
+  })
 retrieve_of words = None
 
 -- `ID NUM`, and the same with a last word `zero`, which is bit 0 of the flags
-abbrev pub relinquish_of : List (List ℕ) → Option Said
+abbrev pub relinquish_of : List (List ℕ) → Option RelinquishFields
 relinquish_of (id ∷ number ∷ last) = do
-  p ← id_of id
+  caller ← id_of id
   handle ← number_of number
   clears ← last_word (codes "zero") last
-  Some (Relinquish (record { handle = handle; flags = if clears then 1 else 0; endpoint = p }))
+  Some (record { handle = handle; flags = if clears then 1 else 0; endpoint = caller })
 relinquish_of words = None
 
 -- `ID NUM`, and the same with a last word `zero`
-abbrev pub reclaim_of : List (List ℕ) → Option Said
+abbrev pub reclaim_of : List (List ℕ) → Option ReclaimLine
 reclaim_of (id ∷ number ∷ last) = do
-  p ← id_of id
+  caller ← id_of id
   handle ← number_of number
   clears ← last_word (codes "zero") last
-  Some (Reclaim (record { caller = p; handle = handle; clears = clears }))
+  Some (record { caller = caller; handle = handle; clears = clears })
 reclaim_of words = None
 
 -- `ID`
-abbrev pub about : (ℕ → Said) → List (List ℕ) → Option Said
-about says [] = None
-about says (id ∷ []) = do
-  p ← id_of id
-  Some (says p)
-about says (id ∷ next ∷ more) = None
+abbrev pub only_id : List (List ℕ) → Option ℕ
+only_id [] = None
+only_id (id ∷ []) = id_of id
+only_id (id ∷ next ∷ more) = None
 
 -- no more words
-abbrev pub no_more : Said → List (List ℕ) → Option Said
-no_more says [] = Some says
-no_more says (word ∷ more) = None
+abbrev pub only : Said → List (List ℕ) → Option Said
+only line [] = Some line
+only line (word ∷ more) = None
 
 -- ---- lines
 
@@ -201,17 +211,17 @@ abbrev pub named : List ℕ → List (List ℕ) → Option Said
 named name words =
     if bytes_eq name (codes "tx") then tx_of words
     else if bytes_eq name (codes "call") then call_of words
-    else if bytes_eq name (codes "share") then send_of Share words
-    else if bytes_eq name (codes "lend") then send_of Lend words
-    else if bytes_eq name (codes "donate") then send_of Donate words
-    else if bytes_eq name (codes "retrieve") then retrieve_of words
-    else if bytes_eq name (codes "relinquish") then relinquish_of words
-    else if bytes_eq name (codes "reclaim") then reclaim_of words
-    else if bytes_eq name (codes "maps") then about Maps words
-    else if bytes_eq name (codes "tables") then about Tables words
-    else if bytes_eq name (codes "owners") then no_more Owners words
-    else if bytes_eq name (codes "ops") then no_more Operations words
-    else if bytes_eq name (codes "audit") then no_more Audit words
+    else if bytes_eq name (codes "share") then option_map (Send Share) (send_of words)
+    else if bytes_eq name (codes "lend") then option_map (Send Lend) (send_of words)
+    else if bytes_eq name (codes "donate") then option_map (Send Donate) (send_of words)
+    else if bytes_eq name (codes "retrieve") then option_map Retrieve (retrieve_of words)
+    else if bytes_eq name (codes "relinquish") then option_map Relinquish (relinquish_of words)
+    else if bytes_eq name (codes "reclaim") then option_map Reclaim (reclaim_of words)
+    else if bytes_eq name (codes "maps") then option_map Maps (only_id words)
+    else if bytes_eq name (codes "tables") then option_map Tables (only_id words)
+    else if bytes_eq name (codes "owners") then only Owners words
+    else if bytes_eq name (codes "ops") then only Operations words
+    else if bytes_eq name (codes "audit") then only Audit words
     else None
 
 -- the line whose words these are

@@ -49,10 +49,6 @@ count_of word =
 abbrev pub texts : List (Bor (List ℕ)) → List (List ℕ)
 texts words = map (λ word. word.now) words
 
--- the words are these, and then `zero`
-abbrev pub EndsInZero : List (List ℕ) → List (List ℕ) → Type 0
-EndsInZero words before = words ≡ before ++ codes "zero" ∷ []
-
 -- the total is the sum of the ranges' counts, and there are at most 512 ranges
 abbrev pub IsWhole : SendLine → Type 0
 IsWhole send =
