@@ -1,13 +1,11 @@
 -- Lists of parts that a loop reads one by one.
 use Rattle.std.proofs.Common.{◌≡◌, ℕ, suc, ◌+◌, ◌-◌, ◌<◌, ◌≤◌, Bool, true, false, ◌&&◌, cond, leb, List, [], ◌∷◌, ◌++◌, length, get_or, drop, Option, Some, None, option_map, replicate, refl, sym, ap, subst, ◌∙◌, arith, append_assoc, append-nil}
-use Rattle.std.specs.List.{slice_split}
 use Rattle.std.proofs.lemmas.List.{at_drop_more, at_drop_all, length_push, get_or-map}
 use Rattle.std.proofs.Math.Seq.{set-append_seam}
 use Rattle.std.proofs.Math.ListN.{set, length-map}
 use denote.Ref.{Bor}
 use Rattle.std.proofs.lemmas.List.Splits.{length-slice_split}
 use Rattle.std.proofs.lemmas.Bool.Decides.{nat_tests}
-use Rattle.std.proofs.lemmas.Grind.{common_steps}
 use Rattle.lines.specs.Lines.{texts, number_of}
 use Rattle.lines.specs.Grammar.{◌>>=◌, each, one_to, registers_of, parted_by}
 
@@ -31,9 +29,9 @@ pushed done a (Some xs) = ap (λ ys. Some ys) (append_assoc done (a ∷ []) xs)
 pub reads_more : {A : Type 0} (read : List ℕ → Option A) (parts : List (List ℕ)) (n : ℕ) (done : List A) (x : List ℕ) (a : A) → Reads read parts n done → (n < length parts) × (x ≡ get_or parts n x) → read x ≡ Some a → Reads read parts (n + 1) (done ++ a ∷ [])
 reads_more read parts n done x a r at is =
     let next : each read (drop n parts) ≡ (read x >>= λ first. each read (drop (n + 1) parts) >>= λ rest. Some (first ∷ rest)) =
-        at_drop_more (each read) parts n x at.0 ∙ ap (λ y. read y >>= λ first. each read (drop (n + 1) parts) >>= λ rest. Some (first ∷ rest)) (sym at.1) in
+    at_drop_more (each read) parts n x at.0 ∙ ap (λ y. read y >>= λ first. each read (drop (n + 1) parts) >>= λ rest. Some (first ∷ rest)) (sym at.1) in
     let read_next : each read (drop n parts) ≡ (each read (drop (n + 1) parts) >>= λ rest. Some (a ∷ rest)) =
-        next ∙ ap (λ o. o >>= λ first. each read (drop (n + 1) parts) >>= λ rest. Some (first ∷ rest)) is in
+    next ∙ ap (λ o. o >>= λ first. each read (drop (n + 1) parts) >>= λ rest. Some (first ∷ rest)) is in
     record {
       count = length_push done a ∙ ap (λ k. k + 1) r.count;
       rest = pushed done a (each read (drop (n + 1) parts)) ∙ ap (option_map (λ more. done ++ more)) (sym read_next) ∙ r.rest;
@@ -48,7 +46,7 @@ reads_push read parts yielded word done after x a r at is after_is =
 pub reads_bad : {A : Type 0} (read : List ℕ → Option A) (parts : List (List ℕ)) (n : ℕ) (done : List A) (x : List ℕ) → Reads read parts n done → (n < length parts) × (x ≡ get_or parts n x) → read x ≡ None → each read parts ≡ None
 reads_bad read parts n done x r at is =
     let next : each read (drop n parts) ≡ (read x >>= λ first. each read (drop (n + 1) parts) >>= λ rest. Some (first ∷ rest)) =
-        at_drop_more (each read) parts n x at.0 ∙ ap (λ y. read y >>= λ first. each read (drop (n + 1) parts) >>= λ rest. Some (first ∷ rest)) (sym at.1) in
+    at_drop_more (each read) parts n x at.0 ∙ ap (λ y. read y >>= λ first. each read (drop (n + 1) parts) >>= λ rest. Some (first ∷ rest)) (sym at.1) in
     sym r.rest ∙ ap (option_map (λ more. done ++ more)) (next ∙ ap (λ o. o >>= λ first. each read (drop (n + 1) parts) >>= λ rest. Some (first ∷ rest)) is)
 
 -- no part is left
@@ -107,3 +105,8 @@ pub registers_all : (words : List (List ℕ)) (done : List ℕ) (i : ℕ) → Re
 unfolding padded
 registers_all words done i r end some few =
     ap (λ n. Some (done ++ replicate (8 - n) 0)) (sym r.count) ∙ ap (λ o. o >>= padded) (one_to_all 8 number_of words done some few (reads_all number_of words i done r end))
+
+-- there are more than eight
+pub registers_many : (words : List (List ℕ)) → 8 < length words → None ≡ registers_of words
+unfolding padded
+registers_many words h = ap (λ o. o >>= padded) (one_to_many 8 number_of words h)

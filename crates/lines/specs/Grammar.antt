@@ -2,10 +2,9 @@
 use Rattle.std.specs.Prelude.{ℕ, ◌+◌, ◌-◌, ◌*◌, ◌^◌, Bool, true, false, ◌&&◌, ◌==◌, nat_le, nat_lt, sum_by, List, [], ◌∷◌, ◌++◌, length, replicate, codes, bytes_eq, option_map, Option, Some, None, if◌then◌else◌}
 use Rattle.std.specs.List.{slice_split, position_or_len, before_first, after_first}
 use Rattle.hex.specs.Hex.{hex_digit_value}
-use Rattle.base.specs.declared.transaction.Kind.{Kind}
 use Rattle.base.specs.declared.transaction.Kind.TheVariants.{Share, Lend, Donate}
 use Rattle.base.specs.Descriptors.Send.{Endpoint}
-use Rattle.base.specs.Descriptors.Encoding.{HeaderFields, RangeFields, RetrieveFields, RelinquishFields}
+use Rattle.base.specs.Descriptors.Encoding.{RangeFields, RetrieveFields, RelinquishFields}
 use Rattle.lines.specs.declared.send.ReclaimLine.{ReclaimLine}
 use Rattle.lines.specs.Lines.{number_of, id_of, permissions_of, count_of, is_nothing}
 use Rattle.lines.specs.Said.{Said, SaidSend, Nothing, Tx, Call, Send, Retrieve, Relinquish, Reclaim, Maps, Tables, Owners, Operations, Audit}

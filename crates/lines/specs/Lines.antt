@@ -1,5 +1,5 @@
 -- The parts of script lines.
-use Rattle.std.specs.Prelude.{◌≡◌, ℕ, ◌+◌, ◌≤◌, ◌^◌, Bool, true, not, ◌&&◌, ◌||◌, ◌==◌, nat_le, nat_lt, slice_index, sum_by, IsTrue, List, [], ◌∷◌, ◌++◌, length, map, codes, Option, Some, None, if◌then◌else◌}
+use Rattle.std.specs.Prelude.{◌≡◌, ℕ, ◌≤◌, ◌^◌, Bool, true, not, ◌&&◌, ◌||◌, ◌==◌, nat_le, nat_lt, slice_index, sum_by, IsTrue, List, [], ◌∷◌, length, map, Option, Some, None, if◌then◌else◌}
 use Rattle.std.specs.Borrow.{Bor}
 use Rattle.std.specs.List.{list_all}
 use Rattle.std.specs.Str.Parse.{digits_value}
@@ -54,10 +54,10 @@ abbrev pub IsWhole : SendLine → Type 0
 IsWhole send =
     (send.total ≡ sum_by (λ r. r.count) send.ranges.items) × (length send.ranges.items ≤ 512)
 
--- empty, or a comment of at most 66,000 bytes
+-- empty, or a comment, which begins with `#`
 abbrev pub is_nothing : List ℕ → Bool
 is_nothing [] = true
-is_nothing (byte ∷ bytes) = (byte == 35) && nat_le (1 + length bytes) 66000
+is_nothing (byte ∷ bytes) = byte == 35
 
 -- a copy of a TX buffer has at most 32,768 bytes, a send has its total and not too many ranges, and a relinquish no flag but one that orders a clear
 abbrev pub HasParts : Line → Type 0

@@ -66,7 +66,7 @@ pub enum Line {
 /// digits for each byte, in either case. COUNT is decimal, without a leading zero, and the counts of a
 /// line have a sum below 2^32.
 pub fn read_line(alloc: Global, bytes: &[u8]) -> Result<Option<Line>, OutOfMemory>
-    // What is read is what the bytes spell, and nothing is read only where they spell no line.
+    // The line is the one that the bytes spell, and None exactly where they spell none.
     ensures line { IfOk result (λ line. option_map said line ≡ line_of bytes.now) }
 
     // A copy of a TX buffer is no longer than one, a send has its total and not too many ranges, and a

@@ -24,7 +24,11 @@ pub(crate) fn read_retrieve(words: &[&str]) -> Option<RetrieveFields>
     let [id, handle, sender, tag, kind, permissions, last @ ..] = words else {
         return None;
     };
-    let bypass = if read_last_word("alone", last)? { BYPASS } else { 0 };
+    let bypass = if read_last_word("alone", last)? {
+        BYPASS
+    } else {
+        0
+    };
     let header = HeaderFields {
         sender: read_id(sender)?,
         attributes: MemoryAttributes::normal_write_back(),

@@ -1,4 +1,4 @@
-use Rattle.std.proofs.Common.{arith, ◌≡◌, ◌<◌, length, ⊎_elim}
+use Rattle.std.proofs.Common.{arith, ◌<◌, length, ⊎_elim}
 use Rattle.std.proofs.lemmas.Grind.{common_steps}
 use Rattle.lines.proofs.Hex.{copied, copy_long, copy_bad}
 use Rattle.lines.proofs.line.read_copy.Goals as goal

@@ -1,4 +1,4 @@
-use Rattle.std.proofs.Common.{arith, ◌≡◌, ◌<◌, ◌≤◌, length, map, Some, ap, sym, ◌∙◌}
+use Rattle.std.proofs.Common.{arith, ◌<◌, ◌≤◌, length, Some, ap, sym, ◌∙◌}
 use Rattle.std.proofs.lemmas.Grind.{common_steps}
 use Rattle.std.proofs.Math.ListN.{set}
 use Rattle.lines.specs.Lines.{texts, number_of}
@@ -15,8 +15,7 @@ pub loop-i-preserved : goal.loop-i-preserved
 loop-i-preserved c =
     let words = texts c.args.words.now in
     let at = word_at c.args.words.now c.loop-i.i _ c.loop-i-test.true in
-    let small : c.loop-i.i < 8 = omega arith in
-    (
+    let small : c.loop-i.i < 8 = omega arith in (
       _,
       reads_more number_of words _ _ _ _ c.loop-i.invariant.1 at (sym c.read_number.ensures ∙ c.in_ok-registers.was),
       ap (λ registers. set registers c.loop-i.i c.in_ok-registers.field-0) c.loop-i.invariant.2 ∙ registers_more _ _ _ c.loop-i.invariant.1.count small,

@@ -1,4 +1,4 @@
-use Rattle.std.proofs.Common.{◌≡◌, ℕ, ◌-◌, ◌≤◌, List, ◌++◌, length, replicate}
+use Rattle.std.proofs.Common.{◌≡◌, ℕ, ◌-◌, List, ◌++◌, replicate}
 use Rattle.lines.specs.Lines.{texts, number_of}
 use Rattle.lines.proofs.Parts.{Reads}
 use Rattle.lines.proofs.line.read_registers.Given as goal

@@ -1,8 +1,7 @@
-use Rattle.std.proofs.Common.{arith, ◌≡◌, ◌<◌, ap, sym, ◌∙◌, map, length}
+use Rattle.std.proofs.Common.{arith, ◌≡◌, ap, sym, ◌∙◌, map, length}
 use Rattle.std.proofs.lemmas.Iterator.Splits.{YieldsList-from_str_split}
 use Rattle.std.proofs.lemmas.Iterator.Consumers.{YieldsList-turn, YieldsList-end}
 use borrow.Author.Tests.{eqb-true}
-use Rattle.lines.specs.Grammar.{parted_by}
 use Rattle.lines.proofs.line.words_of.Goals as goal
 
 pub returns-then-is_full : goal.returns-then-is_full

@@ -1,10 +1,10 @@
-use Rattle.std.proofs.Common.{arith, ◌≡◌, ap, sym, ◌∙◌, map, length, option_map}
+use Rattle.std.proofs.Common.{arith, ap, sym, ◌∙◌, option_map}
 use Rattle.std.proofs.lemmas.Iterator.Splits.{YieldsList-from_str_split}
 use Rattle.std.proofs.lemmas.Iterator.Consumers.{YieldsList-turn, YieldsList-end}
 use Rattle.std.proofs.lemmas.Grind.{common_steps}
 use borrow.Author.Tests.{eqb-true}
 use Rattle.lines.specs.Grammar.{parted_by, receiver_of}
-use Rattle.lines.proofs.Parts.{Reads, reads_push, reads_bad, reads_all, one_to_bad, one_to_many, one_to_all, some_parts}
+use Rattle.lines.proofs.Parts.{reads_push, reads_bad, reads_all, one_to_bad, one_to_many, one_to_all, some_parts}
 use Rattle.lines.proofs.send.read_receivers.Goals as goal
 
 pub returns-in_err-read_receiver : goal.returns-in_err-read_receiver
