@@ -1,8 +1,10 @@
 -- The grammar of lines of scripts.
 use Rattle.std.specs.Prelude.{ℕ, ◌+◌, ◌-◌, ◌*◌, ◌^◌, Bool, true, false, ◌&&◌, ◌==◌, nat_le, nat_lt, sum_by, List, [], ◌∷◌, ◌++◌, length, replicate, codes, bytes_eq, option_map, Option, Some, None, if◌then◌else◌}
 use Rattle.std.specs.List.{slice_split, position_or_len, before_first, after_first}
+use Rattle.std.specs.Str.{byte}
 use Rattle.hex.specs.Hex.{hex_digit_value}
 use Rattle.base.specs.declared.transaction.Kind.TheVariants.{Share, Lend, Donate}
+use Rattle.base.specs.Descriptors.Permissions.{normal_write_back}
 use Rattle.base.specs.Descriptors.Send.{Endpoint}
 use Rattle.base.specs.Descriptors.Encoding.{RangeFields, RetrieveFields, RelinquishFields}
 use Rattle.lines.specs.declared.send.ReclaimLine.{ReclaimLine}
@@ -17,15 +19,15 @@ None >>= next = None
 
 -- ---- lists of parts
 
--- the parts between bytes of this value
+-- the parts between these marks
 abbrev pub parted_by : ℕ → List ℕ → List (List ℕ)
-parted_by byte text = slice_split (λ b. b == byte) text
+parted_by mark text = slice_split (λ b. b == mark) text
 
--- what stands before the first byte of this value, and after it
+-- what stands before the first of these marks, and after it
 abbrev pub halves_at : ℕ → List ℕ → Option (List ℕ × List ℕ)
-halves_at byte text =
-    if nat_lt (position_or_len (λ b. b == byte) text) (length text)
-    then Some (before_first (λ b. b == byte) text, after_first (λ b. b == byte) text) else None
+halves_at mark text =
+    if nat_lt (position_or_len (λ b. b == mark) text) (length text)
+    then Some (before_first (λ b. b == mark) text, after_first (λ b. b == mark) text) else None
 
 -- what each part writes
 abbrev pub each : {A : Type 0} → (List ℕ → Option A) → List (List ℕ) → Option (List A)
@@ -67,26 +69,26 @@ copy_of word = do
 -- `ID:PERM`
 abbrev pub receiver_of : List ℕ → Option Endpoint
 receiver_of word = do
-  halves ← halves_at 58 word
+  halves ← halves_at (byte ":") word
   id ← id_of halves.0
   permissions ← permissions_of halves.1
   Some (record { partition = id; permissions = permissions })
 
 -- RECEIVERS: 1 to 8, parted by commas
 abbrev pub receivers_of : List ℕ → Option (List Endpoint)
-receivers_of word = one_to 8 receiver_of (parted_by 44 word)
+receivers_of word = one_to 8 receiver_of (parted_by (byte ",") word)
 
 -- `NUM+COUNT`
 abbrev pub range_of : List ℕ → Option RangeFields
 range_of word = do
-  halves ← halves_at 43 word
+  halves ← halves_at (byte "+") word
   address ← number_of halves.0
   count ← count_of halves.1
   Some (record { address = address; count = count })
 
 -- RANGES: 1 to 512, parted by commas
 abbrev pub ranges_of : List ℕ → Option (List RangeFields)
-ranges_of word = one_to 512 range_of (parted_by 44 word)
+ranges_of word = one_to 512 range_of (parted_by (byte ",") word)
 
 -- the sum of the ranges' counts, which is below 2^32
 abbrev pub total_of : List RangeFields → Option ℕ
@@ -97,7 +99,9 @@ total_of ranges =
 -- TYPE: the flags of a retrieve request with the type in bits 4:3 that a digit 0 to 3 writes
 abbrev pub type_of : List ℕ → Option ℕ
 type_of [] = None
-type_of (digit ∷ []) = if nat_le 48 digit && nat_le digit 51 then Some (8 * (digit - 48)) else None
+type_of (digit ∷ []) =
+    if nat_le (byte "0") digit && nat_le digit (byte "3") then Some (8 * (digit - byte "0"))
+    else None
 type_of (digit ∷ next ∷ more) = None
 
 -- ---- the words after a line's name
@@ -152,7 +156,7 @@ send_of (id ∷ number ∷ endpoints ∷ pages ∷ last) = do
   send_with id number endpoints ranges last
 send_of words = None
 
--- `ID NUM ID NUM TYPE PERM`, and the same with a last word `alone`, which is bit 10 of the flags: the caller, the handle, the sender, the tag, the type and the permissions; the attributes are normal memory, write-back, inner shareable
+-- `ID NUM ID NUM TYPE PERM`, and the same with a last word `alone`, which is bit 10 of the flags: the caller, the handle, the sender, the tag, the type and the permissions
 abbrev pub retrieve_of : List (List ℕ) → Option RetrieveFields
 retrieve_of (id ∷ number ∷ owner ∷ label ∷ digit ∷ rights ∷ last) = do
   caller ← id_of id
@@ -165,8 +169,8 @@ retrieve_of (id ∷ number ∷ owner ∷ label ∷ digit ∷ rights ∷ last) = 
   Some (record {
     header = record {
       sender = sender;
-      attributes = 47;
-      flags = kind + (if alone then 1024 else 0);
+      attributes = normal_write_back;
+      flags = kind + (if alone then 0x400 else 0);
       handle = handle;
       tag = tag;
     };
@@ -233,4 +237,4 @@ abbrev pub line_of : List ℕ → Option Said
 line_of bytes =
     if nat_lt 66000 (length bytes) then None
     else if is_nothing bytes then Some Nothing
-    else line_of_words (parted_by 32 bytes)
+    else line_of_words (parted_by (byte " ") bytes)

@@ -2,6 +2,7 @@
 use Rattle.std.specs.Prelude.{◌≡◌, ℕ, ◌≤◌, ◌^◌, Bool, true, not, ◌&&◌, ◌||◌, ◌==◌, nat_le, nat_lt, slice_index, sum_by, IsTrue, List, [], ◌∷◌, length, map, Option, Some, None, if◌then◌else◌}
 use Rattle.std.specs.Borrow.{Bor}
 use Rattle.std.specs.List.{list_all}
+use Rattle.std.specs.Str.{byte}
 use Rattle.std.specs.Str.Parse.{digits_value}
 use Rattle.base.specs.Descriptors.Send.{are_clear_flags}
 use Rattle.lines.specs.declared.line.Line.{Line}
@@ -36,7 +37,7 @@ permissions_of word =
 
 -- a zero stands first, and not alone
 abbrev pub has_leading_zero : List ℕ → Bool
-has_leading_zero word = nat_lt 1 (length word) && (slice_index word 0 == 48)
+has_leading_zero word = nat_lt 1 (length word) && (slice_index word 0 == byte "0")
 
 -- the number below 2^32 that decimal digits without a leading zero write
 abbrev pub count_of : List ℕ → Option ℕ
@@ -57,7 +58,7 @@ IsWhole send =
 -- empty, or a comment, which begins with `#`
 abbrev pub is_nothing : List ℕ → Bool
 is_nothing [] = true
-is_nothing (byte ∷ bytes) = byte == 35
+is_nothing (first ∷ rest) = first == byte "#"
 
 -- a copy of a TX buffer has at most 32,768 bytes, a send has its total and not too many ranges, and a relinquish no flag but one that orders a clear
 abbrev pub HasParts : Line → Type 0

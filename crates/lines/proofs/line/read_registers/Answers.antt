@@ -13,9 +13,9 @@ returns-in_err-registers c =
 
 pub loop-i-preserved : goal.loop-i-preserved
 loop-i-preserved c =
+    let small : c.loop-i.i < 8 = omega arith in
     let words = texts c.args.words.now in
-    let at = word_at c.args.words.now c.loop-i.i _ c.loop-i-test.true in
-    let small : c.loop-i.i < 8 = omega arith in (
+    let at = word_at c.args.words.now c.loop-i.i _ c.loop-i-test.true in (
       _,
       reads_more number_of words _ _ _ _ c.loop-i.invariant.1 at (sym c.read_number.ensures ∙ c.in_ok-registers.was),
       ap (λ registers. set registers c.loop-i.i c.in_ok-registers.field-0) c.loop-i.invariant.2 ∙ registers_more _ _ _ c.loop-i.invariant.1.count small,
