@@ -1,6 +1,9 @@
 //! The text of the operations of a call.
 
-ghost use Rattle.std.specs.Prelude.{◌≡◌, ◌*◌};
+ghost use Rattle.std.specs.Prelude.{◌≡◌, ◌*◌, ◌++◌, codes, OnOk};
+ghost use Rattle.std.specs.Fmt.{decimal};
+ghost use Rattle.audit.specs.Texts.{address_text};
+ghost use Rattle.ffaspm.specs.Texts as spec;
 
 use crate::digits::{push_decimal, push_hex};
 use base::limits::PAGE_SIZE;
@@ -9,7 +12,10 @@ use pool::Op;
 use std::alloc::AllocError;
 
 /// Writes `ops N`, and then the N operations in the order in which they were made.
-pub(crate) fn write_operations(operations: &[Op], text: &mut Vec<u8>) -> Result<(), AllocError> {
+pub(crate) fn write_operations(operations: &[Op], text: &mut Vec<u8>) -> Result<(), AllocError>
+    ensures { OnOk result
+        (text.new.items ≡ text.old.items ++ spec.operations_text operations.now) }
+{
     text.extend_from_slice(b"ops ")?;
     push_decimal(text, operations.len() as u64)?;
     text.extend_from_slice(b"\n")?;
@@ -21,7 +27,10 @@ pub(crate) fn write_operations(operations: &[Op], text: &mut Vec<u8>) -> Result<
 
 /// Writes a word as `set POOLPAGE INDEX WORD`, an invalidation as `inv ID ADDRESS COUNT`, and a clear as
 /// `clear ADDRESS COUNT`.
-fn write_operation(operation: &Op, text: &mut Vec<u8>) -> Result<(), AllocError> {
+fn write_operation(operation: &Op, text: &mut Vec<u8>) -> Result<(), AllocError>
+    ensures { OnOk result
+        (text.new.items ≡ text.old.items ++ spec.operation_text operation.now) }
+{
     match operation {
         Op::Set { page, index, word } => {
             text.extend_from_slice(b"set ")?;
@@ -46,7 +55,10 @@ fn write_operation(operation: &Op, text: &mut Vec<u8>) -> Result<(), AllocError>
 }
 
 /// Appends `ADDRESS COUNT`.
-fn push_run(text: &mut Vec<u8>, run: Run) -> Result<(), AllocError> {
+fn push_run(text: &mut Vec<u8>, run: Run) -> Result<(), AllocError>
+    ensures { OnOk result (text.new.items
+        ≡ text.old.items ++ address_text run.first ++ codes " " ++ decimal run.count) }
+{
     push_hex(text, 10, address_of(run.first()))?;
     text.extend_from_slice(b" ")?;
     push_decimal(text, u64::from(run.count()))
