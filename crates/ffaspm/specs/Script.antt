@@ -83,12 +83,12 @@ handed_over p identifier tx =
 abbrev pub send_call : State → Kind → SaidSend → CallWords
 send_call s kind send =
     handed_over send.sender (identifier_of kind)
-        (send_text (version_of s.partitions send.sender) (fields_of kind send))
+    (send_text (version_of s.partitions send.sender) (fields_of kind send))
 
 abbrev pub retrieve_call : State → RetrieveFields → CallWords
 retrieve_call s f =
     handed_over f.endpoint.partition 0x84000074
-        (retrieve_text (version_of s.partitions f.endpoint.partition) f)
+    (retrieve_text (version_of s.partitions f.endpoint.partition) f)
 
 abbrev pub relinquish_call : RelinquishFields → CallWords
 relinquish_call f =
@@ -130,7 +130,12 @@ IsTextOf s line text = text ≡ option_map_or (λ c. reply_text (answer s.state 
 
 -- a line's text was appended
 abbrev pub AppendsText : Session → Said → List ℕ → List ℕ → Type 0
-AppendsText s line old new = (mine : List ℕ) × IsTextOf s line mine × (new ≡ old ++ mine)
+AppendsText s line old new = (mine : List ℕ) × (new ≡ old ++ mine) × IsTextOf s line mine
+
+-- bytes are a line, which leads from one session to another and whose text was appended
+abbrev pub RunsLine : Session → Session → List ℕ → List ℕ → List ℕ → Type 0
+RunsLine s next bytes old new =
+    (line : Said) × (line_of bytes ≡ Some line) × (next ≡ after s line) × AppendsText s line old new
 
 -- ---- scripts
 

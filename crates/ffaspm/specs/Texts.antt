@@ -36,4 +36,3 @@ operation_text (Clear run) =
 abbrev pub operations_text : List Op → List ℕ
 operations_text operations =
     codes "ops " ++ decimal (length operations) ++ codes "\n" ++ flat_map operation_text operations
-

@@ -10,8 +10,6 @@ use std::alloc::AllocError;
 /// The widest number.
 const MOST_WIDTH: usize = 16;
 
-const ZEROS: [u8; MOST_WIDTH] = [b'0'; MOST_WIDTH];
-
 /// Appends a number in lower-case hexadecimal digits, with zeros in front up to a width.
 pub(crate) fn push_hex(text: &mut Vec<u8>, width: usize, number: u64) -> Result<(), AllocError>
     requires { width ≤ 16 }
@@ -27,7 +25,8 @@ fn push_zeros(text: &mut Vec<u8>, count: usize) -> Result<(), AllocError>
     requires { count ≤ 16 }
     ensures { OnOk result (text.new.items ≡ text.old.items ++ replicate count 48) }
 {
-    text.extend_from_slice(&ZEROS[..count])
+    let zeros = [b'0'; MOST_WIDTH];
+    text.extend_from_slice(&zeros[..count])
 }
 
 /// Writes the hexadecimal digits of a number up to the end, and answers where they begin.

@@ -1,5 +1,11 @@
 //! Scripts of calls.
 
+ghost use Rattle.std.specs.Prelude.{◌≡◌, ◌⊎◌, None, OnOk, OnErr, IfErr};
+ghost use Rattle.std.specs.BTreeMap.{get};
+ghost use Rattle.std.specs.Ordering.{nat_cmp};
+ghost use Rattle.lines.specs.Grammar.{line_of};
+ghost use Rattle.ffaspm.specs.Script as spec;
+
 use crate::fault::RunFault;
 use crate::input::read_script;
 use crate::output::{finish, write_if_long};
@@ -40,29 +46,37 @@ fn run_lines<M: TableMem + Drop, W: Write>(
     text: &mut Vec<u8>,
     writer: &mut Watched<W>,
 ) -> Result<(), RunFault> {
+    let mut line_text = Vec::new(session.alloc);
     let mut number = 0u32;
     for bytes in script.split(|byte| *byte == b'\n') {
         number = number.saturating_add(1);
-        run_line(session, bytes, number, text)?;
+        run_line(session, bytes, number, &mut line_text, text)?;
         write_if_long(text, writer)?;
     }
     Ok(())
 }
 
-/// Does what a line says, and appends what it writes. An error leaves the text as it was.
+/// Does what a line says, and appends what it writes, which is gathered in `line_text`. An error leaves
+/// the text as it was.
 fn run_line<M: TableMem + Drop>(
     session: &mut Session<M>,
     bytes: &[u8],
     number: u32,
+    line_text: &mut Vec<u8>,
     text: &mut Vec<u8>,
-) -> Result<(), RunFault> {
+) -> Result<(), RunFault>
+    ensures ok { OnOk result (spec.RunsLine
+        (spec.session_at session.old.spm.state (get nat_cmp session.old.kept))
+        (spec.session_at session.new.spm.state (get nat_cmp session.new.kept))
+        bytes.now text.old.items text.new.items) }
+    ensures same { OnErr result (text.new.items ≡ text.old.items) }
+    ensures faults { IfErr result (λ fault. (fault ≡ RunFault.Memory)
+        ⊎ ((fault ≡ RunFault.Line number) × (line_of bytes.now ≡ None))) }
+{
     let Some(line) = read_line(session.alloc, bytes)? else {
         return Err(RunFault::Line(number));
     };
-    let before = text.len();
-    let outcome = session.line(line, text);
-    if outcome.is_err() {
-        text.truncate(before);
-    }
-    outcome
+    line_text.clear();
+    session.line(line, line_text)?;
+    Ok(text.extend_from_slice(line_text)?)
 }

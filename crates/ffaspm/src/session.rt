@@ -13,7 +13,6 @@ ghost use Rattle.rules.specs.Run as rules;
 ghost use Rattle.ffaspm.specs.Script as spec;
 ghost use Rattle.ffaspm.specs.Texts.{reply_text};
 
-use crate::fault::RunFault;
 use crate::operations::write_operations;
 use crate::replies::write_reply;
 use audit::{audit_text, maps_text, owners_text, tables_text};
@@ -54,7 +53,8 @@ impl<M: TableMem + Drop> Session<M> {
     }
 
     /// Does what a line says, and appends what it writes. An error may leave a beginning of that.
-    pub(crate) fn line(&mut self, line: Line, text: &mut Vec<u8>) -> Result<(), RunFault>
+    #[tactic(auto, using(crate::proofs::Sessions::same_session), unfolding(crate::specs::Script::IsTextOf, crate::specs::Script::after))]
+    pub(crate) fn line(&mut self, line: Line, text: &mut Vec<u8>) -> Result<(), OutOfMemory>
         requires { HasParts line }
         ensures text { OnOk result (spec.AppendsText (spec.session_at self.old.spm.state (get nat_cmp self.old.kept)) (said line)
             text.old.items text.new.items) }
@@ -81,7 +81,7 @@ impl<M: TableMem + Drop> Session<M> {
     }
 
     /// Keeps bytes as those of a partition's TX buffer.
-    fn keep(&mut self, id: PartitionId, bytes: Vec<u8>) -> Result<(), RunFault>
+    fn keep(&mut self, id: PartitionId, bytes: Vec<u8>) -> Result<(), OutOfMemory>
         ensures state { OnOk result (self.new.spm.state ≡ self.old.spm.state) }
         ensures kept { OnOk result ((p : ℕ) → spec.kept_by (get nat_cmp self.new.kept) p
             ≡ spec.with_kept id bytes.items (spec.kept_by (get nat_cmp self.old.kept)) p) }
@@ -102,7 +102,7 @@ impl<M: TableMem + Drop> Session<M> {
         id: PartitionId,
         regs: [u64; 8],
         text: &mut Vec<u8>,
-    ) -> Result<(), RunFault>
+    ) -> Result<(), OutOfMemory>
         ensures text { OnOk result (text.new.items ≡ text.old.items
             ++ reply_text (rules.answer self.old.spm.state (spec.call_by (spec.kept_by (get nat_cmp self.old.kept)) id regs))) }
         ensures state { OnOk result (self.new.spm.state ≡ rules.step self.old.spm.state (spec.call_by (spec.kept_by (get nat_cmp self.old.kept)) id regs)) }
@@ -112,6 +112,7 @@ impl<M: TableMem + Drop> Session<M> {
         let caller = id.number();
         match self.kept.get_mut(&caller) {
             Some(call) => {
+                call.caller = caller;
                 call.regs = regs;
                 answer(&mut self.spm, call, text)
             }
@@ -124,7 +125,7 @@ impl<M: TableMem + Drop> Session<M> {
 
     /// A send whose descriptor is in the layout of the sender's version. The bytes that are kept for it
     /// stay.
-    fn send(&mut self, kind: Kind, send: &SendLine, text: &mut Vec<u8>) -> Result<(), RunFault>
+    fn send(&mut self, kind: Kind, send: &SendLine, text: &mut Vec<u8>) -> Result<(), OutOfMemory>
         requires { IsWhole send.now }
         ensures text { OnOk result (text.new.items ≡ text.old.items
             ++ reply_text (rules.answer self.old.spm.state (spec.send_call self.old.spm.state kind (said_send send.now)))) }
@@ -149,7 +150,7 @@ impl<M: TableMem + Drop> Session<M> {
     }
 
     /// A retrieve request in the layout of the caller's version. The bytes that are kept for it stay.
-    fn retrieve(&mut self, fields: &RetrieveFields, text: &mut Vec<u8>) -> Result<(), RunFault>
+    fn retrieve(&mut self, fields: &RetrieveFields, text: &mut Vec<u8>) -> Result<(), OutOfMemory>
         ensures text { OnOk result (text.new.items ≡ text.old.items
             ++ reply_text (rules.answer self.old.spm.state (spec.retrieve_call self.old.spm.state fields.now))) }
         ensures state { OnOk result (self.new.spm.state ≡ rules.step self.old.spm.state (spec.retrieve_call self.old.spm.state fields.now)) }
@@ -167,7 +168,7 @@ impl<M: TableMem + Drop> Session<M> {
         function: u32,
         tx: Vec<u8>,
         text: &mut Vec<u8>,
-    ) -> Result<(), RunFault>
+    ) -> Result<(), OutOfMemory>
         ensures text { OnOk result (text.new.items ≡ text.old.items
             ++ reply_text (rules.answer self.old.spm.state (spec.handed_over id function tx.items))) }
         ensures state { OnOk result (self.new.spm.state ≡ rules.step self.old.spm.state (spec.handed_over id function tx.items)) }
@@ -187,7 +188,7 @@ impl<M: TableMem + Drop> Session<M> {
         &mut self,
         fields: &RelinquishFields,
         text: &mut Vec<u8>,
-    ) -> Result<(), RunFault>
+    ) -> Result<(), OutOfMemory>
         ensures text { OnOk result (text.new.items ≡ text.old.items
             ++ reply_text (rules.answer self.old.spm.state (spec.relinquish_call fields.now))) }
         ensures state { OnOk result (self.new.spm.state ≡ rules.step self.old.spm.state (spec.relinquish_call fields.now)) }
@@ -203,7 +204,7 @@ impl<M: TableMem + Drop> Session<M> {
     }
 
     /// What a partition reaches.
-    fn maps(&self, id: PartitionId, text: &mut Vec<u8>) -> Result<(), RunFault>
+    fn maps(&self, id: PartitionId, text: &mut Vec<u8>) -> Result<(), OutOfMemory>
         ensures { OnOk result (text.new.items
             ≡ text.old.items ++ texts.maps_text id (state.sees self.now.spm.state id)) }
     {
@@ -212,7 +213,7 @@ impl<M: TableMem + Drop> Session<M> {
     }
 
     /// The entries of a partition's tables.
-    fn tables(&self, id: PartitionId, text: &mut Vec<u8>) -> Result<(), RunFault>
+    fn tables(&self, id: PartitionId, text: &mut Vec<u8>) -> Result<(), OutOfMemory>
         ensures { OnOk result (text.new.items
             ≡ text.old.items ++ texts.tables_text id (state.sees self.now.spm.state id)) }
     {
@@ -221,7 +222,7 @@ impl<M: TableMem + Drop> Session<M> {
     }
 
     /// Who owns which pages.
-    fn owners(&self, text: &mut Vec<u8>) -> Result<(), RunFault>
+    fn owners(&self, text: &mut Vec<u8>) -> Result<(), OutOfMemory>
         ensures { OnOk result (text.new.items
             ≡ text.old.items ++ texts.owners_text self.now.spm.state.manifest self.now.spm.state.donations) }
     {
@@ -230,7 +231,7 @@ impl<M: TableMem + Drop> Session<M> {
     }
 
     /// Whether the tables are those that are made again from the ledger.
-    fn audit(&self, text: &mut Vec<u8>) -> Result<(), RunFault>
+    fn audit(&self, text: &mut Vec<u8>) -> Result<(), OutOfMemory>
         ensures { OnOk result (text.new.items
             ≡ text.old.items ++ codes "equal\n") }
     {
@@ -245,7 +246,7 @@ fn answer<M: TableMem + Drop>(
     spm: &mut Spm<M>,
     call: &Call,
     text: &mut Vec<u8>,
-) -> Result<(), RunFault>
+) -> Result<(), OutOfMemory>
     ensures text { OnOk result
         (text.new.items ≡ text.old.items ++ reply_text (rules.answer spm.old.state call.now)) }
     ensures state { OnOk result (spm.new.state ≡ rules.step spm.old.state call.now) }
