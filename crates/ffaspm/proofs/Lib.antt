@@ -1,2 +1,3 @@
 pub mod HexDigits
 pub mod Sessions
+pub mod Runs
