@@ -14,6 +14,7 @@ mod operations;
 mod quotas;
 mod reclaims;
 mod retrieves;
+mod rows;
 mod tables;
 mod walkers;
 
