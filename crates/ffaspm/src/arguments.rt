@@ -1,6 +1,6 @@
 //! The program's words.
 
-use crate::fault::{Fault, RunFault};
+use crate::fault::Fault;
 use clap::error::ErrorKind;
 use clap::{Arg, ArgAction, ArgMatches, Command, Error};
 use std::alloc::{AllocError, Global};
@@ -60,7 +60,7 @@ pub(crate) fn read_arguments<'a>(
     match parsed(alloc, words) {
         Ok(matches) => arguments_of(&matches).ok_or(Fault::Usage),
         Err(error) => match error.kind() {
-            ErrorKind::OutOfMemory => Err(Fault::Run(RunFault::Memory)),
+            ErrorKind::OutOfMemory => Err(Fault::Memory),
             _ => Err(Fault::Usage),
         },
     }

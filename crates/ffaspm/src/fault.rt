@@ -1,3 +1,6 @@
+ghost use Rattle.std.specs.Prelude.{◌≡◌};
+ghost use Rattle.ffaspm.specs.declared.fault.RunFault.TheVariants.{Memory};
+
 use base::OutOfMemory;
 use manifest::ManifestFault;
 use std::alloc::{AllocError, AllocFailed};
@@ -6,15 +9,19 @@ use thiserror::Error;
 #[cfg(test)]
 mod tests;
 
-/// Why a script ended before its last line. The text has the lines before that.
-#[derive(Clone, Copy, Debug, PartialEq, Eq, Error)]
+/// Why the run of a script ended early.
+#[derive(Clone, Copy, Debug, PartialEq, Eq)]
 pub enum RunFault {
-    /// The line with this number, from 1, is none.
-    #[error("script: line {0}")]
+    /// The line with this number, from 1, is none. The text of the lines before it was written.
     Line(u32),
-    /// A growth of the heap was refused.
-    #[error("out of memory")]
+    /// The script has too many bytes. Nothing was written.
+    TooLong,
+    /// A growth of the heap was refused. A beginning of the text was written.
     Memory,
+    /// The reader failed. Nothing was written.
+    Read,
+    /// The writer failed. A beginning of the text was written.
+    Write,
 }
 
 /// Why the program ends with a status other than 0, as its line on standard error says.
@@ -26,9 +33,15 @@ pub enum Fault {
     /// The manifest breaks a rule.
     #[error("manifest: fault {}", .0.number())]
     Manifest(ManifestFault),
+    /// The line of the script with this number, from 1, is none.
+    #[error("script: line {0}")]
+    Line(u32),
     /// The script has too many bytes.
     #[error("script: too long")]
     TooLong,
+    /// A growth of the heap was refused.
+    #[error("out of memory")]
+    Memory,
     /// The manifest's file could not be read, or has too many bytes.
     #[error("file: manifest")]
     ManifestFile,
@@ -38,58 +51,67 @@ pub enum Fault {
     /// The text could not be written.
     #[error("file: output")]
     Output,
-    /// The script ended early.
-    #[error(transparent)]
-    Run(RunFault),
 }
 
 impl Fault {
     /// The exit status of the program.
     pub fn status(&self) -> u8 {
         match self {
-            Fault::Manifest(ManifestFault::OutOfMemory) | Fault::Run(RunFault::Memory) => 4,
+            Fault::Manifest(ManifestFault::OutOfMemory) | Fault::Memory => 4,
             Fault::Manifest(_) => 1,
             Fault::Usage => 2,
-            Fault::TooLong | Fault::Run(RunFault::Line(_)) => 3,
+            Fault::TooLong | Fault::Line(_) => 3,
             Fault::ManifestFile | Fault::ScriptFile | Fault::Output => 5,
         }
     }
 }
 
 impl From<OutOfMemory> for RunFault {
+    ghost from_gives = { λ _ fault. fault ≡ Memory };
+
     fn from(_error: OutOfMemory) -> RunFault {
         RunFault::Memory
     }
 }
 
 impl From<AllocError> for RunFault {
+    ghost from_gives = { λ _ fault. fault ≡ Memory };
+
     fn from(_error: AllocError) -> RunFault {
         RunFault::Memory
     }
 }
 
 impl<T: Drop> From<AllocFailed<T>> for RunFault {
+    ghost from_gives = { λ _ fault. fault ≡ Memory };
+
     fn from(_error: AllocFailed<T>) -> RunFault {
         RunFault::Memory
     }
 }
 
+impl From<OutOfMemory> for Fault {
+    fn from(_error: OutOfMemory) -> Fault {
+        Fault::Memory
+    }
+}
+
 impl From<AllocError> for Fault {
     fn from(_error: AllocError) -> Fault {
-        Fault::Run(RunFault::Memory)
+        Fault::Memory
     }
 }
 
 impl<T: Drop> From<AllocFailed<T>> for Fault {
     fn from(_error: AllocFailed<T>) -> Fault {
-        Fault::Run(RunFault::Memory)
+        Fault::Memory
     }
 }
 
 impl From<ManifestFault> for Fault {
     fn from(fault: ManifestFault) -> Fault {
         match fault {
-            ManifestFault::OutOfMemory => Fault::Run(RunFault::Memory),
+            ManifestFault::OutOfMemory => Fault::Memory,
             _ => Fault::Manifest(fault),
         }
     }
@@ -97,6 +119,12 @@ impl From<ManifestFault> for Fault {
 
 impl From<RunFault> for Fault {
     fn from(fault: RunFault) -> Fault {
-        Fault::Run(fault)
+        match fault {
+            RunFault::Line(number) => Fault::Line(number),
+            RunFault::TooLong => Fault::TooLong,
+            RunFault::Memory => Fault::Memory,
+            RunFault::Read => Fault::ScriptFile,
+            RunFault::Write => Fault::Output,
+        }
     }
 }

@@ -1,15 +1,12 @@
 //! The program's files.
 
-use crate::fault::{Fault, RunFault};
+use crate::fault::Fault;
 use manifest::{Manifest, read};
 use std::fs::File;
 use std::io::{self, ErrorKind, Read};
 
 /// The most bytes of a manifest.
 const MOST_MANIFEST: usize = 1_048_576;
-
-/// The most bytes of a script.
-const MOST_SCRIPT: usize = 16_777_216;
 
 /// The bytes of a file; of one that has more than so many, one more than that.
 fn read_at_most(rt: &HostRuntime, path: &str, most: usize) -> io::Result<Vec<u8>> {
@@ -22,7 +19,7 @@ fn read_at_most(rt: &HostRuntime, path: &str, most: usize) -> io::Result<Vec<u8>
 /// Want of memory, or else this fault.
 fn fault_of(error: &io::Error, fault: Fault) -> Fault {
     match error.kind() {
-        ErrorKind::OutOfMemory => Fault::Run(RunFault::Memory),
+        ErrorKind::OutOfMemory => Fault::Memory,
         _ => fault,
     }
 }
@@ -39,14 +36,7 @@ pub(crate) fn read_manifest(rt: &HostRuntime, path: &str) -> Result<Manifest, Fa
     Ok(read(rt.alloc(), &bytes)?)
 }
 
-/// The bytes of a script's file.
-pub(crate) fn read_script(rt: &HostRuntime, path: &str) -> Result<Vec<u8>, Fault> {
-    let bytes = read_at_most(rt, path, MOST_SCRIPT).map_err(|error| fault_of(
-        &error,
-        Fault::ScriptFile,
-    ))?;
-    if bytes.len() > MOST_SCRIPT {
-        return Err(Fault::TooLong);
-    }
-    Ok(bytes)
+/// Opens a script's file.
+pub(crate) fn open_script(rt: &HostRuntime, path: &str) -> Result<File, Fault> {
+    File::open(rt, path).map_err(|error| fault_of(&error, Fault::ScriptFile))
 }

@@ -5,18 +5,25 @@
 
 use arguments::{Task, read_arguments, words_of};
 use audit::check_text;
-use fault::{Fault, RunFault};
-use files::{read_manifest, read_script};
+use fault::Fault;
+use files::{open_script, read_manifest};
 use pool::RawPool;
 use script::run_script;
 use std::io::{self, Write};
 use std::process::ExitCode;
+use watched::Watched;
 
 mod arguments;
+mod digits;
 mod fault;
 mod files;
+mod input;
 mod operations;
+mod output;
+mod replies;
 mod script;
+mod session;
+mod watched;
 
 /// The manifest is read and judged before the script is opened.
 fn perform(rt: &HostRuntime, task: &Task<'_>) -> Result<(), Fault> {
@@ -24,24 +31,18 @@ fn perform(rt: &HostRuntime, task: &Task<'_>) -> Result<(), Fault> {
     match task {
         Task::Run { manifest, script } => {
             let manifest = read_manifest(rt, manifest)?;
-            let script = read_script(rt, script)?;
-            let mut text = String::new(alloc);
-            let outcome = run_script::<RawPool>(alloc, manifest, &script, &mut text);
-            write_text(rt, &text)?;
-            Ok(outcome?)
+            let mut reader = Watched::new(open_script(rt, script)?);
+            let mut writer = Watched::new(io::writer(rt));
+            Ok(run_script::<RawPool, _, _>(alloc, manifest, &mut reader, &mut writer)?)
         }
         Task::Check { manifest } => {
             let manifest = read_manifest(rt, manifest)?;
-            let text = check_text(alloc, &manifest).map_err(|_| Fault::Run(RunFault::Memory))?;
-            write_text(rt, &text)
+            let text = check_text(alloc, &manifest)?;
+            io::writer(rt)
+                .write_all(text.as_bytes())
+                .map_err(|_| Fault::Output)
         }
     }
-}
-
-fn write_text(rt: &HostRuntime, text: &str) -> Result<(), Fault> {
-    io::writer(rt)
-        .write_all(text.as_bytes())
-        .map_err(|_| Fault::Output)
 }
 
 /// Does what the program's words ask for. A fault comes with whether it is to be explained.

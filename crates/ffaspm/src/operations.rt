@@ -1,20 +1,24 @@
-//! The text of the operations of the last call.
+//! The text of the operations of a call.
 
-ghost use Rattle.std.specs.Prelude.{◌≡◌, ◌*◌};
+ghost use Rattle.std.specs.Prelude.{◌≡◌, ◌*◌, ◌++◌, codes, OnOk};
+ghost use Rattle.std.specs.Fmt.{decimal};
+ghost use Rattle.audit.specs.Texts.{address_text};
+ghost use Rattle.ffaspm.specs.Texts as spec;
 
-use crate::fault::RunFault;
-use base::Page;
+use crate::digits::{push_decimal, push_hex};
 use base::limits::PAGE_SIZE;
-use pool::{Op, TableMem};
-use spm::Spm;
+use base::{Page, Run};
+use pool::Op;
+use std::alloc::AllocError;
 
-/// Writes `ops N`, and then the N operations of the last call in the order in which they were made.
-pub(crate) fn write_operations<M: TableMem + Drop>(
-    spm: &Spm<M>,
-    text: &mut String,
-) -> Result<(), RunFault> {
-    let operations = spm.last_ops();
-    writeln!(text, "ops {}", operations.len())?;
+/// Writes `ops N`, and then the N operations in the order in which they were made.
+pub(crate) fn write_operations(operations: &[Op], text: &mut Vec<u8>) -> Result<(), AllocError>
+    ensures { OnOk result
+        (text.new.items ≡ text.old.items ++ spec.operations_text operations.now) }
+{
+    text.extend_from_slice(b"ops ")?;
+    push_decimal(text, operations.len() as u64)?;
+    text.extend_from_slice(b"\n")?;
     for operation in operations {
         write_operation(operation, text)?;
     }
@@ -23,22 +27,41 @@ pub(crate) fn write_operations<M: TableMem + Drop>(
 
 /// Writes a word as `set POOLPAGE INDEX WORD`, an invalidation as `inv ID ADDRESS COUNT`, and a clear as
 /// `clear ADDRESS COUNT`.
-fn write_operation(operation: &Op, text: &mut String) -> Result<(), RunFault> {
+fn write_operation(operation: &Op, text: &mut Vec<u8>) -> Result<(), AllocError>
+    ensures { OnOk result
+        (text.new.items ≡ text.old.items ++ spec.operation_text operation.now) }
+{
     match operation {
-        Op::Set { page, index, word } => writeln!(text, "set {page} {index} {word:016x}")?,
+        Op::Set { page, index, word } => {
+            text.extend_from_slice(b"set ")?;
+            push_decimal(text, u64::from(*page))?;
+            text.extend_from_slice(b" ")?;
+            push_decimal(text, u64::from(*index))?;
+            text.extend_from_slice(b" ")?;
+            push_hex(text, 16, *word)?;
+        }
         Op::Invalidate { who, run } => {
-            let id = who.number();
-            let address = address_of(run.first());
-            let count = run.count();
-            writeln!(text, "inv {id:04x} {address:010x} {count}")?;
+            text.extend_from_slice(b"inv ")?;
+            push_hex(text, 4, u64::from(who.number()))?;
+            text.extend_from_slice(b" ")?;
+            push_run(text, *run)?;
         }
         Op::Clear { run } => {
-            let address = address_of(run.first());
-            let count = run.count();
-            writeln!(text, "clear {address:010x} {count}")?;
+            text.extend_from_slice(b"clear ")?;
+            push_run(text, *run)?;
         }
     }
-    Ok(())
+    text.extend_from_slice(b"\n")
+}
+
+/// Appends `ADDRESS COUNT`.
+fn push_run(text: &mut Vec<u8>, run: Run) -> Result<(), AllocError>
+    ensures { OnOk result (text.new.items
+        ≡ text.old.items ++ address_text run.first ++ codes " " ++ decimal run.count) }
+{
+    push_hex(text, 10, address_of(run.first()))?;
+    text.extend_from_slice(b" ")?;
+    push_decimal(text, u64::from(run.count()))
 }
 
 /// The address at which a page begins.
@@ -51,15 +74,14 @@ fn address_of(page: Page) -> u64
 #[cfg(test)]
 mod tests {
     use super::*;
-    use base::Run;
     use std::test::Fail;
 
     #[test]
     fn writes_a_clear(rt: HostRuntime) -> Result<(), Fail> {
-        let mut text = String::new(rt.alloc());
+        let mut text = Vec::new(rt.alloc());
         let run = Run::new(Page::new(0x8_0001), 1);
         write_operation(&Op::Clear { run }, &mut text)?;
-        assert_eq!(rt; text.as_str(), "clear 0080001000 1\n");
+        assert_eq!(rt; text.as_slice(), b"clear 0080001000 1\n".as_slice());
         Ok(())
     }
 }

@@ -1,1 +1,5 @@
+mod Ascii
 mod Digits
+mod Hex
+mod Many
+mod Parts

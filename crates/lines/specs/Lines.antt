@@ -1,7 +1,8 @@
 -- The parts of script lines.
-use Rattle.std.specs.Prelude.{◌≡◌, ℕ, ◌+◌, ◌≤◌, ◌^◌, Bool, true, not, ◌&&◌, ◌||◌, ◌==◌, nat_le, nat_lt, slice_index, sum_by, IsTrue, List, [], ◌∷◌, ◌++◌, length, map, codes, Option, Some, None, if◌then◌else◌}
+use Rattle.std.specs.Prelude.{◌≡◌, ℕ, ◌≤◌, ◌^◌, Bool, true, not, ◌&&◌, ◌||◌, ◌==◌, nat_le, nat_lt, slice_index, sum_by, IsTrue, List, [], ◌∷◌, length, map, Option, Some, None, if◌then◌else◌}
 use Rattle.std.specs.Borrow.{Bor}
 use Rattle.std.specs.List.{list_all}
+use Rattle.std.specs.Str.{byte}
 use Rattle.std.specs.Str.Parse.{digits_value}
 use Rattle.base.specs.Descriptors.Send.{are_clear_flags}
 use Rattle.lines.specs.declared.line.Line.{Line}
@@ -36,7 +37,7 @@ permissions_of word =
 
 -- a zero stands first, and not alone
 abbrev pub has_leading_zero : List ℕ → Bool
-has_leading_zero word = nat_lt 1 (length word) && (slice_index word 0 == 48)
+has_leading_zero word = nat_lt 1 (length word) && (slice_index word 0 == byte "0")
 
 -- the number below 2^32 that decimal digits without a leading zero write
 abbrev pub count_of : List ℕ → Option ℕ
@@ -49,19 +50,15 @@ count_of word =
 abbrev pub texts : List (Bor (List ℕ)) → List (List ℕ)
 texts words = map (λ word. word.now) words
 
--- the words are these, and then `zero`
-abbrev pub EndsInZero : List (List ℕ) → List (List ℕ) → Type 0
-EndsInZero words before = words ≡ before ++ codes "zero" ∷ []
-
 -- the total is the sum of the ranges' counts, and there are at most 512 ranges
 abbrev pub IsWhole : SendLine → Type 0
 IsWhole send =
     (send.total ≡ sum_by (λ r. r.count) send.ranges.items) × (length send.ranges.items ≤ 512)
 
--- empty, or a comment of at most 66,000 bytes
+-- empty, or a comment, which begins with `#`
 abbrev pub is_nothing : List ℕ → Bool
 is_nothing [] = true
-is_nothing (byte ∷ bytes) = (byte == 35) && nat_le (1 + length bytes) 66000
+is_nothing (first ∷ rest) = first == byte "#"
 
 -- a copy of a TX buffer has at most 32,768 bytes, a send has its total and not too many ranges, and a relinquish no flag but one that orders a clear
 abbrev pub HasParts : Line → Type 0

@@ -1,5 +1,7 @@
-ghost use Rattle.std.specs.Prelude.{◌≡◌, ◌<◌, length, Some, None, IfSome, IfOk, IsTrue};
-ghost use Rattle.lines.specs.Lines.{is_nothing, HasParts};
+ghost use Rattle.std.specs.Prelude.{◌≡◌, ◌<◌, ◌≤◌, length, option_map, MatchOption, IfSome, IfOk};
+ghost use Rattle.lines.specs.Lines.{texts, HasParts};
+ghost use Rattle.lines.specs.Said.{said};
+ghost use Rattle.lines.specs.Grammar.{parted_by, registers_of, copy_of, tx_of, call_of, only_id, named, line_of};
 
 use crate::receive::{read_relinquish, read_retrieve};
 use crate::send::{ReclaimLine, SendLine, read_reclaim, read_send};
@@ -64,12 +66,8 @@ pub enum Line {
 /// digits for each byte, in either case. COUNT is decimal, without a leading zero, and the counts of a
 /// line have a sum below 2^32.
 pub fn read_line(alloc: Global, bytes: &[u8]) -> Result<Option<Line>, OutOfMemory>
-    // A line that is too long is none.
-    ensures long { 66000 < length bytes.now → IfOk result (λ line. line ≡ None) }
-
-    // An empty line and a comment are lines that say nothing.
-    ensures nothing { IsTrue (is_nothing bytes.now)
-        → IfOk result (λ line. line ≡ Some Line.Nothing) }
+    // The line is the one that the bytes spell, and None exactly where they spell none.
+    ensures line { IfOk result (λ line. option_map said line ≡ line_of bytes.now) }
 
     // A copy of a TX buffer is no longer than one, a send has its total and not too many ranges, and a
     // relinquish no flag but one that orders a clear.
@@ -88,70 +86,113 @@ pub fn read_line(alloc: Global, bytes: &[u8]) -> Result<Option<Line>, OutOfMemor
         return Ok(None);
     };
     match words.as_slice() {
-        ["tx", id] => Ok(read_id(id).map(|id| Line::Tx(id, Vec::new(alloc)))),
-        ["tx", id, hex] => read_tx(alloc, id, hex),
-        ["call", id, registers @ ..] => Ok(read_call(id, registers)),
-        ["share", words @ ..] => read_send_line(alloc, Kind::Share, words),
-        ["lend", words @ ..] => read_send_line(alloc, Kind::Lend, words),
-        ["donate", words @ ..] => read_send_line(alloc, Kind::Donate, words),
-        ["retrieve", words @ .., "alone"] => Ok(read_retrieve(words, true).map(Line::Retrieve)),
-        ["retrieve", words @ ..] => Ok(read_retrieve(words, false).map(Line::Retrieve)),
-        ["relinquish", words @ ..] => Ok(read_relinquish(words).map(Line::Relinquish)),
-        ["reclaim", words @ ..] => Ok(read_reclaim(words).map(Line::Reclaim)),
-        ["maps", id] => Ok(read_id(id).map(Line::Maps)),
-        ["tables", id] => Ok(read_id(id).map(Line::Tables)),
-        ["owners"] => Ok(Some(Line::Owners)),
-        ["ops"] => Ok(Some(Line::Operations)),
-        ["audit"] => Ok(Some(Line::Audit)),
-        _ => Ok(None),
+        [name, words @ ..] => read_named(alloc, name, words),
+        [] => Ok(None),
     }
 }
 
 /// The words between blanks, where they are not too many.
-fn words_of(text: &str) -> Option<ArrayVec<&str, MOST_WORDS>> {
+fn words_of(text: &str) -> Option<ArrayVec<&str, MOST_WORDS>>
+    ensures { MatchOption result (10 < length (parted_by 32 text.now))
+        (λ words. texts words.items ≡ parted_by 32 text.now) }
+{
     let mut words = ArrayVec::new();
     for word in text.split(' ') {
-        words.try_push(word).ok()?;
+        if words.is_full() {
+            return None;
+        }
+        words.push(word);
     }
     Some(words)
 }
 
-fn read_tx(alloc: Global, id: &str, hex: &str) -> Result<Option<Line>, OutOfMemory>
-    ensures { IfOk result (λ line. IfSome line HasParts) }
+/// The line of this name that the words after it say.
+fn read_named(alloc: Global, name: &str, words: &[&str]) -> Result<Option<Line>, OutOfMemory>
+    ensures line { IfOk result (λ line. option_map said line ≡ named name.now (texts words.now)) }
+    ensures parts { IfOk result (λ line. IfSome line HasParts) }
 {
-    let Some(id) = read_id(id) else {
-        return Ok(None);
-    };
-    if hex.is_empty() {
-        return Ok(None);
-    }
-    match hex::decode(alloc, hex) {
-        Ok(bytes) if bytes.len() <= MOST_TX => Ok(Some(Line::Tx(id, bytes))),
-        Err(FromHexError::OutOfMemory) => Err(OutOfMemory),
+    match name {
+        "tx" => read_tx(alloc, words),
+        "call" => Ok(read_call(words)),
+        "share" => Ok(read_send(alloc, words)?.map(|send| Line::Send(Kind::Share, send))),
+        "lend" => Ok(read_send(alloc, words)?.map(|send| Line::Send(Kind::Lend, send))),
+        "donate" => Ok(read_send(alloc, words)?.map(|send| Line::Send(Kind::Donate, send))),
+        "retrieve" => Ok(read_retrieve(words).map(Line::Retrieve)),
+        "relinquish" => Ok(read_relinquish(words).map(Line::Relinquish)),
+        "reclaim" => Ok(read_reclaim(words).map(Line::Reclaim)),
+        "maps" => Ok(read_only_id(words).map(Line::Maps)),
+        "tables" => Ok(read_only_id(words).map(Line::Tables)),
+        "owners" => Ok(words.is_empty().then_some(Line::Owners)),
+        "ops" => Ok(words.is_empty().then_some(Line::Operations)),
+        "audit" => Ok(words.is_empty().then_some(Line::Audit)),
         _ => Ok(None),
     }
 }
 
-/// The send of this kind that the words after its name say.
-fn read_send_line(alloc: Global, kind: Kind, words: &[&str]) -> Result<Option<Line>, OutOfMemory>
-    ensures { IfOk result (λ line. IfSome line HasParts) }
+/// The identifier that is the one word.
+fn read_only_id(words: &[&str]) -> Option<PartitionId>
+    ensures { result ≡ only_id (texts words.now) }
 {
-    match read_send(alloc, words)? {
-        Some(send) => Ok(Some(Line::Send(kind, send))),
-        None => Ok(None),
+    match words {
+        [id] => read_id(id),
+        _ => None,
     }
 }
 
-fn read_call(id: &str, words: &[&str]) -> Option<Line>
-    ensures { IfSome result HasParts }
+/// The copy of a TX buffer that the words `ID HEX` say, or `ID` for none.
+fn read_tx(alloc: Global, words: &[&str]) -> Result<Option<Line>, OutOfMemory>
+    ensures line { IfOk result (λ line. option_map said line ≡ tx_of (texts words.now)) }
+    ensures parts { IfOk result (λ line. IfSome line HasParts) }
 {
-    let id = read_id(id)?;
-    if words.is_empty() {
+    match words {
+        [id] => Ok(read_id(id).map(|id| Line::Tx(id, Vec::new(alloc)))),
+        [id, hex] => match read_id(id) {
+            Some(id) => Ok(read_copy(alloc, hex)?.map(|bytes| Line::Tx(id, bytes))),
+            None => Ok(None),
+        },
+        _ => Ok(None),
+    }
+}
+
+/// The bytes that two digits each are, where there are some and not too many.
+fn read_copy(alloc: Global, hex: &str) -> Result<Option<Vec<u8>>, OutOfMemory>
+    ensures copy { IfOk result (λ found. option_map (λ bytes. bytes.items) found ≡ copy_of hex.now) }
+    ensures few { IfOk result (λ found. IfSome found (λ bytes. length bytes.items ≤ 32768)) }
+{
+    if hex.is_empty() {
+        return Ok(None);
+    }
+    match hex::decode(alloc, hex) {
+        Ok(bytes) if bytes.len() <= MOST_TX => Ok(Some(bytes)),
+        Ok(_) => Ok(None),
+        Err(error) => match error {
+            FromHexError::OutOfMemory => Err(OutOfMemory),
+            _ => Ok(None),
+        },
+    }
+}
+
+/// The call that the words `ID NUM ..` say.
+fn read_call(words: &[&str]) -> Option<Line>
+    ensures line { option_map said result ≡ call_of (texts words.now) }
+    ensures parts { IfSome result HasParts }
+{
+    let [id, numbers @ ..] = words else {
+        return None;
+    };
+    Some(Line::Call(read_id(id)?, read_registers(numbers)?))
+}
+
+/// The registers of which the first are named, at least one and at most eight; the others are 0.
+fn read_registers(words: &[&str]) -> Option<[u64; 8]>
+    ensures { result ≡ registers_of (texts words.now) }
+{
+    let mut registers = [0; 8];
+    if words.is_empty() || words.len() > registers.len() {
         return None;
     }
-    let mut registers = [0; 8];
     for (i, word) in words.iter().enumerate() {
-        *registers.get_mut(i)? = read_number(word)?;
+        registers[i] = read_number(word)?;
     }
-    Some(Line::Call(id, registers))
+    Some(registers)
 }

@@ -1,9 +1,11 @@
 //! Lines of receivers.
 
-ghost use Rattle.std.specs.Prelude.{◌≤◌, IfSome, IsTrue};
+ghost use Rattle.std.specs.Prelude.{◌≡◌, ◌≤◌, IfSome, IsTrue};
 ghost use Rattle.base.specs.Descriptors.Send.{are_clear_flags};
+ghost use Rattle.lines.specs.Lines.{texts};
+ghost use Rattle.lines.specs.Grammar.{retrieve_of, relinquish_of, type_of};
 
-use crate::words::{before_zero, read_id, read_number, read_permissions};
+use crate::words::{read_id, read_last_word, read_number, read_permissions};
 use base::{Handle, MemoryAttributes};
 use descr::Endpoint;
 use descw::{HeaderFields, RelinquishFields, RetrieveFields};
@@ -15,12 +17,18 @@ const BYPASS: u32 = 0x400;
 const CLEAR: u32 = 1;
 
 /// The retrieve request that the words `ID NUM ID NUM TYPE PERM` say: who asks, the handle, the sender,
-/// the tag, the type and the permissions; where other borrowers are not named, `alone`.
-pub(crate) fn read_retrieve(words: &[&str], alone: bool) -> Option<RetrieveFields> {
-    let [id, handle, sender, tag, kind, permissions] = words else {
+/// the tag, the type and the permissions; where other borrowers are not named, with a last word `alone`.
+pub(crate) fn read_retrieve(words: &[&str]) -> Option<RetrieveFields>
+    ensures { result ≡ retrieve_of (texts words.now) }
+{
+    let [id, handle, sender, tag, kind, permissions, last @ ..] = words else {
         return None;
     };
-    let bypass = if alone { BYPASS } else { 0 };
+    let bypass = if read_last_word("alone", last)? {
+        BYPASS
+    } else {
+        0
+    };
     let header = HeaderFields {
         sender: read_id(sender)?,
         attributes: MemoryAttributes::normal_write_back(),
@@ -37,7 +45,8 @@ pub(crate) fn read_retrieve(words: &[&str], alone: bool) -> Option<RetrieveField
 
 /// The type in bits 4:3 of the flags that a digit 0 to 3 is: any, share, lend or donate.
 fn read_kind(word: &str) -> Option<u32>
-    ensures { IfSome result (λ kind. kind ≤ 24) }
+    ensures value { result ≡ type_of word.now }
+    ensures small { IfSome result (λ kind. kind ≤ 24) }
 {
     match word {
         "0" => Some(0),
@@ -51,12 +60,13 @@ fn read_kind(word: &str) -> Option<u32>
 /// The relinquish that the words `ID NUM` say: who gives up, and the handle; where the pages are to be
 /// cleared, with a last word `zero`.
 pub(crate) fn read_relinquish(words: &[&str]) -> Option<RelinquishFields>
-    ensures { IfSome result (λ fields. IsTrue (are_clear_flags fields.flags)) }
+    ensures fields { result ≡ relinquish_of (texts words.now) }
+    ensures flags { IfSome result (λ fields. IsTrue (are_clear_flags fields.flags)) }
 {
-    let (words, clears) = before_zero(words);
-    let [id, handle] = words else {
+    let [id, handle, last @ ..] = words else {
         return None;
     };
+    let clears = read_last_word("zero", last)?;
     Some(RelinquishFields {
         handle: Handle::from_bits(read_number(handle)?),
         flags: if clears { CLEAR } else { 0 },

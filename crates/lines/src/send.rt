@@ -1,9 +1,12 @@
 //! Lines of senders.
 
-ghost use Rattle.std.specs.Prelude.{◌≡◌, ◌≤◌, length, sum_by, IfSome, IfOk};
-ghost use Rattle.lines.specs.Lines.{IsWhole};
+ghost use Rattle.std.specs.Prelude.{◌≡◌, ◌≤◌, length, option_map, IfSome, IfOk};
+ghost use Rattle.lines.specs.Lines.{texts, IsWhole};
+ghost use Rattle.lines.specs.Said.{said_send};
+ghost use Rattle.lines.specs.Grammar as grammar;
+ghost use Rattle.lines.specs.Grammar.{receiver_of, receivers_of, range_of, ranges_of, total_of, send_with, reclaim_of};
 
-use crate::words::{before_zero, read_count, read_id, read_number, read_permissions};
+use crate::words::{read_count, read_id, read_last_word, read_number, read_permissions};
 use arrayvec::ArrayVec;
 use base::limits::MOST_RANGES;
 use base::{Handle, OutOfMemory, PartitionId};
@@ -42,32 +45,35 @@ pub struct ReclaimLine {
 /// The send that the words `ID NUM RECEIVERS RANGES` say; where the pages are to be cleared, with a last
 /// word `zero`.
 pub(crate) fn read_send(alloc: Global, words: &[&str]) -> Result<Option<SendLine>, OutOfMemory>
-    ensures { IfOk result (λ line. IfSome line (λ send. IsWhole send)) }
+    ensures send { IfOk result (λ line. option_map said_send line ≡ grammar.send_of (texts words.now)) }
+    ensures whole { IfOk result (λ line. IfSome line IsWhole) }
 {
-    let (words, clears) = before_zero(words);
-    let [id, tag, receivers, ranges] = words else {
+    let [id, tag, receivers, ranges, last @ ..] = words else {
         return Ok(None);
     };
     let Some(ranges) = read_ranges(alloc, ranges)? else {
         return Ok(None);
     };
-    Ok(send_of(id, tag, receivers, ranges, clears))
+    Ok(send_of(id, tag, receivers, ranges, last))
 }
 
+/// The send of these ranges that the other words say.
 fn send_of(
     id: &str,
     tag: &str,
     receivers: &str,
     ranges: Vec<RangeFields>,
-    clears: bool,
+    last: &[&str],
 ) -> Option<SendLine>
     requires { length ranges.items ≤ 512 }
-    ensures { IfSome result (λ send. IsWhole send) }
+    ensures send { option_map said_send result
+        ≡ send_with id.now tag.now receivers.now ranges.items (texts last.now) }
+    ensures whole { IfSome result IsWhole }
 {
     let total = page_count(&ranges)?;
     Some(SendLine {
         sender: read_id(id)?,
-        clears,
+        clears: read_last_word("zero", last)?,
         tag: read_number(tag)?,
         receivers: read_receivers(receivers)?,
         ranges,
@@ -76,15 +82,22 @@ fn send_of(
 }
 
 /// The receivers `ID:PERM`, parted by commas, where they are not too many.
-fn read_receivers(text: &str) -> Option<ArrayVec<Endpoint, 8>> {
+fn read_receivers(text: &str) -> Option<ArrayVec<Endpoint, 8>>
+    ensures { option_map (λ receivers. receivers.items) result ≡ receivers_of text.now }
+{
     let mut receivers = ArrayVec::new();
     for word in text.split(',') {
-        receivers.try_push(read_receiver(word)?).ok()?;
+        if receivers.is_full() {
+            return None;
+        }
+        receivers.push(read_receiver(word)?);
     }
     Some(receivers)
 }
 
-fn read_receiver(word: &str) -> Option<Endpoint> {
+fn read_receiver(word: &str) -> Option<Endpoint>
+    ensures { result ≡ receiver_of word.now }
+{
     let (id, permissions) = word.split_once(':')?;
     Some(Endpoint {
         partition: read_id(id)?,
@@ -94,22 +107,26 @@ fn read_receiver(word: &str) -> Option<Endpoint> {
 
 /// The ranges `NUM+COUNT`, parted by commas, where they are not too many.
 fn read_ranges(alloc: Global, text: &str) -> Result<Option<Vec<RangeFields>>, OutOfMemory>
-    ensures { IfOk result (λ ranges. IfSome ranges (λ found. length found.items ≤ 512)) }
+    ensures ranges { IfOk result (λ found.
+        option_map (λ ranges. ranges.items) found ≡ ranges_of text.now) }
+    ensures few { IfOk result (λ found. IfSome found (λ ranges. length ranges.items ≤ 512)) }
 {
     let mut ranges = Vec::new(alloc);
     for word in text.split(',') {
-        let Some(range) = read_range(word) else {
-            return Ok(None);
-        };
         if ranges.len() == MOST_RANGES {
             return Ok(None);
         }
+        let Some(range) = read_range(word) else {
+            return Ok(None);
+        };
         ranges.push(range)?;
     }
     Ok(Some(ranges))
 }
 
-fn read_range(word: &str) -> Option<RangeFields> {
+fn read_range(word: &str) -> Option<RangeFields>
+    ensures { result ≡ range_of word.now }
+{
     let (address, count) = word.split_once('+')?;
     Some(RangeFields {
         address: read_number(address)?,
@@ -119,21 +136,22 @@ fn read_range(word: &str) -> Option<RangeFields> {
 
 /// The reclaim that the words `ID NUM` say: who reclaims, and the handle; where the pages are to be
 /// cleared, with a last word `zero`.
-pub(crate) fn read_reclaim(words: &[&str]) -> Option<ReclaimLine> {
-    let (words, clears) = before_zero(words);
-    let [id, handle] = words else {
+pub(crate) fn read_reclaim(words: &[&str]) -> Option<ReclaimLine>
+    ensures { result ≡ reclaim_of (texts words.now) }
+{
+    let [id, handle, last @ ..] = words else {
         return None;
     };
     Some(ReclaimLine {
         caller: read_id(id)?,
         handle: Handle::from_bits(read_number(handle)?),
-        clears,
+        clears: read_last_word("zero", last)?,
     })
 }
 
 /// How many pages the ranges have together, where that is below 2^32.
 fn page_count(ranges: &[RangeFields]) -> Option<u32>
-    ensures { IfSome result (λ total. total ≡ sum_by (λ r. r.count) ranges.now) }
+    ensures { result ≡ total_of ranges.now }
 {
     let mut total = 0u32;
     for range in ranges {

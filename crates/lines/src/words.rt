@@ -1,20 +1,20 @@
 //! The numbers that words of a line write, and its last word.
 
-ghost use Rattle.std.specs.Prelude.{◌≡◌, ◌^◌, false, IsTrue};
+ghost use Rattle.std.specs.Prelude.{◌≡◌};
 ghost use Rattle.std.specs.List.{list_all};
-ghost use Rattle.lines.specs.Lines.{is_lower_hex_digit, is_digit, number_of, id_of, permissions_of, count_of, texts, EndsInZero};
+ghost use Rattle.lines.specs.Lines.{is_lower_hex_digit, is_digit, number_of, id_of, permissions_of, count_of, texts};
+ghost use Rattle.lines.specs.Grammar.{last_word};
 
 use base::{PartitionId, Permissions};
 
-/// The words before a last word `zero`, and whether it is there.
-pub(crate) fn before_zero<'a, 'b>(words: &'a [&'b str]) -> (&'a [&'b str], bool)
-    ensures zero { IsTrue result.1 → EndsInZero (texts words.now) (texts result.0.now) }
-    ensures other { result.1 ≡ false → result.0.now ≡ words.now }
-    ensures no_zero { result.1 ≡ false → (before : _) → EndsInZero (texts words.now) before → ⊥ }
+/// Whether the last word of this name stands, where there is no other word.
+pub(crate) fn read_last_word(name: &str, words: &[&str]) -> Option<bool>
+    ensures { result ≡ last_word name.now (texts words.now) }
 {
     match words {
-        [before @ .., "zero"] => (before, true),
-        _ => (words, false),
+        [] => Some(false),
+        [word] if *word == name => Some(true),
+        _ => None,
     }
 }
 

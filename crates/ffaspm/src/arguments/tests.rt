@@ -1,5 +1,5 @@
 use super::{Arguments, Task, read_arguments, words_of};
-use crate::fault::{Fault, RunFault};
+use crate::fault::Fault;
 use std::alloc::Global;
 use std::env::{Env, FillError};
 use std::process::Abort;
@@ -17,8 +17,8 @@ fn expect(
         words.push(word.to_string(alloc)?)?;
     }
     let arguments = read_arguments(alloc, &words);
-    if arguments == Err(Fault::Run(RunFault::Memory)) {
-        return Err(Fail::from(RunFault::Memory));
+    if arguments == Err(Fault::Memory) {
+        return Err(Fail::from(Fault::Memory));
     }
     assert_eq!(rt; arguments, wanted, "{line}");
     Ok(())
@@ -102,7 +102,7 @@ fn takes_words_of_any_bytes(rt: HostRuntime) -> Result<(), Fail> {
     let words: [&[u8]; 4] = [b"ffaspm", b"", b"\xc3\xa9", b"a\xff"];
     let taken = match words_of(alloc, &Passed { words: &words }) {
         Ok(taken) => taken,
-        Err(_) => return Err(Fail::from(RunFault::Memory)),
+        Err(_) => return Err(Fail::from(Fault::Memory)),
     };
     assert_eq!(rt; taken.len(), 4);
     assert_eq!(rt; taken[1].as_str(), "");

@@ -1,14 +1,17 @@
 use super::run_script;
 use crate::fault::RunFault;
+use crate::watched::Watched;
 use documents::common_document;
 use manifest::read;
 use pool::{ListPool, RawPool, TableMem};
 use std::alloc::Global;
 use std::process::Abort;
+use std::str;
 use std::test::Fail;
 
 mod clears;
 mod documents;
+mod failures;
 mod manifests;
 mod operations;
 mod quotas;
@@ -51,14 +54,16 @@ fn expect_text_over<M: TableMem + Drop>(
     fault: Option<RunFault>,
     wanted: &str,
 ) -> Result<(), Fail> {
-    let mut text = String::new(alloc);
     let manifest = read(alloc, document.as_bytes())?;
-    let outcome = run_script::<M>(alloc, manifest, script.as_bytes(), &mut text);
+    let mut text = Vec::new(alloc);
+    let mut reader = Watched::new(script.as_bytes());
+    let mut writer = Watched::new(&mut text);
+    let outcome = run_script::<M, _, _>(alloc, manifest, &mut reader, &mut writer);
     if outcome == Err(RunFault::Memory) {
         return Err(Fail::from(RunFault::Memory));
     }
     assert_eq!(rt; outcome.err(), fault, "{script}");
-    assert_eq!(rt; text.as_str(), wanted, "{script}");
+    assert_eq!(rt; str::from_utf8(&text), Ok(wanted), "{script}");
     Ok(())
 }
 

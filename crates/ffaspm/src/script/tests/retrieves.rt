@@ -2,7 +2,7 @@
 
 use super::documents::common_document;
 use super::tables::BOOT;
-use super::{MAPS, PAIRS, expect_text_from};
+use super::{MAPS, PAIRS, expect_text, expect_text_from};
 use std::alloc::Global;
 use std::process::Abort;
 use std::test::Fail;
@@ -58,7 +58,7 @@ const TO_ANOTHER_CALLER: &str =
 
 /// After the buffers are registered, each line writes what stands beside it, with these quotas of
 /// 0x8001 and 0x8002: where the tables are compared after each with those that the ledger gives, and
-/// where calls of another partition come before each (but an `ops` line tells of the call before it).
+/// where calls of another partition come between.
 fn expect_with(
     rt: &impl Abort,
     alloc: Global,
@@ -66,22 +66,38 @@ fn expect_with(
     lines: &[(&str, &str)],
 ) -> Result<(), Fail> {
     let document = common_document(alloc, quotas.0, quotas.1)?;
-    let mut audited = String::from_str(alloc, PAIRS)?;
-    let mut equal = format!(in alloc; "{OK}{OK}{OK}")?;
-    let mut among = audited.clone()?;
-    let mut wanted = equal.clone()?;
+    let (script, wanted) = audited(alloc, lines)?;
+    expect_text_from(rt, alloc, &document, &script, None, &wanted)?;
+    let (script, wanted) = among_others(alloc, lines)?;
+    expect_text_from(rt, alloc, &document, &script, None, &wanted)
+}
+
+/// The script that registers the buffers and then has these lines, each with an audit behind it, and its
+/// text.
+fn audited(alloc: Global, lines: &[(&str, &str)]) -> Result<(String, String), Fail> {
+    let mut script = String::from_str(alloc, PAIRS)?;
+    let mut wanted = format!(in alloc; "{OK}{OK}{OK}")?;
     for (line, writes) in lines {
-        writeln!(&mut audited, "{line}\naudit")?;
-        writeln!(&mut equal, "{writes}equal")?;
+        writeln!(&mut script, "{line}\naudit")?;
+        writeln!(&mut wanted, "{writes}equal")?;
+    }
+    Ok((script, wanted))
+}
+
+/// The same lines with calls of another partition before each, but for an `ops` line, which tells of the
+/// call before it.
+fn among_others(alloc: Global, lines: &[(&str, &str)]) -> Result<(String, String), Fail> {
+    let mut script = String::from_str(alloc, PAIRS)?;
+    let mut wanted = format!(in alloc; "{OK}{OK}{OK}")?;
+    for (line, writes) in lines {
         if *line != "ops" {
-            among.push_str(OF_ANOTHER_CALLER)?;
+            script.push_str(OF_ANOTHER_CALLER)?;
             wanted.push_str(TO_ANOTHER_CALLER)?;
         }
-        writeln!(&mut among, "{line}")?;
+        writeln!(&mut script, "{line}")?;
         wanted.push_str(writes)?;
     }
-    expect_text_from(rt, alloc, &document, &audited, None, &equal)?;
-    expect_text_from(rt, alloc, &document, &among, None, &wanted)
+    Ok((script, wanted))
 }
 
 pub(super) fn expect(rt: &impl Abort, alloc: Global, lines: &[(&str, &str)]) -> Result<(), Fail> {
@@ -210,9 +226,8 @@ fn completes_donations(rt: HostRuntime) -> Result<(), Fail> {
     expect(&rt, rt.alloc(), &lines)
 }
 
-/// A lend is reclaimed once it is given back, and all is as at boot.
-#[test]
-fn returns_what_was_lent(rt: HostRuntime) -> Result<(), Fail> {
+/// The script of the whole life of a lend, and its text.
+pub(super) fn whole_life(alloc: Global) -> Result<(String, String), Fail> {
     let operations = "ops 3\n\
         set 19 0 0000000000000000\n\
         inv 8002 0080000000 512\n\
@@ -229,7 +244,15 @@ fn returns_what_was_lent(rt: HostRuntime) -> Result<(), Fail> {
         ("maps 8001", MAPS),
         ("tables 8001", BOOT),
     ];
-    expect(&rt, rt.alloc(), &lines)
+    audited(alloc, &lines)
+}
+
+/// A lend is reclaimed once it is given back, and all is as at boot.
+#[test]
+fn returns_what_was_lent(rt: HostRuntime) -> Result<(), Fail> {
+    let alloc = rt.alloc();
+    let (script, wanted) = whole_life(alloc)?;
+    expect_text(&rt, alloc, &script, None, &wanted)
 }
 
 const OF_TWO: &str =

@@ -3,10 +3,10 @@
 ghost use Rattle.std.specs.Prelude.{◌<◌};
 ghost use Rattle.lines.specs.Lines.{HasParts};
 
-use super::super::Run;
 use super::PAIRS;
 use super::documents::{common_document, sparse_document};
 use super::operations::GIVEN_BACK;
+use crate::session::Session;
 use base::{Access, OutOfMemory, Page, PartitionId};
 use lines::{Line, read_line};
 use manifest::{Manifest, Region, read};
@@ -239,9 +239,9 @@ fn expect_replay<M: TableMem + Drop>(
 /// changed.
 fn watch_line<M: TableMem + Drop>(
     rt: &impl Abort,
-    run: &mut Run<M>,
+    session: &mut Session<M>,
     line: Line,
-    text: &mut String,
+    text: &mut Vec<u8>,
 ) -> Result<bool, Fail>
     requires { HasParts line }
 {
@@ -251,13 +251,13 @@ fn watch_line<M: TableMem + Drop>(
         | Line::Retrieve(..)
         | Line::Relinquish(..)
         | Line::Reclaim(..) => {
-            let watch = take_watch(run.alloc, &run.spm)?;
-            run.line(line, text)?;
-            expect_replay(rt, run.alloc, &run.spm, watch)?;
-            Ok(!run.spm.last_ops().is_empty())
+            let watch = take_watch(session.alloc, &session.spm)?;
+            session.line(line, text)?;
+            expect_replay(rt, session.alloc, &session.spm, watch)?;
+            Ok(!session.spm.last_ops().is_empty())
         }
         _ => {
-            run.line(line, text)?;
+            session.line(line, text)?;
             Ok(false)
         }
     }
@@ -271,14 +271,14 @@ fn watch_over<M: TableMem + Drop>(
     manifest: Manifest,
     script: &str,
 ) -> Result<u32, Fail> {
-    let mut run: Run<M> = Run::boot(alloc, manifest)?;
-    let mut text = String::new(alloc);
+    let mut session: Session<M> = Session::boot(alloc, manifest)?;
+    let mut text = Vec::new(alloc);
     let mut changes = 0u32;
     for bytes in script.as_bytes().split(|byte| *byte == b'\n') {
         let Some(line) = read_line(alloc, bytes)? else {
             break;
         };
-        if watch_line(rt, &mut run, line, &mut text)? {
+        if watch_line(rt, &mut session, line, &mut text)? {
             changes = changes.saturating_add(1);
         }
     }
