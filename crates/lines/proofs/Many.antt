@@ -67,4 +67,5 @@ not_nothing (byte ∷ bytes) some other = ne_eqb byte 35 other
 
 -- what is not nothing, and no words of a line, is no line
 pub no_line : (bytes : List ℕ) → is_nothing bytes ≡ false → line_of_words (parted_by 32 bytes) ≡ None → None ≡ line_of bytes
+unfolding line_of
 no_line bytes other none = sym (if_both (ltb 66000 (length bytes)) None _ refl (ap (λ b. cond b (Some Nothing) (line_of_words (parted_by 32 bytes))) other ∙ none))

@@ -233,7 +233,7 @@ line_of_words [] = None
 line_of_words (name ∷ words) = named name words
 
 -- the line that bytes without a line feed spell: at most 66,000 of them, nothing, or words parted by one blank
-abbrev pub line_of : List ℕ → Option Said
+unfoldable pub line_of : List ℕ → Option Said
 line_of bytes =
     if nat_lt 66000 (length bytes) then None
     else if is_nothing bytes then Some Nothing

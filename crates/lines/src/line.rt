@@ -65,6 +65,7 @@ pub enum Line {
 /// one blank. ID has four digits, NUM 1 to 16 and PERM two, lower case and hexadecimal; HEX has two
 /// digits for each byte, in either case. COUNT is decimal, without a leading zero, and the counts of a
 /// line have a sum below 2^32.
+#[tactic(auto, unfolding(crate::specs::Grammar::line_of))]
 pub fn read_line(alloc: Global, bytes: &[u8]) -> Result<Option<Line>, OutOfMemory>
     // The line is the one that the bytes spell, and None exactly where they spell none.
     ensures line { IfOk result (λ line. option_map said line ≡ line_of bytes.now) }

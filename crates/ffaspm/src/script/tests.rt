@@ -17,6 +17,7 @@ mod operations;
 mod quotas;
 mod reclaims;
 mod retrieves;
+mod rows;
 mod tables;
 mod walkers;
 

@@ -41,8 +41,24 @@ pub(super) const RESPONSE: &str =
     00000000000000000280060040000000000000000000000001000000010000000000000000000000\
     00100080000000000100000000000000\n";
 
+/// Calls of 0x8003 that name no other partition: its identifier, a version, an unknown call, a lend to
+/// itself and a reclaim of nothing.
+const OF_ANOTHER_CALLER: &str = "call 8003 84000069\n\
+    call 8003 84000063 10001\n\
+    call 8003 84000070\n\
+    lend 8003 0 8003:02 c0000000+1\n\
+    call 8003 84000077 1 8003\n";
+
+const TO_ANOTHER_CALLER: &str =
+    "reply 84000061 00000000 00008003 00000000 00000000 00000000 00000000 00000000\n\
+    reply 00010001 00000000 00000000 00000000 00000000 00000000 00000000 00000000\n\
+    reply 84000060 00000000 ffffffff 00000000 00000000 00000000 00000000 00000000\n\
+    reply 84000060 00000000 fffffffe 00000000 00000000 00000000 00000000 00000000\n\
+    reply 84000060 00000000 fffffffe 00000000 00000000 00000000 00000000 00000000\n";
+
 /// After the buffers are registered, each line writes what stands beside it, with these quotas of
-/// 0x8001 and 0x8002. The tables are always those that the ledger gives.
+/// 0x8001 and 0x8002: where the tables are compared after each with those that the ledger gives, and
+/// where calls of another partition come between.
 fn expect_with(
     rt: &impl Abort,
     alloc: Global,
@@ -51,6 +67,8 @@ fn expect_with(
 ) -> Result<(), Fail> {
     let document = common_document(alloc, quotas.0, quotas.1)?;
     let (script, wanted) = audited(alloc, lines)?;
+    expect_text_from(rt, alloc, &document, &script, None, &wanted)?;
+    let (script, wanted) = among_others(alloc, lines)?;
     expect_text_from(rt, alloc, &document, &script, None, &wanted)
 }
 
@@ -62,6 +80,22 @@ fn audited(alloc: Global, lines: &[(&str, &str)]) -> Result<(String, String), Fa
     for (line, writes) in lines {
         writeln!(&mut script, "{line}\naudit")?;
         writeln!(&mut wanted, "{writes}equal")?;
+    }
+    Ok((script, wanted))
+}
+
+/// The same lines with calls of another partition before each, but for an `ops` line, which tells of the
+/// call before it.
+fn among_others(alloc: Global, lines: &[(&str, &str)]) -> Result<(String, String), Fail> {
+    let mut script = String::from_str(alloc, PAIRS)?;
+    let mut wanted = format!(in alloc; "{OK}{OK}{OK}")?;
+    for (line, writes) in lines {
+        if *line != "ops" {
+            script.push_str(OF_ANOTHER_CALLER)?;
+            wanted.push_str(TO_ANOTHER_CALLER)?;
+        }
+        writeln!(&mut script, "{line}")?;
+        wanted.push_str(writes)?;
     }
     Ok((script, wanted))
 }
