@@ -11,7 +11,6 @@ use Rattle.std_alloc.proofs.BoxSteps.Form.{Bx}
 use Rattle.std_heap.specs.contracts.Global as Heap
 use Rattle.std_heap.specs.contracts.GlobalAllocator.TheImpl.{ghosts, dict}
 use Rattle.std_heap.proofs.Global.TheLaws as heap
-
 use Rattle.std.proofs.vec.Vec.TheLaws as vec
 use Rattle.pool.specs.contracts.list_pool.VecU64WordStore.TheImpl as Words
 use Rattle.pool.specs.contracts.table_pool.TablePoolTableMem.TheImpl as Memory

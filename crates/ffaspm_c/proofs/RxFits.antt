@@ -1,5 +1,5 @@
 -- What RX is filled with is not longer than the RX buffer of the caller.
-use Rattle.std.proofs.Common.{◌≡◌, ℕ, ◌+◌, ◌*◌, ◌≤◌, Bool, true, false, cond, List, [], ◌∷◌, ◌++◌, length, Option, Some, None, is_some, refl, sym, ap, ◌∙◌, arith}
+use Rattle.std.proofs.Common.{◌≡◌, ℕ, ◌+◌, ◌*◌, ◌≤◌, Bool, true, false, cond, List, [], ◌∷◌, length, Option, Some, None, refl, sym, ap, ◌∙◌, arith}
 use Rattle.std.specs.Option.{option_map_or}
 use Rattle.std.proofs.lemmas.Bool.{leb-true}
 use Rattle.base.specs.declared.partition.Version.{Version}
@@ -22,7 +22,7 @@ use Rattle.wire.specs.Requests.{request_of}
 use Rattle.rules.specs.Call.{CallWords}
 use Rattle.rules.specs.Calls.Retrieve.{asked, fits_rx, response_length, rx_size, request_tests, transaction_tests, retrieve_tests, responding, retrieve_rule}
 use Rattle.rules.specs.Receivers.{received_with}
-use Rattle.rules.specs.Rule.{Rule, refused, fits, all_tests, reply_of}
+use Rattle.rules.specs.Rule.{refused, fits, all_tests, reply_of}
 use Rattle.rules.specs.Run.{rule_of, rule, answer}
 use Rattle.rules.proofs.Calls.Retrieve.{RetrievePasses, retrieve_passes}
 use Rattle.rules.proofs.Passing.{all_pass, before_last, first_pass, second_decides}

@@ -1,11 +1,10 @@
 -- What the exports answer.
-use Rattle.std.specs.Prelude.{◌≡◌, ℕ, ◌+◌, ◌*◌, ◌/◌, ◌<◌, ◌^◌, Bool, true, false, List, [], ◌++◌, drop, length, reverse, slice_index, IsSome, Option, Some, None, if◌then◌else◌, ◌⊎◌}
-use Rattle.std.specs.Option.{option_map, option_map_or}
+use Rattle.std.specs.Prelude.{◌≡◌, ℕ, ◌+◌, ◌*◌, ◌/◌, List, [], ◌++◌, drop, length, IsSome, Option, Some, None, if◌then◌else◌, ◌⊎◌}
 use Rattle.base.specs.declared.partition.Version.{Version}
 use Rattle.base.specs.declared.partition.Version.TheVariants.{V10, V11}
 use Rattle.base.specs.Access.{Access, View, is_rw, is_normal}
 use Rattle.base.specs.Buffers.{Pair}
-use Rattle.base.specs.Manifest.{ManifestRows, ids_of, quotas_of, row_of, page_count}
+use Rattle.base.specs.Manifest.{ManifestRows}
 use Rattle.base.specs.State.{start}
 use Rattle.manifest.specs.declared.fault.ManifestFault.{ManifestFault}
 use Rattle.manifest.specs.Document.{IsManifestOf, IsFirstFault}

@@ -101,7 +101,7 @@ fn serve(
         IsAnswered (call_from call.now.caller call.now.regs tx.now) spm.old spm.new }
     ensures reply { result ≡ answers.done →
         IsReply (rules.answer spm.old.state (call_from call.now.caller call.now.regs tx.now))
-            reply.new.regs reply.new.rx_length rx.old rx.new }
+        reply.new.regs reply.new.rx_length rx.old rx.new }
     ensures operations { result ≡ answers.done →
         reply.new.operations ≡ length spm.new.pool.operations }
     ensures no_memory { result ≡ answers.no_memory → IsLeft spm.old spm.new }
@@ -146,10 +146,10 @@ pub extern "C" fn ffaspm_handle(
 ) -> u32
     ensures answered { result ≡ answers.done →
         AreBoth (IsAnswered (call_from call.now.caller call.now.regs tx.now))
-            holder.old.kept.manager holder.new.kept.manager }
+        holder.old.kept.manager holder.new.kept.manager }
     ensures reply { result ≡ answers.done → IfSome holder.old.kept.manager (λ m.
         IsReply (rules.answer m.state (call_from call.now.caller call.now.regs tx.now))
-            reply.new.regs reply.new.rx_length rx.old rx.new) }
+        reply.new.regs reply.new.rx_length rx.old rx.new) }
     ensures operations { result ≡ answers.done → IfSome holder.new.kept.manager (λ m.
         reply.new.operations ≡ length m.pool.operations) }
     ensures no_memory { result ≡ answers.no_memory →

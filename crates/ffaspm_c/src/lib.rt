@@ -7,3 +7,4 @@ mod kept;
 mod look;
 mod make;
 mod status;
+mod tables;

@@ -70,7 +70,7 @@ pub extern "C" fn ffaspm_translate(
         access.new ≡ bits_of (state.sees m.state partition (page_at address))) }
     ensures walk { result ≡ answers.done → IfSome holder.old.kept.manager (λ m.
         translated m partition (page_at address)
-            ≡ walked (page_at address) (state.sees m.state partition (page_at address))) }
+        ≡ walked (page_at address) (state.sees m.state partition (page_at address))) }
     ensures nothing { result ≡ answers.nothing_there → 2 ^ 27 ≤ page_at address }
     ensures not_made { result ≡ answers.not_made → holder.old.kept.manager ≡ None }
     ensures some { result ≡ answers.done → IsSome holder.old.kept.manager }
@@ -166,7 +166,7 @@ pub extern "C" fn ffaspm_buffers(
 ) -> u32
     ensures pair { result ≡ answers.done → IfSome holder.old.kept.manager (λ m.
         IfSome (pair_of m.state.mailboxes partition) (λ pair. IsPairOut pair
-            buffers.new.tx_address buffers.new.tx_pages buffers.new.rx_address buffers.new.rx_pages)) }
+        buffers.new.tx_address buffers.new.tx_pages buffers.new.rx_address buffers.new.rx_pages)) }
     ensures some_pair { result ≡ answers.done → IfSome holder.old.kept.manager (λ m.
         IsSome (pair_of m.state.mailboxes partition)) }
     ensures nothing { result ≡ answers.nothing_there → IfSome holder.old.kept.manager (λ m.

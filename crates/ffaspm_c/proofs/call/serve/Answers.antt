@@ -1,4 +1,4 @@
-use Rattle.std.proofs.Common.{◌≡◌, ◌≤◌, ℕ, length, ap, ◌∙◌, arith}
+use Rattle.std.proofs.Common.{◌≡◌, length, ap, ◌∙◌, arith}
 use Rattle.rules.specs.Calls.Retrieve.{rx_size}
 use Rattle.wire.specs.Replies.{ReplyWords}
 use Rattle.ffaspm_c.specs.Answers.{call_from, rx_bytes}

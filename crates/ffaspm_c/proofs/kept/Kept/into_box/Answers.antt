@@ -1,4 +1,4 @@
-use Rattle.std.proofs.Common.{rules, ◌≡◌, Some, ap, sym, ◌∙◌}
+use Rattle.std.proofs.Common.{Some, ap, sym, ◌∙◌}
 use Rattle.spm.specs.Machine.{Machine}
 use Rattle.ffaspm_c.proofs.Held.{held_is}
 use Rattle.ffaspm_c.proofs.kept.Kept.into_box.Goals as goal

@@ -7,7 +7,7 @@ use Rattle.std.specs.Prelude.{Option, Some, ◌≡◌}
 use Rattle.ffaspm_c.specs.Kept.{kept_owns}
 use Rattle.spm.specs.Machine.{Machine}
 use Rattle.ffaspm_c.specs.contracts.kept.Kept as Kept
-use base.Logic.{SProp, ent, emp, id⊢}
+use base.Logic.{SProp, ent, id⊢}
 use base.Fml.{ftrue, fsep}
 use prog.Memory.{Memory}
 use prog.Routine.{Routine}

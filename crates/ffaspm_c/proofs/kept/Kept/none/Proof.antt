@@ -7,7 +7,6 @@ use lib.Dec.{T, lit<}
 use mir.Syntax.{w64}
 use Rattle.std.specs.Prelude.{None}
 use Rattle.ffaspm_c.specs.Kept.{kept_owns}
-use Rattle.std.specs.Prelude.{Some}
 use base.Logic.{SProp, ent, emp, id⊢}
 use base.Fml.{ftrue, fsep}
 use prog.Memory.{Memory}
@@ -32,7 +31,7 @@ use Rattle.std_heap.specs.contracts.Global as Heap
 use Rattle.ffaspm_c.specs.contracts.kept.Kept as Kept
 use Rattle.core.proofs.alloc.Calls.{handle_tells, α}
 use Rattle.std_alloc.proofs.ResultValues.{and_tt}
-use Rattle.std_alloc.proofs.BoxSteps.Form.{P, box_ty}
+use Rattle.std_alloc.proofs.BoxSteps.Form.{box_ty}
 use denote.RawPtr.{RawPtr, null_ptr, ptr_val}
 use denote.RattleType.{Valss}
 use denote.Struct.Struct.{within}
