@@ -11,7 +11,7 @@ use Rattle.manifest.specs.Document.{IsManifestOf, IsFirstFault}
 use Rattle.manifest.specs.Numbers.{number_of}
 use Rattle.wire.specs.Replies.{ReplyWords}
 use Rattle.rules.specs.Call.{CallWords}
-use Rattle.rules.specs.Run.{refusal, step, clears}
+use Rattle.rules.specs.Run.{IsReached, refusal, step, clears}
 use Rattle.spm.specs.Machine.{Machine, WalksAgree, ShowsCall, HasCleared, unchanged}
 
 -- ---- statuses of the exports; 1 to 11 are faults of a manifest, of which 11 is want of memory
@@ -43,6 +43,7 @@ pub record IsBooted (bytes : List ℕ) (m : Machine) : Type 0 where
   pub state : m.state ≡ start rows
   pub operations : m.pool.operations ≡ []
   pub agrees : WalksAgree m.state m.pool
+  pub reached : IsReached m.state
 
 -- the number is that of the first fault of the bytes, or of want of memory
 pub record IsFaultNumber (bytes : List ℕ) (number : ℕ) : Type 0 where
@@ -73,6 +74,7 @@ pub record IsAnswered (c : CallWords) (old new : Machine) : Type 0 where
   pub agrees : WalksAgree new.state new.pool
   pub moments : ShowsCall old new
   pub clears : HasCleared (clears old.state c) new
+  pub reached : IsReached new.state
 
 -- the state and all words are the same; the list of operations may be emptied
 abbrev pub IsLeft : Machine → Machine → Type 0

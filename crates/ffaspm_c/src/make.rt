@@ -1,6 +1,6 @@
 //! Making the manager, and its end.
 
-ghost use Rattle.std.specs.Prelude.{◌≡◌, Some, None, IsSome, IsNone, IfOk, IfErr, IfSome};
+ghost use Rattle.std.specs.Prelude.{◌≡◌, ◌≢◌, Some, None, IsSome, IsNone, IfOk, IfErr, IfSome};
 ghost use Rattle.manifest.specs.Document.{IsFirstFault};
 ghost use Rattle.ffaspm_c.specs.Answers as answers;
 ghost use Rattle.ffaspm_c.specs.Answers.{IsBooted, IsMakeAnswer};
@@ -32,12 +32,12 @@ pub extern "C" fn ffaspm_make(alloc: Global, holder: &mut Holder, document: &[u8
         IfSome holder.new.kept.manager (IsBooted document.now) }
     ensures is_made { result ≡ answers.done → IsSome holder.new.kept.manager }
     ensures in_place_of_none { result ≡ answers.done → IsNone holder.old.kept.manager }
-    ensures refused { (result ≡ answers.done → ⊥) →
+    ensures refused { result ≢ answers.done →
         holder.new.kept.manager ≡ holder.old.kept.manager }
     ensures already { IsSome holder.old.kept.manager → result ≡ answers.made_already }
 {
-    if let Some(spm) = holder.take(alloc) {
-        holder.put(spm);
+    if let Some(held) = holder.take(alloc) {
+        holder.put(held);
         return MADE_ALREADY;
     }
     match booted(alloc, document) {
