@@ -1,9 +1,10 @@
 //! The manager: the state, and the translation tables that agree with it.
 
-ghost use Rattle.std.specs.Prelude.{◌≡◌, Some, None, [], reverse, IfOk, OnOk, OnErr, IsSome, true};
+ghost use Rattle.std.specs.Prelude.{◌≡◌, ◌<◌, Some, None, [], reverse, IfOk, OnOk, OnErr, IsSome, true};
+ghost use Rattle.base.specs.Buffers.{pair_of};
 ghost use Rattle.base.specs.Manifest as rows;
 ghost use Rattle.base.specs.State as state;
-ghost use Rattle.pool.specs.Pool.{emptied, image_of};
+ghost use Rattle.pool.specs.Pool.{emptied, image_of, words_of};
 ghost use Rattle.stage2.specs.Slot.{layout_of};
 ghost use Rattle.stage2.specs.Walk.{walked};
 ghost use Rattle.wire.specs.Requests.{request_of};
@@ -19,6 +20,7 @@ use crate::commit::{commit, fits};
 use crate::state::State;
 use base::{Access, OutOfMemory, Page, PartitionId, Status, Version};
 use ledger::Ledger;
+use mailbox::Pair;
 use manifest::Manifest;
 use pool::{Image, Op, TableMem};
 use stage2::Tables;
@@ -126,6 +128,24 @@ impl<M: TableMem + Drop> Spm<M> {
         ensures { result ≡ self.now.pool.made }
     {
         self.tables.memory().made()
+    }
+
+    /// The buffers that a partition has registered by FFA_RXTX_MAP, and whether it holds RX; None
+    /// where it has registered none.
+    pub fn buffers(&self, p: PartitionId) -> Option<Pair>
+        ensures { result ≡ pair_of self.now.state.mailboxes p }
+    {
+        self.state.pairs.pair_of(p)
+    }
+
+    /// The word at an index of a page of the table pool.
+    pub fn word(&self, page: u32, index: u32) -> u64
+        requires page_in { page
+            < rows.page_count (rows.quotas_of self.now.state.manifest.partitions) }
+        requires index_in { index < 512 }
+        ensures { result ≡ words_of self.now.pool.memory.words page index }
+    {
+        self.tables.memory().word(page, index)
     }
 
     /// A copy of the words of all tables.

@@ -1,0 +1,4 @@
+pub mod AsBox
+pub mod Held
+pub mod RxFits
+pub mod Roots

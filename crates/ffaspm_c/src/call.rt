@@ -1,0 +1,176 @@
+//! Answering calls (FF-A 1.1, "Interface overview").
+
+ghost use Rattle.std.specs.Prelude.{◌≡◌, ◌≤◌, ◌<◌, ◌≢◌, ◌⊎◌, Some, None, length, IfOk, IfSome, OnOk, OnErr};
+ghost use Rattle.rules.specs.Calls.Retrieve.{rx_size};
+ghost use Rattle.rules.specs.Run as rules;
+ghost use Rattle.wire.specs.Replies.{filled};
+ghost use Rattle.ffaspm_c.specs.Answers as answers;
+ghost use Rattle.ffaspm_c.specs.Answers.{call_from, rx_bytes, in_front, AreBoth, IsAnswered, IsLeft, IsReply};
+
+use crate::holder::Holder;
+use crate::status::{DONE, NO_MEMORY, NOT_MADE, RX_SHORT};
+use base::{OutOfMemory, PartitionId};
+use pool::ListPool;
+use spm::{Call, Reply, Spm};
+use std::alloc::Global;
+
+/// A call: registers 0 to 7, and the identifier of the partition that calls.
+#[repr(C)]
+#[derive(Clone, Copy)]
+pub struct CallIn {
+    pub regs: [u64; 8],
+    pub caller: u16,
+}
+
+/// A reply: registers 0 to 7, how many bytes of RX were filled (0: RX is not filled), and how many
+/// operations were made on the tables.
+#[repr(C)]
+#[derive(Clone, Copy)]
+pub struct ReplyOut {
+    pub regs: [u64; 8],
+    pub rx_length: usize,
+    pub operations: usize,
+}
+
+/// How many bytes the RX buffer of a partition has; 0 where none is registered.
+fn rx_size(spm: &Spm<ListPool>, p: PartitionId) -> usize
+    ensures { result ≡ rx_size spm.now.state p }
+{
+    match spm.buffers(p) {
+        Some(pair) => 4096 * pair.rx.count() as usize,
+        None => 0,
+    }
+}
+
+/// Answers the call, whose TX bytes are copied.
+fn answered(
+    alloc: Global,
+    spm: &mut Spm<ListPool>,
+    call: &CallIn,
+    tx: &[u8],
+) -> Result<Reply, OutOfMemory>
+    ensures answered { OnOk result
+        (IsAnswered (call_from call.now.caller call.now.regs tx.now) spm.old spm.new) }
+    ensures reply { IfOk result (λ reply. reply
+        ≡ rules.answer spm.old.state (call_from call.now.caller call.now.regs tx.now)) }
+    ensures err { OnErr result (IsLeft spm.old spm.new) }
+{
+    let regs = call.regs;
+    let call = Call {
+        caller: call.caller,
+        regs,
+        tx: Vec::from_slice(alloc, tx)?,
+    };
+    spm.handle(&call)
+}
+
+/// Copies bytes to the front of a room that holds them.
+fn copy(bytes: &[u8], room: &mut [u8])
+    requires { length bytes.now ≤ length room.old }
+    ensures { room.new ≡ in_front bytes.now room.old }
+{
+    let (front, _rest) = room.split_at_mut(bytes.len());
+    front.copy_from_slice(bytes);
+}
+
+/// Copies what RX is filled with, and tells how many bytes that is.
+fn fill(bytes: &Option<Vec<u8>>, rx: &mut [u8]) -> usize
+    requires { length (answers.bytes_of (filled bytes.now)) ≤ length rx.old }
+    ensures count { result ≡ length (answers.bytes_of (filled bytes.now)) }
+    ensures bytes { rx.new ≡ in_front (answers.bytes_of (filled bytes.now)) rx.old }
+{
+    match bytes {
+        Some(bytes) => {
+            copy(bytes, rx);
+            bytes.len()
+        }
+        None => 0,
+    }
+}
+
+/// Answers the call where `rx` has room for the caller's whole RX buffer.
+fn serve(
+    alloc: Global,
+    spm: &mut Spm<ListPool>,
+    call: &CallIn,
+    tx: &[u8],
+    rx: &mut [u8],
+    reply: &mut ReplyOut,
+) -> u32
+    ensures answered { result ≡ answers.done →
+        IsAnswered (call_from call.now.caller call.now.regs tx.now) spm.old spm.new }
+    ensures reply { result ≡ answers.done →
+        IsReply (rules.answer spm.old.state (call_from call.now.caller call.now.regs tx.now))
+        reply.new.regs reply.new.rx_length rx.old rx.new }
+    ensures operations { result ≡ answers.done →
+        reply.new.operations ≡ length spm.new.pool.operations }
+    ensures no_memory { result ≡ answers.no_memory → IsLeft spm.old spm.new }
+    ensures rx_short { result ≡ answers.rx_short → spm.new ≡ spm.old }
+    ensures untouched_reply { result ≢ answers.done → reply.new ≡ reply.old }
+    ensures untouched_rx { result ≢ answers.done → rx.new ≡ rx.old }
+    ensures fits { result ≡ answers.rx_short → length rx.old < rx_size spm.old.state call.now.caller }
+    ensures status { (result ≡ answers.done)
+        ⊎ ((result ≡ answers.no_memory) ⊎ (result ≡ answers.rx_short)) }
+{
+    if rx.len() < rx_size(spm, PartitionId::new(call.caller)) {
+        return RX_SHORT;
+    }
+    match answered(alloc, spm, call, tx) {
+        Ok(answer) => {
+            let regs = answer.regs;
+            *reply = ReplyOut {
+                regs,
+                rx_length: fill(&answer.rx, rx),
+                operations: spm.last_ops().len(),
+            };
+            DONE
+        }
+        Err(_) => NO_MEMORY,
+    }
+}
+
+/// Answers a call of a partition (FF-A 1.1, "Interface overview"), by its registers and one copy of
+/// its TX buffer. It gives registers 0 to 7 of the reply, and what the caller's RX buffer is to be
+/// filled with.
+///
+/// `NO_MEMORY` and `RX_SHORT` (the room for RX is smaller than the buffer that the caller has
+/// registered) change nothing, and write nothing.
+#[unsafe(no_mangle)]
+pub extern "C" fn ffaspm_handle(
+    alloc: Global,
+    holder: &mut Holder,
+    call: &CallIn,
+    tx: &[u8],
+    rx: &mut [u8],
+    reply: &mut ReplyOut,
+) -> u32
+    ensures answered { result ≡ answers.done →
+        AreBoth (IsAnswered (call_from call.now.caller call.now.regs tx.now))
+        holder.old.kept.manager holder.new.kept.manager }
+    ensures reply { result ≡ answers.done → IfSome holder.old.kept.manager (λ m.
+        IsReply (rules.answer m.state (call_from call.now.caller call.now.regs tx.now))
+        reply.new.regs reply.new.rx_length rx.old rx.new) }
+    ensures operations { result ≡ answers.done → IfSome holder.new.kept.manager (λ m.
+        reply.new.operations ≡ length m.pool.operations) }
+    ensures no_memory { result ≡ answers.no_memory →
+        AreBoth IsLeft holder.old.kept.manager holder.new.kept.manager }
+    ensures rx_short { result ≡ answers.rx_short →
+        holder.new.kept.manager ≡ holder.old.kept.manager }
+    ensures fits { result ≡ answers.rx_short → IfSome holder.old.kept.manager (λ m.
+        length rx.old < rx_size m.state call.now.caller) }
+    ensures not_made { result ≡ answers.not_made → holder.old.kept.manager ≡ None }
+    ensures none { holder.old.kept.manager ≡ None → result ≡ answers.not_made }
+    ensures still_none { holder.old.kept.manager ≡ None → holder.new.kept.manager ≡ None }
+    ensures untouched_reply { result ≢ answers.done → reply.new ≡ reply.old }
+    ensures untouched_rx { result ≢ answers.done → rx.new ≡ rx.old }
+    ensures status { answers.IsHandleStatus result }
+{
+    match holder.take(alloc) {
+        Some(mut spm) => {
+            let status = serve(alloc, &mut spm, call, tx, rx, reply);
+            holder.put(spm);
+            status
+        }
+        None => NOT_MADE,
+    }
+}

@@ -1,0 +1,50 @@
+//! What C holds: the manager, if one was made.
+
+ghost use Rattle.std.specs.Prelude.{◌≡◌, Some, None, is_some, IfSome, IfNone};
+
+use crate::kept::Kept;
+use pool::ListPool;
+use spm::Spm;
+use std::alloc::Global;
+use std::mem::replace;
+
+/// The manager, or none, as all bytes 0 say. C gives the room for it, and reads and writes nothing in
+/// it.
+#[repr(C)]
+#[derive(Drop)]
+pub struct Holder {
+    kept: Kept,
+    made: bool,
+    ghost told: { made ≡ is_some kept.manager },
+}
+
+impl Holder {
+    /// Holds a manager, in place of none.
+    pub(crate) fn put(&mut self, spm: Box<Spm<ListPool>>)
+        requires { self.old.kept.manager ≡ None }
+        ensures { self.new.kept.manager ≡ Some spm.value }
+    {
+        *self = Holder {
+            kept: Kept::of(spm),
+            made: true,
+        };
+    }
+
+    /// Gives the manager out, if there is one, and holds none.
+    pub(crate) fn take(&mut self, alloc: Global) -> Option<Box<Spm<ListPool>>>
+        ensures some { IfSome result (λ spm. self.old.kept.manager ≡ Some spm.value) }
+        ensures none { IfNone result (self.old.kept.manager ≡ None) }
+        ensures left { self.new.kept.manager ≡ None }
+    {
+        let none = Holder {
+            kept: Kept::none(alloc),
+            made: false,
+        };
+        let held = replace(self, none);
+        if held.made {
+            Some(held.kept.into_box())
+        } else {
+            None
+        }
+    }
+}
