@@ -163,6 +163,7 @@ fn expect_walk(rt: &impl Abort, part: &Part, index: u32, walked: Walked) {
 
 /// No partition reaches a page that is cleared.
 fn expect_unreached(rt: &impl Abort, manifest: &Manifest, image: &Image, run: base::Run) {
+    assert_eq!(rt; image.pages(), manifest.table_pages() as usize);
     for partition in manifest.partitions() {
         for index in 0..run.count() {
             let page = Page::new(run.first().number().wrapping_add(index) % Page::COUNT);
