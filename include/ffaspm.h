@@ -149,9 +149,10 @@ struct ffaspm_reply {
  *
  * FFASPM_DONE: the call was answered, be it with FFA_ERROR, and the operations of the call are there
  * for ffaspm_operation. After FFA_ERROR the state and the tables are as they were.
- * FFASPM_NO_MEMORY: the state and the tables are as they were, and there may be no operations any
- * more. A firmware answers FFA_ERROR with FFA_NO_MEMORY; the call may be made again.
- * FFASPM_RX_SHORT: nothing was changed.
+ * FFASPM_NO_MEMORY: the state and the tables are as they were, and the call may be made again. A
+ * firmware answers FFA_ERROR with FFA_NO_MEMORY. There is nothing to replay: ffaspm_operation gives
+ * the operations of an earlier call, or none.
+ * FFASPM_RX_SHORT: nothing was changed, and there is nothing to replay.
  * FFASPM_NOT_MADE.
  */
 uint32_t ffaspm_handle(struct ffaspm *spm, const struct ffaspm_call *call, const uint8_t *tx,
@@ -175,7 +176,8 @@ struct ffaspm_operation {
 };
 
 /*
- * The operation of the last call at an index from 0 on. To be replayed on the live tables in this
+ * The operation of the last call at an index from 0 on: of the last that ffaspm_handle answered with
+ * FFASPM_DONE, as long as no other call was made. To be replayed on the live tables in this
  * order, before the reply (docs/LINKING.md; Arm ARM, "Break-before-make sequence").
  *
  * FFASPM_DONE; FFASPM_NOTHING_THERE, where the call made no more (boot, a refused call and one that
