@@ -1,3 +1,3 @@
 pub mod HexDigits
-pub mod Sessions
+pub mod Worlds
 pub mod Runs

@@ -21,15 +21,15 @@ use Rattle.lines.specs.declared.send.ReclaimLine.{ReclaimLine}
 use Rattle.lines.specs.Said.{Said, SaidSend, Nothing, Tx, Call, Send, Retrieve, Relinquish, Reclaim, Maps, Tables, Owners, Operations, Audit}
 use Rattle.lines.specs.Grammar.{line_of}
 
--- ---- sessions
+-- ---- the secure world that a script runs in
 
 -- a state, and the bytes that each partition's TX buffer holds at its calls
-pub record Session : Type 0 where
+pub record World : Type 0 where
   pub state : State
   pub kept : ℕ → List ℕ
 
-abbrev pub session_of : ManifestRows → Session
-session_of m = record { state = start m; kept = λ p. [] }
+abbrev pub world_of : ManifestRows → World
+world_of m = record { state = start m; kept = λ p. [] }
 
 abbrev pub with_kept : ℕ → List ℕ → (ℕ → List ℕ) → ℕ → List ℕ
 with_kept p bytes kept q = if q == p then bytes else kept q
@@ -64,9 +64,9 @@ fields_of kind send = record {
 abbrev pub kept_by : (ℕ → Option CallWords) → ℕ → List ℕ
 kept_by last p = option_map_or (λ c. c.tx) (last p) []
 
--- the session of a state, where these are the last calls
-abbrev pub session_at : State → (ℕ → Option CallWords) → Session
-session_at s last = record { state = s; kept = kept_by last }
+-- the world of a state, where these are the last calls
+abbrev pub world_at : State → (ℕ → Option CallWords) → World
+world_at s last = record { state = s; kept = kept_by last }
 
 abbrev pub registers : ℕ → ℕ → ℕ → ℕ → List ℕ
 registers w0 w1 w2 w3 = w0 ∷ w1 ∷ w2 ∷ w3 ∷ 0 ∷ 0 ∷ 0 ∷ 0 ∷ []
@@ -99,7 +99,7 @@ reclaim_registers r =
     registers 0x84000077 (low_half r.handle) (high_half r.handle) (if r.clears then 1 else 0)
 
 -- the call that a line makes, if it makes one
-abbrev pub call_of : Session → Said → Option CallWords
+abbrev pub call_of : World → Said → Option CallWords
 call_of s (Call p registers) = Some (call_by s.kept p registers)
 call_of s (Send kind send) = Some (send_call s.state kind send)
 call_of s (Retrieve f) = Some (retrieve_call s.state f)
@@ -108,19 +108,19 @@ call_of s (Reclaim r) = Some (call_by s.kept r.caller (reclaim_registers r))
 call_of s line = None
 
 -- the bytes that are kept after a line
-abbrev pub kept_after : Session → Said → ℕ → List ℕ
+abbrev pub kept_after : World → Said → ℕ → List ℕ
 kept_after s (Tx p bytes) = with_kept p bytes s.kept
 kept_after s line = s.kept
 
--- the session after a line
-unfoldable pub after : Session → Said → Session
+-- the world after a line
+unfoldable pub after : World → Said → World
 after s line = record {
   state = option_map_or (step s.state) (call_of s line) s.state;
   kept = kept_after s line;
 }
 
 -- The text that a line writes. What `ops` writes stands for the text of some operations.
-unfoldable pub IsTextOf : Session → Said → List ℕ → Type 0
+unfoldable pub IsTextOf : World → Said → List ℕ → Type 0
 IsTextOf s (Maps p) text = text ≡ maps_text p (sees s.state p)
 IsTextOf s (Tables p) text = text ≡ tables_text p (sees s.state p)
 IsTextOf s Owners text = text ≡ owners_text s.state.manifest s.state.donations
@@ -129,11 +129,11 @@ IsTextOf s Audit text = text ≡ codes "equal\n"
 IsTextOf s line text = text ≡ option_map_or (λ c. reply_text (answer s.state c)) (call_of s line) []
 
 -- a line's text was appended
-abbrev pub AppendsText : Session → Said → List ℕ → List ℕ → Type 0
+abbrev pub AppendsText : World → Said → List ℕ → List ℕ → Type 0
 AppendsText s line old new = (mine : List ℕ) × (new ≡ old ++ mine) × IsTextOf s line mine
 
--- bytes are a line, which leads from one session to another and whose text was appended
-abbrev pub RunsLine : Session → Session → List ℕ → List ℕ → List ℕ → Type 0
+-- bytes are a line, which leads from one world to another and whose text was appended
+abbrev pub RunsLine : World → World → List ℕ → List ℕ → List ℕ → Type 0
 RunsLine s next bytes old new =
     (line : Said) × (line_of bytes ≡ Some line) × (next ≡ after s line) × AppendsText s line old new
 
@@ -148,30 +148,30 @@ abbrev pub first_bad : List (List ℕ) → Option ℕ
 first_bad lines = position (λ line. is_none (line_of line)) lines
 
 -- a line's text, and then the text of those behind it; nothing where it is none
-abbrev pub WritesLine : Option Said → Session → (Session → List ℕ → Type 0) → List ℕ → Type 0
+abbrev pub WritesLine : Option Said → World → (World → List ℕ → Type 0) → List ℕ → Type 0
 WritesLine None s Behind text = text ≡ []
 WritesLine (Some line) s Behind text =
     (mine : List ℕ) × (more : List ℕ) × IsTextOf s line mine × Behind (after s line) more
     × (text ≡ mine ++ more)
 
 -- the texts of lines in order, up to the first that is none
-abbrev pub Writes : List (List ℕ) → Session → List ℕ → Type 0
+abbrev pub Writes : List (List ℕ) → World → List ℕ → Type 0
 Writes [] s text = text ≡ []
 Writes (line ∷ lines) s text = WritesLine (line_of line) s (Writes lines) text
 
 -- ---- what a run leaves with its writer
 
 -- the whole text of the lines
-abbrev pub WroteText : Option (List ℕ) → Option (List ℕ) → Session → List (List ℕ) → Type 0
+abbrev pub WroteText : Option (List ℕ) → Option (List ℕ) → World → List (List ℕ) → Type 0
 WroteText old new s lines = (text : List ℕ) × Writes lines s text × Appends old new text
 
 -- a beginning of it
-abbrev pub WroteBeginning : Option (List ℕ) → Option (List ℕ) → Session → List (List ℕ) → Type 0
+abbrev pub WroteBeginning : Option (List ℕ) → Option (List ℕ) → World → List (List ℕ) → Type 0
 WroteBeginning old new s lines =
     (text : List ℕ) × Writes lines s text × AppendsBeginning old new text
 
 -- By how it ended: all lines, those before the first that is none, a beginning of their text, or nothing.
-abbrev pub Left : Option (List ℕ) → Option (List ℕ) → Session → List (List ℕ) → Result (Unit {0}) RunFault → Type 0
+abbrev pub Left : Option (List ℕ) → Option (List ℕ) → World → List (List ℕ) → Result (Unit {0}) RunFault → Type 0
 Left old new s lines (Ok done) = (first_bad lines ≡ None) × WroteText old new s lines
 Left old new s lines (Err (Line n)) =
     (option_map (λ k. k + 1) (first_bad lines) ≡ Some n) × WroteText old new s lines

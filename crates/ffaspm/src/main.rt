@@ -22,8 +22,8 @@ mod operations;
 mod output;
 mod replies;
 mod script;
-mod session;
 mod watched;
+mod world;
 
 /// The manifest is read and judged before the script is opened.
 fn perform(rt: &HostRuntime, task: &Task<'_>) -> Result<(), Fault> {

@@ -6,7 +6,7 @@ ghost use Rattle.lines.specs.Lines.{HasParts};
 use super::PAIRS;
 use super::documents::{common_document, sparse_document};
 use super::operations::GIVEN_BACK;
-use crate::session::Session;
+use crate::world::World;
 use base::{Access, OutOfMemory, Page, PartitionId};
 use lines::{Line, read_line};
 use manifest::{Manifest, Region, read};
@@ -240,7 +240,7 @@ fn expect_replay<M: TableMem + Drop>(
 /// changed.
 fn watch_line<M: TableMem + Drop>(
     rt: &impl Abort,
-    session: &mut Session<M>,
+    world: &mut World<M>,
     line: Line,
     text: &mut Vec<u8>,
 ) -> Result<bool, Fail>
@@ -252,13 +252,13 @@ fn watch_line<M: TableMem + Drop>(
         | Line::Retrieve(..)
         | Line::Relinquish(..)
         | Line::Reclaim(..) => {
-            let watch = take_watch(session.alloc, &session.spm)?;
-            session.line(line, text)?;
-            expect_replay(rt, session.alloc, &session.spm, watch)?;
-            Ok(!session.spm.last_ops().is_empty())
+            let watch = take_watch(world.alloc, &world.spm)?;
+            world.line(line, text)?;
+            expect_replay(rt, world.alloc, &world.spm, watch)?;
+            Ok(!world.spm.last_ops().is_empty())
         }
         _ => {
-            session.line(line, text)?;
+            world.line(line, text)?;
             Ok(false)
         }
     }
@@ -272,14 +272,14 @@ fn watch_over<M: TableMem + Drop>(
     manifest: Manifest,
     script: &str,
 ) -> Result<u32, Fail> {
-    let mut session: Session<M> = Session::boot(alloc, manifest)?;
+    let mut world: World<M> = World::boot(alloc, manifest)?;
     let mut text = Vec::new(alloc);
     let mut changes = 0u32;
     for bytes in script.as_bytes().split(|byte| *byte == b'\n') {
         let Some(line) = read_line(alloc, bytes)? else {
             break;
         };
-        if watch_line(rt, &mut session, line, &mut text)? {
+        if watch_line(rt, &mut world, line, &mut text)? {
             changes = changes.saturating_add(1);
         }
     }

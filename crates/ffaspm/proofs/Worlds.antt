@@ -1,4 +1,4 @@
--- Sessions that are the same, and what tables show of a state.
+-- Worlds that are the same, and what tables show of a state.
 use Rattle.std.specs.Prelude.{codes}
 use Rattle.base.specs.Manifest.{ManifestRows}
 use Rattle.base.specs.Transactions.{Donation, Live}
@@ -14,14 +14,14 @@ use Rattle.stage2.proofs.Editing.ChunkKeeps.{answer-walked}
 use Rattle.spm.specs.Machine.{WalksAgree}
 use Rattle.audit.specs.Audit.{HaveEntriesOf, IsAuditText}
 use Rattle.audit.proofs.SameEntries.{entries-same}
-use Rattle.ffaspm.specs.Script.{Session}
+use Rattle.ffaspm.specs.Script.{World}
 
-abbrev record_of : State → (ℕ → List ℕ) → Session
+abbrev record_of : State → (ℕ → List ℕ) → World
 record_of s kept = record { state = s; kept = kept }
 
--- sessions of one state that keep the same bytes
-pub same_session : (s t : State) (kept other : ℕ → List ℕ) → s ≡ t → ((p : ℕ) → kept p ≡ other p) → record_of s kept ≡ record_of t other
-same_session s t kept other e h = λ i. record { state = e i; kept = λ p. h p i }
+-- worlds of one state that keep the same bytes
+pub same_world : (s t : State) (kept other : ℕ → List ℕ) → s ≡ t → ((p : ℕ) → kept p ≡ other p) → record_of s kept ≡ record_of t other
+same_world s t kept other e h = λ i. record { state = e i; kept = λ p. h p i }
 
 -- what the tables give, page by page
 pub tables_show : (s : State) (t : TablesView) (pool : Pool) → t.layout ≡ layout_of s.manifest → t.pool ≡ pool → WalksAgree s pool → (p n : ℕ) → n < 2 ^ 27 → view_of t p n ≡ sees s p n

@@ -3,8 +3,8 @@ use Rattle.std.proofs.lemmas.Grind.{common_steps}
 use Rattle.base.specs.State.{sees}
 use Rattle.stage2.specs.Tables.{view_of}
 use Rattle.audit.proofs.SameTexts.{tables-same}
-use Rattle.ffaspm.proofs.Sessions.{tables_show}
-use Rattle.ffaspm.proofs.session.Session.tables.Goals as goal
+use Rattle.ffaspm.proofs.Worlds.{tables_show}
+use Rattle.ffaspm.proofs.world.World.tables.Goals as goal
 
 pub returns : goal.returns
 returns g c =

@@ -1,8 +1,8 @@
 use Rattle.std.proofs.Common.{◌≡◌, string_bytes, arith}
 use Rattle.std.specs.Prelude.{codes}
 use Rattle.std.proofs.lemmas.Grind.{common_steps}
-use Rattle.ffaspm.proofs.Sessions.{tables_show, have_entries, audited_equal}
-use Rattle.ffaspm.proofs.session.Session.audit.Goals as goal
+use Rattle.ffaspm.proofs.Worlds.{tables_show, have_entries, audited_equal}
+use Rattle.ffaspm.proofs.world.World.audit.Goals as goal
 
 pub returns : goal.returns
 returns g c =

@@ -1,4 +1,4 @@
-//! A session: the manager, and what the lines of a script do to it.
+//! The secure world that a script runs in, and what its lines do to it.
 
 ghost use Rattle.std.specs.Prelude.{◌≡◌, ◌++◌, ◌∷◌, [], ℕ, length, if◌then◌else◌, codes, option_map, OnOk, IfOk};
 ghost use Rattle.std.specs.BTreeMap.{get};
@@ -32,34 +32,34 @@ use wire::identifiers::{
     FFA_MEM_SHARE,
 };
 
-/// The manager, and for each partition with a `tx` line its last call, which holds the bytes of its TX
-/// buffer.
+/// The manager of a secure world, and for each partition with a `tx` line its last call, which holds the
+/// bytes of its TX buffer.
 #[derive(Drop)]
-pub(crate) struct Session<M: TableMem + Drop> {
+pub(crate) struct World<M: TableMem + Drop> {
     pub(crate) alloc: Global,
     pub(crate) spm: Spm<M>,
     kept: BTreeMap<u16, Call>,
 }
 
-impl<M: TableMem + Drop> Session<M> {
+impl<M: TableMem + Drop> World<M> {
     /// The manager before any call, and empty TX buffers.
     pub(crate) fn boot(alloc: Global, manifest: Manifest) -> Result<Self, OutOfMemory>
-        ensures { IfOk result (λ session.
-            spec.session_at session.spm.state (get nat_cmp session.kept) ≡ spec.session_of manifest) }
+        ensures { IfOk result (λ world.
+            spec.world_at world.spm.state (get nat_cmp world.kept) ≡ spec.world_of manifest) }
     {
         let spm = Spm::boot(alloc, manifest)?;
         let kept = BTreeMap::new(alloc);
-        Ok(Session { alloc, spm, kept })
+        Ok(World { alloc, spm, kept })
     }
 
     /// Does what a line says, and appends what it writes. An error may leave a beginning of that.
-    #[tactic(auto, using(crate::proofs::Sessions::same_session), unfolding(crate::specs::Script::IsTextOf, crate::specs::Script::after))]
+    #[tactic(auto, using(crate::proofs::Worlds::same_world), unfolding(crate::specs::Script::IsTextOf, crate::specs::Script::after))]
     pub(crate) fn line(&mut self, line: Line, text: &mut Vec<u8>) -> Result<(), OutOfMemory>
         requires { HasParts line }
-        ensures text { OnOk result (spec.AppendsText (spec.session_at self.old.spm.state (get nat_cmp self.old.kept)) (said line)
+        ensures text { OnOk result (spec.AppendsText (spec.world_at self.old.spm.state (get nat_cmp self.old.kept)) (said line)
             text.old.items text.new.items) }
-        ensures after { OnOk result (spec.session_at self.new.spm.state (get nat_cmp self.new.kept)
-            ≡ spec.after (spec.session_at self.old.spm.state (get nat_cmp self.old.kept)) (said line)) }
+        ensures after { OnOk result (spec.world_at self.new.spm.state (get nat_cmp self.new.kept)
+            ≡ spec.after (spec.world_at self.old.spm.state (get nat_cmp self.old.kept)) (said line)) }
     {
         match line {
             Line::Nothing => Ok(()),

@@ -3,8 +3,8 @@ use Rattle.std.proofs.lemmas.Grind.{common_steps}
 use Rattle.base.specs.State.{sees}
 use Rattle.stage2.specs.Tables.{view_of}
 use Rattle.audit.proofs.SameTexts.{maps-same}
-use Rattle.ffaspm.proofs.Sessions.{tables_show}
-use Rattle.ffaspm.proofs.session.Session.maps.Goals as goal
+use Rattle.ffaspm.proofs.Worlds.{tables_show}
+use Rattle.ffaspm.proofs.world.World.maps.Goals as goal
 
 pub returns : goal.returns
 returns g c =
