@@ -86,8 +86,6 @@ static const uint64_t looked_at[] = {
     CLOCK, CLOCK - 16 * PAGE /* the UART */, RAM, TABLES, IMAGE,
 };
 
-#define LOOKED_AT (sizeof looked_at / sizeof looked_at[0])
-
 static size_t checks, walks_differ, accesses_differ, words_differ;
 
 size_t differences(void) { return walks_differ + accesses_differ + words_differ; }
@@ -124,29 +122,41 @@ static void compare(uint64_t page)
     text("\n");
 }
 
+static void compare_as(struct partition *partition)
+{
+    switch_to(partition);
+    for (size_t i = 0; i < sizeof looked_at / sizeof looked_at[0]; i++)
+        compare(looked_at[i]);
+}
+
 /* The partition that runs comes first, before a switch can drop what a TLB kept of it. */
 static void compare_pages(void)
 {
     struct partition *caller = current;
-    for (size_t i = 0; i < PARTITIONS; i++) {
-        switch_to(&partitions[((size_t)(caller - partitions) + i) % PARTITIONS]);
-        for (size_t page = 0; page < LOOKED_AT; page++)
-            compare(looked_at[page]);
-    }
+    for (size_t i = 0; i < PARTITIONS; i++)
+        compare_as(&partitions[((size_t)(caller - partitions) + i) % PARTITIONS]);
     switch_to(caller);
 }
 
-/* Compares each word of the live tables with the core's, and gives a sum of them. */
-static uint64_t compare_words(uint64_t pool)
+/* Compares a page of the live tables with the core's words, and adds it to a sum. */
+static uint64_t compare_words(const volatile uint64_t *live, uint32_t page, uint64_t sum)
 {
-    uint64_t sum = 0, word;
-    for (uint32_t page = 0; ffaspm_word(&spm, page, 0, &word) == FFASPM_DONE; page++)
-        for (uint32_t index = 0; index < 512; index++) {
-            uint64_t live = *(volatile uint64_t *)(pool + PAGE * page + 8 * index);
-            ffaspm_word(&spm, page, index, &word);
-            words_differ += word != live;
-            sum = (sum ^ live) * 0x100000001b3;
-        }
+    for (uint32_t index = 0; index < 512; index++) {
+        uint64_t word = 0;
+        ffaspm_word(&spm, page, index, &word);
+        words_differ += word != live[index];
+        sum = (sum ^ live[index]) * 0x100000001b3;
+    }
+    return sum;
+}
+
+static uint64_t compare_tables(uint64_t pool)
+{
+    uint64_t sum = 0, address;
+    uint32_t pages = 0;
+    ffaspm_pool(&spm, &address, &pages);
+    for (uint32_t page = 0; page < pages; page++)
+        sum = compare_words((const volatile uint64_t *)(pool + PAGE * page), page, sum);
     return sum;
 }
 
@@ -174,7 +184,7 @@ void check(uint64_t pool)
 {
     static uint64_t sum_before;
     compare_pages();
-    uint64_t sum = compare_words(pool);
+    uint64_t sum = compare_tables(pool);
     text("el2: check ");
     decimal(++checks);
     text(": differ: walks ");

@@ -131,6 +131,7 @@ static void call_core(uint64_t *registers)
     memcpy(call.regs, registers, sizeof call.regs);
     ffaspm_buffers(&spm, current->id, &pair);
     uint32_t status = ffaspm_handle(&spm, &call, tx, copy_tx(&pair), rx, sizeof rx, &reply);
+    heap_refuses = false;
     if (status == FFASPM_DONE)
         finish_call((uint32_t)call.regs[0], &pair, &reply);
     else if (status != FFASPM_NO_MEMORY)
@@ -249,6 +250,7 @@ static void serve(void)
     case FFA_MSG_SEND_DIRECT_RESP_64: return send_response((uint32_t)registers[1]);
     case FFA_CONSOLE_LOG_64: return log_text(registers);
     case CHECK: return check(pool);
+    case STARVE: heap_refuses = true; return;
     case PSCI_SYSTEM_OFF: return finish();
     default: return call_core(registers);
     }
@@ -274,6 +276,8 @@ static void skip_access(void)
 static void skip_function(void)
 {
     tell_fault(" may not execute ");
+    if (fault_address() == current->context.x[30])
+        stop("a partition that has nowhere to go on");
     current->context.pc = current->context.x[30];
 }
 
@@ -300,12 +304,14 @@ static void make_core(void)
     heap_at_boot = heap_used;
 }
 
-static void fill_word(uint32_t page, uint32_t index)
+static void fill_page(uint32_t page)
 {
-    uint64_t word;
-    if (ffaspm_word(&spm, page, index, &word) != FFASPM_DONE)
-        stop("no word");
-    *(volatile uint64_t *)(pool + PAGE * page + 8 * index) = word;
+    for (uint32_t index = 0; index < 512; index++) {
+        uint64_t word;
+        if (ffaspm_word(&spm, page, index, &word) != FFASPM_DONE)
+            stop("no word");
+        *(volatile uint64_t *)(pool + PAGE * page + 8 * index) = word;
+    }
 }
 
 /* Fills the live tables before any partition runs. */
@@ -315,8 +321,7 @@ static void fill_live_tables(void)
     if (ffaspm_pool(&spm, &pool, &pages) != FFASPM_DONE)
         stop("no pool");
     for (uint32_t page = 0; page < pages; page++)
-        for (uint32_t index = 0; index < 512; index++)
-            fill_word(page, index);
+        fill_page(page);
     DO("dsb ish");
     text("el2: live tables of ");
     decimal(pages);

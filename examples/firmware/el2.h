@@ -86,6 +86,7 @@ size_t differences(void);
 /* ---- support.c */
 
 extern size_t heap_used, heap_most;
+extern bool heap_refuses;
 void heap_make(void);
 void *memcpy(void *restrict to, const void *restrict from, size_t length);
 void *memset(void *to, int byte, size_t length);

@@ -3,12 +3,12 @@
 ENTRY(start)
 SECTIONS
 {
-    .text 0x48000000 : { KEEP(*start.o(.text)) EXCLUDE_FILE(*partition_*.o) *(.text .text.*) }
-    .rodata : { EXCLUDE_FILE(*partition_*.o) *(.rodata .rodata.*) }
-    .data : { EXCLUDE_FILE(*partition_*.o) *(.data .data.*) }
+    .text 0x48000000 : { KEEP(*start.o(.text)) EXCLUDE_FILE(*partition_800?.o) *(.text .text.*) }
+    .rodata : { EXCLUDE_FILE(*partition_800?.o) *(.rodata .rodata.*) }
+    .data : { EXCLUDE_FILE(*partition_800?.o) *(.data .data.*) }
     .bss (NOLOAD) : ALIGN(4096) {
         bss_begin = .;
-        EXCLUDE_FILE(*partition_*.o) *(.bss .bss.* COMMON)
+        EXCLUDE_FILE(*partition_800?.o) *(.bss .bss.* COMMON)
         . = ALIGN(16);
         bss_end = .;
     }
@@ -33,7 +33,7 @@ SECTIONS
         . = 0xf000;
         KEEP(*partition_8003.o(.last))
     }
-    .partition_data : { *partition_*.o(.data .data.* .bss .bss.*) }
+    .partition_data : { *partition_800?.o(.data .data.* .bss .bss.*) }
     ASSERT(SIZEOF(.partition_data) == 0, "a partition has data in the image")
     ASSERT(SIZEOF(.partition_8001) <= 0x10000, "a partition's code is larger than its region")
 

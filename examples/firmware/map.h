@@ -37,9 +37,11 @@
 #define FFA_MSG_SEND_DIRECT_RESP_64 0xc4000070u
 #define FFA_CONSOLE_LOG_64 0xc400008au
 
-/* PSCI, and a call of this firmware alone (SMCCC, "Vendor Specific Hypervisor Service Calls"): EL2
- * compares what the processor lets each partition reach with what the core says. */
+/* PSCI, and two calls of this firmware alone (SMCCC, "Vendor Specific Hypervisor Service Calls"): EL2
+ * compares what the processor lets each partition reach with what the core says, and lets the next
+ * call of the core find no heap. */
 #define PSCI_SYSTEM_OFF 0x84000008u
 #define CHECK 0xc6000000u
+#define STARVE 0xc6000001u
 
 #endif

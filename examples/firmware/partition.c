@@ -501,6 +501,19 @@ static void unshare(uint64_t handle)
     check();
 }
 
+/* A send that finds no heap changes nothing, and is made again. */
+static void starve(void)
+{
+    say("h. lends a page without heap, and with it");
+    call(STARVE, 0, 0, 0, 0, 0);
+    send(FFA_MEM_LEND, 0, LENT, 0x8002, 0);
+    tell_load("reads", load(LENT));
+    check();
+    reclaim(send(FFA_MEM_LEND, 0, LENT, 0x8002, 0));
+    tell_load("reads", load(LENT));
+    check();
+}
+
 static void go_through(void)
 {
     check();
@@ -511,6 +524,7 @@ static void go_through(void)
     withstand();
     lend_code();
     unshare(handle);
+    starve();
     call(PSCI_SYSTEM_OFF, 0, 0, 0, 0, 0);
 }
 
