@@ -1,6 +1,7 @@
 /*
- * What the processor lets each partition reach, against what the core says. Each page of a list is asked in two
- * ways: by AT, which walks the live tables, and by a load, a store and a fetch at EL1, which may find what a TLB kept.
+ * What the processor lets each partition reach, against what the core says. Each page of a list is
+ * asked in two ways: by AT, which walks the live tables, and by a load, a store and a fetch at EL1, which may
+ * find what a TLB kept.
  */
 #include "el2.h"
 
@@ -77,14 +78,17 @@ static uint32_t by_access(uint64_t page)
 
 /* ---- the comparison */
 
+/* clang-format off */
 static const uint64_t looked_at[] = {
-    CODE_OF(0x8001), LAST_CODE, CODE_OF(0x8001) + 16 * PAGE, TX_OF(0x8001), RX_OF(0x8001),
+    CODE_OF(0x8001), LAST_CODE, LAST_CODE + PAGE, TX_OF(0x8001), RX_OF(0x8001),
     LENT, SHARED, GIVEN, HELD, DATA_OF(0x8001) + 15 * PAGE, DATA_OF(0x8001) + 16 * PAGE,
-    BLOCK - PAGE, BLOCK, BLOCK_LENT - PAGE, BLOCK_LENT, BLOCK_LENT + PAGE, BLOCK_KEPT, BLOCK + 511 * PAGE, BLOCK + 512 * PAGE,
+    BLOCK - PAGE, BLOCK, BLOCK_LENT - PAGE, BLOCK_LENT, BLOCK_LENT + PAGE, BLOCK_KEPT,
+    BLOCK + 511 * PAGE, BLOCK + 512 * PAGE,
     CODE_OF(0x8002), TX_OF(0x8002), RX_OF(0x8002), DATA_OF(0x8002), DATA_OF(0x8002) + 15 * PAGE,
     CODE_OF(0x8003), TX_OF(0x8003), RX_OF(0x8003), DATA_OF(0x8003), DATA_OF(0x8003) + 15 * PAGE,
-    CLOCK, CLOCK - 16 * PAGE /* the UART */, RAM, TABLES, IMAGE,
+    UART, CLOCK, RAM, TABLES, TABLES + 26 * PAGE, IMAGE,
 };
+/* clang-format on */
 
 static size_t checks, walks_differ, accesses_differ, words_differ;
 

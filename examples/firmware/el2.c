@@ -110,7 +110,8 @@ static size_t copy_tx(const struct ffaspm_buffers *pair)
     return PAGE * pair->tx_pages;
 }
 
-static void finish_call(uint32_t function, const struct ffaspm_buffers *pair, const struct ffaspm_reply *reply)
+static void finish_call(uint32_t function, const struct ffaspm_buffers *pair,
+                        const struct ffaspm_reply *reply)
 {
     size_t counts[3] = {0, 0, 0};
     replay(counts);
@@ -314,12 +315,13 @@ static void fill_page(uint32_t page)
     }
 }
 
-/* Fills the live tables before any partition runs. */
+/* Fills the live tables before any partition runs. They are where the manifest says, since table
+ * descriptors hold these addresses. */
 static void fill_live_tables(void)
 {
     uint32_t pages;
-    if (ffaspm_pool(&spm, &pool, &pages) != FFASPM_DONE)
-        stop("no pool");
+    if (ffaspm_pool(&spm, &pool, &pages) != FFASPM_DONE || pool < TABLES || pool + PAGE * pages > IMAGE)
+        stop("the pool is not in the memory of the live tables");
     for (uint32_t page = 0; page < pages; page++)
         fill_page(page);
     DO("dsb ish");
@@ -328,6 +330,16 @@ static void fill_live_tables(void)
     text(" pages at ");
     hexadecimal(pool, 10);
     text("\n");
+}
+
+/* The manifest keeps regions apart from the pool alone, so EL2 sees to it that its image is in none. */
+static void keep_image(void)
+{
+    for (uint64_t at = IMAGE; at < (uint64_t)stack_end; at += PAGE) {
+        uint16_t owner;
+        if (ffaspm_owner(&spm, at, &owner) != FFASPM_NOTHING_THERE)
+            stop("a partition owns a page of EL2's image");
+    }
 }
 
 static void make_partitions(void)
@@ -346,6 +358,7 @@ void el2_main(void)
     paint_stack();
     heap_make();
     make_core();
+    keep_image();
     fill_live_tables();
     make_partitions();
     start_stage_2();

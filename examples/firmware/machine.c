@@ -6,8 +6,8 @@
 
 /* ---- text (PL011) */
 
-#define UART_DATA (*(volatile uint32_t *)0x09000000)
-#define UART_FLAGS (*(volatile uint32_t *)0x09000018)
+#define UART_DATA (*(volatile uint32_t *)UART)
+#define UART_FLAGS (*(volatile uint32_t *)(UART + 0x18))
 #define UART_IS_FULL (1u << 5)
 
 void character(char c)
@@ -91,8 +91,8 @@ void map_own_memory(void)
     DO("isb");
 }
 
-/* ---- stage 2. Stage 1 stays off: HCR_EL2.DC makes what partitions access as normal and write-back as stage 2
- * has it, so that EL2 reads TX and writes RX through the same caches, and TVM traps a change of it. */
+/* ---- stage 2. Stage 1 stays off: HCR_EL2.DC leaves the kind of memory to stage 2, so that partitions use
+ * TX and RX through the same caches as EL2, and TVM traps what would turn it on. */
 
 #define HCR_VM (1ul << 0)
 #define HCR_FMO_IMO_AMO (7ul << 3)

@@ -30,6 +30,7 @@
 #define BLOCK_LENT (BLOCK + 5 * PAGE)
 #define BLOCK_KEPT (BLOCK + 300 * PAGE)
 #define CLOCK 0x09010000ul
+#define UART 0x09000000ul /* EL2's */
 
 /* FF-A 1.1 and 1.2: messages and the console, which the core does not serve. */
 #define FFA_MSG_WAIT 0x8400006bu

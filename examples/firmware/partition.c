@@ -155,7 +155,8 @@ static uint64_t get(uint64_t buffer, size_t at, size_t bytes)
     return number;
 }
 
-static void put_header(uint16_t sender, uint32_t attributes, uint32_t flags, uint64_t handle, uint32_t receivers)
+static void put_header(uint16_t sender, uint32_t attributes, uint32_t flags, uint64_t handle,
+                       uint32_t receivers)
 {
     for (size_t at = 0; at < 128; at += 8)
         put(at, 8, 0);
