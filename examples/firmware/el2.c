@@ -17,9 +17,11 @@ static struct partition *partition_of(uint16_t id)
 
 /* ---- the replay: one store, one invalidation or one clear after the other */
 
+/* A walk that sees a later store is to see this one. */
 static void set_word(const struct ffaspm_operation *op)
 {
     *(volatile uint64_t *)(pool + PAGE * op->page + 8 * op->index) = op->word;
+    DO("dmb ishst");
 }
 
 static void invalidate(const struct ffaspm_operation *op)
@@ -50,6 +52,7 @@ static void clear(const struct ffaspm_operation *op)
     memset((void *)op->address, 0, end - op->address);
     for (uint64_t at = op->address; at < end; at += line)
         DO_AT("dc civac", at);
+    DO("dsb ish");
 }
 
 static void replay(size_t counts[3])
