@@ -11,7 +11,7 @@
 
 /* ---- partitions */
 
-/* What a partition has in registers: start.S knows the offsets. */
+/* What a partition has in registers. */
 struct context {
     uint64_t x[31];
     uint64_t pc;
@@ -21,6 +21,10 @@ struct context {
     uint64_t fpcr;
     uint64_t fpsr;
 };
+
+_Static_assert(offsetof(struct context, pc) == 248 && offsetof(struct context, v) == 272 &&
+                   offsetof(struct context, fpcr) == 784,
+               "start.S has these offsets");
 
 #define PSTATE_EL1 0x3c5u /* EL1 with a stack pointer of its own, all interrupts masked */
 
@@ -36,7 +40,6 @@ struct partition {
 extern struct ffaspm spm;
 extern struct partition partitions[PARTITIONS];
 extern struct partition *current;
-
 
 /* ---- the processor */
 

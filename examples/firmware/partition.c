@@ -262,12 +262,12 @@ static uint64_t draw(uint64_t *state) /* xorshift */
     return *state;
 }
 
-/* Fields of a lend to one receiver that no other number fits. */
+/* Where in a lend to one receiver another byte is a fault, whatever it is. */
 static const struct {
     uint8_t at, bytes;
 } fields[] = {
-    {0, 2},  {2, 2},  {8, 8},  {24, 4}, {28, 4}, {32, 4}, {36, 8}, {44, 4}, {48, 2}, {51, 1},
-    {52, 4}, {56, 8}, {64, 4}, {68, 4}, {72, 8}, {80, 8}, {88, 4}, {92, 4},
+    {0, 2},  {2, 2},  {8, 8},  {24, 4}, {28, 4}, {32, 4}, {36, 8}, {44, 4}, {49, 1},
+    {51, 1}, {52, 4}, {56, 8}, {64, 4}, {68, 4}, {72, 8}, {80, 1}, {88, 4}, {92, 4},
 };
 
 static struct words send_wrong_field(uint64_t *state)
@@ -276,7 +276,7 @@ static struct words send_wrong_field(uint64_t *state)
     size_t field = draw(state) % (sizeof fields / sizeof fields[0]);
     size_t at = fields[field].at + draw(state) % fields[field].bytes;
     put(at, 1, tx[at] ^ (1 + draw(state) % 255));
-    return call(FFA_MEM_DONATE + draw(state) % 3, 96, 96, 0, 0, 0);
+    return call(FFA_MEM_LEND, 96, 96, 0, 0, 0);
 }
 
 static struct words send_noise(uint64_t *state, uint32_t function)
