@@ -12,22 +12,22 @@ use crate::chunk::{edit_chunk, table_of};
 use crate::edit::put_word;
 use crate::layout::Layout;
 use crate::part::chunk_runs;
+use crate::place::{Chunk, end_chunk, first_chunk};
 use crate::read::read_slot;
 use crate::span::chunk_span;
-use crate::unmap::{end_chunk, first_chunk};
 use base::{Access, Page, PartitionId, Run};
 use pool::TableMem;
 use words::table_word;
 
 /// Whether a run has a page in a chunk.
-fn run_touches(run: Run, chunk: u32) -> bool
+fn run_touches(run: Run, chunk: Chunk) -> bool
     ensures { result ≡ touches_run chunk run }
 {
-    first_chunk(run) <= chunk && chunk < end_chunk(run)
+    first_chunk(run).number() <= chunk.number() && chunk.number() < end_chunk(run)
 }
 
 /// Whether the runs have a page in a chunk.
-pub(crate) fn touches(runs: &[Run], chunk: u32) -> bool
+pub(crate) fn touches(runs: &[Run], chunk: Chunk) -> bool
     ensures { result ≡ touches_chunk chunk runs.now }
 {
     runs.iter().any(|run| run_touches(*run, chunk))
@@ -62,7 +62,7 @@ fn edit_chunks<M: TableMem>(
 {
     let span = chunk_span(runs, gigabyte);
     for index in span.first..span.end {
-        let chunk = 512 * gigabyte + index;
+        let chunk = Chunk::new(512 * gigabyte + index);
         let part = chunk_runs(runs, chunk);
         if touches(part, chunk) {
             edit_chunk(memory, layout, p, row, second, chunk, part, access);

@@ -16,6 +16,7 @@ use crate::chunk::{outcome, table_of};
 use crate::gigabyte::{find_table, touches as touches_chunk};
 use crate::layout::Layout;
 use crate::part::{chunk_runs, gigabyte_runs};
+use crate::place::Chunk;
 use crate::read::read_slot;
 use crate::row::touches;
 use crate::span::{chunk_span, gigabyte_span};
@@ -57,14 +58,13 @@ fn grows<M: TableMem>(
     memory: &M,
     layout: &Layout,
     entry: &Slot,
-    chunk: u32,
+    chunk: Chunk,
     runs: &[Run],
     access: &Option<Access>,
 ) -> bool
     requires normal { are_normal runs.now ≡ true }
     requires pages { layout.now.pages ≡ page_count (M.state memory.now).memory.quotas }
     requires table { (k : ℕ) → entry.now ≡ Next k → k < layout.now.pages }
-    requires chunk { chunk < 262144 }
     ensures { let now = M.state memory.now in
         let after = read_after layout.now runs.now access.now entry.now now in
         result ≡ (is_mixed after chunk && not (is_some (next_page entry.now))) }
@@ -94,7 +94,7 @@ fn takes<M: TableMem>(
         result ≡ grows_at before (edited runs.now access.now before) (512 * gigabyte + index) }
 {
     let _row = row;
-    let chunk = 512 * gigabyte + index;
+    let chunk = Chunk::new(512 * gigabyte + index);
     let part = chunk_runs(runs, chunk);
     if !touches_chunk(part, chunk) {
         return false;

@@ -8,6 +8,7 @@ ghost use Rattle.stage2.specs.Slot.{layout_of, slot_from};
 ghost use Rattle.stage2.specs.Walk.{walk, translation};
 ghost use Rattle.stage2.specs.declared.walked.Slot.TheVariants.{Next, Maps};
 
+use crate::place::{Chunk, page_index};
 use crate::walked::{Slot, Walked};
 use base::{Page, PartitionId};
 use manifest::{Manifest, Partition};
@@ -76,10 +77,16 @@ fn walk_row(manifest: &Manifest, image: &Image, row: u32, page: Page) -> Walked
     let n = page.number();
     match image_slot(manifest, image, 1, row, n / 512 / 512) {
         Slot::Empty => Walked::None,
-        Slot::Next(second) => match image_slot(manifest, image, 2, second, n / 512 % 512) {
+        Slot::Next(second) => match image_slot(
+            manifest,
+            image,
+            2,
+            second,
+            Chunk::of(page).index(),
+        ) {
             Slot::Empty => Walked::None,
             Slot::Maps(first, access) => Walked::Leaf(block_page(first, page), access),
-            Slot::Next(third) => match image_slot(manifest, image, 3, third, n % 512) {
+            Slot::Next(third) => match image_slot(manifest, image, 3, third, page_index(page)) {
                 Slot::Empty => Walked::None,
                 Slot::Maps(found, access) => Walked::Leaf(found, access),
                 _ => Walked::Wrong,
@@ -95,7 +102,7 @@ fn block_page(first: Page, page: Page) -> Page
     requires { first + page % 512 < 2 ^ 27 }
     ensures { result ≡ first + page % 512 }
 {
-    Page::new(first.number() + page.number() % 512)
+    Page::new(first.number() + page_index(page))
 }
 
 /// What a walk for a page of a partition gives over a copy of the words: it reads at most three of

@@ -4,6 +4,7 @@ ghost use Rattle.std.specs.Prelude.{◌≡◌, ◌<◌, true};
 ghost use Rattle.base.specs.Pages.{are_normal, covers};
 ghost use Rattle.stage2.specs.Parts as parts;
 
+use crate::place::Chunk;
 use base::{Page, Run};
 
 /// Those of the runs that have a page from one up to another.
@@ -28,13 +29,12 @@ pub(crate) fn is_covered(runs: &[Run], page: Page) -> bool
 }
 
 /// Those of the runs that have a page in a chunk.
-pub(crate) fn chunk_runs(runs: &[Run], chunk: u32) -> &[Run]
+pub(crate) fn chunk_runs(runs: &[Run], chunk: Chunk) -> &[Run]
     requires normal { are_normal runs.now ≡ true }
-    requires chunk { chunk < 262144 }
     ensures same { result.now ≡ parts.chunk_runs chunk runs.now }
     ensures normal { are_normal result.now ≡ true }
 {
-    runs_between(runs, 512 * chunk, 512 * chunk + 512)
+    runs_between(runs, chunk.first().number(), chunk.end())
 }
 
 /// Those of the runs that have a page in a gigabyte.

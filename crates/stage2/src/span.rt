@@ -4,7 +4,7 @@ ghost use Rattle.std.specs.Prelude.{◌≡◌, ℕ, ◌+◌, ◌*◌, ◌/◌, �
 ghost use Rattle.base.specs.Pages.{covers};
 ghost use Rattle.stage2.specs.Gigabytes.{touches_chunk};
 
-use crate::unmap::{end_chunk, first_chunk};
+use crate::place::{end_chunk, first_chunk};
 use base::Run;
 
 /// Places from one up to another.
@@ -24,7 +24,7 @@ pub(crate) fn gigabyte_span(runs: &[Run]) -> Span
     let mut first = 512;
     let mut end = 0;
     for run in runs {
-        first = first.min(first_chunk(*run) / 512);
+        first = first.min(first_chunk(*run).number() / 512);
         end = end.max((end_chunk(*run) + 511) / 512);
     }
     Span {
@@ -46,7 +46,7 @@ pub(crate) fn chunk_span(runs: &[Run], gigabyte: u32) -> Span
     let mut first = 512;
     let mut end = 0;
     for run in runs {
-        first = first.min(first_chunk(*run).max(start) - start);
+        first = first.min(first_chunk(*run).number().max(start) - start);
         end = end.max(end_chunk(*run).clamp(start, start + 512) - start);
     }
     Span {
