@@ -17,7 +17,7 @@ use crate::edit::{put_word, word_of};
 use crate::layout::Layout;
 use crate::part::is_covered;
 use crate::place::{Chunk, page_index};
-use crate::read::{read_chunk, read_slot};
+use crate::read::{read_chunk, read_page};
 use crate::unmap::invalidate_parts;
 use crate::walked::Slot;
 use base::{Access, MemoryKind, Page, PartitionId, Rights, Run};
@@ -133,7 +133,7 @@ fn page_after<M: TableMem>(
     }
     match entry {
         Slot::Maps(_, access) => Some(*access),
-        Slot::Next(third) => match read_slot(memory, layout, 3, *third, page_index(page)) {
+        Slot::Next(third) => match read_page(memory, layout, *third, page) {
             Slot::Maps(_, access) => Some(access),
             _ => None,
         },

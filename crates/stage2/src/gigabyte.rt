@@ -12,10 +12,10 @@ use crate::chunk::{edit_chunk, table_of};
 use crate::edit::put_word;
 use crate::layout::Layout;
 use crate::part::chunk_runs;
-use crate::place::{Chunk, end_chunk, first_chunk};
-use crate::read::read_slot;
+use crate::place::{Chunk, Gigabyte, end_chunk, first_chunk};
+use crate::read::read_gigabyte;
 use crate::span::chunk_span;
-use base::{Access, Page, PartitionId, Run};
+use base::{Access, PartitionId, Run};
 use pool::TableMem;
 use words::table_word;
 
@@ -41,7 +41,7 @@ fn edit_chunks<M: TableMem>(
     p: PartitionId,
     row: u32,
     second: u32,
-    gigabyte: u32,
+    gigabyte: Gigabyte,
     runs: &[Run],
     access: &Option<Access>,
 )
@@ -49,7 +49,6 @@ fn edit_chunks<M: TableMem>(
     requires second { IsSecond layout.now row gigabyte second (M.state memory.old) }
     requires row { row_of layout.now.ids p ≡ row }
     requires partition { row < length layout.now.ids }
-    requires gigabyte { gigabyte < 512 }
     requires normal { are_normal runs.now ≡ true }
     requires free { FitsChunks layout.now row gigabyte second runs.now access.now
         (M.state memory.old) }
@@ -62,7 +61,7 @@ fn edit_chunks<M: TableMem>(
 {
     let span = chunk_span(runs, gigabyte);
     for index in span.first..span.end {
-        let chunk = Chunk::new(512 * gigabyte + index);
+        let chunk = gigabyte.chunk(index);
         let part = chunk_runs(runs, chunk);
         if touches(part, chunk) {
             edit_chunk(memory, layout, p, row, second, chunk, part, access);
@@ -76,14 +75,13 @@ pub(crate) fn find_table<M: TableMem>(
     memory: &M,
     layout: &Layout,
     row: u32,
-    gigabyte: u32,
+    gigabyte: Gigabyte,
 ) -> Option<u32>
     requires pages { layout.now.pages ≡ page_count (M.state memory.now).memory.quotas }
     requires row { row < layout.now.pages }
-    requires gigabyte { gigabyte < 512 }
     ensures { result ≡ second_at layout.now row gigabyte (M.state memory.now) }
 {
-    table_of(&read_slot(memory, layout, 1, row, gigabyte))
+    table_of(&read_gigabyte(memory, layout, row, gigabyte))
 }
 
 /// The index of a word of a table that is not 0.
@@ -101,10 +99,9 @@ fn first_word<M: TableMem>(memory: &M, table: u32) -> Option<u32>
 }
 
 /// Takes the link of an empty level 2 table away, and gives the table back.
-fn unlink<M: TableMem>(memory: &mut M, p: PartitionId, row: u32, gigabyte: u32, second: u32)
+fn unlink<M: TableMem>(memory: &mut M, p: PartitionId, row: u32, gigabyte: Gigabyte, second: u32)
     requires root { row < length (M.state memory.old).memory.quotas }
     requires row { row_in (M.state memory.old).memory p ≡ row }
-    requires gigabyte { gigabyte < 512 }
     requires inside { InShare (M.state memory.old).memory.quotas row second }
     requires taken { taken_of (M.state memory.old).memory.taken second ≡ true }
     requires empty { IsEmpty second (M.state memory.old) }
@@ -113,8 +110,8 @@ fn unlink<M: TableMem>(memory: &mut M, p: PartitionId, row: u32, gigabyte: u32, 
     ensures in_step { UnlinksInStep p row gigabyte (M.state memory.old) (M.state memory.new) }
     ensures room { M.room memory.old ≤ M.room memory.new + 2 }
 {
-    put_word(memory, row, gigabyte, 0);
-    memory.invalidate(p, Run::new(Page::new(262144 * gigabyte), 262144));
+    put_word(memory, row, gigabyte.index(), 0);
+    memory.invalidate(p, gigabyte.pages());
     memory.give_page(p, second);
 }
 
@@ -125,15 +122,15 @@ fn edit_tabled<M: TableMem>(
     p: PartitionId,
     row: u32,
     second: u32,
-    gigabyte: u32,
+    gigabyte: Gigabyte,
     runs: &[Run],
     access: &Option<Access>,
 )
     requires canonical { IsCanonical layout.now (pages_of (M.state memory.old).memory) }
     requires table { second_at layout.now row gigabyte (M.state memory.old) ≡ Some second }
+    requires touched { Touches runs.now gigabyte }
     requires row { row_of layout.now.ids p ≡ row }
     requires partition { row < length layout.now.ids }
-    requires gigabyte { gigabyte < 512 }
     requires normal { are_normal runs.now ≡ true }
     requires free { FitsInGigabyte layout.now row gigabyte runs.now access.now
         (M.state memory.old) }
@@ -157,7 +154,7 @@ fn edit_untabled<M: TableMem>(
     layout: &Layout,
     p: PartitionId,
     row: u32,
-    gigabyte: u32,
+    gigabyte: Gigabyte,
     runs: &[Run],
     access: &Option<Access>,
 )
@@ -167,7 +164,6 @@ fn edit_untabled<M: TableMem>(
     requires maps { is_some access.now ≡ true }
     requires row { row_of layout.now.ids p ≡ row }
     requires partition { row < length layout.now.ids }
-    requires gigabyte { gigabyte < 512 }
     requires normal { are_normal runs.now ≡ true }
     requires free { FitsInGigabyte layout.now row gigabyte runs.now access.now
         (M.state memory.old) }
@@ -180,7 +176,12 @@ fn edit_untabled<M: TableMem>(
 {
     let second = memory.take_page(p);
     edit_chunks(memory, layout, p, row, second, gigabyte, runs, access);
-    put_word(memory, row, gigabyte, table_word(layout.address(second)));
+    put_word(
+        memory,
+        row,
+        gigabyte.index(),
+        table_word(layout.address(second)),
+    );
 }
 
 /// Edits the pages of runs in a gigabyte: they are reached with this access, or not at all.
@@ -189,7 +190,7 @@ pub(crate) fn edit_gigabyte<M: TableMem>(
     layout: &Layout,
     p: PartitionId,
     row: u32,
-    gigabyte: u32,
+    gigabyte: Gigabyte,
     runs: &[Run],
     access: &Option<Access>,
 )
@@ -197,7 +198,6 @@ pub(crate) fn edit_gigabyte<M: TableMem>(
     requires touched { Touches runs.now gigabyte }
     requires row { row_of layout.now.ids p ≡ row }
     requires partition { row < length layout.now.ids }
-    requires gigabyte { gigabyte < 512 }
     requires normal { are_normal runs.now ≡ true }
     requires free { FitsInGigabyte layout.now row gigabyte runs.now access.now
         (M.state memory.old) }

@@ -1,6 +1,6 @@
 //! How many table pages an edit takes.
 
-ghost use Rattle.std.specs.Prelude.{◌≡◌, ℕ, ◌+◌, ◌*◌, ◌<◌, ◌≤◌, ◌&&◌, true, Some, not, length, is_some};
+ghost use Rattle.std.specs.Prelude.{◌≡◌, ℕ, ◌+◌, ◌*◌, ◌%◌, ◌<◌, ◌≤◌, ◌&&◌, true, Some, not, length, is_some};
 ghost use Rattle.base.specs.Manifest.{page_count};
 ghost use Rattle.base.specs.Pages.{are_normal};
 ghost use Rattle.pool.specs.Pool.{pages_of};
@@ -16,8 +16,8 @@ use crate::chunk::{outcome, table_of};
 use crate::gigabyte::{find_table, touches as touches_chunk};
 use crate::layout::Layout;
 use crate::part::{chunk_runs, gigabyte_runs};
-use crate::place::Chunk;
-use crate::read::read_slot;
+use crate::place::{Chunk, Gigabyte};
+use crate::read::read_chunk;
 use crate::row::touches;
 use crate::span::{chunk_span, gigabyte_span};
 use crate::walked::Slot;
@@ -29,26 +29,24 @@ fn second_at<M: TableMem>(
     memory: &M,
     layout: &Layout,
     row: Option<u32>,
-    gigabyte: u32,
+    gigabyte: Gigabyte,
 ) -> Option<u32>
     requires canonical { IsCanonical layout.now (pages_of (M.state memory.now).memory) }
     requires partition { (r : ℕ) → row ≡ Some r → r < length layout.now.ids }
-    requires gigabyte { gigabyte < 512 }
     ensures { result ≡ second_in layout.now row gigabyte (M.state memory.now) }
 {
     find_table(memory, layout, row?, gigabyte)
 }
 
 /// A chunk's level 2 word, in a gigabyte's table, if it has one.
-fn entry_at<M: TableMem>(memory: &M, layout: &Layout, second: &Option<u32>, index: u32) -> Slot
+fn entry_at<M: TableMem>(memory: &M, layout: &Layout, second: &Option<u32>, chunk: Chunk) -> Slot
     requires pages { layout.now.pages ≡ page_count (M.state memory.now).memory.quotas }
     requires table { (j : ℕ) → second.now ≡ Some j → j < layout.now.pages }
-    requires index { index < 512 }
-    ensures same { result ≡ entry_read layout.now second.now index (M.state memory.now) }
+    ensures same { result ≡ entry_read layout.now second.now (chunk % 512) (M.state memory.now) }
     ensures inside { (k : ℕ) → result ≡ Next k → k < layout.now.pages }
 {
     match second {
-        Some(second) => read_slot(memory, layout, 2, *second, index),
+        Some(second) => read_chunk(memory, layout, *second, chunk),
         None => Slot::Empty,
     }
 }
@@ -79,7 +77,7 @@ fn takes<M: TableMem>(
     layout: &Layout,
     row: Option<u32>,
     second: &Option<u32>,
-    gigabyte: u32,
+    gigabyte: Gigabyte,
     index: u32,
     runs: &[Run],
     access: &Option<Access>,
@@ -87,19 +85,18 @@ fn takes<M: TableMem>(
     requires canonical { IsCanonical layout.now (pages_of (M.state memory.now).memory) }
     requires partition { (r : ℕ) → row ≡ Some r → r < length layout.now.ids }
     requires normal { are_normal runs.now ≡ true }
-    requires gigabyte { gigabyte < 512 }
     requires index { index < 512 }
     requires table { second_in layout.now row gigabyte (M.state memory.now) ≡ second.now }
     ensures { let before = view_in layout.now row (M.state memory.now) in
         result ≡ grows_at before (edited runs.now access.now before) (512 * gigabyte + index) }
 {
     let _row = row;
-    let chunk = Chunk::new(512 * gigabyte + index);
+    let chunk = gigabyte.chunk(index);
     let part = chunk_runs(runs, chunk);
     if !touches_chunk(part, chunk) {
         return false;
     }
-    let entry = entry_at(memory, layout, second, index);
+    let entry = entry_at(memory, layout, second, chunk);
     grows(memory, layout, &entry, chunk, part, access)
 }
 
@@ -109,14 +106,13 @@ fn grow_chunks<M: TableMem>(
     layout: &Layout,
     row: Option<u32>,
     second: &Option<u32>,
-    gigabyte: u32,
+    gigabyte: Gigabyte,
     runs: &[Run],
     access: &Option<Access>,
 ) -> u32
     requires canonical { IsCanonical layout.now (pages_of (M.state memory.now).memory) }
     requires partition { (r : ℕ) → row ≡ Some r → r < length layout.now.ids }
     requires normal { are_normal runs.now ≡ true }
-    requires gigabyte { gigabyte < 512 }
     requires table { second_in layout.now row gigabyte (M.state memory.now) ≡ second.now }
     ensures same { let before = view_in layout.now row (M.state memory.now) in
         result ≡ chunks_growth before (edited runs.now access.now before) gigabyte }
@@ -137,7 +133,7 @@ fn grow_gigabyte<M: TableMem>(
     memory: &M,
     layout: &Layout,
     row: Option<u32>,
-    gigabyte: u32,
+    gigabyte: Gigabyte,
     runs: &[Run],
     access: &Option<Access>,
 ) -> u32
@@ -145,7 +141,6 @@ fn grow_gigabyte<M: TableMem>(
     requires touched { Touches runs.now gigabyte }
     requires partition { (r : ℕ) → row ≡ Some r → r < length layout.now.ids }
     requires normal { are_normal runs.now ≡ true }
-    requires gigabyte { gigabyte < 512 }
     ensures same { let before = view_in layout.now row (M.state memory.now) in
         result ≡ gigabyte_growth before (edited runs.now access.now before) gigabyte }
     ensures most { result ≤ 513 }
@@ -174,7 +169,8 @@ pub(crate) fn grow_row<M: TableMem>(
 {
     let span = gigabyte_span(runs);
     let mut count = 0;
-    for gigabyte in span.first..span.end {
+    for number in span.first..span.end {
+        let gigabyte = Gigabyte::new(number);
         let part = gigabyte_runs(runs, gigabyte);
         if touches(part, gigabyte) {
             count += grow_gigabyte(memory, layout, row, gigabyte, part, access);

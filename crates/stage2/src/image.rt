@@ -8,7 +8,7 @@ ghost use Rattle.stage2.specs.Slot.{layout_of, slot_from};
 ghost use Rattle.stage2.specs.Walk.{walk, translation};
 ghost use Rattle.stage2.specs.declared.walked.Slot.TheVariants.{Next, Maps};
 
-use crate::place::{Chunk, page_index};
+use crate::place::{Chunk, Gigabyte, page_index};
 use crate::walked::{Slot, Walked};
 use base::{Page, PartitionId};
 use manifest::{Manifest, Partition};
@@ -74,16 +74,10 @@ fn walk_row(manifest: &Manifest, image: &Image, row: u32, page: Page) -> Walked
     requires row { row < length (ids_of manifest.now.partitions) }
     ensures { result ≡ walk (layout_of manifest.now) (words_of image.now.words) row page }
 {
-    let n = page.number();
-    match image_slot(manifest, image, 1, row, n / 512 / 512) {
+    let chunk = Chunk::of(page);
+    match image_slot(manifest, image, 1, row, Gigabyte::of(page).index()) {
         Slot::Empty => Walked::None,
-        Slot::Next(second) => match image_slot(
-            manifest,
-            image,
-            2,
-            second,
-            Chunk::of(page).index(),
-        ) {
+        Slot::Next(second) => match image_slot(manifest, image, 2, second, chunk.index()) {
             Slot::Empty => Walked::None,
             Slot::Maps(first, access) => Walked::Leaf(block_page(first, page), access),
             Slot::Next(third) => match image_slot(manifest, image, 3, third, page_index(page)) {

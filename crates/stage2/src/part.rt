@@ -4,7 +4,7 @@ ghost use Rattle.std.specs.Prelude.{◌≡◌, ◌<◌, true};
 ghost use Rattle.base.specs.Pages.{are_normal, covers};
 ghost use Rattle.stage2.specs.Parts as parts;
 
-use crate::place::Chunk;
+use crate::place::{Chunk, Gigabyte};
 use base::{Page, Run};
 
 /// Those of the runs that have a page from one up to another.
@@ -38,11 +38,10 @@ pub(crate) fn chunk_runs(runs: &[Run], chunk: Chunk) -> &[Run]
 }
 
 /// Those of the runs that have a page in a gigabyte.
-pub(crate) fn gigabyte_runs(runs: &[Run], gigabyte: u32) -> &[Run]
+pub(crate) fn gigabyte_runs(runs: &[Run], gigabyte: Gigabyte) -> &[Run]
     requires normal { are_normal runs.now ≡ true }
-    requires gigabyte { gigabyte < 512 }
     ensures same { result.now ≡ parts.gigabyte_runs gigabyte runs.now }
     ensures normal { are_normal result.now ≡ true }
 {
-    runs_between(runs, 262144 * gigabyte, 262144 * gigabyte + 262144)
+    runs_between(runs, gigabyte.first().number(), gigabyte.end())
 }

@@ -9,6 +9,91 @@ use std::marker::Model;
 /// How many words a table has: so many pages has a chunk, and so many chunks a gigabyte.
 const WORDS: u32 = 512;
 
+/// How many pages a gigabyte has.
+const GIGABYTE: u32 = WORDS * WORDS;
+
+/// The number of a gigabyte, below 2^9: a gigabyte is 512 chunks, for which a root has one word.
+#[derive(Clone, Copy, Debug, PartialEq, Eq)]
+pub(crate) struct Gigabyte(u32);
+
+impl Model for Gigabyte {
+    ghost use Rattle.std.specs.Prelude.{ℕ, ◌<◌};
+
+    ghost Value = { ℕ };
+
+    ghost view = { λ gigabyte. gigabyte.0 };
+
+    ghost invariant = { λ gigabyte. gigabyte.0 < 512 };
+
+    ghost inverse = { λ n. record { 0 = n } };
+}
+
+impl Gigabyte {
+    /// The gigabyte with this number.
+    pub(crate) fn new(number: u32) -> Self
+        requires { number < 512 }
+        ensures { result ≡ number }
+    {
+        Gigabyte(number)
+    }
+
+    /// The gigabyte of a page.
+    pub(crate) fn of(page: Page) -> Self
+        ensures { result ≡ page / 512 / 512 }
+    {
+        Gigabyte(page.number() / WORDS / WORDS)
+    }
+
+    /// The number of the gigabyte.
+    pub(crate) fn number(self) -> u32
+        ensures same { result ≡ self }
+        ensures in_range { self < 512 }
+    {
+        self.0
+    }
+
+    /// The index of its word in a root: address bits 38:30.
+    pub(crate) fn index(self) -> u32
+        ensures same { result ≡ self }
+        ensures in_range { self < 512 }
+    {
+        self.0
+    }
+
+    /// Its chunk whose word has this index in a level 2 table.
+    pub(crate) fn chunk(self, index: u32) -> Chunk
+        requires { index < 512 }
+        ensures same { result ≡ 512 * self + index }
+        ensures in_range { self < 512 }
+    {
+        Chunk(WORDS * self.0 + index)
+    }
+
+    /// Its first page.
+    pub(crate) fn first(self) -> Page
+        ensures same { result ≡ 262144 * self }
+        ensures in_range { self < 512 }
+    {
+        Page::new(GIGABYTE * self.0)
+    }
+
+    /// The number after its last page's.
+    pub(crate) fn end(self) -> u32
+        ensures same { result ≡ 262144 * self + 262144 }
+        ensures in_range { self < 512 }
+    {
+        GIGABYTE * self.0 + GIGABYTE
+    }
+
+    /// All its pages.
+    pub(crate) fn pages(self) -> Run
+        ensures same { result ≡ record { first = 262144 * self; count = 262144 } }
+        ensures in_range { self < 512 }
+    {
+        Run::new(self.first(), GIGABYTE)
+    }
+}
+
 /// The number of a chunk, below 2^18: a chunk is 512 pages or 2 MB, for which a level 2 table has
 /// one word.
 #[derive(Clone, Copy, Debug, PartialEq, Eq)]
@@ -27,14 +112,6 @@ impl Model for Chunk {
 }
 
 impl Chunk {
-    /// The chunk with this number.
-    pub(crate) fn new(number: u32) -> Self
-        requires { number < 262144 }
-        ensures { result ≡ number }
-    {
-        Chunk(number)
-    }
-
     /// The chunk of a page.
     pub(crate) fn of(page: Page) -> Self
         ensures { result ≡ page / 512 }
@@ -125,4 +202,19 @@ pub(crate) fn end_chunk(run: Run) -> u32
     ensures in_range { IsRun run }
 {
     (run.end() + (WORDS - 1)) / WORDS
+}
+
+/// The first gigabyte that a run touches.
+pub(crate) fn first_gigabyte(run: Run) -> Gigabyte
+    ensures { result ≡ run.first / 512 / 512 }
+{
+    Gigabyte::of(run.first())
+}
+
+/// The number after that of the last gigabyte that a run touches.
+pub(crate) fn end_gigabyte(run: Run) -> u32
+    ensures same { result ≡ ((run.first + run.count + 511) / 512 + 511) / 512 }
+    ensures in_range { IsRun run }
+{
+    (end_chunk(run) + (WORDS - 1)) / WORDS
 }
