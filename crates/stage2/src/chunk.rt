@@ -13,11 +13,12 @@ ghost use Rattle.stage2.specs.Parts.{part_count};
 ghost use Rattle.stage2.specs.History.{Filled};
 ghost use Rattle.stage2.specs.Clauses.{Puts, WritesPlan, one_page, Breaks, Replaces, chunk_slot, read_after, AnswersAll, HasFree, GrowsChunk, EditsChunk, EditsMixed, SetsChunk, SetsInStep, MixesInStep, MapsInStep, ClearsPages, ChunkInStep};
 
-use crate::edit::{put_word, word_of};
+use crate::edit::{give_page, put_word, take_page, word_of};
 use crate::layout::Layout;
 use crate::part::is_covered;
 use crate::place::{Chunk, page_index};
-use crate::read::{read_chunk, read_page};
+use crate::read::{read_chunk, read_page, read_word};
+use crate::table_page::TablePage;
 use crate::unmap::invalidate_parts;
 use crate::walked::Slot;
 use base::{Access, MemoryKind, Page, PartitionId, Rights, Run};
@@ -43,7 +44,7 @@ fn plan(
 }
 
 /// Writes the level 3 word of a page into a table, if it is not there.
-fn write_page<M: TableMem>(memory: &mut M, third: u32, page: Page, answer: &Option<Access>)
+fn write_page<M: TableMem>(memory: &mut M, third: TablePage, page: Page, answer: &Option<Access>)
     requires page_in { third < page_count (M.state memory.old).memory.quotas }
     requires taken { taken_of (M.state memory.old).memory.taken third ≡ true }
     requires room { 0 < M.room memory.old }
@@ -55,7 +56,7 @@ fn write_page<M: TableMem>(memory: &mut M, third: u32, page: Page, answer: &Opti
 {
     let index = page_index(page);
     let word = word_of(page, answer);
-    if memory.word(third, index) != word {
+    if read_word(memory, third, index) != word {
         put_word(memory, third, index, word);
     }
 }
@@ -63,7 +64,7 @@ fn write_page<M: TableMem>(memory: &mut M, third: u32, page: Page, answer: &Opti
 /// Writes the words that are planned for the pages of a chunk, upward, into a table.
 fn write_table<M: TableMem>(
     memory: &mut M,
-    third: u32,
+    third: TablePage,
     chunk: Chunk,
     runs: &[Run],
     access: &Option<Access>,
@@ -253,7 +254,7 @@ fn compared<M: TableMem>(
 }
 
 /// Makes the level 2 word of a chunk invalid, and invalidates the chunk, if the word is valid.
-fn break_entry<M: TableMem>(memory: &mut M, p: PartitionId, second: u32, chunk: Chunk)
+fn break_entry<M: TableMem>(memory: &mut M, p: PartitionId, second: TablePage, chunk: Chunk)
     requires page_in { second < page_count (M.state memory.old).memory.quotas }
     requires taken { taken_of (M.state memory.old).memory.taken second ≡ true }
     requires room { 2 ≤ M.room memory.old }
@@ -262,7 +263,7 @@ fn break_entry<M: TableMem>(memory: &mut M, p: PartitionId, second: u32, chunk: 
     ensures room { M.room memory.old ≤ M.room memory.new + 2 }
 {
     let index = chunk.index();
-    if memory.word(second, index) != 0 {
+    if read_word(memory, second, index) != 0 {
         put_word(memory, second, index, 0);
         memory.invalidate(p, chunk.pages());
     }
@@ -270,7 +271,13 @@ fn break_entry<M: TableMem>(memory: &mut M, p: PartitionId, second: u32, chunk: 
 
 /// Writes the level 2 word of a chunk. A valid word is made invalid before, and the chunk
 /// invalidated.
-fn replace_entry<M: TableMem>(memory: &mut M, p: PartitionId, second: u32, chunk: Chunk, word: u64)
+fn replace_entry<M: TableMem>(
+    memory: &mut M,
+    p: PartitionId,
+    second: TablePage,
+    chunk: Chunk,
+    word: u64,
+)
     requires page_in { second < page_count (M.state memory.old).memory.quotas }
     requires taken { taken_of (M.state memory.old).memory.taken second ≡ true }
     requires room { 3 ≤ M.room memory.old }
@@ -301,7 +308,7 @@ fn set_block<M: TableMem>(
     layout: &Layout,
     p: PartitionId,
     row: u32,
-    second: u32,
+    second: TablePage,
     chunk: Chunk,
     answer: &Option<Access>,
 )
@@ -326,9 +333,9 @@ fn drop_table<M: TableMem>(
     layout: &Layout,
     p: PartitionId,
     row: u32,
-    second: u32,
+    second: TablePage,
     chunk: Chunk,
-    third: u32,
+    third: TablePage,
     answer: &Option<Access>,
 )
     requires site { IsSite layout.now row chunk second (pages_of (M.state memory.old).memory) }
@@ -345,7 +352,7 @@ fn drop_table<M: TableMem>(
     let _row = row;
     replace_entry(memory, p, second, chunk, block_word(chunk, answer));
     write_table(memory, third, chunk, &[], &None, &Some(None));
-    memory.give_page(p, third);
+    give_page(memory, p, third);
 }
 
 /// Edits the pages of a chunk whose table stays.
@@ -353,9 +360,9 @@ fn rewrite_table<M: TableMem>(
     memory: &mut M,
     layout: &Layout,
     row: u32,
-    second: u32,
+    second: TablePage,
     chunk: Chunk,
-    third: u32,
+    third: TablePage,
     runs: &[Run],
     access: &Option<Access>,
 )
@@ -383,7 +390,7 @@ fn hang_table<M: TableMem>(
     layout: &Layout,
     p: PartitionId,
     row: u32,
-    second: u32,
+    second: TablePage,
     chunk: Chunk,
     before: &Option<Access>,
     runs: &[Run],
@@ -403,13 +410,13 @@ fn hang_table<M: TableMem>(
     ensures room { M.room memory.old ≤ M.room memory.new + 515 }
 {
     let _row = row;
-    let third = memory.take_page(p);
+    let third = take_page(memory, p);
     write_table(memory, third, chunk, runs, access, &Some(*before));
     replace_entry(memory, p, second, chunk, table_word(layout.address(third)));
 }
 
 /// The table that a word points at.
-pub(crate) fn table_of(entry: &Slot) -> Option<u32>
+pub(crate) fn table_of(entry: &Slot) -> Option<TablePage>
     ensures { result ≡ next_page entry.now }
 {
     match entry {
@@ -434,7 +441,7 @@ pub(crate) fn edit_chunk<M: TableMem>(
     layout: &Layout,
     p: PartitionId,
     row: u32,
-    second: u32,
+    second: TablePage,
     chunk: Chunk,
     runs: &[Run],
     access: &Option<Access>,

@@ -9,12 +9,13 @@ ghost use Rattle.stage2.specs.Gigabytes.{gigabyte_operations, touches_run, touch
 ghost use Rattle.stage2.specs.Clauses.{IsLinkedOrderly, IsSecond, FitsChunks, chunks_operations, EditsChunks, ChunksInStep, second_at, word_in, IsEmpty, Unlinks, UnlinksInStep, FitsInGigabyte, EditsInGigabyte, GigabyteInStep};
 
 use crate::chunk::{edit_chunk, table_of};
-use crate::edit::put_word;
+use crate::edit::{give_page, put_word, take_page};
 use crate::layout::Layout;
 use crate::part::chunk_runs;
 use crate::place::{Chunk, Gigabyte, end_chunk, first_chunk};
-use crate::read::read_gigabyte;
+use crate::read::{read_gigabyte, read_word};
 use crate::span::chunk_span;
+use crate::table_page::TablePage;
 use base::{Access, PartitionId, Run};
 use pool::TableMem;
 use words::table_word;
@@ -40,7 +41,7 @@ fn edit_chunks<M: TableMem>(
     layout: &Layout,
     p: PartitionId,
     row: u32,
-    second: u32,
+    second: TablePage,
     gigabyte: Gigabyte,
     runs: &[Run],
     access: &Option<Access>,
@@ -76,7 +77,7 @@ pub(crate) fn find_table<M: TableMem>(
     layout: &Layout,
     row: u32,
     gigabyte: Gigabyte,
-) -> Option<u32>
+) -> Option<TablePage>
     requires pages { layout.now.pages ≡ page_count (M.state memory.now).memory.quotas }
     requires row { row < layout.now.pages }
     ensures { result ≡ second_at layout.now row gigabyte (M.state memory.now) }
@@ -85,13 +86,13 @@ pub(crate) fn find_table<M: TableMem>(
 }
 
 /// The index of a word of a table that is not 0.
-fn first_word<M: TableMem>(memory: &M, table: u32) -> Option<u32>
+fn first_word<M: TableMem>(memory: &M, table: TablePage) -> Option<u32>
     requires { table < page_count (M.state memory.now).memory.quotas }
     ensures some { IfSome result (λ x. (x < 512) × (word_in (M.state memory.now) table x ≢ 0)) }
     ensures none { IfNone result (IsEmpty table (M.state memory.now)) }
 {
     for index in 0..512 {
-        if memory.word(table, index) != 0 {
+        if read_word(memory, table, index) != 0 {
             return Some(index);
         }
     }
@@ -99,7 +100,13 @@ fn first_word<M: TableMem>(memory: &M, table: u32) -> Option<u32>
 }
 
 /// Takes the link of an empty level 2 table away, and gives the table back.
-fn unlink<M: TableMem>(memory: &mut M, p: PartitionId, row: u32, gigabyte: Gigabyte, second: u32)
+fn unlink<M: TableMem>(
+    memory: &mut M,
+    p: PartitionId,
+    row: u32,
+    gigabyte: Gigabyte,
+    second: TablePage,
+)
     requires root { row < length (M.state memory.old).memory.quotas }
     requires row { row_in (M.state memory.old).memory p ≡ row }
     requires inside { InShare (M.state memory.old).memory.quotas row second }
@@ -110,9 +117,9 @@ fn unlink<M: TableMem>(memory: &mut M, p: PartitionId, row: u32, gigabyte: Gigab
     ensures in_step { UnlinksInStep p row gigabyte (M.state memory.old) (M.state memory.new) }
     ensures room { M.room memory.old ≤ M.room memory.new + 2 }
 {
-    put_word(memory, row, gigabyte.index(), 0);
+    put_word(memory, TablePage::root(row), gigabyte.index(), 0);
     memory.invalidate(p, gigabyte.pages());
-    memory.give_page(p, second);
+    give_page(memory, p, second);
 }
 
 /// Edits a gigabyte that has its level 2 table, and gives that back where it becomes empty.
@@ -121,7 +128,7 @@ fn edit_tabled<M: TableMem>(
     layout: &Layout,
     p: PartitionId,
     row: u32,
-    second: u32,
+    second: TablePage,
     gigabyte: Gigabyte,
     runs: &[Run],
     access: &Option<Access>,
@@ -174,11 +181,11 @@ fn edit_untabled<M: TableMem>(
         (M.state memory.old) (M.state memory.new) }
     ensures room { M.room memory.old ≤ M.room memory.new + gigabyte_operations runs.now gigabyte }
 {
-    let second = memory.take_page(p);
+    let second = take_page(memory, p);
     edit_chunks(memory, layout, p, row, second, gigabyte, runs, access);
     put_word(
         memory,
-        row,
+        TablePage::root(row),
         gigabyte.index(),
         table_word(layout.address(second)),
     );

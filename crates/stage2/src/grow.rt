@@ -20,6 +20,7 @@ use crate::place::{Chunk, Gigabyte};
 use crate::read::read_chunk;
 use crate::row::touches;
 use crate::span::{chunk_span, gigabyte_span};
+use crate::table_page::TablePage;
 use crate::walked::Slot;
 use base::{Access, Run};
 use pool::TableMem;
@@ -30,7 +31,7 @@ fn second_at<M: TableMem>(
     layout: &Layout,
     row: Option<u32>,
     gigabyte: Gigabyte,
-) -> Option<u32>
+) -> Option<TablePage>
     requires canonical { IsCanonical layout.now (pages_of (M.state memory.now).memory) }
     requires partition { (r : ℕ) → row ≡ Some r → r < length layout.now.ids }
     ensures { result ≡ second_in layout.now row gigabyte (M.state memory.now) }
@@ -39,7 +40,12 @@ fn second_at<M: TableMem>(
 }
 
 /// A chunk's level 2 word, in a gigabyte's table, if it has one.
-fn entry_at<M: TableMem>(memory: &M, layout: &Layout, second: &Option<u32>, chunk: Chunk) -> Slot
+fn entry_at<M: TableMem>(
+    memory: &M,
+    layout: &Layout,
+    second: &Option<TablePage>,
+    chunk: Chunk,
+) -> Slot
     requires pages { layout.now.pages ≡ page_count (M.state memory.now).memory.quotas }
     requires table { (j : ℕ) → second.now ≡ Some j → j < layout.now.pages }
     ensures same { result ≡ entry_read layout.now second.now (chunk % 512) (M.state memory.now) }
@@ -76,7 +82,7 @@ fn takes<M: TableMem>(
     memory: &M,
     layout: &Layout,
     row: Option<u32>,
-    second: &Option<u32>,
+    second: &Option<TablePage>,
     gigabyte: Gigabyte,
     index: u32,
     runs: &[Run],
@@ -105,7 +111,7 @@ fn grow_chunks<M: TableMem>(
     memory: &M,
     layout: &Layout,
     row: Option<u32>,
-    second: &Option<u32>,
+    second: &Option<TablePage>,
     gigabyte: Gigabyte,
     runs: &[Run],
     access: &Option<Access>,

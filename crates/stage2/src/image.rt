@@ -9,6 +9,7 @@ ghost use Rattle.stage2.specs.Walk.{walk, translation};
 ghost use Rattle.stage2.specs.declared.walked.Slot.TheVariants.{Next, Maps};
 
 use crate::place::{Chunk, Gigabyte, page_index};
+use crate::table_page::TablePage;
 use crate::walked::{Slot, Walked};
 use base::{Page, PartitionId};
 use manifest::{Manifest, Partition};
@@ -43,7 +44,7 @@ fn slot_in(manifest: &Manifest, entry: Entry) -> Slot
             let page = page.number();
             let base = manifest.pool().number();
             if base <= page && page < base + manifest.table_pages() {
-                Slot::Next(page - base)
+                Slot::Next(TablePage::new(page - base))
             } else {
                 Slot::Bad
             }
@@ -55,7 +56,7 @@ fn slot_in(manifest: &Manifest, entry: Entry) -> Slot
 
 /// What a word of the copy is.
 #[tactic(auto, unfolding(crate::specs::Slot::slot))]
-fn image_slot(manifest: &Manifest, image: &Image, level: u8, table: u32, index: u32) -> Slot
+fn image_slot(manifest: &Manifest, image: &Image, level: u8, table: TablePage, index: u32) -> Slot
     requires least { 1 ≤ level }
     requires most { level ≤ 3 }
     requires table { table < image.now.pages }
@@ -64,7 +65,10 @@ fn image_slot(manifest: &Manifest, image: &Image, level: u8, table: u32, index: 
         result ≡ slots.slot (layout_of manifest.now) level word }
     ensures inside { (j : ℕ) → result ≡ Next j → j < (layout_of manifest.now).pages }
 {
-    slot_in(manifest, read_entry(level, image.word(table, index)))
+    slot_in(
+        manifest,
+        read_entry(level, image.word(table.number(), index)),
+    )
 }
 
 /// What a walk for a page gives over a copy of the words, from the root of a row.
@@ -75,7 +79,13 @@ fn walk_row(manifest: &Manifest, image: &Image, row: u32, page: Page) -> Walked
     ensures { result ≡ walk (layout_of manifest.now) (words_of image.now.words) row page }
 {
     let chunk = Chunk::of(page);
-    match image_slot(manifest, image, 1, row, Gigabyte::of(page).index()) {
+    match image_slot(
+        manifest,
+        image,
+        1,
+        TablePage::root(row),
+        Gigabyte::of(page).index(),
+    ) {
         Slot::Empty => Walked::None,
         Slot::Next(second) => match image_slot(manifest, image, 2, second, chunk.index()) {
             Slot::Empty => Walked::None,

@@ -33,7 +33,7 @@ edit_chunks-requires-clause-orderly g c =
     let is : row_in s.memory c.args.p ≡ c.args.row = ap (λ x. row_of x c.args.p) (sym c.requires.canonical.orderly.ids) ∙ c.requires.row in
     let lowest : IsLowestFree m c.args.row k = subst (λ x. IsLowestFree m x k) is c.take_page-second.ensures.lowest in
     let h : IsLink c.args.layout.now c.args.row c.args.gigabyte k m = record { orderly = c.requires.canonical.orderly; partition = c.requires.partition; gigabyte = (touched-below c.args.runs.now c.args.gigabyte c.requires.touched); none = c.requires.none; inside = lowest.inside; free = lowest.free; zero = λ i. g.met.M.TableMem.free_is_zero c.args.memory.now k i lowest.free } in
-    let marked = pages_of-take s (g.M.TableMem.state c.take_page-second.new.self) (row_in s.memory c.args.p) k (g.met.M.TableMem.whole c.args.memory.now) c.take_page-second.ensures.lowest c.take_page-second.ensures.state in
+    let marked = pages_of-take s (g.M.TableMem.state c.take_page-second.new.memory) (row_in s.memory c.args.p) k (g.met.M.TableMem.whole c.args.memory.now) c.take_page-second.ensures.lowest c.take_page-second.ensures.state in
     subst (λ (x : Pages). IsOrderly c.args.layout.now (linked c.args.layout.now c.args.row c.args.gigabyte k x)) (sym marked)
     (rooted c.args.layout.now c.args.row c.args.gigabyte (table_word_of (c.args.layout.now.base + k)) m (linked c.args.layout.now c.args.row c.args.gigabyte k (with_mark k true m)) (link-rooted c.args.layout.now c.args.row c.args.gigabyte k m h))
 
@@ -45,7 +45,7 @@ edit_chunks-requires-clause-second g c =
     let is : row_in s.memory c.args.p ≡ c.args.row = ap (λ x. row_of x c.args.p) (sym c.requires.canonical.orderly.ids) ∙ c.requires.row in
     let lowest : IsLowestFree m c.args.row k = subst (λ x. IsLowestFree m x k) is c.take_page-second.ensures.lowest in
     let h : IsLink c.args.layout.now c.args.row c.args.gigabyte k m = record { orderly = c.requires.canonical.orderly; partition = c.requires.partition; gigabyte = (touched-below c.args.runs.now c.args.gigabyte c.requires.touched); none = c.requires.none; inside = lowest.inside; free = lowest.free; zero = λ i. g.met.M.TableMem.free_is_zero c.args.memory.now k i lowest.free } in
-    let marked = pages_of-take s (g.M.TableMem.state c.take_page-second.new.self) (row_in s.memory c.args.p) k (g.met.M.TableMem.whole c.args.memory.now) c.take_page-second.ensures.lowest c.take_page-second.ensures.state in
+    let marked = pages_of-take s (g.M.TableMem.state c.take_page-second.new.memory) (row_in s.memory c.args.p) k (g.met.M.TableMem.whole c.args.memory.now) c.take_page-second.ensures.lowest c.take_page-second.ensures.state in
     subst (λ (x : Pages). table_at c.args.layout.now (linked c.args.layout.now c.args.row c.args.gigabyte k x).words (Gigabyte c.args.row c.args.gigabyte) ≡ Some k) (sym marked)
     (link-table c.args.layout.now c.args.row c.args.gigabyte k m h)
 
@@ -62,7 +62,7 @@ edit_chunks-requires-clause-free g c =
     let is : row_in s.memory c.args.p ≡ row = ap (λ x. row_of x c.args.p) (sym c.requires.canonical.orderly.ids) ∙ c.requires.row in
     let lowest : IsLowestFree m row k = subst (λ x. IsLowestFree m x k) is c.take_page-second.ensures.lowest in
     let h : IsLink layout row gigabyte k m = record { orderly = c.requires.canonical.orderly; partition = c.requires.partition; gigabyte = (touched-below c.args.runs.now c.args.gigabyte c.requires.touched); none = c.requires.none; inside = lowest.inside; free = lowest.free; zero = λ i. g.met.M.TableMem.free_is_zero c.args.memory.now k i lowest.free } in
-    let marked = pages_of-take s (g.M.TableMem.state c.take_page-second.new.self) (row_in s.memory c.args.p) k (g.met.M.TableMem.whole c.args.memory.now) c.take_page-second.ensures.lowest c.take_page-second.ensures.state in
+    let marked = pages_of-take s (g.M.TableMem.state c.take_page-second.new.memory) (row_in s.memory c.args.p) k (g.met.M.TableMem.whole c.args.memory.now) c.take_page-second.ensures.lowest c.take_page-second.ensures.state in
     subst (λ (x : Pages). Fits layout row gigabyte k runs access x) (sym marked) (record { fits = link-fits layout row gigabyte k runs access m c.requires.canonical (touched-below c.args.runs.now c.args.gigabyte c.requires.touched) h c.requires.touched c.requires.maps c.requires.free.fits })
 
 pub returns-clause-edits : goal.returns-clause-edits
@@ -80,11 +80,11 @@ returns-clause-edits g c =
     let is : row_in s.memory c.args.p ≡ row = ap (λ x. row_of x c.args.p) (sym c.requires.canonical.orderly.ids) ∙ c.requires.row in
     let lowest : IsLowestFree m row k = subst (λ x. IsLowestFree m x k) is c.take_page-second.ensures.lowest in
     let h : IsLink layout row gigabyte k m = record { orderly = c.requires.canonical.orderly; partition = c.requires.partition; gigabyte = (touched-below c.args.runs.now c.args.gigabyte c.requires.touched); none = c.requires.none; inside = lowest.inside; free = lowest.free; zero = λ i. g.met.M.TableMem.free_is_zero c.args.memory.now k i lowest.free } in
-    let marked = pages_of-take s (g.M.TableMem.state c.take_page-second.new.self) (row_in s.memory c.args.p) k (g.met.M.TableMem.whole c.args.memory.now) c.take_page-second.ensures.lowest c.take_page-second.ensures.state in
+    let marked = pages_of-take s (g.M.TableMem.state c.take_page-second.new.memory) (row_in s.memory c.args.p) k (g.met.M.TableMem.whole c.args.memory.now) c.take_page-second.ensures.lowest c.take_page-second.ensures.state in
     let word : c.table_word.result ≡ table_word_of (layout.base + k) = c.table_word.ensures.value ∙ ap table_word_of c.address.ensures in
     finish-link layout row gigabyte k runs access m c.requires.canonical (touched-below c.args.runs.now c.args.gigabyte c.requires.touched) h c.requires.touched c.requires.maps mid new
     (subst (λ (x : Pages). IsUnderway layout row gigabyte k 512 (edited runs access (answers layout (linked layout row gigabyte k x).words row)) x mid) marked c.edit_chunks.ensures.underway)
-    (subst (λ x. new ≡ with_put row gigabyte x mid) word (rw c.index.ensures.same at c.put_word.ensures.pages))
+    (subst (λ x. new ≡ with_put row gigabyte x mid) word (rw (c.root.ensures, c.index.ensures.same) at c.put_word.ensures.pages))
 
 pub returns-clause-in_step : goal.returns-clause-in_step
 returns-clause-in_step g c = λ are_free.
@@ -94,7 +94,7 @@ returns-clause-in_step g c = λ are_free.
     let runs = c.args.runs.now in
     let access = c.args.access.now in
     let x = g.M.TableMem.state c.args.memory.now in
-    let y = g.M.TableMem.state c.take_page-second.new.self in
+    let y = g.M.TableMem.state c.take_page-second.new.memory in
     let z = g.M.TableMem.state c.edit_chunks.new.memory in
     let e = g.M.TableMem.state c.put_word.new.memory in
     let m = pages_of x.memory in
@@ -124,7 +124,7 @@ returns-clause-in_step g c = λ are_free.
     let none : v n ≡ None = ap answer_of (untabled layout m row n c.requires.canonical.orderly c.requires.partition small (ap (λ q. table_at layout m.words (Gigabyte row q)) at ∙ c.requires.none)) in
     gives-new gigabyte runs access v n (walk layout (words_of e.memory.words) row n) at none
     (edits.walks row n small ∙ ap (λ b. cond b (walked n (edited runs access v n)) (walk layout m.words row n)) (own row (n / 512 / 512) gigabyte at)))
-    (ap (λ (s : Pages). s.words) (rw c.index.ensures.same at c.put_word.ensures.pages)) (rw c.index.ensures.same at c.put_word.ensures.logged) in
+    (ap (λ (s : Pages). s.words) (rw (c.root.ensures, c.index.ensures.same) at c.put_word.ensures.pages)) (rw (c.root.ensures, c.index.ensures.same) at c.put_word.ensures.logged) in
     stays-after layout row which answer x z e (stays-after layout row which answer x y z first second) third
   where
     own : (x y z : ℕ) → y ≡ z → (eqb x x && eqb y z) ≡ true
