@@ -18,7 +18,7 @@ use crate::layout::Layout;
 use crate::part::is_covered;
 use crate::place::{Chunk, page_index};
 use crate::read::{read_chunk, read_page, read_word};
-use crate::table_page::TablePage;
+use crate::table_page::{Row, TablePage};
 use crate::unmap::invalidate_parts;
 use crate::walked::Slot;
 use base::{Access, MemoryKind, Page, PartitionId, Rights, Run};
@@ -307,7 +307,7 @@ fn set_block<M: TableMem>(
     memory: &mut M,
     layout: &Layout,
     p: PartitionId,
-    row: u32,
+    row: Row,
     second: TablePage,
     chunk: Chunk,
     answer: &Option<Access>,
@@ -332,7 +332,7 @@ fn drop_table<M: TableMem>(
     memory: &mut M,
     layout: &Layout,
     p: PartitionId,
-    row: u32,
+    row: Row,
     second: TablePage,
     chunk: Chunk,
     third: TablePage,
@@ -359,7 +359,7 @@ fn drop_table<M: TableMem>(
 fn rewrite_table<M: TableMem>(
     memory: &mut M,
     layout: &Layout,
-    row: u32,
+    row: Row,
     second: TablePage,
     chunk: Chunk,
     third: TablePage,
@@ -389,7 +389,7 @@ fn hang_table<M: TableMem>(
     memory: &mut M,
     layout: &Layout,
     p: PartitionId,
-    row: u32,
+    row: Row,
     second: TablePage,
     chunk: Chunk,
     before: &Option<Access>,
@@ -440,7 +440,7 @@ pub(crate) fn edit_chunk<M: TableMem>(
     memory: &mut M,
     layout: &Layout,
     p: PartitionId,
-    row: u32,
+    row: Row,
     second: TablePage,
     chunk: Chunk,
     runs: &[Run],

@@ -15,7 +15,7 @@ use crate::part::chunk_runs;
 use crate::place::{Chunk, Gigabyte, end_chunk, first_chunk};
 use crate::read::{read_gigabyte, read_word};
 use crate::span::chunk_span;
-use crate::table_page::TablePage;
+use crate::table_page::{Row, TablePage};
 use base::{Access, PartitionId, Run};
 use pool::TableMem;
 use words::table_word;
@@ -40,7 +40,7 @@ fn edit_chunks<M: TableMem>(
     memory: &mut M,
     layout: &Layout,
     p: PartitionId,
-    row: u32,
+    row: Row,
     second: TablePage,
     gigabyte: Gigabyte,
     runs: &[Run],
@@ -75,7 +75,7 @@ fn edit_chunks<M: TableMem>(
 pub(crate) fn find_table<M: TableMem>(
     memory: &M,
     layout: &Layout,
-    row: u32,
+    row: Row,
     gigabyte: Gigabyte,
 ) -> Option<TablePage>
     requires pages { layout.now.pages ≡ page_count (M.state memory.now).memory.quotas }
@@ -103,7 +103,7 @@ fn first_word<M: TableMem>(memory: &M, table: TablePage) -> Option<u32>
 fn unlink<M: TableMem>(
     memory: &mut M,
     p: PartitionId,
-    row: u32,
+    row: Row,
     gigabyte: Gigabyte,
     second: TablePage,
 )
@@ -117,7 +117,7 @@ fn unlink<M: TableMem>(
     ensures in_step { UnlinksInStep p row gigabyte (M.state memory.old) (M.state memory.new) }
     ensures room { M.room memory.old ≤ M.room memory.new + 2 }
 {
-    put_word(memory, TablePage::root(row), gigabyte.index(), 0);
+    put_word(memory, row.root(), gigabyte.index(), 0);
     memory.invalidate(p, gigabyte.pages());
     give_page(memory, p, second);
 }
@@ -127,7 +127,7 @@ fn edit_tabled<M: TableMem>(
     memory: &mut M,
     layout: &Layout,
     p: PartitionId,
-    row: u32,
+    row: Row,
     second: TablePage,
     gigabyte: Gigabyte,
     runs: &[Run],
@@ -160,7 +160,7 @@ fn edit_untabled<M: TableMem>(
     memory: &mut M,
     layout: &Layout,
     p: PartitionId,
-    row: u32,
+    row: Row,
     gigabyte: Gigabyte,
     runs: &[Run],
     access: &Option<Access>,
@@ -185,7 +185,7 @@ fn edit_untabled<M: TableMem>(
     edit_chunks(memory, layout, p, row, second, gigabyte, runs, access);
     put_word(
         memory,
-        TablePage::root(row),
+        row.root(),
         gigabyte.index(),
         table_word(layout.address(second)),
     );
@@ -196,7 +196,7 @@ pub(crate) fn edit_gigabyte<M: TableMem>(
     memory: &mut M,
     layout: &Layout,
     p: PartitionId,
-    row: u32,
+    row: Row,
     gigabyte: Gigabyte,
     runs: &[Run],
     access: &Option<Access>,

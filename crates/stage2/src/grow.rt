@@ -20,7 +20,7 @@ use crate::place::{Chunk, Gigabyte};
 use crate::read::read_chunk;
 use crate::row::touches;
 use crate::span::{chunk_span, gigabyte_span};
-use crate::table_page::TablePage;
+use crate::table_page::{Row, TablePage};
 use crate::walked::Slot;
 use base::{Access, Run};
 use pool::TableMem;
@@ -29,14 +29,17 @@ use pool::TableMem;
 fn second_at<M: TableMem>(
     memory: &M,
     layout: &Layout,
-    row: Option<u32>,
+    row: &Option<Row>,
     gigabyte: Gigabyte,
 ) -> Option<TablePage>
     requires canonical { IsCanonical layout.now (pages_of (M.state memory.now).memory) }
-    requires partition { (r : ℕ) → row ≡ Some r → r < length layout.now.ids }
-    ensures { result ≡ second_in layout.now row gigabyte (M.state memory.now) }
+    requires partition { (r : ℕ) → row.now ≡ Some r → r < length layout.now.ids }
+    ensures { result ≡ second_in layout.now row.now gigabyte (M.state memory.now) }
 {
-    find_table(memory, layout, row?, gigabyte)
+    match row {
+        Some(row) => find_table(memory, layout, *row, gigabyte),
+        None => None,
+    }
 }
 
 /// A chunk's level 2 word, in a gigabyte's table, if it has one.
@@ -81,7 +84,7 @@ fn grows<M: TableMem>(
 fn takes<M: TableMem>(
     memory: &M,
     layout: &Layout,
-    row: Option<u32>,
+    row: &Option<Row>,
     second: &Option<TablePage>,
     gigabyte: Gigabyte,
     index: u32,
@@ -89,11 +92,11 @@ fn takes<M: TableMem>(
     access: &Option<Access>,
 ) -> bool
     requires canonical { IsCanonical layout.now (pages_of (M.state memory.now).memory) }
-    requires partition { (r : ℕ) → row ≡ Some r → r < length layout.now.ids }
+    requires partition { (r : ℕ) → row.now ≡ Some r → r < length layout.now.ids }
     requires normal { are_normal runs.now ≡ true }
     requires index { index < 512 }
-    requires table { second_in layout.now row gigabyte (M.state memory.now) ≡ second.now }
-    ensures { let before = view_in layout.now row (M.state memory.now) in
+    requires table { second_in layout.now row.now gigabyte (M.state memory.now) ≡ second.now }
+    ensures { let before = view_in layout.now row.now (M.state memory.now) in
         result ≡ grows_at before (edited runs.now access.now before) (512 * gigabyte + index) }
 {
     let _row = row;
@@ -110,17 +113,17 @@ fn takes<M: TableMem>(
 fn grow_chunks<M: TableMem>(
     memory: &M,
     layout: &Layout,
-    row: Option<u32>,
+    row: &Option<Row>,
     second: &Option<TablePage>,
     gigabyte: Gigabyte,
     runs: &[Run],
     access: &Option<Access>,
 ) -> u32
     requires canonical { IsCanonical layout.now (pages_of (M.state memory.now).memory) }
-    requires partition { (r : ℕ) → row ≡ Some r → r < length layout.now.ids }
+    requires partition { (r : ℕ) → row.now ≡ Some r → r < length layout.now.ids }
     requires normal { are_normal runs.now ≡ true }
-    requires table { second_in layout.now row gigabyte (M.state memory.now) ≡ second.now }
-    ensures same { let before = view_in layout.now row (M.state memory.now) in
+    requires table { second_in layout.now row.now gigabyte (M.state memory.now) ≡ second.now }
+    ensures same { let before = view_in layout.now row.now (M.state memory.now) in
         result ≡ chunks_growth before (edited runs.now access.now before) gigabyte }
     ensures most { result ≤ 512 }
 {
@@ -138,16 +141,16 @@ fn grow_chunks<M: TableMem>(
 fn grow_gigabyte<M: TableMem>(
     memory: &M,
     layout: &Layout,
-    row: Option<u32>,
+    row: &Option<Row>,
     gigabyte: Gigabyte,
     runs: &[Run],
     access: &Option<Access>,
 ) -> u32
     requires canonical { IsCanonical layout.now (pages_of (M.state memory.now).memory) }
     requires touched { Touches runs.now gigabyte }
-    requires partition { (r : ℕ) → row ≡ Some r → r < length layout.now.ids }
+    requires partition { (r : ℕ) → row.now ≡ Some r → r < length layout.now.ids }
     requires normal { are_normal runs.now ≡ true }
-    ensures same { let before = view_in layout.now row (M.state memory.now) in
+    ensures same { let before = view_in layout.now row.now (M.state memory.now) in
         result ≡ gigabyte_growth before (edited runs.now access.now before) gigabyte }
     ensures most { result ≤ 513 }
 {
@@ -163,14 +166,14 @@ fn grow_gigabyte<M: TableMem>(
 pub(crate) fn grow_row<M: TableMem>(
     memory: &M,
     layout: &Layout,
-    row: Option<u32>,
+    row: &Option<Row>,
     runs: &[Run],
     access: &Option<Access>,
 ) -> u32
     requires canonical { IsCanonical layout.now (pages_of (M.state memory.now).memory) }
-    requires partition { (r : ℕ) → row ≡ Some r → r < length layout.now.ids }
+    requires partition { (r : ℕ) → row.now ≡ Some r → r < length layout.now.ids }
     requires normal { are_normal runs.now ≡ true }
-    ensures { let before = view_in layout.now row (M.state memory.now) in
+    ensures { let before = view_in layout.now row.now (M.state memory.now) in
         result ≡ grow before (edited runs.now access.now before) }
 {
     let span = gigabyte_span(runs);

@@ -9,7 +9,7 @@ ghost use Rattle.stage2.specs.Walk.{walk, translation};
 ghost use Rattle.stage2.specs.declared.walked.Slot.TheVariants.{Next, Maps};
 
 use crate::place::{Chunk, Gigabyte, page_index};
-use crate::table_page::TablePage;
+use crate::table_page::{Row, TablePage};
 use crate::walked::{Slot, Walked};
 use base::{Page, PartitionId};
 use manifest::{Manifest, Partition};
@@ -23,12 +23,12 @@ fn row_of(partitions: &[Partition], p: PartitionId) -> Option<usize>
     partitions.iter().position(|row| row.id == p)
 }
 
-/// The pool page of a partition's root.
-fn root_of(manifest: &Manifest, p: PartitionId) -> Option<u32>
+/// The row of a partition.
+fn find_row(manifest: &Manifest, p: PartitionId) -> Option<Row>
     ensures { result ≡ position (λ id. id == p) (ids_of manifest.now.partitions) }
 {
     match row_of(manifest.partitions(), p) {
-        Some(row) => Some(row as u32),
+        Some(row) => Some(Row::new(row as u32)),
         None => None,
     }
 }
@@ -73,19 +73,14 @@ fn image_slot(manifest: &Manifest, image: &Image, level: u8, table: TablePage, i
 
 /// What a walk for a page gives over a copy of the words, from the root of a row.
 #[tactic(auto, unfolding(crate::specs::Walk::walk_across))]
-fn walk_row(manifest: &Manifest, image: &Image, row: u32, page: Page) -> Walked
+fn walk_row(manifest: &Manifest, image: &Image, row: Row, page: Page) -> Walked
     requires pages { image.now.pages ≡ page_count (quotas_of manifest.now.partitions) }
     requires row { row < length (ids_of manifest.now.partitions) }
     ensures { result ≡ walk (layout_of manifest.now) (words_of image.now.words) row page }
 {
+    let gigabyte = Gigabyte::of(page);
     let chunk = Chunk::of(page);
-    match image_slot(
-        manifest,
-        image,
-        1,
-        TablePage::root(row),
-        Gigabyte::of(page).index(),
-    ) {
+    match image_slot(manifest, image, 1, row.root(), gigabyte.index()) {
         Slot::Empty => Walked::None,
         Slot::Next(second) => match image_slot(manifest, image, 2, second, chunk.index()) {
             Slot::Empty => Walked::None,
@@ -116,8 +111,8 @@ pub fn walk_image(manifest: &Manifest, image: &Image, p: PartitionId, page: Page
     requires { image.now.pages ≡ page_count (quotas_of manifest.now.partitions) }
     ensures { result ≡ translation (layout_of manifest.now) (words_of image.now.words) p page }
 {
-    match root_of(manifest, p) {
-        Some(root) => walk_row(manifest, image, root, page),
+    match find_row(manifest, p) {
+        Some(row) => walk_row(manifest, image, row, page),
         None => Walked::None,
     }
 }

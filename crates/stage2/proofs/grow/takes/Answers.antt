@@ -13,7 +13,7 @@ use Rattle.stage2.proofs.grow.takes.Goals as goal
 pub entry_at-entry-requires-clause-table : goal.entry_at-entry-requires-clause-table
 entry_at-entry-requires-clause-table g c = λ j e.
     let m = pages_of (g.M.TableMem.state c.args.memory.now).memory in
-    second-inside c.args.layout.now m c.requires.canonical c.args.gigabyte c.chunk-chunk.ensures.in_range c.args.row c.requires.partition j (c.requires.table ∙ e)
+    second-inside c.args.layout.now m c.requires.canonical c.args.gigabyte c.chunk-chunk.ensures.in_range c.args.row.now c.requires.partition j (c.requires.table ∙ e)
 
 pub returns : goal.returns
 returns g c =
@@ -22,10 +22,10 @@ returns g c =
     let chunk = 512 * c.args.gigabyte + c.args.index in
     let here = c.chunk-chunk.ensures.same in
     let index : c.chunk-chunk.result % 512 ≡ c.args.index = omega (arith, here, c.requires.index) in
-    let before : ℕ → View = answers_of c.args.layout.now m.words c.args.row in
+    let before : ℕ → View = answers_of c.args.layout.now m.words c.args.row.now in
     (rw here at c.grows.ensures)
     ∙ ap (λ (s : Slot). is_mixed (edited part c.args.access.now (answers_at c.args.layout.now m.words s)) chunk && not (is_some (next_page s))) (rw index at c.entry_at-entry.ensures.same)
-    ∙ grows-entry c.args.layout.now m c.requires.canonical c.args.gigabyte c.chunk-chunk.ensures.in_range c.args.row c.requires.partition part c.args.access.now c.args.second.now c.args.index c.requires.index c.requires.table
+    ∙ grows-entry c.args.layout.now m c.requires.canonical c.args.gigabyte c.chunk-chunk.ensures.in_range c.args.row.now c.requires.partition part c.args.access.now c.args.second.now c.args.index c.requires.index c.requires.table
     ∙ ap (λ b. b && not (is_mixed before chunk)) (chunk-mixed chunk c.args.runs.now part c.args.access.now (chunk-covers chunk c.args.runs.now part (rw here at c.chunk_runs-part.ensures.same)) before)
 
 pub returns-then-not-touches : goal.returns-then-not-touches
@@ -33,5 +33,5 @@ returns-then-not-touches g c =
     let m = pages_of (g.M.TableMem.state c.args.memory.now).memory in
     let chunk = 512 * c.args.gigabyte + c.args.index in
     let here = c.chunk-chunk.ensures.same in
-    sym (grows-nothing c.args.runs.now c.args.access.now (answers_of c.args.layout.now m.words c.args.row) chunk
+    sym (grows-nothing c.args.runs.now c.args.access.now (answers_of c.args.layout.now m.words c.args.row.now) chunk
     (λ n at. untouched chunk c.args.runs.now n (sym (chunk-touches chunk c.args.runs.now c.chunk_runs-part.result.now (rw here at c.chunk_runs-part.ensures.same)) ∙ sym (rw here at c.touches.ensures) ∙ c.if-not-touches.true) at))
