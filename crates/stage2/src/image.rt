@@ -3,13 +3,14 @@
 ghost use Rattle.std.specs.Prelude.{◌≡◌, ℕ, ◌==◌, ◌+◌, ◌%◌, ◌^◌, ◌<◌, ◌≤◌, length, position};
 ghost use Rattle.base.specs.Manifest.{ids_of, page_count, quotas_of};
 ghost use Rattle.pool.specs.Pool.{words_of};
+ghost use Rattle.stage2.specs.Level.{number_of};
 ghost use Rattle.stage2.specs.Slot as slots;
 ghost use Rattle.stage2.specs.Slot.{layout_of, slot_from};
 ghost use Rattle.stage2.specs.Walk.{walk, translation};
 ghost use Rattle.stage2.specs.declared.walked.Slot.TheVariants.{Next, Maps};
 
 use crate::place::{Chunk, Gigabyte, page_index};
-use crate::table_page::{Row, TablePage};
+use crate::table_page::{Level, Row, TablePage};
 use crate::walked::{Slot, Walked};
 use base::{Page, PartitionId};
 use manifest::{Manifest, Partition};
@@ -56,19 +57,21 @@ fn slot_in(manifest: &Manifest, entry: Entry) -> Slot
 
 /// What a word of the copy is.
 #[tactic(auto, unfolding(crate::specs::Slot::slot))]
-fn image_slot(manifest: &Manifest, image: &Image, level: u8, table: TablePage, index: u32) -> Slot
-    requires least { 1 ≤ level }
-    requires most { level ≤ 3 }
+fn image_slot(
+    manifest: &Manifest,
+    image: &Image,
+    level: Level,
+    table: TablePage,
+    index: u32,
+) -> Slot
     requires table { table < image.now.pages }
     requires index { index < 512 }
     ensures same { let word = words_of image.now.words table index in
-        result ≡ slots.slot (layout_of manifest.now) level word }
+        result ≡ slots.slot (layout_of manifest.now) (number_of level) word }
     ensures inside { (j : ℕ) → result ≡ Next j → j < (layout_of manifest.now).pages }
 {
-    slot_in(
-        manifest,
-        read_entry(level, image.word(table.number(), index)),
-    )
+    let word = image.word(table.number(), index);
+    slot_in(manifest, read_entry(level.number(), word))
 }
 
 /// What a walk for a page gives over a copy of the words, from the root of a row.
@@ -80,12 +83,19 @@ fn walk_row(manifest: &Manifest, image: &Image, row: Row, page: Page) -> Walked
 {
     let gigabyte = Gigabyte::of(page);
     let chunk = Chunk::of(page);
-    match image_slot(manifest, image, 1, row.root(), gigabyte.index()) {
+    let index = page_index(page);
+    match image_slot(manifest, image, Level::First, row.root(), gigabyte.index()) {
         Slot::Empty => Walked::None,
-        Slot::Next(second) => match image_slot(manifest, image, 2, second, chunk.index()) {
+        Slot::Next(second) => match image_slot(
+            manifest,
+            image,
+            Level::Second,
+            second,
+            chunk.index(),
+        ) {
             Slot::Empty => Walked::None,
             Slot::Maps(first, access) => Walked::Leaf(block_page(first, page), access),
-            Slot::Next(third) => match image_slot(manifest, image, 3, third, page_index(page)) {
+            Slot::Next(third) => match image_slot(manifest, image, Level::Third, third, index) {
                 Slot::Empty => Walked::None,
                 Slot::Maps(found, access) => Walked::Leaf(found, access),
                 _ => Walked::Wrong,

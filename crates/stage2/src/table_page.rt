@@ -1,7 +1,8 @@
-//! The pages of table memory, with the numbers that `pool::TableMem` gives them, and the rows of
-//! partitions, whose roots are the first pages.
+//! Tables: their levels, the pages of table memory that they fill, with the numbers that
+//! `pool::TableMem` gives these, and the rows of partitions, whose roots are the first pages.
 
-ghost use Rattle.std.specs.Prelude.{◌≡◌};
+ghost use Rattle.std.specs.Prelude.{◌≡◌, ◌≤◌};
+ghost use Rattle.stage2.specs.Level.{number_of};
 
 use std::marker::Model;
 
@@ -62,5 +63,31 @@ impl Row {
         ensures { result ≡ self }
     {
         TablePage(self.0)
+    }
+}
+
+/// The level of a table: a root has level 1.
+#[derive(Clone, Copy, Debug, PartialEq, Eq)]
+pub(crate) enum Level {
+    /// Level 1: a word for each gigabyte.
+    First,
+    /// Level 2: a word for each chunk of a gigabyte.
+    Second,
+    /// Level 3: a word for each page of a chunk.
+    Third,
+}
+
+impl Level {
+    /// The number of the level.
+    pub(crate) fn number(self) -> u8
+        ensures same { result ≡ number_of self }
+        ensures least { 1 ≤ result }
+        ensures most { result ≤ 3 }
+    {
+        match self {
+            Level::First => 1,
+            Level::Second => 2,
+            Level::Third => 3,
+        }
     }
 }
