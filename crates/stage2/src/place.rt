@@ -12,8 +12,15 @@ const WORDS: u32 = 512;
 /// How many pages a gigabyte has.
 const GIGABYTE: u32 = WORDS * WORDS;
 
+/// Numbers from one up to another.
+#[derive(Clone, Copy)]
+pub(crate) struct Span {
+    pub first: u32,
+    pub end: u32,
+}
+
 /// The number of a gigabyte, below 2^9: a gigabyte is 512 chunks, for which a root has one word.
-#[derive(Clone, Copy, Debug, PartialEq, Eq)]
+#[derive(Clone, Copy)]
 pub(crate) struct Gigabyte(u32);
 
 impl Model for Gigabyte {
@@ -60,6 +67,19 @@ impl Gigabyte {
         self.0
     }
 
+    /// The numbers of its chunks.
+    pub(crate) fn chunks(self) -> Span
+        ensures first { result.first ≡ 512 * self }
+        ensures end { result.end ≡ 512 * self + 512 }
+        ensures in_range { self < 512 }
+    {
+        let first = WORDS * self.0;
+        Span {
+            first,
+            end: first + WORDS,
+        }
+    }
+
     /// Its chunk whose word has this index in a level 2 table.
     pub(crate) fn chunk(self, index: u32) -> Chunk
         requires { index < 512 }
@@ -96,7 +116,7 @@ impl Gigabyte {
 
 /// The number of a chunk, below 2^18: a chunk is 512 pages or 2 MB, for which a level 2 table has
 /// one word.
-#[derive(Clone, Copy, Debug, PartialEq, Eq)]
+#[derive(Clone, Copy)]
 pub(crate) struct Chunk(u32);
 
 impl Model for Chunk {

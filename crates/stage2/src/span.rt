@@ -4,15 +4,8 @@ ghost use Rattle.std.specs.Prelude.{◌≡◌, ℕ, ◌+◌, ◌*◌, ◌/◌, �
 ghost use Rattle.base.specs.Pages.{covers};
 ghost use Rattle.stage2.specs.Gigabytes.{touches_chunk};
 
-use crate::place::{Gigabyte, end_chunk, end_gigabyte, first_chunk, first_gigabyte};
+use crate::place::{Gigabyte, Span, end_chunk, end_gigabyte, first_chunk, first_gigabyte};
 use base::Run;
-
-/// Places from one up to another.
-#[derive(Clone, Copy)]
-pub(crate) struct Span {
-    pub first: u32,
-    pub end: u32,
-}
 
 /// The gigabytes from the first that the runs touch to the last.
 pub(crate) fn gigabyte_span(runs: &[Run]) -> Span
@@ -42,12 +35,12 @@ pub(crate) fn chunk_span(runs: &[Run], gigabyte: Gigabyte) -> Span
         → (result.first ≤ x) × (x < result.end) }
     ensures in_range { gigabyte < 512 }
 {
-    let start = gigabyte.chunk(0).number();
+    let chunks = gigabyte.chunks();
     let mut first = 512;
     let mut end = 0;
     for run in runs {
-        first = first.min(first_chunk(*run).number().max(start) - start);
-        end = end.max(end_chunk(*run).clamp(start, start + 512) - start);
+        first = first.min(first_chunk(*run).number().max(chunks.first) - chunks.first);
+        end = end.max(end_chunk(*run).clamp(chunks.first, chunks.end) - chunks.first);
     }
     Span {
         first: first.min(end),

@@ -37,7 +37,7 @@ impl TablePage {
 }
 
 /// The place of a partition among those of the manifest, from 0.
-#[derive(Clone, Copy, Debug, PartialEq, Eq)]
+#[derive(Clone, Copy)]
 pub(crate) struct Row(u32);
 
 impl Model for Row {
@@ -67,7 +67,7 @@ impl Row {
 }
 
 /// The level of a table: a root has level 1.
-#[derive(Clone, Copy, Debug, PartialEq, Eq)]
+#[derive(Clone, Copy)]
 pub(crate) enum Level {
     /// Level 1: a word for each gigabyte.
     First,
