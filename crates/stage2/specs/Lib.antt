@@ -1,4 +1,5 @@
 pub mod Slot
+pub mod Level
 pub mod Walk
 pub mod Sound
 pub mod Change

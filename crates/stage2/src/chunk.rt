@@ -13,10 +13,12 @@ ghost use Rattle.stage2.specs.Parts.{part_count};
 ghost use Rattle.stage2.specs.History.{Filled};
 ghost use Rattle.stage2.specs.Clauses.{Puts, WritesPlan, one_page, Breaks, Replaces, chunk_slot, read_after, AnswersAll, HasFree, GrowsChunk, EditsChunk, EditsMixed, SetsChunk, SetsInStep, MixesInStep, MapsInStep, ClearsPages, ChunkInStep};
 
-use crate::edit::{put_word, word_of};
+use crate::edit::{give_page, put_word, take_page, word_of};
 use crate::layout::Layout;
 use crate::part::is_covered;
-use crate::read::read_slot;
+use crate::place::{Chunk, page_index};
+use crate::read::{read_chunk, read_page, read_word};
+use crate::table_page::{Row, TablePage};
 use crate::unmap::invalidate_parts;
 use crate::walked::Slot;
 use base::{Access, MemoryKind, Page, PartitionId, Rights, Run};
@@ -42,7 +44,7 @@ fn plan(
 }
 
 /// Writes the level 3 word of a page into a table, if it is not there.
-fn write_page<M: TableMem>(memory: &mut M, third: u32, page: Page, answer: &Option<Access>)
+fn write_page<M: TableMem>(memory: &mut M, third: TablePage, page: Page, answer: &Option<Access>)
     requires page_in { third < page_count (M.state memory.old).memory.quotas }
     requires taken { taken_of (M.state memory.old).memory.taken third ≡ true }
     requires room { 0 < M.room memory.old }
@@ -52,9 +54,9 @@ fn write_page<M: TableMem>(memory: &mut M, third: u32, page: Page, answer: &Opti
         (M.state memory.old) (M.state memory.new) }
     ensures room { M.room memory.old ≤ M.room memory.new + 1 }
 {
-    let index = page.number() % 512;
+    let index = page_index(page);
     let word = word_of(page, answer);
-    if memory.word(third, index) != word {
+    if read_word(memory, third, index) != word {
         put_word(memory, third, index, word);
     }
 }
@@ -62,8 +64,8 @@ fn write_page<M: TableMem>(memory: &mut M, third: u32, page: Page, answer: &Opti
 /// Writes the words that are planned for the pages of a chunk, upward, into a table.
 fn write_table<M: TableMem>(
     memory: &mut M,
-    third: u32,
-    chunk: u32,
+    third: TablePage,
+    chunk: Chunk,
     runs: &[Run],
     access: &Option<Access>,
     others: &Option<Option<Access>>,
@@ -71,7 +73,6 @@ fn write_table<M: TableMem>(
     requires normal { are_normal runs.now ≡ true }
     requires page_in { third < page_count (M.state memory.old).memory.quotas }
     requires taken { taken_of (M.state memory.old).memory.taken third ≡ true }
-    requires chunk { chunk < 262144 }
     requires room { 512 ≤ M.room memory.old }
     ensures writes { WritesPlan third chunk (planned runs.now access.now others.now)
         (M.state memory.old) (M.state memory.new) }
@@ -80,7 +81,7 @@ fn write_table<M: TableMem>(
     ensures room { M.room memory.old ≤ M.room memory.new + 512 }
 {
     for index in 0..512 {
-        let page = Page::new(512 * chunk + index);
+        let page = chunk.page(index);
         if let Some(answer) = plan(runs, access, others, page) {
             write_page(memory, third, page, &answer);
         }
@@ -133,7 +134,7 @@ fn page_after<M: TableMem>(
     }
     match entry {
         Slot::Maps(_, access) => Some(*access),
-        Slot::Next(third) => match read_slot(memory, layout, 3, *third, page.number() % 512) {
+        Slot::Next(third) => match read_page(memory, layout, *third, page) {
             Slot::Maps(_, access) => Some(access),
             _ => None,
         },
@@ -142,11 +143,11 @@ fn page_after<M: TableMem>(
 }
 
 /// Whether one of the runs has all pages of a chunk.
-fn is_filled(runs: &[Run], chunk: u32) -> bool
-    requires { chunk < 262144 }
+fn is_filled(runs: &[Run], chunk: Chunk) -> bool
     ensures { result ≡ covers_chunk chunk runs.now }
 {
-    runs.iter().any(|run| run.first().number() <= 512 * chunk && 512 * chunk + 512 <= run.end())
+    runs.iter().any(|run| run.first().number() <= chunk.first().number()
+        && chunk.end() <= run.end())
 }
 
 /// The one answer that all pages of a chunk have after the edit; none where they are not all alike.
@@ -154,14 +155,13 @@ pub(crate) fn outcome<M: TableMem>(
     memory: &M,
     layout: &Layout,
     entry: &Slot,
-    chunk: u32,
+    chunk: Chunk,
     runs: &[Run],
     access: &Option<Access>,
 ) -> Option<Option<Access>>
     requires normal { are_normal runs.now ≡ true }
     requires pages { layout.now.pages ≡ page_count (M.state memory.now).memory.quotas }
     requires table { (k : ℕ) → entry.now ≡ Next k → k < layout.now.pages }
-    requires chunk { chunk < 262144 }
     ensures { let now = M.state memory.now in
         let after = read_after layout.now runs.now access.now entry.now now in
         IsOutcome chunk after result }
@@ -180,25 +180,23 @@ fn next_differs<M: TableMem>(
     memory: &M,
     layout: &Layout,
     entry: &Slot,
-    chunk: u32,
-    page: u32,
+    chunk: Chunk,
+    page: Page,
     runs: &[Run],
     access: &Option<Access>,
 ) -> bool
     requires normal { are_normal runs.now ≡ true }
     requires pages { layout.now.pages ≡ page_count (M.state memory.now).memory.quotas }
     requires table { (k : ℕ) → entry.now ≡ Next k → k < layout.now.pages }
-    requires chunk { chunk < 262144 }
-    requires in_range { page ≤ 2 ^ 27 }
     ensures { let now = M.state memory.now in
         let after = read_after layout.now runs.now access.now entry.now now in
         result ≡ true → needs.is_mixed after chunk ≡ true }
 {
-    if page / 512 != chunk || (page + 1) / 512 != chunk {
+    let Some(next) = chunk.next_page(page) else {
         return false;
-    }
-    let here = page_after(memory, layout, entry, Page::new(page), runs, access);
-    let next = page_after(memory, layout, entry, Page::new(page + 1), runs, access);
+    };
+    let here = page_after(memory, layout, entry, page, runs, access);
+    let next = page_after(memory, layout, entry, next, runs, access);
     !is_alike(&here, &next)
 }
 
@@ -208,14 +206,13 @@ fn differs_at_an_end<M: TableMem>(
     memory: &M,
     layout: &Layout,
     entry: &Slot,
-    chunk: u32,
+    chunk: Chunk,
     runs: &[Run],
     access: &Option<Access>,
 ) -> bool
     requires normal { are_normal runs.now ≡ true }
     requires pages { layout.now.pages ≡ page_count (M.state memory.now).memory.quotas }
     requires table { (k : ℕ) → entry.now ≡ Next k → k < layout.now.pages }
-    requires chunk { chunk < 262144 }
     ensures { let now = M.state memory.now in
         let after = read_after layout.now runs.now access.now entry.now now in
         result ≡ true → needs.is_mixed after chunk ≡ true }
@@ -223,8 +220,8 @@ fn differs_at_an_end<M: TableMem>(
     let Some(run) = runs.first() else {
         return false;
     };
-    let before = run.first().number().saturating_sub(1);
-    let last = run.end().saturating_sub(1);
+    let before = Page::new(run.first().number().saturating_sub(1));
+    let last = Page::new(run.end().saturating_sub(1));
     next_differs(memory, layout, entry, chunk, before, runs, access)
         || next_differs(memory, layout, entry, chunk, last, runs, access)
 }
@@ -235,28 +232,20 @@ fn compared<M: TableMem>(
     memory: &M,
     layout: &Layout,
     entry: &Slot,
-    chunk: u32,
+    chunk: Chunk,
     runs: &[Run],
     access: &Option<Access>,
 ) -> Option<Option<Access>>
     requires normal { are_normal runs.now ≡ true }
     requires pages { layout.now.pages ≡ page_count (M.state memory.now).memory.quotas }
     requires table { (k : ℕ) → entry.now ≡ Next k → k < layout.now.pages }
-    requires chunk { chunk < 262144 }
     ensures { let now = M.state memory.now in
         let after = read_after layout.now runs.now access.now entry.now now in
         IsOutcome chunk after result }
 {
-    let first = page_after(memory, layout, entry, Page::new(512 * chunk), runs, access);
+    let first = page_after(memory, layout, entry, chunk.first(), runs, access);
     for index in 0..512 {
-        let next = page_after(
-            memory,
-            layout,
-            entry,
-            Page::new(512 * chunk + index),
-            runs,
-            access,
-        );
+        let next = page_after(memory, layout, entry, chunk.page(index), runs, access);
         if !is_alike(&next, &first) {
             return None;
         }
@@ -265,27 +254,32 @@ fn compared<M: TableMem>(
 }
 
 /// Makes the level 2 word of a chunk invalid, and invalidates the chunk, if the word is valid.
-fn break_entry<M: TableMem>(memory: &mut M, p: PartitionId, second: u32, chunk: u32)
+fn break_entry<M: TableMem>(memory: &mut M, p: PartitionId, second: TablePage, chunk: Chunk)
     requires page_in { second < page_count (M.state memory.old).memory.quotas }
     requires taken { taken_of (M.state memory.old).memory.taken second ≡ true }
-    requires chunk { chunk < 262144 }
     requires room { 2 ≤ M.room memory.old }
     ensures pages { Puts second (chunk % 512) 0 (M.state memory.old) (M.state memory.new) }
     ensures history { Breaks p second chunk (M.state memory.old) (M.state memory.new) }
     ensures room { M.room memory.old ≤ M.room memory.new + 2 }
 {
-    if memory.word(second, chunk % 512) != 0 {
-        put_word(memory, second, chunk % 512, 0);
-        memory.invalidate(p, Run::new(Page::new(512 * chunk), 512));
+    let index = chunk.index();
+    if read_word(memory, second, index) != 0 {
+        put_word(memory, second, index, 0);
+        memory.invalidate(p, chunk.pages());
     }
 }
 
 /// Writes the level 2 word of a chunk. A valid word is made invalid before, and the chunk
 /// invalidated.
-fn replace_entry<M: TableMem>(memory: &mut M, p: PartitionId, second: u32, chunk: u32, word: u64)
+fn replace_entry<M: TableMem>(
+    memory: &mut M,
+    p: PartitionId,
+    second: TablePage,
+    chunk: Chunk,
+    word: u64,
+)
     requires page_in { second < page_count (M.state memory.old).memory.quotas }
     requires taken { taken_of (M.state memory.old).memory.taken second ≡ true }
-    requires chunk { chunk < 262144 }
     requires room { 3 ≤ M.room memory.old }
     ensures pages { Puts second (chunk % 512) word (M.state memory.old) (M.state memory.new) }
     ensures history { Replaces p second chunk word (M.state memory.old) (M.state memory.new) }
@@ -293,18 +287,17 @@ fn replace_entry<M: TableMem>(memory: &mut M, p: PartitionId, second: u32, chunk
 {
     break_entry(memory, p, second, chunk);
     if word != 0 {
-        put_word(memory, second, chunk % 512, word);
+        put_word(memory, second, chunk.index(), word);
     }
 }
 
 /// The level 2 word of a chunk whose pages all have this answer: a block, or an invalid word.
 #[tactic(auto, unfolding(words::specs::Words::entry_of))]
-fn block_word(chunk: u32, answer: &Option<Access>) -> u64
-    requires { chunk < 262144 }
+fn block_word(chunk: Chunk, answer: &Option<Access>) -> u64
     ensures { IsEntryFor chunk answer.now result }
 {
     match answer {
-        Some(access) => leaf_word(Page::new(512 * chunk), *access, true),
+        Some(access) => leaf_word(chunk.first(), *access, true),
         None => 0,
     }
 }
@@ -314,9 +307,9 @@ fn set_block<M: TableMem>(
     memory: &mut M,
     layout: &Layout,
     p: PartitionId,
-    row: u32,
-    second: u32,
-    chunk: u32,
+    row: Row,
+    second: TablePage,
+    chunk: Chunk,
     answer: &Option<Access>,
 )
     requires site { IsSite layout.now row chunk second (pages_of (M.state memory.old).memory) }
@@ -339,10 +332,10 @@ fn drop_table<M: TableMem>(
     memory: &mut M,
     layout: &Layout,
     p: PartitionId,
-    row: u32,
-    second: u32,
-    chunk: u32,
-    third: u32,
+    row: Row,
+    second: TablePage,
+    chunk: Chunk,
+    third: TablePage,
     answer: &Option<Access>,
 )
     requires site { IsSite layout.now row chunk second (pages_of (M.state memory.old).memory) }
@@ -359,17 +352,17 @@ fn drop_table<M: TableMem>(
     let _row = row;
     replace_entry(memory, p, second, chunk, block_word(chunk, answer));
     write_table(memory, third, chunk, &[], &None, &Some(None));
-    memory.give_page(p, third);
+    give_page(memory, p, third);
 }
 
 /// Edits the pages of a chunk whose table stays.
 fn rewrite_table<M: TableMem>(
     memory: &mut M,
     layout: &Layout,
-    row: u32,
-    second: u32,
-    chunk: u32,
-    third: u32,
+    row: Row,
+    second: TablePage,
+    chunk: Chunk,
+    third: TablePage,
     runs: &[Run],
     access: &Option<Access>,
 )
@@ -396,9 +389,9 @@ fn hang_table<M: TableMem>(
     memory: &mut M,
     layout: &Layout,
     p: PartitionId,
-    row: u32,
-    second: u32,
-    chunk: u32,
+    row: Row,
+    second: TablePage,
+    chunk: Chunk,
     before: &Option<Access>,
     runs: &[Run],
     access: &Option<Access>,
@@ -417,13 +410,13 @@ fn hang_table<M: TableMem>(
     ensures room { M.room memory.old ≤ M.room memory.new + 515 }
 {
     let _row = row;
-    let third = memory.take_page(p);
+    let third = take_page(memory, p);
     write_table(memory, third, chunk, runs, access, &Some(*before));
     replace_entry(memory, p, second, chunk, table_word(layout.address(third)));
 }
 
 /// The table that a word points at.
-pub(crate) fn table_of(entry: &Slot) -> Option<u32>
+pub(crate) fn table_of(entry: &Slot) -> Option<TablePage>
     ensures { result ≡ next_page entry.now }
 {
     match entry {
@@ -447,9 +440,9 @@ pub(crate) fn edit_chunk<M: TableMem>(
     memory: &mut M,
     layout: &Layout,
     p: PartitionId,
-    row: u32,
-    second: u32,
-    chunk: u32,
+    row: Row,
+    second: TablePage,
+    chunk: Chunk,
     runs: &[Run],
     access: &Option<Access>,
 )
@@ -465,7 +458,7 @@ pub(crate) fn edit_chunk<M: TableMem>(
         (M.state memory.old) (M.state memory.new) }
     ensures room { M.room memory.old ≤ M.room memory.new + (515 + part_count chunk runs.now) }
 {
-    let entry = read_slot(memory, layout, 2, second, chunk % 512);
+    let entry = read_chunk(memory, layout, second, chunk);
     let table = table_of(&entry);
     match outcome(memory, layout, &entry, chunk, runs, access) {
         Some(answer) => match table {

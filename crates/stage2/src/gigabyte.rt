@@ -9,25 +9,26 @@ ghost use Rattle.stage2.specs.Gigabytes.{gigabyte_operations, touches_run, touch
 ghost use Rattle.stage2.specs.Clauses.{IsLinkedOrderly, IsSecond, FitsChunks, chunks_operations, EditsChunks, ChunksInStep, second_at, word_in, IsEmpty, Unlinks, UnlinksInStep, FitsInGigabyte, EditsInGigabyte, GigabyteInStep};
 
 use crate::chunk::{edit_chunk, table_of};
-use crate::edit::put_word;
+use crate::edit::{give_page, put_word, take_page};
 use crate::layout::Layout;
 use crate::part::chunk_runs;
-use crate::read::read_slot;
+use crate::place::{Chunk, Gigabyte, end_chunk, first_chunk};
+use crate::read::{read_gigabyte, read_word};
 use crate::span::chunk_span;
-use crate::unmap::{end_chunk, first_chunk};
-use base::{Access, Page, PartitionId, Run};
+use crate::table_page::{Row, TablePage};
+use base::{Access, PartitionId, Run};
 use pool::TableMem;
 use words::table_word;
 
 /// Whether a run has a page in a chunk.
-fn run_touches(run: Run, chunk: u32) -> bool
+fn run_touches(run: Run, chunk: Chunk) -> bool
     ensures { result ≡ touches_run chunk run }
 {
-    first_chunk(run) <= chunk && chunk < end_chunk(run)
+    first_chunk(run).number() <= chunk.number() && chunk.number() < end_chunk(run)
 }
 
 /// Whether the runs have a page in a chunk.
-pub(crate) fn touches(runs: &[Run], chunk: u32) -> bool
+pub(crate) fn touches(runs: &[Run], chunk: Chunk) -> bool
     ensures { result ≡ touches_chunk chunk runs.now }
 {
     runs.iter().any(|run| run_touches(*run, chunk))
@@ -39,9 +40,9 @@ fn edit_chunks<M: TableMem>(
     memory: &mut M,
     layout: &Layout,
     p: PartitionId,
-    row: u32,
-    second: u32,
-    gigabyte: u32,
+    row: Row,
+    second: TablePage,
+    gigabyte: Gigabyte,
     runs: &[Run],
     access: &Option<Access>,
 )
@@ -49,7 +50,6 @@ fn edit_chunks<M: TableMem>(
     requires second { IsSecond layout.now row gigabyte second (M.state memory.old) }
     requires row { row_of layout.now.ids p ≡ row }
     requires partition { row < length layout.now.ids }
-    requires gigabyte { gigabyte < 512 }
     requires normal { are_normal runs.now ≡ true }
     requires free { FitsChunks layout.now row gigabyte second runs.now access.now
         (M.state memory.old) }
@@ -62,7 +62,7 @@ fn edit_chunks<M: TableMem>(
 {
     let span = chunk_span(runs, gigabyte);
     for index in span.first..span.end {
-        let chunk = 512 * gigabyte + index;
+        let chunk = gigabyte.chunk(index);
         let part = chunk_runs(runs, chunk);
         if touches(part, chunk) {
             edit_chunk(memory, layout, p, row, second, chunk, part, access);
@@ -75,25 +75,24 @@ fn edit_chunks<M: TableMem>(
 pub(crate) fn find_table<M: TableMem>(
     memory: &M,
     layout: &Layout,
-    row: u32,
-    gigabyte: u32,
-) -> Option<u32>
+    row: Row,
+    gigabyte: Gigabyte,
+) -> Option<TablePage>
     requires pages { layout.now.pages ≡ page_count (M.state memory.now).memory.quotas }
     requires row { row < layout.now.pages }
-    requires gigabyte { gigabyte < 512 }
     ensures { result ≡ second_at layout.now row gigabyte (M.state memory.now) }
 {
-    table_of(&read_slot(memory, layout, 1, row, gigabyte))
+    table_of(&read_gigabyte(memory, layout, row, gigabyte))
 }
 
 /// The index of a word of a table that is not 0.
-fn first_word<M: TableMem>(memory: &M, table: u32) -> Option<u32>
+fn first_word<M: TableMem>(memory: &M, table: TablePage) -> Option<u32>
     requires { table < page_count (M.state memory.now).memory.quotas }
     ensures some { IfSome result (λ x. (x < 512) × (word_in (M.state memory.now) table x ≢ 0)) }
     ensures none { IfNone result (IsEmpty table (M.state memory.now)) }
 {
     for index in 0..512 {
-        if memory.word(table, index) != 0 {
+        if read_word(memory, table, index) != 0 {
             return Some(index);
         }
     }
@@ -101,10 +100,15 @@ fn first_word<M: TableMem>(memory: &M, table: u32) -> Option<u32>
 }
 
 /// Takes the link of an empty level 2 table away, and gives the table back.
-fn unlink<M: TableMem>(memory: &mut M, p: PartitionId, row: u32, gigabyte: u32, second: u32)
+fn unlink<M: TableMem>(
+    memory: &mut M,
+    p: PartitionId,
+    row: Row,
+    gigabyte: Gigabyte,
+    second: TablePage,
+)
     requires root { row < length (M.state memory.old).memory.quotas }
     requires row { row_in (M.state memory.old).memory p ≡ row }
-    requires gigabyte { gigabyte < 512 }
     requires inside { InShare (M.state memory.old).memory.quotas row second }
     requires taken { taken_of (M.state memory.old).memory.taken second ≡ true }
     requires empty { IsEmpty second (M.state memory.old) }
@@ -113,9 +117,9 @@ fn unlink<M: TableMem>(memory: &mut M, p: PartitionId, row: u32, gigabyte: u32, 
     ensures in_step { UnlinksInStep p row gigabyte (M.state memory.old) (M.state memory.new) }
     ensures room { M.room memory.old ≤ M.room memory.new + 2 }
 {
-    put_word(memory, row, gigabyte, 0);
-    memory.invalidate(p, Run::new(Page::new(262144 * gigabyte), 262144));
-    memory.give_page(p, second);
+    put_word(memory, row.root(), gigabyte.index(), 0);
+    memory.invalidate(p, gigabyte.pages());
+    give_page(memory, p, second);
 }
 
 /// Edits a gigabyte that has its level 2 table, and gives that back where it becomes empty.
@@ -123,17 +127,17 @@ fn edit_tabled<M: TableMem>(
     memory: &mut M,
     layout: &Layout,
     p: PartitionId,
-    row: u32,
-    second: u32,
-    gigabyte: u32,
+    row: Row,
+    second: TablePage,
+    gigabyte: Gigabyte,
     runs: &[Run],
     access: &Option<Access>,
 )
     requires canonical { IsCanonical layout.now (pages_of (M.state memory.old).memory) }
     requires table { second_at layout.now row gigabyte (M.state memory.old) ≡ Some second }
+    requires touched { Touches runs.now gigabyte }
     requires row { row_of layout.now.ids p ≡ row }
     requires partition { row < length layout.now.ids }
-    requires gigabyte { gigabyte < 512 }
     requires normal { are_normal runs.now ≡ true }
     requires free { FitsInGigabyte layout.now row gigabyte runs.now access.now
         (M.state memory.old) }
@@ -156,8 +160,8 @@ fn edit_untabled<M: TableMem>(
     memory: &mut M,
     layout: &Layout,
     p: PartitionId,
-    row: u32,
-    gigabyte: u32,
+    row: Row,
+    gigabyte: Gigabyte,
     runs: &[Run],
     access: &Option<Access>,
 )
@@ -167,7 +171,6 @@ fn edit_untabled<M: TableMem>(
     requires maps { is_some access.now ≡ true }
     requires row { row_of layout.now.ids p ≡ row }
     requires partition { row < length layout.now.ids }
-    requires gigabyte { gigabyte < 512 }
     requires normal { are_normal runs.now ≡ true }
     requires free { FitsInGigabyte layout.now row gigabyte runs.now access.now
         (M.state memory.old) }
@@ -178,9 +181,14 @@ fn edit_untabled<M: TableMem>(
         (M.state memory.old) (M.state memory.new) }
     ensures room { M.room memory.old ≤ M.room memory.new + gigabyte_operations runs.now gigabyte }
 {
-    let second = memory.take_page(p);
+    let second = take_page(memory, p);
     edit_chunks(memory, layout, p, row, second, gigabyte, runs, access);
-    put_word(memory, row, gigabyte, table_word(layout.address(second)));
+    put_word(
+        memory,
+        row.root(),
+        gigabyte.index(),
+        table_word(layout.address(second)),
+    );
 }
 
 /// Edits the pages of runs in a gigabyte: they are reached with this access, or not at all.
@@ -188,8 +196,8 @@ pub(crate) fn edit_gigabyte<M: TableMem>(
     memory: &mut M,
     layout: &Layout,
     p: PartitionId,
-    row: u32,
-    gigabyte: u32,
+    row: Row,
+    gigabyte: Gigabyte,
     runs: &[Run],
     access: &Option<Access>,
 )
@@ -197,7 +205,6 @@ pub(crate) fn edit_gigabyte<M: TableMem>(
     requires touched { Touches runs.now gigabyte }
     requires row { row_of layout.now.ids p ≡ row }
     requires partition { row < length layout.now.ids }
-    requires gigabyte { gigabyte < 512 }
     requires normal { are_normal runs.now ≡ true }
     requires free { FitsInGigabyte layout.now row gigabyte runs.now access.now
         (M.state memory.old) }

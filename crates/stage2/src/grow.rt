@@ -1,6 +1,6 @@
 //! How many table pages an edit takes.
 
-ghost use Rattle.std.specs.Prelude.{◌≡◌, ℕ, ◌+◌, ◌*◌, ◌<◌, ◌≤◌, ◌&&◌, true, Some, not, length, is_some};
+ghost use Rattle.std.specs.Prelude.{◌≡◌, ℕ, ◌+◌, ◌*◌, ◌%◌, ◌<◌, ◌≤◌, ◌&&◌, true, Some, not, length, is_some};
 ghost use Rattle.base.specs.Manifest.{page_count};
 ghost use Rattle.base.specs.Pages.{are_normal};
 ghost use Rattle.pool.specs.Pool.{pages_of};
@@ -16,9 +16,11 @@ use crate::chunk::{outcome, table_of};
 use crate::gigabyte::{find_table, touches as touches_chunk};
 use crate::layout::Layout;
 use crate::part::{chunk_runs, gigabyte_runs};
-use crate::read::read_slot;
+use crate::place::{Chunk, Gigabyte};
+use crate::read::read_chunk;
 use crate::row::touches;
 use crate::span::{chunk_span, gigabyte_span};
+use crate::table_page::{Row, TablePage};
 use crate::walked::Slot;
 use base::{Access, Run};
 use pool::TableMem;
@@ -27,27 +29,33 @@ use pool::TableMem;
 fn second_at<M: TableMem>(
     memory: &M,
     layout: &Layout,
-    row: Option<u32>,
-    gigabyte: u32,
-) -> Option<u32>
+    row: &Option<Row>,
+    gigabyte: Gigabyte,
+) -> Option<TablePage>
     requires canonical { IsCanonical layout.now (pages_of (M.state memory.now).memory) }
-    requires partition { (r : ℕ) → row ≡ Some r → r < length layout.now.ids }
-    requires gigabyte { gigabyte < 512 }
-    ensures { result ≡ second_in layout.now row gigabyte (M.state memory.now) }
+    requires partition { (r : ℕ) → row.now ≡ Some r → r < length layout.now.ids }
+    ensures { result ≡ second_in layout.now row.now gigabyte (M.state memory.now) }
 {
-    find_table(memory, layout, row?, gigabyte)
+    match row {
+        Some(row) => find_table(memory, layout, *row, gigabyte),
+        None => None,
+    }
 }
 
 /// A chunk's level 2 word, in a gigabyte's table, if it has one.
-fn entry_at<M: TableMem>(memory: &M, layout: &Layout, second: &Option<u32>, index: u32) -> Slot
+fn entry_at<M: TableMem>(
+    memory: &M,
+    layout: &Layout,
+    second: &Option<TablePage>,
+    chunk: Chunk,
+) -> Slot
     requires pages { layout.now.pages ≡ page_count (M.state memory.now).memory.quotas }
     requires table { (j : ℕ) → second.now ≡ Some j → j < layout.now.pages }
-    requires index { index < 512 }
-    ensures same { result ≡ entry_read layout.now second.now index (M.state memory.now) }
+    ensures same { result ≡ entry_read layout.now second.now (chunk % 512) (M.state memory.now) }
     ensures inside { (k : ℕ) → result ≡ Next k → k < layout.now.pages }
 {
     match second {
-        Some(second) => read_slot(memory, layout, 2, *second, index),
+        Some(second) => read_chunk(memory, layout, *second, chunk),
         None => Slot::Empty,
     }
 }
@@ -57,14 +65,13 @@ fn grows<M: TableMem>(
     memory: &M,
     layout: &Layout,
     entry: &Slot,
-    chunk: u32,
+    chunk: Chunk,
     runs: &[Run],
     access: &Option<Access>,
 ) -> bool
     requires normal { are_normal runs.now ≡ true }
     requires pages { layout.now.pages ≡ page_count (M.state memory.now).memory.quotas }
     requires table { (k : ℕ) → entry.now ≡ Next k → k < layout.now.pages }
-    requires chunk { chunk < 262144 }
     ensures { let now = M.state memory.now in
         let after = read_after layout.now runs.now access.now entry.now now in
         result ≡ (is_mixed after chunk && not (is_some (next_page entry.now))) }
@@ -77,29 +84,28 @@ fn grows<M: TableMem>(
 fn takes<M: TableMem>(
     memory: &M,
     layout: &Layout,
-    row: Option<u32>,
-    second: &Option<u32>,
-    gigabyte: u32,
+    row: &Option<Row>,
+    second: &Option<TablePage>,
+    gigabyte: Gigabyte,
     index: u32,
     runs: &[Run],
     access: &Option<Access>,
 ) -> bool
     requires canonical { IsCanonical layout.now (pages_of (M.state memory.now).memory) }
-    requires partition { (r : ℕ) → row ≡ Some r → r < length layout.now.ids }
+    requires partition { (r : ℕ) → row.now ≡ Some r → r < length layout.now.ids }
     requires normal { are_normal runs.now ≡ true }
-    requires gigabyte { gigabyte < 512 }
     requires index { index < 512 }
-    requires table { second_in layout.now row gigabyte (M.state memory.now) ≡ second.now }
-    ensures { let before = view_in layout.now row (M.state memory.now) in
+    requires table { second_in layout.now row.now gigabyte (M.state memory.now) ≡ second.now }
+    ensures { let before = view_in layout.now row.now (M.state memory.now) in
         result ≡ grows_at before (edited runs.now access.now before) (512 * gigabyte + index) }
 {
     let _row = row;
-    let chunk = 512 * gigabyte + index;
+    let chunk = gigabyte.chunk(index);
     let part = chunk_runs(runs, chunk);
     if !touches_chunk(part, chunk) {
         return false;
     }
-    let entry = entry_at(memory, layout, second, index);
+    let entry = entry_at(memory, layout, second, chunk);
     grows(memory, layout, &entry, chunk, part, access)
 }
 
@@ -107,18 +113,17 @@ fn takes<M: TableMem>(
 fn grow_chunks<M: TableMem>(
     memory: &M,
     layout: &Layout,
-    row: Option<u32>,
-    second: &Option<u32>,
-    gigabyte: u32,
+    row: &Option<Row>,
+    second: &Option<TablePage>,
+    gigabyte: Gigabyte,
     runs: &[Run],
     access: &Option<Access>,
 ) -> u32
     requires canonical { IsCanonical layout.now (pages_of (M.state memory.now).memory) }
-    requires partition { (r : ℕ) → row ≡ Some r → r < length layout.now.ids }
+    requires partition { (r : ℕ) → row.now ≡ Some r → r < length layout.now.ids }
     requires normal { are_normal runs.now ≡ true }
-    requires gigabyte { gigabyte < 512 }
-    requires table { second_in layout.now row gigabyte (M.state memory.now) ≡ second.now }
-    ensures same { let before = view_in layout.now row (M.state memory.now) in
+    requires table { second_in layout.now row.now gigabyte (M.state memory.now) ≡ second.now }
+    ensures same { let before = view_in layout.now row.now (M.state memory.now) in
         result ≡ chunks_growth before (edited runs.now access.now before) gigabyte }
     ensures most { result ≤ 512 }
 {
@@ -136,17 +141,16 @@ fn grow_chunks<M: TableMem>(
 fn grow_gigabyte<M: TableMem>(
     memory: &M,
     layout: &Layout,
-    row: Option<u32>,
-    gigabyte: u32,
+    row: &Option<Row>,
+    gigabyte: Gigabyte,
     runs: &[Run],
     access: &Option<Access>,
 ) -> u32
     requires canonical { IsCanonical layout.now (pages_of (M.state memory.now).memory) }
     requires touched { Touches runs.now gigabyte }
-    requires partition { (r : ℕ) → row ≡ Some r → r < length layout.now.ids }
+    requires partition { (r : ℕ) → row.now ≡ Some r → r < length layout.now.ids }
     requires normal { are_normal runs.now ≡ true }
-    requires gigabyte { gigabyte < 512 }
-    ensures same { let before = view_in layout.now row (M.state memory.now) in
+    ensures same { let before = view_in layout.now row.now (M.state memory.now) in
         result ≡ gigabyte_growth before (edited runs.now access.now before) gigabyte }
     ensures most { result ≤ 513 }
 {
@@ -162,19 +166,20 @@ fn grow_gigabyte<M: TableMem>(
 pub(crate) fn grow_row<M: TableMem>(
     memory: &M,
     layout: &Layout,
-    row: Option<u32>,
+    row: &Option<Row>,
     runs: &[Run],
     access: &Option<Access>,
 ) -> u32
     requires canonical { IsCanonical layout.now (pages_of (M.state memory.now).memory) }
-    requires partition { (r : ℕ) → row ≡ Some r → r < length layout.now.ids }
+    requires partition { (r : ℕ) → row.now ≡ Some r → r < length layout.now.ids }
     requires normal { are_normal runs.now ≡ true }
-    ensures { let before = view_in layout.now row (M.state memory.now) in
+    ensures { let before = view_in layout.now row.now (M.state memory.now) in
         result ≡ grow before (edited runs.now access.now before) }
 {
     let span = gigabyte_span(runs);
     let mut count = 0;
-    for gigabyte in span.first..span.end {
+    for number in span.first..span.end {
+        let gigabyte = Gigabyte::new(number);
         let part = gigabyte_runs(runs, gigabyte);
         if touches(part, gigabyte) {
             count += grow_gigabyte(memory, layout, row, gigabyte, part, access);

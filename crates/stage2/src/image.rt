@@ -3,11 +3,14 @@
 ghost use Rattle.std.specs.Prelude.{◌≡◌, ℕ, ◌==◌, ◌+◌, ◌%◌, ◌^◌, ◌<◌, ◌≤◌, length, position};
 ghost use Rattle.base.specs.Manifest.{ids_of, page_count, quotas_of};
 ghost use Rattle.pool.specs.Pool.{words_of};
+ghost use Rattle.stage2.specs.Level.{number_of};
 ghost use Rattle.stage2.specs.Slot as slots;
 ghost use Rattle.stage2.specs.Slot.{layout_of, slot_from};
 ghost use Rattle.stage2.specs.Walk.{walk, translation};
 ghost use Rattle.stage2.specs.declared.walked.Slot.TheVariants.{Next, Maps};
 
+use crate::place::{Chunk, Gigabyte, page_index};
+use crate::table_page::{Level, Row, TablePage};
 use crate::walked::{Slot, Walked};
 use base::{Page, PartitionId};
 use manifest::{Manifest, Partition};
@@ -21,12 +24,12 @@ fn row_of(partitions: &[Partition], p: PartitionId) -> Option<usize>
     partitions.iter().position(|row| row.id == p)
 }
 
-/// The pool page of a partition's root.
-fn root_of(manifest: &Manifest, p: PartitionId) -> Option<u32>
+/// The row of a partition.
+fn find_row(manifest: &Manifest, p: PartitionId) -> Option<Row>
     ensures { result ≡ position (λ id. id == p) (ids_of manifest.now.partitions) }
 {
     match row_of(manifest.partitions(), p) {
-        Some(row) => Some(row as u32),
+        Some(row) => Some(Row::new(row as u32)),
         None => None,
     }
 }
@@ -42,7 +45,7 @@ fn slot_in(manifest: &Manifest, entry: Entry) -> Slot
             let page = page.number();
             let base = manifest.pool().number();
             if base <= page && page < base + manifest.table_pages() {
-                Slot::Next(page - base)
+                Slot::Next(TablePage::new(page - base))
             } else {
                 Slot::Bad
             }
@@ -54,32 +57,45 @@ fn slot_in(manifest: &Manifest, entry: Entry) -> Slot
 
 /// What a word of the copy is.
 #[tactic(auto, unfolding(crate::specs::Slot::slot))]
-fn image_slot(manifest: &Manifest, image: &Image, level: u8, table: u32, index: u32) -> Slot
-    requires least { 1 ≤ level }
-    requires most { level ≤ 3 }
+fn image_slot(
+    manifest: &Manifest,
+    image: &Image,
+    level: Level,
+    table: TablePage,
+    index: u32,
+) -> Slot
     requires table { table < image.now.pages }
     requires index { index < 512 }
     ensures same { let word = words_of image.now.words table index in
-        result ≡ slots.slot (layout_of manifest.now) level word }
+        result ≡ slots.slot (layout_of manifest.now) (number_of level) word }
     ensures inside { (j : ℕ) → result ≡ Next j → j < (layout_of manifest.now).pages }
 {
-    slot_in(manifest, read_entry(level, image.word(table, index)))
+    let word = image.word(table.number(), index);
+    slot_in(manifest, read_entry(level.number(), word))
 }
 
 /// What a walk for a page gives over a copy of the words, from the root of a row.
 #[tactic(auto, unfolding(crate::specs::Walk::walk_across))]
-fn walk_row(manifest: &Manifest, image: &Image, row: u32, page: Page) -> Walked
+fn walk_row(manifest: &Manifest, image: &Image, row: Row, page: Page) -> Walked
     requires pages { image.now.pages ≡ page_count (quotas_of manifest.now.partitions) }
     requires row { row < length (ids_of manifest.now.partitions) }
     ensures { result ≡ walk (layout_of manifest.now) (words_of image.now.words) row page }
 {
-    let n = page.number();
-    match image_slot(manifest, image, 1, row, n / 512 / 512) {
+    let gigabyte = Gigabyte::of(page);
+    let chunk = Chunk::of(page);
+    let index = page_index(page);
+    match image_slot(manifest, image, Level::First, row.root(), gigabyte.index()) {
         Slot::Empty => Walked::None,
-        Slot::Next(second) => match image_slot(manifest, image, 2, second, n / 512 % 512) {
+        Slot::Next(second) => match image_slot(
+            manifest,
+            image,
+            Level::Second,
+            second,
+            chunk.index(),
+        ) {
             Slot::Empty => Walked::None,
             Slot::Maps(first, access) => Walked::Leaf(block_page(first, page), access),
-            Slot::Next(third) => match image_slot(manifest, image, 3, third, n % 512) {
+            Slot::Next(third) => match image_slot(manifest, image, Level::Third, third, index) {
                 Slot::Empty => Walked::None,
                 Slot::Maps(found, access) => Walked::Leaf(found, access),
                 _ => Walked::Wrong,
@@ -95,7 +111,7 @@ fn block_page(first: Page, page: Page) -> Page
     requires { first + page % 512 < 2 ^ 27 }
     ensures { result ≡ first + page % 512 }
 {
-    Page::new(first.number() + page.number() % 512)
+    Page::new(first.number() + page_index(page))
 }
 
 /// What a walk for a page of a partition gives over a copy of the words: it reads at most three of
@@ -105,8 +121,8 @@ pub fn walk_image(manifest: &Manifest, image: &Image, p: PartitionId, page: Page
     requires { image.now.pages ≡ page_count (quotas_of manifest.now.partitions) }
     ensures { result ≡ translation (layout_of manifest.now) (words_of image.now.words) p page }
 {
-    match root_of(manifest, p) {
-        Some(root) => walk_row(manifest, image, root, page),
+    match find_row(manifest, p) {
+        Some(row) => walk_row(manifest, image, row, page),
         None => Walked::None,
     }
 }

@@ -4,6 +4,7 @@ ghost use Rattle.std.specs.Prelude.{◌≡◌, ◌<◌, true};
 ghost use Rattle.base.specs.Pages.{are_normal, covers};
 ghost use Rattle.stage2.specs.Parts as parts;
 
+use crate::place::{Chunk, Gigabyte};
 use base::{Page, Run};
 
 /// Those of the runs that have a page from one up to another.
@@ -28,21 +29,19 @@ pub(crate) fn is_covered(runs: &[Run], page: Page) -> bool
 }
 
 /// Those of the runs that have a page in a chunk.
-pub(crate) fn chunk_runs(runs: &[Run], chunk: u32) -> &[Run]
+pub(crate) fn chunk_runs(runs: &[Run], chunk: Chunk) -> &[Run]
     requires normal { are_normal runs.now ≡ true }
-    requires chunk { chunk < 262144 }
     ensures same { result.now ≡ parts.chunk_runs chunk runs.now }
     ensures normal { are_normal result.now ≡ true }
 {
-    runs_between(runs, 512 * chunk, 512 * chunk + 512)
+    runs_between(runs, chunk.first().number(), chunk.end())
 }
 
 /// Those of the runs that have a page in a gigabyte.
-pub(crate) fn gigabyte_runs(runs: &[Run], gigabyte: u32) -> &[Run]
+pub(crate) fn gigabyte_runs(runs: &[Run], gigabyte: Gigabyte) -> &[Run]
     requires normal { are_normal runs.now ≡ true }
-    requires gigabyte { gigabyte < 512 }
     ensures same { result.now ≡ parts.gigabyte_runs gigabyte runs.now }
     ensures normal { are_normal result.now ≡ true }
 {
-    runs_between(runs, 262144 * gigabyte, 262144 * gigabyte + 262144)
+    runs_between(runs, gigabyte.first().number(), gigabyte.end())
 }

@@ -4,15 +4,8 @@ ghost use Rattle.std.specs.Prelude.{◌≡◌, ℕ, ◌+◌, ◌*◌, ◌/◌, �
 ghost use Rattle.base.specs.Pages.{covers};
 ghost use Rattle.stage2.specs.Gigabytes.{touches_chunk};
 
-use crate::unmap::{end_chunk, first_chunk};
+use crate::place::{Gigabyte, Span, end_chunk, end_gigabyte, first_chunk, first_gigabyte};
 use base::Run;
-
-/// Places from one up to another.
-#[derive(Clone, Copy)]
-pub(crate) struct Span {
-    pub first: u32,
-    pub end: u32,
-}
 
 /// The gigabytes from the first that the runs touch to the last.
 pub(crate) fn gigabyte_span(runs: &[Run]) -> Span
@@ -24,8 +17,8 @@ pub(crate) fn gigabyte_span(runs: &[Run]) -> Span
     let mut first = 512;
     let mut end = 0;
     for run in runs {
-        first = first.min(first_chunk(*run) / 512);
-        end = end.max((end_chunk(*run) + 511) / 512);
+        first = first.min(first_gigabyte(*run).number());
+        end = end.max(end_gigabyte(*run));
     }
     Span {
         first: first.min(end),
@@ -35,19 +28,19 @@ pub(crate) fn gigabyte_span(runs: &[Run]) -> Span
 
 /// The chunks of a gigabyte, counted from its first, from the first that the runs touch to the
 /// last.
-pub(crate) fn chunk_span(runs: &[Run], gigabyte: u32) -> Span
-    requires { gigabyte < 512 }
+pub(crate) fn chunk_span(runs: &[Run], gigabyte: Gigabyte) -> Span
     ensures ordered { result.first ≤ result.end }
     ensures most { result.end ≤ 512 }
     ensures within { (x : ℕ) → x < 512 → touches_chunk (512 * gigabyte + x) runs.now ≡ true
         → (result.first ≤ x) × (x < result.end) }
+    ensures in_range { gigabyte < 512 }
 {
-    let start = 512 * gigabyte;
+    let chunks = gigabyte.chunks();
     let mut first = 512;
     let mut end = 0;
     for run in runs {
-        first = first.min(first_chunk(*run).max(start) - start);
-        end = end.max(end_chunk(*run).clamp(start, start + 512) - start);
+        first = first.min(first_chunk(*run).number().max(chunks.first) - chunks.first);
+        end = end.max(end_chunk(*run).clamp(chunks.first, chunks.end) - chunks.first);
     }
     Span {
         first: first.min(end),

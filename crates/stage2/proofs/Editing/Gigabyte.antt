@@ -319,6 +319,10 @@ finish-none layout row g runs m canonical inside none = record {
     nothing : (n : ℕ) → walk layout m.words row n ≡ Unmapped → edited runs None (answers layout m.words row) n ≡ None
     nothing n unmapped = ap (λ w. cond (covers runs n) None (answer_of w)) unmapped ∙ same (covers runs n)
 
+-- a gigabyte that is touched has a number below 512
+pub touched-below : (runs : List PageRun) (g : ℕ) → Touches runs g → g < 512
+touched-below runs g touches = let small = touches.small in let here = touches.here in omega (arith, small, here)
+
 -- there is a page for its level 2 table
 pub link-has-free : (layout : Layout) (row g : ℕ) (runs : List PageRun) (access : View) (m : Pages) → IsCanonical layout m → row < length layout.ids → g < 512 → table_at layout m.words (Gigabyte row g) ≡ None → Touches runs g → is_some access ≡ true
     → used_by m row + gigabyte_growth (answers layout m.words row) (edited runs access (answers layout m.words row)) g ≤ quota_of m.quotas row → used_by m row < quota_of m.quotas row

@@ -10,39 +10,39 @@ use Rattle.stage2.specs.Chunks.{edited, answers_in, block_answer, Redoes_in}
 use Rattle.stage2.proofs.Editing.FourChunkEdits.{second-inside, outcome-read, unhung, growing, before-block}
 use Rattle.stage2.proofs.chunk.edit_chunk.Goals as goal
 
-pub read_slot-entry-requires-clause-table : goal.read_slot-entry-requires-clause-table
-read_slot-entry-requires-clause-table g c =
+pub read_chunk-entry-requires-clause-table : goal.read_chunk-entry-requires-clause-table
+read_chunk-entry-requires-clause-table g c =
     let inside = second-inside c.args.layout.now c.args.row c.args.chunk c.args.second (pages_of (g.M.TableMem.state c.args.memory.now).memory) c.requires.site in
     subst (λ x. c.args.second < x) (sym c.requires.site.orderly.pages) inside
 
 pub hang_table-requires-clause-before : goal.hang_table-requires-clause-before
 hang_table-requires-clause-before g c = λ n at.
     let m = pages_of (g.M.TableMem.state c.args.memory.now).memory in
-    before-block c.args.layout.now c.args.row c.args.chunk c.args.second m c.requires.site (unhung c.args.layout.now c.args.row c.args.chunk c.args.second m c.requires.site c.read_slot-entry.result c.table_of-table.result c.read_slot-entry.ensures.same c.table_of-table.ensures c.in-None-table-2.is) n at
-    ∙ ap block_answer (sym c.read_slot-entry.ensures.same) ∙ sym c.block_of-before.ensures
+    before-block c.args.layout.now c.args.row c.args.chunk c.args.second m c.requires.site (unhung c.args.layout.now c.args.row c.args.chunk c.args.second m c.requires.site c.read_chunk-entry.result c.table_of-table.result c.read_chunk-entry.ensures.same c.table_of-table.ensures c.in-None-table-2.is) n at
+    ∙ ap block_answer (sym c.read_chunk-entry.ensures.same) ∙ sym c.block_of-before.ensures
 
 pub hang_table-requires-clause-free : goal.hang_table-requires-clause-free
 hang_table-requires-clause-free g c =
     let m = pages_of (g.M.TableMem.state c.args.memory.now).memory in
-    c.requires.free (growing c.args.layout.now c.args.row c.args.chunk c.args.second m c.requires.site (edited c.args.runs.now c.args.access.now (answers_in c.args.layout.now c.args.row c.args.chunk c.args.second m)) (unhung c.args.layout.now c.args.row c.args.chunk c.args.second m c.requires.site c.read_slot-entry.result c.table_of-table.result c.read_slot-entry.ensures.same c.table_of-table.ensures c.in-None-table-2.is)
-    (outcome-read c.args.layout.now c.args.row c.args.chunk c.args.second m c.requires.site c.args.runs.now c.args.access.now c.read_slot-entry.result c.outcome.result None c.read_slot-entry.ensures.same c.in-None.is c.outcome.ensures))
+    c.requires.free (growing c.args.layout.now c.args.row c.args.chunk c.args.second m c.requires.site (edited c.args.runs.now c.args.access.now (answers_in c.args.layout.now c.args.row c.args.chunk c.args.second m)) (unhung c.args.layout.now c.args.row c.args.chunk c.args.second m c.requires.site c.read_chunk-entry.result c.table_of-table.result c.read_chunk-entry.ensures.same c.table_of-table.ensures c.in-None-table-2.is)
+    (outcome-read c.args.layout.now c.args.row c.args.chunk c.args.second m c.requires.site c.args.runs.now c.args.access.now c.read_chunk-entry.result c.outcome.result None c.read_chunk-entry.ensures.same c.in-None.is c.outcome.ensures))
 
 pub returns-in-Some-table-clause-redoes : goal.returns-in-Some-table-clause-redoes
 returns-in-Some-table-clause-redoes g c =
     let m = pages_of (g.M.TableMem.state c.args.memory.now).memory in
     c.drop_table.ensures.redoes (edited c.args.runs.now c.args.access.now (answers_in c.args.layout.now c.args.row c.args.chunk c.args.second m))
-    (outcome-read c.args.layout.now c.args.row c.args.chunk c.args.second m c.requires.site c.args.runs.now c.args.access.now c.read_slot-entry.result c.outcome.result (Some c.in-Some.answer) c.read_slot-entry.ensures.same c.in-Some.is c.outcome.ensures)
+    (outcome-read c.args.layout.now c.args.row c.args.chunk c.args.second m c.requires.site c.args.runs.now c.args.access.now c.read_chunk-entry.result c.outcome.result (Some c.in-Some.answer) c.read_chunk-entry.ensures.same c.in-Some.is c.outcome.ensures)
 
 pub returns-in-None-table-clause-redoes : goal.returns-in-None-table-clause-redoes
 returns-in-None-table-clause-redoes g c =
     let m = pages_of (g.M.TableMem.state c.args.memory.now).memory in
     c.set_block.ensures.redoes (edited c.args.runs.now c.args.access.now (answers_in c.args.layout.now c.args.row c.args.chunk c.args.second m))
-    (outcome-read c.args.layout.now c.args.row c.args.chunk c.args.second m c.requires.site c.args.runs.now c.args.access.now c.read_slot-entry.result c.outcome.result (Some c.in-Some.answer) c.read_slot-entry.ensures.same c.in-Some.is c.outcome.ensures)
+    (outcome-read c.args.layout.now c.args.row c.args.chunk c.args.second m c.requires.site c.args.runs.now c.args.access.now c.read_chunk-entry.result c.outcome.result (Some c.in-Some.answer) c.read_chunk-entry.ensures.same c.in-Some.is c.outcome.ensures)
 
 pub returns-else-is_none-clause-redoes : goal.returns-else-is_none-clause-redoes
 returns-else-is_none-clause-redoes g c =
     let m = pages_of (g.M.TableMem.state c.args.memory.now).memory in
-    c.rewrite_table.ensures.redoes (outcome-read c.args.layout.now c.args.row c.args.chunk c.args.second m c.requires.site c.args.runs.now c.args.access.now c.read_slot-entry.result c.outcome.result None c.read_slot-entry.ensures.same c.in-None.is c.outcome.ensures)
+    c.rewrite_table.ensures.redoes (outcome-read c.args.layout.now c.args.row c.args.chunk c.args.second m c.requires.site c.args.runs.now c.args.access.now c.read_chunk-entry.result c.outcome.result None c.read_chunk-entry.ensures.same c.in-None.is c.outcome.ensures)
 
 pub returns-then-is_none-clause-redoes : goal.returns-then-is_none-clause-redoes
 returns-then-is_none-clause-redoes g c =
@@ -50,19 +50,19 @@ returns-then-is_none-clause-redoes g c =
     let layout = c.args.layout.now in
     let view = edited c.args.runs.now c.args.access.now (answers_in layout c.args.row c.args.chunk c.args.second m) in
     subst (λ (x : Memory). Redoes_in layout c.args.row c.args.chunk c.args.second view m (pages_of x)) (sym c.invalidate_parts.ensures.memory)
-    (c.rewrite_table.ensures.redoes (outcome-read c.args.layout.now c.args.row c.args.chunk c.args.second m c.requires.site c.args.runs.now c.args.access.now c.read_slot-entry.result c.outcome.result None c.read_slot-entry.ensures.same c.in-None.is c.outcome.ensures))
+    (c.rewrite_table.ensures.redoes (outcome-read c.args.layout.now c.args.row c.args.chunk c.args.second m c.requires.site c.args.runs.now c.args.access.now c.read_chunk-entry.result c.outcome.result None c.read_chunk-entry.ensures.same c.in-None.is c.outcome.ensures))
 
 pub returns-in-None-table-2-clause-redoes : goal.returns-in-None-table-2-clause-redoes
 returns-in-None-table-2-clause-redoes g c =
     let m = pages_of (g.M.TableMem.state c.args.memory.now).memory in
-    c.hang_table.ensures.redoes (outcome-read c.args.layout.now c.args.row c.args.chunk c.args.second m c.requires.site c.args.runs.now c.args.access.now c.read_slot-entry.result c.outcome.result None c.read_slot-entry.ensures.same c.in-None.is c.outcome.ensures)
+    c.hang_table.ensures.redoes (outcome-read c.args.layout.now c.args.row c.args.chunk c.args.second m c.requires.site c.args.runs.now c.args.access.now c.read_chunk-entry.result c.outcome.result None c.read_chunk-entry.ensures.same c.in-None.is c.outcome.ensures)
 
 pub returns-in-Some-table-clause-in_step : goal.returns-in-Some-table-clause-in_step
 returns-in-Some-table-clause-in_step g c = λ seated free.
     let m = pages_of (g.M.TableMem.state c.args.memory.now).memory in
     let before : ℕ → View = answers_in c.args.layout.now c.args.row c.args.chunk c.args.second m in
     let view : ℕ → View = edited c.args.runs.now c.args.access.now before in
-    let is = (outcome-read c.args.layout.now c.args.row c.args.chunk c.args.second m c.requires.site c.args.runs.now c.args.access.now c.read_slot-entry.result c.outcome.result (Some c.in-Some.answer) c.read_slot-entry.ensures.same c.in-Some.is c.outcome.ensures) in
+    let is = (outcome-read c.args.layout.now c.args.row c.args.chunk c.args.second m c.requires.site c.args.runs.now c.args.access.now c.read_chunk-entry.result c.outcome.result (Some c.in-Some.answer) c.read_chunk-entry.ensures.same c.in-Some.is c.outcome.ensures) in
     stays-whole c.args.layout.now c.args.row c.args.chunk c.args.runs.now c.args.access.now before (g.M.TableMem.state c.args.memory.now) (g.M.TableMem.state c.drop_table.new.memory) (unmixed-after c.args.chunk before view c.in-Some.answer is) (c.drop_table.ensures.in_step view is seated)
 
 pub returns-in-None-table-clause-in_step : goal.returns-in-None-table-clause-in_step
@@ -70,7 +70,7 @@ returns-in-None-table-clause-in_step g c = λ seated free.
     let m = pages_of (g.M.TableMem.state c.args.memory.now).memory in
     let before : ℕ → View = answers_in c.args.layout.now c.args.row c.args.chunk c.args.second m in
     let view : ℕ → View = edited c.args.runs.now c.args.access.now before in
-    let is = (outcome-read c.args.layout.now c.args.row c.args.chunk c.args.second m c.requires.site c.args.runs.now c.args.access.now c.read_slot-entry.result c.outcome.result (Some c.in-Some.answer) c.read_slot-entry.ensures.same c.in-Some.is c.outcome.ensures) in
+    let is = (outcome-read c.args.layout.now c.args.row c.args.chunk c.args.second m c.requires.site c.args.runs.now c.args.access.now c.read_chunk-entry.result c.outcome.result (Some c.in-Some.answer) c.read_chunk-entry.ensures.same c.in-Some.is c.outcome.ensures) in
     stays-whole c.args.layout.now c.args.row c.args.chunk c.args.runs.now c.args.access.now before (g.M.TableMem.state c.args.memory.now) (g.M.TableMem.state c.set_block.new.memory) (unmixed-after c.args.chunk before view c.in-Some.answer is) (c.set_block.ensures.in_step view is seated)
 
 pub returns-in-None-table-2-clause-in_step : goal.returns-in-None-table-2-clause-in_step
@@ -78,8 +78,8 @@ returns-in-None-table-2-clause-in_step g c = λ seated free.
     let m = pages_of (g.M.TableMem.state c.args.memory.now).memory in
     let before : ℕ → View = answers_in c.args.layout.now c.args.row c.args.chunk c.args.second m in
     let view : ℕ → View = edited c.args.runs.now c.args.access.now before in
-    let is = (outcome-read c.args.layout.now c.args.row c.args.chunk c.args.second m c.requires.site c.args.runs.now c.args.access.now c.read_slot-entry.result c.outcome.result None c.read_slot-entry.ensures.same c.in-None.is c.outcome.ensures) in
-    let grows = growing c.args.layout.now c.args.row c.args.chunk c.args.second m c.requires.site view (unhung c.args.layout.now c.args.row c.args.chunk c.args.second m c.requires.site c.read_slot-entry.result c.table_of-table.result c.read_slot-entry.ensures.same c.table_of-table.ensures c.in-None-table-2.is) is in
+    let is = (outcome-read c.args.layout.now c.args.row c.args.chunk c.args.second m c.requires.site c.args.runs.now c.args.access.now c.read_chunk-entry.result c.outcome.result None c.read_chunk-entry.ensures.same c.in-None.is c.outcome.ensures) in
+    let grows = growing c.args.layout.now c.args.row c.args.chunk c.args.second m c.requires.site view (unhung c.args.layout.now c.args.row c.args.chunk c.args.second m c.requires.site c.read_chunk-entry.result c.table_of-table.result c.read_chunk-entry.ensures.same c.table_of-table.ensures c.in-None-table-2.is) is in
     stays-whole c.args.layout.now c.args.row c.args.chunk c.args.runs.now c.args.access.now before (g.M.TableMem.state c.args.memory.now) (g.M.TableMem.state c.hang_table.new.memory) (unmixed-before c.args.chunk before view grows.was) (c.hang_table.ensures.in_step is seated)
 
 pub returns-else-is_none-clause-in_step : goal.returns-else-is_none-clause-in_step

@@ -22,21 +22,21 @@ use Rattle.stage2.proofs.chunk.hang_table.Goals as goal
 pub write_table-requires-clause-taken : goal.write_table-requires-clause-taken
 write_table-requires-clause-taken g c =
     let old = g.M.TableMem.state c.args.memory.now in
-    let marked = pages_of-take old (g.M.TableMem.state c.take_page-third.new.self) (row_in old.memory c.args.p) c.take_page-third.result (g.met.M.TableMem.whole c.args.memory.now) c.take_page-third.ensures.lowest c.take_page-third.ensures.state in
+    let marked = pages_of-take old (g.M.TableMem.state c.take_page-third.new.memory) (row_in old.memory c.args.p) c.take_page-third.result (g.met.M.TableMem.whole c.args.memory.now) c.take_page-third.ensures.lowest c.take_page-third.ensures.state in
     ap (λ (x : Pages). x.taken c.take_page-third.result) marked ∙ mark-same (pages_of old.memory).taken c.take_page-third.result true
 
 pub replace_entry-requires-clause-page_in : goal.replace_entry-requires-clause-page_in
 replace_entry-requires-clause-page_in g c =
     let old = g.M.TableMem.state c.args.memory.now in
     let m2 = pages_of (g.M.TableMem.state c.write_table.new.memory).memory in
-    let marked = pages_of-take old (g.M.TableMem.state c.take_page-third.new.self) (row_in old.memory c.args.p) c.take_page-third.result (g.met.M.TableMem.whole c.args.memory.now) c.take_page-third.ensures.lowest c.take_page-third.ensures.state in
+    let marked = pages_of-take old (g.M.TableMem.state c.take_page-third.new.memory) (row_in old.memory c.args.p) c.take_page-third.result (g.met.M.TableMem.whole c.args.memory.now) c.take_page-third.ensures.lowest c.take_page-third.ensures.state in
     let quotas : m2.quotas ≡ (pages_of old.memory).quotas = c.write_table.ensures.writes.quotas ∙ ap (λ (x : Pages). x.quotas) marked in
     subst (λ x. c.args.second < page_count x) (sym quotas) (second-inside c.args.layout.now c.args.row c.args.chunk c.args.second (pages_of old.memory) c.requires.site)
 
 pub replace_entry-requires-clause-taken : goal.replace_entry-requires-clause-taken
 replace_entry-requires-clause-taken g c =
     let old = g.M.TableMem.state c.args.memory.now in
-    let marked = pages_of-take old (g.M.TableMem.state c.take_page-third.new.self) (row_in old.memory c.args.p) c.take_page-third.result (g.met.M.TableMem.whole c.args.memory.now) c.take_page-third.ensures.lowest c.take_page-third.ensures.state in
+    let marked = pages_of-take old (g.M.TableMem.state c.take_page-third.new.memory) (row_in old.memory c.args.p) c.take_page-third.result (g.met.M.TableMem.whole c.args.memory.now) c.take_page-third.ensures.lowest c.take_page-third.ensures.state in
     ap (λ f. f c.args.second) c.write_table.ensures.writes.taken ∙ ap (λ (x : Pages). x.taken c.args.second) marked
     ∙ mark-kept (pages_of old.memory).taken c.take_page-third.result c.args.second (second-taken c.args.layout.now c.args.row c.args.chunk c.args.second (pages_of old.memory) c.requires.site)
 
@@ -45,10 +45,10 @@ returns-clause-redoes g c = λ outcome.
     let old = g.M.TableMem.state c.args.memory.now in
     let m = pages_of old.memory in
     let k = c.take_page-third.result in
-    let m1 = pages_of (g.M.TableMem.state c.take_page-third.new.self).memory in
+    let m1 = pages_of (g.M.TableMem.state c.take_page-third.new.memory).memory in
     let m2 = pages_of (g.M.TableMem.state c.write_table.new.memory).memory in
     let new = pages_of (g.M.TableMem.state c.replace_entry.new.memory).memory in
-    let marked = pages_of-take old (g.M.TableMem.state c.take_page-third.new.self) (row_in old.memory c.args.p) k (g.met.M.TableMem.whole c.args.memory.now) c.take_page-third.ensures.lowest c.take_page-third.ensures.state in
+    let marked = pages_of-take old (g.M.TableMem.state c.take_page-third.new.memory) (row_in old.memory c.args.p) k (g.met.M.TableMem.whole c.args.memory.now) c.take_page-third.ensures.lowest c.take_page-third.ensures.state in
     let is : row_in old.memory c.args.p ≡ c.args.row = ap (λ x. row_of x c.args.p) (sym c.requires.site.orderly.ids) ∙ c.requires.row in
     let lowest : IsLowestFree m c.args.row k = subst (λ x. IsLowestFree m x k) is c.take_page-third.ensures.lowest in
     let word : c.table_word.result ≡ table_word_of (c.args.layout.now.base + k) = c.table_word.ensures.value ∙ ap table_word_of c.address.ensures in
@@ -65,7 +65,7 @@ returns-clause-in_step g c = λ outcome seated.
     let j = c.args.second in
     let site = c.requires.site in
     let x = g.M.TableMem.state c.args.memory.now in
-    let y = g.M.TableMem.state c.take_page-third.new.self in
+    let y = g.M.TableMem.state c.take_page-third.new.memory in
     let z = g.M.TableMem.state c.write_table.new.memory in
     let e = g.M.TableMem.state c.replace_entry.new.memory in
     let m = pages_of x.memory in

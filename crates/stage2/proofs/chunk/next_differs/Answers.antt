@@ -12,7 +12,8 @@ was_not false e = refl
 pub returns : goal.returns
 returns g c = λ e.
     let view : ℕ → View = read_after c.args.layout.now c.args.runs.now c.args.access.now c.args.entry.now (g.M.TableMem.state c.args.memory.now) in
-    let here = c.page_after-here.ensures ∙ ap view c.new.ensures in
-    let next = c.page_after-next.ensures ∙ ap view c.new-2.ensures in
+    let is = c.next_page.ensures c.in-Some.next c.in-Some.is in
+    let here = c.page_after-here.ensures in
+    let next = c.page_after-next.ensures ∙ ap view is.0 in
     let unlike : is_alike (view c.args.page) (view (c.args.page + 1)) ≡ false = ap₂ is_alike (sym here) (sym next) ∙ sym c.is_alike.ensures ∙ was_not c.is_alike.result e in
-    unlike-mixed view c.args.chunk c.args.page (c.args.page + 1) c.if-page-chunk.false c.if-page-chunk-2.false unlike
+    unlike-mixed view c.args.chunk c.args.page (c.args.page + 1) is.1.0 is.1.1 unlike

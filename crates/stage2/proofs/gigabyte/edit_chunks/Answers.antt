@@ -9,7 +9,7 @@ use Rattle.pool.specs.Pool.{pages_of}
 use Rattle.stage2.specs.Parts.{part_count, chunk_runs}
 use Rattle.stage2.specs.Gigabytes.{sum_below, touches_chunk, chunk_operations}
 use Rattle.stage2.proofs.Walkers.ChunkSteps.{march-edit, march-skip, march-seated, march-free}
-use Rattle.stage2.proofs.Editing.ChunkByChunk.{sum_below-more, sum_below-up, underway-start, underway-skip, underway-edit, has-free, untouched}
+use Rattle.stage2.proofs.Editing.ChunkByChunk.{sum_below-more, sum_below-up, underway-start, underway-skip, underway-edit, site, has-free, untouched}
 use Rattle.stage2.proofs.Runs.Spans.{AreUntouched, UnderwayAt, StaysAt, underway-gap, stays-gap, outside-chunks}
 use Rattle.stage2.proofs.Runs.OwnRuns.{chunk-covers, chunk-touches, chunk-count, chunk-growing, chunk-redoes, chunk-free, chunk-stays}
 use Rattle.stage2.proofs.Walkers.ZeroedTables.{stays-none}
@@ -20,14 +20,20 @@ use Rattle.stage2.proofs.gigabyte.edit_chunks.Goals.{then-touches, else-touches}
 cost : (c : ℕ) (runs part : List PageRun) → part ≡ chunk_runs c runs → touches_chunk c part ≡ true → chunk_operations runs c ≡ 515 + part_count c part
 cost c runs part is touched = ap₂ (λ t k. cond t (515 + k) 0) (sym (chunk-touches c runs part is) ∙ touched) (sym (chunk-count c runs part is))
 
+pub edit_chunk-requires-clause-site : goal.edit_chunk-requires-clause-site
+edit_chunk-requires-clause-site g c =
+    rw c.chunk-chunk.ensures.same (site c.args.layout.now c.args.row c.args.gigabyte c.args.second c.args.runs.now c.args.access.now (pages_of (g.M.TableMem.state c.args.memory.now).memory) c.requires.partition c.chunk_span-span.ensures.in_range
+    c.loop-index.index (omega (arith, c.loop-index-test.true, c.chunk_span-span.ensures.most)) (pages_of (g.M.TableMem.state c.loop-index.memory).memory) c.loop-index.invariant.underway)
+
 pub edit_chunk-requires-clause-free : goal.edit_chunk-requires-clause-free
 edit_chunk-requires-clause-free g c = λ grows.
+    let here = c.chunk-chunk.ensures.same in
     let chunk = 512 * c.args.gigabyte + c.loop-index.index in
     let mid = pages_of (g.M.TableMem.state c.loop-index.memory).memory in
     let part = c.chunk_runs-part.result.now in
-    has-free c.args.layout.now c.args.row c.args.gigabyte c.args.second c.args.runs.now c.args.access.now (pages_of (g.M.TableMem.state c.args.memory.now).memory) c.requires.partition c.requires.gigabyte
+    has-free c.args.layout.now c.args.row c.args.gigabyte c.args.second c.args.runs.now c.args.access.now (pages_of (g.M.TableMem.state c.args.memory.now).memory) c.requires.partition c.chunk_span-span.ensures.in_range
     c.loop-index.index (omega (arith, c.loop-index-test.true, c.chunk_span-span.ensures.most)) mid c.loop-index.invariant.underway c.requires.free.fits
-    (chunk-growing chunk c.args.runs.now part c.args.access.now (chunk-covers chunk c.args.runs.now part c.chunk_runs-part.ensures.same) (answers_in c.args.layout.now c.args.row chunk c.args.second mid) grows)
+    (chunk-growing chunk c.args.runs.now part c.args.access.now (chunk-covers chunk c.args.runs.now part (rw here at c.chunk_runs-part.ensures.same)) (answers_in c.args.layout.now c.args.row chunk c.args.second mid) (rw here at grows))
 
 pub edit_chunk-requires-clause-room : goal.edit_chunk-requires-clause-room
 edit_chunk-requires-clause-room g c =
@@ -36,8 +42,9 @@ edit_chunk-requires-clause-room g c =
     let up = sum_below-up f (c.loop-index.index + 1) 512 (omega (arith, c.loop-index-test.true, c.chunk_span-span.ensures.most)) in
     let c0 = 512 * c.args.gigabyte + c.loop-index.index in
     let part = c.chunk_runs-part.result.now in
-    let one = cost c0 c.args.runs.now part c.chunk_runs-part.ensures.same (sym c.touches.ensures ∙ c.if-touches.true) in
-    enough (g.M.TableMem.room c.args.memory.now) (g.M.TableMem.room c.loop-index.memory) (f c.loop-index.index) (515 + part_count c0 part) (sum_below f c.loop-index.index) (sum_below f (c.loop-index.index + 1)) (sum_below f 512) one more up c.loop-index.invariant.room c.requires.room
+    let here = c.chunk-chunk.ensures.same in
+    let one = cost c0 c.args.runs.now part (rw here at c.chunk_runs-part.ensures.same) (sym (rw here at c.touches.ensures) ∙ c.if-touches.true) in
+    rw here (enough (g.M.TableMem.room c.args.memory.now) (g.M.TableMem.room c.loop-index.memory) (f c.loop-index.index) (515 + part_count c0 part) (sum_below f c.loop-index.index) (sum_below f (c.loop-index.index + 1)) (sum_below f 512) one more up c.loop-index.invariant.room c.requires.room)
   where
     enough : (r0 r one cost before next all : ℕ) → one ≡ cost → next ≡ one + before → next ≤ all → r0 ≤ r + before → all ≤ r0 → cost ≤ r
     enough r0 r one cost before next all e a b c d = omega arith
@@ -52,34 +59,36 @@ loop-index-preserved g c =
     let chunk = 512 * c.args.gigabyte + c.loop-index.index in
     let runs = c.args.runs.now in
     let part = c.chunk_runs-part.result.now in
-    let is = c.chunk_runs-part.ensures.same in
+    let here = c.chunk-chunk.ensures.same in
+    let is = rw here at c.chunk_runs-part.ensures.same in
+    let touches = rw here at c.touches.ensures in
     let covered = chunk-covers chunk runs part is in
     let v : ℕ → View = answers_in c.args.layout.now c.args.row chunk c.args.second mid in
     elim c.if-touches.branch [
       | then-touches w ↦ rw w.memory-is (record {
-        underway = underway-edit c.args.layout.now c.args.row c.args.gigabyte c.args.second c.args.runs.now c.args.access.now old c.requires.partition c.requires.gigabyte
+        underway = underway-edit c.args.layout.now c.args.row c.args.gigabyte c.args.second c.args.runs.now c.args.access.now old c.requires.partition c.chunk_span-span.ensures.in_range
             c.loop-index.index (omega (arith, c.loop-index-test.true, c.chunk_span-span.ensures.most)) mid c.loop-index.invariant.underway (pages_of (g.M.TableMem.state w.edit_chunk.new.memory).memory)
-            (chunk-redoes c.args.layout.now c.args.row chunk runs part c.args.access.now covered c.args.second v mid (pages_of (g.M.TableMem.state w.edit_chunk.new.memory).memory) w.edit_chunk.ensures.redoes);
+            (chunk-redoes c.args.layout.now c.args.row chunk runs part c.args.access.now covered c.args.second v mid (pages_of (g.M.TableMem.state w.edit_chunk.new.memory).memory) (rw here at w.edit_chunk.ensures.redoes));
         in_step = λ seated free.
-            march-edit c.args.layout.now c.args.row c.args.gigabyte c.args.second c.args.runs.now c.args.access.now old c.requires.partition c.requires.gigabyte
+            march-edit c.args.layout.now c.args.row c.args.gigabyte c.args.second c.args.runs.now c.args.access.now old c.requires.partition c.chunk_span-span.ensures.in_range
             c.loop-index.index (omega (arith, c.loop-index-test.true, c.chunk_span-span.ensures.most)) mid c.loop-index.invariant.underway (g.M.TableMem.state c.args.memory.now) (g.M.TableMem.state c.loop-index.memory) (g.M.TableMem.state w.edit_chunk.new.memory)
-            (sym (chunk-touches chunk runs part is) ∙ sym c.touches.ensures ∙ w.if-touches.true) (c.loop-index.invariant.in_step seated free)
+            (sym (chunk-touches chunk runs part is) ∙ sym touches ∙ w.if-touches.true) (c.loop-index.invariant.in_step seated free)
             (chunk-stays c.args.layout.now c.args.row chunk runs part c.args.access.now covered v (g.M.TableMem.state c.loop-index.memory) (g.M.TableMem.state w.edit_chunk.new.memory)
-            (w.edit_chunk.ensures.in_step
-            (march-seated c.args.layout.now c.args.row c.args.gigabyte c.args.second c.args.runs.now c.args.access.now old c.requires.partition c.requires.gigabyte c.loop-index.index (omega (arith, c.loop-index-test.true, c.chunk_span-span.ensures.most)) mid c.loop-index.invariant.underway seated)
+            ((rw here at w.edit_chunk.ensures.in_step)
+            (march-seated c.args.layout.now c.args.row c.args.gigabyte c.args.second c.args.runs.now c.args.access.now old c.requires.partition c.chunk_span-span.ensures.in_range c.loop-index.index (omega (arith, c.loop-index-test.true, c.chunk_span-span.ensures.most)) mid c.loop-index.invariant.underway seated)
             (chunk-free chunk runs part c.args.access.now covered v
-            (march-free c.args.layout.now c.args.row c.args.gigabyte c.args.second c.args.runs.now c.args.access.now old c.requires.partition c.requires.gigabyte c.loop-index.index (omega (arith, c.loop-index-test.true, c.chunk_span-span.ensures.most)) mid c.loop-index.invariant.underway free))));
+            (march-free c.args.layout.now c.args.row c.args.gigabyte c.args.second c.args.runs.now c.args.access.now old c.requires.partition c.chunk_span-span.ensures.in_range c.loop-index.index (omega (arith, c.loop-index-test.true, c.chunk_span-span.ensures.most)) mid c.loop-index.invariant.underway free))));
         room = less (g.M.TableMem.room c.args.memory.now) (g.M.TableMem.room c.loop-index.memory) (g.M.TableMem.room w.edit_chunk.new.memory) (f c.loop-index.index) (515 + part_count chunk part) (sum_below f c.loop-index.index) (sum_below f (c.loop-index.index + 1))
-            (cost chunk runs part is (sym c.touches.ensures ∙ w.if-touches.true)) more c.loop-index.invariant.room w.edit_chunk.ensures.room;
+            (cost chunk runs part is (sym touches ∙ w.if-touches.true)) more c.loop-index.invariant.room (rw here at w.edit_chunk.ensures.room);
       })
       | else-touches w ↦ rw w.memory-is (record {
-        underway = underway-skip c.args.layout.now c.args.row c.args.gigabyte c.args.second c.args.runs.now c.args.access.now old c.requires.partition c.requires.gigabyte
+        underway = underway-skip c.args.layout.now c.args.row c.args.gigabyte c.args.second c.args.runs.now c.args.access.now old c.requires.partition c.chunk_span-span.ensures.in_range
             c.loop-index.index (omega (arith, c.loop-index-test.true, c.chunk_span-span.ensures.most)) mid c.loop-index.invariant.underway
-            (λ n small at. untouched chunk runs n (sym (chunk-touches chunk runs part is) ∙ sym c.touches.ensures ∙ w.if-touches.false) at);
+            (λ n small at. untouched chunk runs n (sym (chunk-touches chunk runs part is) ∙ sym touches ∙ w.if-touches.false) at);
         in_step = λ seated free.
-            march-skip c.args.layout.now c.args.row c.args.gigabyte c.args.second c.args.runs.now c.args.access.now old c.requires.partition c.requires.gigabyte
+            march-skip c.args.layout.now c.args.row c.args.gigabyte c.args.second c.args.runs.now c.args.access.now old c.requires.partition c.chunk_span-span.ensures.in_range
             c.loop-index.index (omega (arith, c.loop-index-test.true, c.chunk_span-span.ensures.most)) mid c.loop-index.invariant.underway (g.M.TableMem.state c.args.memory.now) (g.M.TableMem.state c.loop-index.memory)
-            (sym (chunk-touches chunk runs part is) ∙ sym c.touches.ensures ∙ w.if-touches.false) (c.loop-index.invariant.in_step seated free);
+            (sym (chunk-touches chunk runs part is) ∙ sym touches ∙ w.if-touches.false) (c.loop-index.invariant.in_step seated free);
         room = omega (arith, up, c.loop-index.invariant.room);
       })
     ]
@@ -96,13 +105,13 @@ loop-index-init g c =
     let w : ℕ → View = edited c.args.runs.now c.args.access.now v in
     let most = c.chunk_span-span.ensures.most in
     let ordered = c.chunk_span-span.ensures.ordered in
-    let none : AreUntouched c.args.layout.now c.args.row c.args.gigabyte c.args.second c.args.runs.now c.args.access.now old old c.requires.partition c.requires.gigabyte 0 first =
+    let none : AreUntouched c.args.layout.now c.args.row c.args.gigabyte c.args.second c.args.runs.now c.args.access.now old old c.requires.partition c.chunk_span-span.ensures.in_range 0 first =
     λ x from to. outside-chunks c.args.runs.now c.args.gigabyte first c.chunk_span-span.result.end x c.chunk_span-span.ensures.within (omega (arith, to, most, ordered)) (inl (omega (arith, to))) in
-    let start = underway-start c.args.layout.now c.args.row c.args.gigabyte c.args.second c.args.runs.now c.args.access.now old c.requires.partition c.requires.gigabyte c.requires.orderly c.requires.second in
+    let start = underway-start c.args.layout.now c.args.row c.args.gigabyte c.args.second c.args.runs.now c.args.access.now old c.requires.partition c.chunk_span-span.ensures.in_range c.requires.orderly c.requires.second in
     let e : 0 + first ≡ first = omega arith in
     let le : 0 + first ≤ 512 = omega (arith, most, ordered) in
     record {
-      underway = subst (UnderwayAt c.args.layout.now c.args.row c.args.gigabyte c.args.second c.args.runs.now c.args.access.now old old c.requires.partition c.requires.gigabyte) e (underway-gap c.args.layout.now c.args.row c.args.gigabyte c.args.second c.args.runs.now c.args.access.now old old c.requires.partition c.requires.gigabyte first 0 le none start);
+      underway = subst (UnderwayAt c.args.layout.now c.args.row c.args.gigabyte c.args.second c.args.runs.now c.args.access.now old old c.requires.partition c.chunk_span-span.ensures.in_range) e (underway-gap c.args.layout.now c.args.row c.args.gigabyte c.args.second c.args.runs.now c.args.access.now old old c.requires.partition c.chunk_span-span.ensures.in_range first 0 le none start);
       in_step = λ seated free. stays-none c.args.layout.now c.args.row (disturbed_below c.args.gigabyte first c.args.runs.now v w) (λ n. walked n (w n)) state;
       room = omega arith;
     }
@@ -115,11 +124,11 @@ returns-clause-underway g c =
     let most = c.chunk_span-span.ensures.most in
     let end = c.loop-index-test.false in
     let last : i ≤ c.chunk_span-span.result.end = c.loop-index.auto.index-end c.chunk_span-span.ensures.ordered in
-    let none : AreUntouched c.args.layout.now c.args.row c.args.gigabyte c.args.second c.args.runs.now c.args.access.now old new c.requires.partition c.requires.gigabyte i (512 - i) =
+    let none : AreUntouched c.args.layout.now c.args.row c.args.gigabyte c.args.second c.args.runs.now c.args.access.now old new c.requires.partition c.chunk_span-span.ensures.in_range i (512 - i) =
     λ x from to. outside-chunks c.args.runs.now c.args.gigabyte c.chunk_span-span.result.first c.chunk_span-span.result.end x c.chunk_span-span.ensures.within (omega (arith, to, most, last)) (inr (omega (arith, from, end))) in
     let e : i + (512 - i) ≡ 512 = omega (arith, most, last) in
-    subst (UnderwayAt c.args.layout.now c.args.row c.args.gigabyte c.args.second c.args.runs.now c.args.access.now old new c.requires.partition c.requires.gigabyte) e
-    (underway-gap c.args.layout.now c.args.row c.args.gigabyte c.args.second c.args.runs.now c.args.access.now old new c.requires.partition c.requires.gigabyte (512 - i) i (omega (arith, most, last)) none c.loop-index.invariant.underway)
+    subst (UnderwayAt c.args.layout.now c.args.row c.args.gigabyte c.args.second c.args.runs.now c.args.access.now old new c.requires.partition c.chunk_span-span.ensures.in_range) e
+    (underway-gap c.args.layout.now c.args.row c.args.gigabyte c.args.second c.args.runs.now c.args.access.now old new c.requires.partition c.chunk_span-span.ensures.in_range (512 - i) i (omega (arith, most, last)) none c.loop-index.invariant.underway)
 
 pub returns-clause-in_step : goal.returns-clause-in_step
 returns-clause-in_step g c = λ seated free.
@@ -131,11 +140,11 @@ returns-clause-in_step g c = λ seated free.
     let most = c.chunk_span-span.ensures.most in
     let end = c.loop-index-test.false in
     let last : i ≤ c.chunk_span-span.result.end = c.loop-index.auto.index-end c.chunk_span-span.ensures.ordered in
-    let none : AreUntouched c.args.layout.now c.args.row c.args.gigabyte c.args.second c.args.runs.now c.args.access.now old new c.requires.partition c.requires.gigabyte i (512 - i) =
+    let none : AreUntouched c.args.layout.now c.args.row c.args.gigabyte c.args.second c.args.runs.now c.args.access.now old new c.requires.partition c.chunk_span-span.ensures.in_range i (512 - i) =
     λ x from to. outside-chunks c.args.runs.now c.args.gigabyte c.chunk_span-span.result.first c.chunk_span-span.result.end x c.chunk_span-span.ensures.within (omega (arith, to, most, last)) (inr (omega (arith, from, end))) in
     let e : i + (512 - i) ≡ 512 = omega (arith, most, last) in
-    subst (StaysAt c.args.layout.now c.args.row c.args.gigabyte c.args.second c.args.runs.now c.args.access.now old new c.requires.partition c.requires.gigabyte a b) e
-    (stays-gap c.args.layout.now c.args.row c.args.gigabyte c.args.second c.args.runs.now c.args.access.now old new c.requires.partition c.requires.gigabyte a b (512 - i) i (omega (arith, most, last)) none c.loop-index.invariant.underway (c.loop-index.invariant.in_step seated free))
+    subst (StaysAt c.args.layout.now c.args.row c.args.gigabyte c.args.second c.args.runs.now c.args.access.now old new c.requires.partition c.chunk_span-span.ensures.in_range a b) e
+    (stays-gap c.args.layout.now c.args.row c.args.gigabyte c.args.second c.args.runs.now c.args.access.now old new c.requires.partition c.chunk_span-span.ensures.in_range a b (512 - i) i (omega (arith, most, last)) none c.loop-index.invariant.underway (c.loop-index.invariant.in_step seated free))
 
 pub returns-clause-room : goal.returns-clause-room
 returns-clause-room g c =

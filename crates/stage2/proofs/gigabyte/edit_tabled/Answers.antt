@@ -11,30 +11,30 @@ use Rattle.stage2.specs.Walk.{walked, Gigabyte, table_at}
 use Rattle.stage2.specs.Orderly.{IsOrderly, answers, linked}
 use Rattle.stage2.specs.Chunks.{edited}
 use Rattle.stage2.specs.Gigabytes.{IsUnderway}
-use Rattle.stage2.proofs.Editing.Gigabyte.{linked-same, finish-kept, finish-zero, fits-tabled}
+use Rattle.stage2.proofs.Editing.Gigabyte.{touched-below, linked-same, finish-kept, finish-zero, fits-tabled}
 use Rattle.stage2.proofs.gigabyte.edit_tabled.Goals as goal
 
 pub edit_chunks-requires-clause-orderly : goal.edit_chunks-requires-clause-orderly
 edit_chunks-requires-clause-orderly g c =
     let m = pages_of (g.M.TableMem.state c.args.memory.now).memory in
-    let same = linked-same c.args.layout.now c.args.row c.args.gigabyte c.args.second m c.requires.canonical c.requires.partition c.requires.gigabyte c.requires.table in
+    let same = linked-same c.args.layout.now c.args.row c.args.gigabyte c.args.second m c.requires.canonical c.requires.partition (touched-below c.args.runs.now c.args.gigabyte c.requires.touched) c.requires.table in
     subst (λ (x : Pages). IsOrderly c.args.layout.now x) (sym same) c.requires.canonical.orderly
 
 pub edit_chunks-requires-clause-second : goal.edit_chunks-requires-clause-second
 edit_chunks-requires-clause-second g c =
     let m = pages_of (g.M.TableMem.state c.args.memory.now).memory in
-    let same = linked-same c.args.layout.now c.args.row c.args.gigabyte c.args.second m c.requires.canonical c.requires.partition c.requires.gigabyte c.requires.table in
+    let same = linked-same c.args.layout.now c.args.row c.args.gigabyte c.args.second m c.requires.canonical c.requires.partition (touched-below c.args.runs.now c.args.gigabyte c.requires.touched) c.requires.table in
     subst (λ (x : Pages). table_at c.args.layout.now x.words (Gigabyte c.args.row c.args.gigabyte) ≡ Some c.args.second) (sym same) c.requires.table
 
 pub edit_chunks-requires-clause-free : goal.edit_chunks-requires-clause-free
 edit_chunks-requires-clause-free g c =
     let m = pages_of (g.M.TableMem.state c.args.memory.now).memory in
-    fits-tabled c.args.layout.now c.args.row c.args.gigabyte c.args.second m c.requires.canonical c.requires.partition c.requires.gigabyte c.requires.table c.args.runs.now c.args.access.now c.requires.free
+    fits-tabled c.args.layout.now c.args.row c.args.gigabyte c.args.second m c.requires.canonical c.requires.partition (touched-below c.args.runs.now c.args.gigabyte c.requires.touched) c.requires.table c.args.runs.now c.args.access.now c.requires.free
 
 pub first_word-requires : goal.first_word-requires
 first_word-requires g c =
     let m = pages_of (g.M.TableMem.state c.args.memory.now).memory in
-    let inside : c.args.second < page_count m.quotas = share_inside m.quotas c.args.row c.args.second (c.requires.canonical.orderly.owned (Gigabyte c.args.row c.args.gigabyte) c.args.second (c.requires.partition, c.requires.gigabyte) c.requires.table) in
+    let inside : c.args.second < page_count m.quotas = share_inside m.quotas c.args.row c.args.second (c.requires.canonical.orderly.owned (Gigabyte c.args.row c.args.gigabyte) c.args.second (c.requires.partition, (touched-below c.args.runs.now c.args.gigabyte c.requires.touched)) c.requires.table) in
     subst (λ x. c.args.second < page_count x) (sym c.edit_chunks.ensures.underway.quotas) inside
 
 pub unlink-requires-clause-root : goal.unlink-requires-clause-root
@@ -49,12 +49,12 @@ unlink-requires-clause-row g c =
 pub unlink-requires-clause-inside : goal.unlink-requires-clause-inside
 unlink-requires-clause-inside g c =
     let u = c.edit_chunks.ensures.underway in
-    u.orderly.owned (Gigabyte c.args.row c.args.gigabyte) c.args.second (c.requires.partition, c.requires.gigabyte) u.second
+    u.orderly.owned (Gigabyte c.args.row c.args.gigabyte) c.args.second (c.requires.partition, (touched-below c.args.runs.now c.args.gigabyte c.requires.touched)) u.second
 
 pub unlink-requires-clause-taken : goal.unlink-requires-clause-taken
 unlink-requires-clause-taken g c =
     let u = c.edit_chunks.ensures.underway in
-    u.orderly.taken (Gigabyte c.args.row c.args.gigabyte) c.args.second (c.requires.partition, c.requires.gigabyte) u.second
+    u.orderly.taken (Gigabyte c.args.row c.args.gigabyte) c.args.second (c.requires.partition, (touched-below c.args.runs.now c.args.gigabyte c.requires.touched)) u.second
 
 pub returns-in-Some-clause-edits : goal.returns-in-Some-clause-edits
 returns-in-Some-clause-edits g c =
@@ -64,9 +64,9 @@ returns-in-Some-clause-edits g c =
     let k = c.args.second in
     let m = pages_of (g.M.TableMem.state c.args.memory.now).memory in
     let mid = pages_of (g.M.TableMem.state c.edit_chunks.new.memory).memory in
-    let same = linked-same layout row gigabyte k m c.requires.canonical c.requires.partition c.requires.gigabyte c.requires.table in
+    let same = linked-same layout row gigabyte k m c.requires.canonical c.requires.partition (touched-below c.args.runs.now c.args.gigabyte c.requires.touched) c.requires.table in
     let u = subst (λ (x : Pages). IsUnderway layout row gigabyte k 512 (edited c.args.runs.now c.args.access.now (answers layout x.words row)) m mid) same c.edit_chunks.ensures.underway in
-    finish-kept layout row gigabyte k m c.requires.canonical c.requires.partition c.requires.gigabyte c.requires.table (edited c.args.runs.now c.args.access.now (answers layout m.words row)) mid u
+    finish-kept layout row gigabyte k m c.requires.canonical c.requires.partition (touched-below c.args.runs.now c.args.gigabyte c.requires.touched) c.requires.table (edited c.args.runs.now c.args.access.now (answers layout m.words row)) mid u
     c.in-Some.field-0 c.in-Some.ensures.some.0 c.in-Some.ensures.some.1
 
 pub returns-in-None-clause-edits : goal.returns-in-None-clause-edits
@@ -77,9 +77,9 @@ returns-in-None-clause-edits g c =
     let k = c.args.second in
     let m = pages_of (g.M.TableMem.state c.args.memory.now).memory in
     let mid = pages_of (g.M.TableMem.state c.edit_chunks.new.memory).memory in
-    let same = linked-same layout row gigabyte k m c.requires.canonical c.requires.partition c.requires.gigabyte c.requires.table in
+    let same = linked-same layout row gigabyte k m c.requires.canonical c.requires.partition (touched-below c.args.runs.now c.args.gigabyte c.requires.touched) c.requires.table in
     let u = subst (λ (x : Pages). IsUnderway layout row gigabyte k 512 (edited c.args.runs.now c.args.access.now (answers layout x.words row)) m mid) same c.edit_chunks.ensures.underway in
-    finish-zero layout row gigabyte k m c.requires.canonical c.requires.partition c.requires.gigabyte c.requires.table (edited c.args.runs.now c.args.access.now (answers layout m.words row)) mid
+    finish-zero layout row gigabyte k m c.requires.canonical c.requires.partition (touched-below c.args.runs.now c.args.gigabyte c.requires.touched) c.requires.table (edited c.args.runs.now c.args.access.now (answers layout m.words row)) mid
     (pages_of (g.M.TableMem.state c.unlink.new.memory).memory) u c.in-None.ensures.none c.unlink.ensures.pages
 
 -- what the chunks' edit shows, where the level 2 table hangs
@@ -94,7 +94,7 @@ returns-in-Some-clause-in_step g c = λ free.
     let x = g.M.TableMem.state c.args.memory.now in
     let y = g.M.TableMem.state c.edit_chunks.new.memory in
     let m = pages_of x.memory in
-    let same = linked-same layout row gigabyte k m c.requires.canonical c.requires.partition c.requires.gigabyte c.requires.table in
+    let same = linked-same layout row gigabyte k m c.requires.canonical c.requires.partition (touched-below c.args.runs.now c.args.gigabyte c.requires.touched) c.requires.table in
     stays-tabled layout row gigabyte k runs access m x y same c.edit_chunks.ensures.in_step free
 
 pub returns-in-None-clause-in_step : goal.returns-in-None-clause-in_step
@@ -112,7 +112,7 @@ returns-in-None-clause-in_step g c = λ free.
     let v : ℕ → View = answers layout m.words row in
     let which : ℕ → Bool = λ n. eqb (n / 512 / 512) gigabyte && disturbed runs v (edited runs access v) n in
     let answer : ℕ → Walked = λ n. walked n (edited runs access v n) in
-    let same = linked-same layout row gigabyte k m c.requires.canonical c.requires.partition c.requires.gigabyte c.requires.table in
-    let empty = zero-unmapped layout row gigabyte k (edited runs access (answers layout (linked layout row gigabyte k m).words row)) m (pages_of y.memory) c.requires.partition c.requires.gigabyte (seated-linked layout row gigabyte k m same) c.edit_chunks.ensures.underway c.in-None.ensures.none in
+    let same = linked-same layout row gigabyte k m c.requires.canonical c.requires.partition (touched-below c.args.runs.now c.args.gigabyte c.requires.touched) c.requires.table in
+    let empty = zero-unmapped layout row gigabyte k (edited runs access (answers layout (linked layout row gigabyte k m).words row)) m (pages_of y.memory) c.requires.partition (touched-below c.args.runs.now c.args.gigabyte c.requires.touched) (seated-linked layout row gigabyte k m same) c.edit_chunks.ensures.underway c.in-None.ensures.none in
     stays-after layout row which answer x y z (stays-tabled layout row gigabyte k runs access m x y same c.edit_chunks.ensures.in_step free)
     (c.unlink.ensures.in_step layout which answer empty.0 c.requires.partition c.requires.row empty.1)

@@ -15,13 +15,13 @@ use Rattle.stage2.specs.Chunks.{edited}
 use Rattle.stage2.specs.Gigabytes.{Fits, IsUnderway}
 use Rattle.stage2.proofs.Editing.RootLinks.{IsLink, untabled, link-table, link-rooted, rooted}
 use Rattle.stage2.proofs.Tree.TakenPages.{pages_of-take}
-use Rattle.stage2.proofs.Editing.Gigabyte.{link-has-free, link-fits, same-answers, finish-link}
+use Rattle.stage2.proofs.Editing.Gigabyte.{touched-below, link-has-free, link-fits, same-answers, finish-link}
 use Rattle.stage2.proofs.gigabyte.edit_untabled.Goals as goal
 
 pub take_page-second-requires : goal.take_page-second-requires
 take_page-second-requires g c =
     let m = pages_of (g.M.TableMem.state c.args.memory.now).memory in
-    let free = link-has-free c.args.layout.now c.args.row c.args.gigabyte c.args.runs.now c.args.access.now m c.requires.canonical c.requires.partition c.requires.gigabyte c.requires.none c.requires.touched c.requires.maps c.requires.free.fits in
+    let free = link-has-free c.args.layout.now c.args.row c.args.gigabyte c.args.runs.now c.args.access.now m c.requires.canonical c.requires.partition (touched-below c.args.runs.now c.args.gigabyte c.requires.touched) c.requires.none c.requires.touched c.requires.maps c.requires.free.fits in
     let is : row_of m.ids c.args.p ≡ c.args.row = ap (λ x. row_of x c.args.p) (sym c.requires.canonical.orderly.ids) ∙ c.requires.row in
     record { free = rw is (omega (arith, free)) }
 
@@ -32,8 +32,8 @@ edit_chunks-requires-clause-orderly g c =
     let k = c.take_page-second.result in
     let is : row_in s.memory c.args.p ≡ c.args.row = ap (λ x. row_of x c.args.p) (sym c.requires.canonical.orderly.ids) ∙ c.requires.row in
     let lowest : IsLowestFree m c.args.row k = subst (λ x. IsLowestFree m x k) is c.take_page-second.ensures.lowest in
-    let h : IsLink c.args.layout.now c.args.row c.args.gigabyte k m = record { orderly = c.requires.canonical.orderly; partition = c.requires.partition; gigabyte = c.requires.gigabyte; none = c.requires.none; inside = lowest.inside; free = lowest.free; zero = λ i. g.met.M.TableMem.free_is_zero c.args.memory.now k i lowest.free } in
-    let marked = pages_of-take s (g.M.TableMem.state c.take_page-second.new.self) (row_in s.memory c.args.p) k (g.met.M.TableMem.whole c.args.memory.now) c.take_page-second.ensures.lowest c.take_page-second.ensures.state in
+    let h : IsLink c.args.layout.now c.args.row c.args.gigabyte k m = record { orderly = c.requires.canonical.orderly; partition = c.requires.partition; gigabyte = (touched-below c.args.runs.now c.args.gigabyte c.requires.touched); none = c.requires.none; inside = lowest.inside; free = lowest.free; zero = λ i. g.met.M.TableMem.free_is_zero c.args.memory.now k i lowest.free } in
+    let marked = pages_of-take s (g.M.TableMem.state c.take_page-second.new.memory) (row_in s.memory c.args.p) k (g.met.M.TableMem.whole c.args.memory.now) c.take_page-second.ensures.lowest c.take_page-second.ensures.state in
     subst (λ (x : Pages). IsOrderly c.args.layout.now (linked c.args.layout.now c.args.row c.args.gigabyte k x)) (sym marked)
     (rooted c.args.layout.now c.args.row c.args.gigabyte (table_word_of (c.args.layout.now.base + k)) m (linked c.args.layout.now c.args.row c.args.gigabyte k (with_mark k true m)) (link-rooted c.args.layout.now c.args.row c.args.gigabyte k m h))
 
@@ -44,8 +44,8 @@ edit_chunks-requires-clause-second g c =
     let k = c.take_page-second.result in
     let is : row_in s.memory c.args.p ≡ c.args.row = ap (λ x. row_of x c.args.p) (sym c.requires.canonical.orderly.ids) ∙ c.requires.row in
     let lowest : IsLowestFree m c.args.row k = subst (λ x. IsLowestFree m x k) is c.take_page-second.ensures.lowest in
-    let h : IsLink c.args.layout.now c.args.row c.args.gigabyte k m = record { orderly = c.requires.canonical.orderly; partition = c.requires.partition; gigabyte = c.requires.gigabyte; none = c.requires.none; inside = lowest.inside; free = lowest.free; zero = λ i. g.met.M.TableMem.free_is_zero c.args.memory.now k i lowest.free } in
-    let marked = pages_of-take s (g.M.TableMem.state c.take_page-second.new.self) (row_in s.memory c.args.p) k (g.met.M.TableMem.whole c.args.memory.now) c.take_page-second.ensures.lowest c.take_page-second.ensures.state in
+    let h : IsLink c.args.layout.now c.args.row c.args.gigabyte k m = record { orderly = c.requires.canonical.orderly; partition = c.requires.partition; gigabyte = (touched-below c.args.runs.now c.args.gigabyte c.requires.touched); none = c.requires.none; inside = lowest.inside; free = lowest.free; zero = λ i. g.met.M.TableMem.free_is_zero c.args.memory.now k i lowest.free } in
+    let marked = pages_of-take s (g.M.TableMem.state c.take_page-second.new.memory) (row_in s.memory c.args.p) k (g.met.M.TableMem.whole c.args.memory.now) c.take_page-second.ensures.lowest c.take_page-second.ensures.state in
     subst (λ (x : Pages). table_at c.args.layout.now (linked c.args.layout.now c.args.row c.args.gigabyte k x).words (Gigabyte c.args.row c.args.gigabyte) ≡ Some k) (sym marked)
     (link-table c.args.layout.now c.args.row c.args.gigabyte k m h)
 
@@ -61,9 +61,9 @@ edit_chunks-requires-clause-free g c =
     let k = c.take_page-second.result in
     let is : row_in s.memory c.args.p ≡ row = ap (λ x. row_of x c.args.p) (sym c.requires.canonical.orderly.ids) ∙ c.requires.row in
     let lowest : IsLowestFree m row k = subst (λ x. IsLowestFree m x k) is c.take_page-second.ensures.lowest in
-    let h : IsLink layout row gigabyte k m = record { orderly = c.requires.canonical.orderly; partition = c.requires.partition; gigabyte = c.requires.gigabyte; none = c.requires.none; inside = lowest.inside; free = lowest.free; zero = λ i. g.met.M.TableMem.free_is_zero c.args.memory.now k i lowest.free } in
-    let marked = pages_of-take s (g.M.TableMem.state c.take_page-second.new.self) (row_in s.memory c.args.p) k (g.met.M.TableMem.whole c.args.memory.now) c.take_page-second.ensures.lowest c.take_page-second.ensures.state in
-    subst (λ (x : Pages). Fits layout row gigabyte k runs access x) (sym marked) (record { fits = link-fits layout row gigabyte k runs access m c.requires.canonical c.requires.gigabyte h c.requires.touched c.requires.maps c.requires.free.fits })
+    let h : IsLink layout row gigabyte k m = record { orderly = c.requires.canonical.orderly; partition = c.requires.partition; gigabyte = (touched-below c.args.runs.now c.args.gigabyte c.requires.touched); none = c.requires.none; inside = lowest.inside; free = lowest.free; zero = λ i. g.met.M.TableMem.free_is_zero c.args.memory.now k i lowest.free } in
+    let marked = pages_of-take s (g.M.TableMem.state c.take_page-second.new.memory) (row_in s.memory c.args.p) k (g.met.M.TableMem.whole c.args.memory.now) c.take_page-second.ensures.lowest c.take_page-second.ensures.state in
+    subst (λ (x : Pages). Fits layout row gigabyte k runs access x) (sym marked) (record { fits = link-fits layout row gigabyte k runs access m c.requires.canonical (touched-below c.args.runs.now c.args.gigabyte c.requires.touched) h c.requires.touched c.requires.maps c.requires.free.fits })
 
 pub returns-clause-edits : goal.returns-clause-edits
 returns-clause-edits g c =
@@ -79,12 +79,12 @@ returns-clause-edits g c =
     let new = pages_of (g.M.TableMem.state c.put_word.new.memory).memory in
     let is : row_in s.memory c.args.p ≡ row = ap (λ x. row_of x c.args.p) (sym c.requires.canonical.orderly.ids) ∙ c.requires.row in
     let lowest : IsLowestFree m row k = subst (λ x. IsLowestFree m x k) is c.take_page-second.ensures.lowest in
-    let h : IsLink layout row gigabyte k m = record { orderly = c.requires.canonical.orderly; partition = c.requires.partition; gigabyte = c.requires.gigabyte; none = c.requires.none; inside = lowest.inside; free = lowest.free; zero = λ i. g.met.M.TableMem.free_is_zero c.args.memory.now k i lowest.free } in
-    let marked = pages_of-take s (g.M.TableMem.state c.take_page-second.new.self) (row_in s.memory c.args.p) k (g.met.M.TableMem.whole c.args.memory.now) c.take_page-second.ensures.lowest c.take_page-second.ensures.state in
+    let h : IsLink layout row gigabyte k m = record { orderly = c.requires.canonical.orderly; partition = c.requires.partition; gigabyte = (touched-below c.args.runs.now c.args.gigabyte c.requires.touched); none = c.requires.none; inside = lowest.inside; free = lowest.free; zero = λ i. g.met.M.TableMem.free_is_zero c.args.memory.now k i lowest.free } in
+    let marked = pages_of-take s (g.M.TableMem.state c.take_page-second.new.memory) (row_in s.memory c.args.p) k (g.met.M.TableMem.whole c.args.memory.now) c.take_page-second.ensures.lowest c.take_page-second.ensures.state in
     let word : c.table_word.result ≡ table_word_of (layout.base + k) = c.table_word.ensures.value ∙ ap table_word_of c.address.ensures in
-    finish-link layout row gigabyte k runs access m c.requires.canonical c.requires.gigabyte h c.requires.touched c.requires.maps mid new
+    finish-link layout row gigabyte k runs access m c.requires.canonical (touched-below c.args.runs.now c.args.gigabyte c.requires.touched) h c.requires.touched c.requires.maps mid new
     (subst (λ (x : Pages). IsUnderway layout row gigabyte k 512 (edited runs access (answers layout (linked layout row gigabyte k x).words row)) x mid) marked c.edit_chunks.ensures.underway)
-    (subst (λ x. new ≡ with_put row gigabyte x mid) word c.put_word.ensures.pages)
+    (subst (λ x. new ≡ with_put row gigabyte x mid) word (rw (c.root.ensures, c.index.ensures.same) at c.put_word.ensures.pages))
 
 pub returns-clause-in_step : goal.returns-clause-in_step
 returns-clause-in_step g c = λ are_free.
@@ -94,7 +94,7 @@ returns-clause-in_step g c = λ are_free.
     let runs = c.args.runs.now in
     let access = c.args.access.now in
     let x = g.M.TableMem.state c.args.memory.now in
-    let y = g.M.TableMem.state c.take_page-second.new.self in
+    let y = g.M.TableMem.state c.take_page-second.new.memory in
     let z = g.M.TableMem.state c.edit_chunks.new.memory in
     let e = g.M.TableMem.state c.put_word.new.memory in
     let m = pages_of x.memory in
@@ -104,7 +104,7 @@ returns-clause-in_step g c = λ are_free.
     let answer : ℕ → Walked = λ n. walked n (edited runs access v n) in
     let is : row_in x.memory c.args.p ≡ row = ap (λ i. row_of i c.args.p) (sym c.requires.canonical.orderly.ids) ∙ c.requires.row in
     let lowest : IsLowestFree m row k = subst (λ r. IsLowestFree m r k) is c.take_page-second.ensures.lowest in
-    let h : IsLink layout row gigabyte k m = record { orderly = c.requires.canonical.orderly; partition = c.requires.partition; gigabyte = c.requires.gigabyte; none = c.requires.none; inside = lowest.inside; free = lowest.free; zero = λ i. g.met.M.TableMem.free_is_zero c.args.memory.now k i lowest.free } in
+    let h : IsLink layout row gigabyte k m = record { orderly = c.requires.canonical.orderly; partition = c.requires.partition; gigabyte = (touched-below c.args.runs.now c.args.gigabyte c.requires.touched); none = c.requires.none; inside = lowest.inside; free = lowest.free; zero = λ i. g.met.M.TableMem.free_is_zero c.args.memory.now k i lowest.free } in
     let marked : pages_of y.memory ≡ with_mark k true m = pages_of-take x y (row_in x.memory c.args.p) k (g.met.M.TableMem.whole c.args.memory.now) c.take_page-second.ensures.lowest c.take_page-second.ensures.state in
     let P : Pages → Type 0 = λ s. IsSeated layout row gigabyte k s → AreFree (λ n. eqb (n / 512 / 512) gigabyte) runs access (answers layout (linked layout row gigabyte k s).words row)
     → StaysInStep layout row (disturbed_below gigabyte 512 runs (answers layout (linked layout row gigabyte k s).words row) (edited runs access (answers layout (linked layout row gigabyte k s).words row)))
@@ -114,9 +114,9 @@ returns-clause-in_step g c = λ are_free.
     let first : StaysInStep layout row which answer x y =
     stays-taken layout row which answer x y (ap (λ (s : Pool). words_of s.memory.words) c.take_page-second.ensures.state) (ap (λ (s : Pool). s.operations) c.take_page-second.ensures.state) (ap (λ (s : Pool). s.made) c.take_page-second.ensures.state) in
     let second : StaysInStep layout row which answer y z =
-    stays-linked layout row gigabyte k runs access m c.requires.canonical c.requires.gigabyte h y z (same-answers layout row gigabyte k runs access m c.requires.canonical c.requires.gigabyte h c.requires.touched c.requires.maps) chunks are_free in
+    stays-linked layout row gigabyte k runs access m c.requires.canonical (touched-below c.args.runs.now c.args.gigabyte c.requires.touched) h y z (same-answers layout row gigabyte k runs access m c.requires.canonical (touched-below c.args.runs.now c.args.gigabyte c.requires.touched) h c.requires.touched c.requires.maps) chunks are_free in
     let u = c.edit_chunks.ensures.underway in
-    let root_zero : (pages_of z.memory).words row gigabyte ≡ 0 = u.root gigabyte ∙ ap (λ (s : Pages). s.words row gigabyte) marked ∙ root-zero layout m row gigabyte c.requires.canonical.orderly c.requires.partition c.requires.gigabyte c.requires.none in
+    let root_zero : (pages_of z.memory).words row gigabyte ≡ 0 = u.root gigabyte ∙ ap (λ (s : Pages). s.words row gigabyte) marked ∙ root-zero layout m row gigabyte c.requires.canonical.orderly c.requires.partition (touched-below c.args.runs.now c.args.gigabyte c.requires.touched) c.requires.none in
     let edits = returns-clause-edits g c in
     let third : StaysInStep layout row which answer z e =
     stays-root layout row gigabyte c.table_word.result which answer z e (forest-unlinked layout row gigabyte k (pages_of z.memory) u.orderly c.requires.partition root_zero) c.requires.partition (ap (λ w. w % 2) root_zero)
@@ -124,7 +124,7 @@ returns-clause-in_step g c = λ are_free.
     let none : v n ≡ None = ap answer_of (untabled layout m row n c.requires.canonical.orderly c.requires.partition small (ap (λ q. table_at layout m.words (Gigabyte row q)) at ∙ c.requires.none)) in
     gives-new gigabyte runs access v n (walk layout (words_of e.memory.words) row n) at none
     (edits.walks row n small ∙ ap (λ b. cond b (walked n (edited runs access v n)) (walk layout m.words row n)) (own row (n / 512 / 512) gigabyte at)))
-    (ap (λ (s : Pages). s.words) c.put_word.ensures.pages) c.put_word.ensures.logged in
+    (ap (λ (s : Pages). s.words) (rw (c.root.ensures, c.index.ensures.same) at c.put_word.ensures.pages)) (rw (c.root.ensures, c.index.ensures.same) at c.put_word.ensures.logged) in
     stays-after layout row which answer x z e (stays-after layout row which answer x y z first second) third
   where
     own : (x y z : ℕ) → y ≡ z → (eqb x x && eqb y z) ≡ true

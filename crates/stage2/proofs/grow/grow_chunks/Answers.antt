@@ -12,7 +12,7 @@ use Rattle.stage2.proofs.grow.grow_chunks.Goals.{then-takes, else-takes}
 
 pub loop-index-init : goal.loop-index-init
 loop-index-init g c =
-    let v = answers_of c.args.layout.now (pages_of (g.M.TableMem.state c.args.memory.now).memory).words c.args.row in
+    let v = answers_of c.args.layout.now (pages_of (g.M.TableMem.state c.args.memory.now).memory).words c.args.row.now in
     let first = c.chunk_span-span.result.first in
     let most = c.chunk_span-span.ensures.most in
     let ordered = c.chunk_span-span.ensures.ordered in
@@ -23,7 +23,7 @@ loop-index-init g c =
 
 pub overflow_add-count : goal.overflow_add-count
 overflow_add-count g c =
-    let v = answers_of c.args.layout.now (pages_of (g.M.TableMem.state c.args.memory.now).memory).words c.args.row in
+    let v = answers_of c.args.layout.now (pages_of (g.M.TableMem.state c.args.memory.now).memory).words c.args.row.now in
     let f : ℕ → Bool = λ x. grows_at v (edited c.args.runs.now c.args.access.now v) (512 * c.args.gigabyte + x) in
     let most = count_below-le f c.loop-index.index in
     let is : c.loop-index.count ≡ count_below f c.loop-index.index = c.loop-index.invariant.counted in
@@ -35,7 +35,7 @@ overflow_add-count g c =
 
 pub loop-index-preserved : goal.loop-index-preserved
 loop-index-preserved g c =
-    let v = answers_of c.args.layout.now (pages_of (g.M.TableMem.state c.args.memory.now).memory).words c.args.row in
+    let v = answers_of c.args.layout.now (pages_of (g.M.TableMem.state c.args.memory.now).memory).words c.args.row.now in
     let f : ℕ → Bool = λ x. grows_at v (edited c.args.runs.now c.args.access.now v) (512 * c.args.gigabyte + x) in
     let i = c.loop-index.index in
     let more = count_below-more f i in
@@ -57,7 +57,7 @@ loop-index-preserved g c =
 
 pub returns-clause-same : goal.returns-clause-same
 returns-clause-same g c =
-    let v = answers_of c.args.layout.now (pages_of (g.M.TableMem.state c.args.memory.now).memory).words c.args.row in
+    let v = answers_of c.args.layout.now (pages_of (g.M.TableMem.state c.args.memory.now).memory).words c.args.row.now in
     let f : ℕ → Bool = λ x. grows_at v (edited c.args.runs.now c.args.access.now v) (512 * c.args.gigabyte + x) in
     let most = c.chunk_span-span.ensures.most in
     let end = c.loop-index-test.false in
@@ -67,7 +67,7 @@ returns-clause-same g c =
 
 pub returns-clause-most : goal.returns-clause-most
 returns-clause-most g c =
-    let v = answers_of c.args.layout.now (pages_of (g.M.TableMem.state c.args.memory.now).memory).words c.args.row in
+    let v = answers_of c.args.layout.now (pages_of (g.M.TableMem.state c.args.memory.now).memory).words c.args.row.now in
     let f : ℕ → Bool = λ x. grows_at v (edited c.args.runs.now c.args.access.now v) (512 * c.args.gigabyte + x) in
     let most = count_below-le f c.loop-index.index in
     let is : c.loop-index.count ≡ count_below f c.loop-index.index = c.loop-index.invariant.counted in

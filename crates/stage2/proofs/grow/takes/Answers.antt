@@ -1,4 +1,4 @@
-use Rattle.std.proofs.Common.{ℕ, ◌+◌, ◌*◌, not, is_some, ◌&&◌, sym, ap, ◌∙◌}
+use Rattle.std.proofs.Common.{◌≡◌, ℕ, ◌+◌, ◌*◌, ◌%◌, not, is_some, ◌&&◌, sym, ap, ◌∙◌, arith}
 use Rattle.base.specs.Access.{View}
 use Rattle.pool.specs.Pool.{pages_of}
 use Rattle.stage2.specs.Slot.{Slot}
@@ -13,22 +13,25 @@ use Rattle.stage2.proofs.grow.takes.Goals as goal
 pub entry_at-entry-requires-clause-table : goal.entry_at-entry-requires-clause-table
 entry_at-entry-requires-clause-table g c = λ j e.
     let m = pages_of (g.M.TableMem.state c.args.memory.now).memory in
-    second-inside c.args.layout.now m c.requires.canonical c.args.gigabyte c.requires.gigabyte c.args.row c.requires.partition j (c.requires.table ∙ e)
+    second-inside c.args.layout.now m c.requires.canonical c.args.gigabyte c.chunk-chunk.ensures.in_range c.args.row.now c.requires.partition j (c.requires.table ∙ e)
 
 pub returns : goal.returns
 returns g c =
     let m = pages_of (g.M.TableMem.state c.args.memory.now).memory in
     let part = c.chunk_runs-part.result.now in
     let chunk = 512 * c.args.gigabyte + c.args.index in
-    let before : ℕ → View = answers_of c.args.layout.now m.words c.args.row in
-    c.grows.ensures
-    ∙ ap (λ (s : Slot). is_mixed (edited part c.args.access.now (answers_at c.args.layout.now m.words s)) chunk && not (is_some (next_page s))) c.entry_at-entry.ensures.same
-    ∙ grows-entry c.args.layout.now m c.requires.canonical c.args.gigabyte c.requires.gigabyte c.args.row c.requires.partition part c.args.access.now c.args.second.now c.args.index c.requires.index c.requires.table
-    ∙ ap (λ b. b && not (is_mixed before chunk)) (chunk-mixed chunk c.args.runs.now part c.args.access.now (chunk-covers chunk c.args.runs.now part c.chunk_runs-part.ensures.same) before)
+    let here = c.chunk-chunk.ensures.same in
+    let index : c.chunk-chunk.result % 512 ≡ c.args.index = omega (arith, here, c.requires.index) in
+    let before : ℕ → View = answers_of c.args.layout.now m.words c.args.row.now in
+    (rw here at c.grows.ensures)
+    ∙ ap (λ (s : Slot). is_mixed (edited part c.args.access.now (answers_at c.args.layout.now m.words s)) chunk && not (is_some (next_page s))) (rw index at c.entry_at-entry.ensures.same)
+    ∙ grows-entry c.args.layout.now m c.requires.canonical c.args.gigabyte c.chunk-chunk.ensures.in_range c.args.row.now c.requires.partition part c.args.access.now c.args.second.now c.args.index c.requires.index c.requires.table
+    ∙ ap (λ b. b && not (is_mixed before chunk)) (chunk-mixed chunk c.args.runs.now part c.args.access.now (chunk-covers chunk c.args.runs.now part (rw here at c.chunk_runs-part.ensures.same)) before)
 
 pub returns-then-not-touches : goal.returns-then-not-touches
 returns-then-not-touches g c =
     let m = pages_of (g.M.TableMem.state c.args.memory.now).memory in
     let chunk = 512 * c.args.gigabyte + c.args.index in
-    sym (grows-nothing c.args.runs.now c.args.access.now (answers_of c.args.layout.now m.words c.args.row) chunk
-    (λ n at. untouched chunk c.args.runs.now n (sym (chunk-touches chunk c.args.runs.now c.chunk_runs-part.result.now c.chunk_runs-part.ensures.same) ∙ sym c.touches.ensures ∙ c.if-not-touches.true) at))
+    let here = c.chunk-chunk.ensures.same in
+    sym (grows-nothing c.args.runs.now c.args.access.now (answers_of c.args.layout.now m.words c.args.row.now) chunk
+    (λ n at. untouched chunk c.args.runs.now n (sym (chunk-touches chunk c.args.runs.now c.chunk_runs-part.result.now (rw here at c.chunk_runs-part.ensures.same)) ∙ sym (rw here at c.touches.ensures) ∙ c.if-not-touches.true) at))

@@ -1,5 +1,5 @@
-use Rattle.std.proofs.Common.{◌≡◌, ℕ, ◌+◌, List, eqb, not, length, refl, sym, ap, ap₂, ◌∙◌}
-use Rattle.base.specs.Pages.{PageRun, covers}
+use Rattle.std.proofs.Common.{ℕ, ◌+◌, List, eqb, not, length, sym, ap, ◌∙◌}
+use Rattle.base.specs.Pages.{PageRun}
 use Rattle.stage2.specs.Parts.{runs_between}
 use Rattle.stage2.proofs.Runs.Between.{covered-between}
 use Rattle.stage2.proofs.part.is_covered.Goals as goal

@@ -16,55 +16,56 @@ use Rattle.stage2.proofs.row.edit_row.Goals.{then-touches, else-touches}
 
 pub edit_gigabyte-requires-clause-free : goal.edit_gigabyte-requires-clause-free
 edit_gigabyte-requires-clause-free g c =
-    gigabyte-fits c.args.layout.now c.args.row c.loop-gigabyte.gigabyte c.args.runs.now c.gigabyte_runs-part.result.now c.args.access.now c.gigabyte_runs-part.ensures.same (pages_of (g.M.TableMem.state c.loop-gigabyte.memory).memory)
+    rw c.new-gigabyte.ensures (gigabyte-fits c.args.layout.now c.args.row c.loop-number.number c.args.runs.now c.gigabyte_runs-part.result.now c.args.access.now (rw c.new-gigabyte.ensures at c.gigabyte_runs-part.ensures.same) (pages_of (g.M.TableMem.state c.loop-number.memory).memory)
     (past-fits c.args.layout.now c.args.row c.args.runs.now c.args.access.now (pages_of (g.M.TableMem.state c.args.memory.now).memory) c.requires.partition
-    c.loop-gigabyte.gigabyte (omega (arith, c.loop-gigabyte-test.true, c.gigabyte_span-span.ensures.most)) (pages_of (g.M.TableMem.state c.loop-gigabyte.memory).memory) c.loop-gigabyte.invariant.past c.requires.canonical c.requires.free)
+    c.loop-number.number (omega (arith, c.loop-number-test.true, c.gigabyte_span-span.ensures.most)) (pages_of (g.M.TableMem.state c.loop-number.memory).memory) c.loop-number.invariant.past c.requires.canonical c.requires.free))
 
 pub edit_gigabyte-requires-clause-room : goal.edit_gigabyte-requires-clause-room
 edit_gigabyte-requires-clause-room g c =
     let f : ℕ → ℕ = gigabyte_operations c.args.runs.now in
-    let more = sum_below-more f c.loop-gigabyte.gigabyte in
-    let up = sum_below-up f (c.loop-gigabyte.gigabyte + 1) 512 (omega (arith, c.loop-gigabyte-test.true, c.gigabyte_span-span.ensures.most)) in
-    let room : g.M.TableMem.room c.args.memory.now ≤ g.M.TableMem.room c.loop-gigabyte.memory + sum_below f c.loop-gigabyte.gigabyte = c.loop-gigabyte.invariant.room in
+    let more = sum_below-more f c.loop-number.number in
+    let up = sum_below-up f (c.loop-number.number + 1) 512 (omega (arith, c.loop-number-test.true, c.gigabyte_span-span.ensures.most)) in
+    let room : g.M.TableMem.room c.args.memory.now ≤ g.M.TableMem.room c.loop-number.memory + sum_below f c.loop-number.number = c.loop-number.invariant.room in
     let all : sum_below f 512 ≤ g.M.TableMem.room c.args.memory.now = c.requires.room in
-    let part = gigabyte-operations c.loop-gigabyte.gigabyte c.args.runs.now c.gigabyte_runs-part.result.now c.gigabyte_runs-part.ensures.same in
-    enough (g.M.TableMem.room c.args.memory.now) (g.M.TableMem.room c.loop-gigabyte.memory) (gigabyte_operations c.gigabyte_runs-part.result.now c.loop-gigabyte.gigabyte) (f c.loop-gigabyte.gigabyte) part (sum_below f c.loop-gigabyte.gigabyte) (sum_below f (c.loop-gigabyte.gigabyte + 1)) (sum_below f 512) more up room all
+    let part = gigabyte-operations c.loop-number.number c.args.runs.now c.gigabyte_runs-part.result.now (rw c.new-gigabyte.ensures at c.gigabyte_runs-part.ensures.same) in
+    rw c.new-gigabyte.ensures (enough (g.M.TableMem.room c.args.memory.now) (g.M.TableMem.room c.loop-number.memory) (gigabyte_operations c.gigabyte_runs-part.result.now c.loop-number.number) (f c.loop-number.number) part (sum_below f c.loop-number.number) (sum_below f (c.loop-number.number + 1)) (sum_below f 512) more up room all)
   where
     enough : (r0 r part one : ℕ) → part ≡ one → (before next all : ℕ) → next ≡ one + before → next ≤ all → r0 ≤ r + before → all ≤ r0 → part ≤ r
     enough r0 r part one e before next all a b c d = omega arith
 
-pub loop-gigabyte-preserved : goal.loop-gigabyte-preserved
-loop-gigabyte-preserved g c =
+pub loop-number-preserved : goal.loop-number-preserved
+loop-number-preserved g c =
     let f : ℕ → ℕ = gigabyte_operations c.args.runs.now in
-    let more = sum_below-more f c.loop-gigabyte.gigabyte in
-    let up = sum_below-up f c.loop-gigabyte.gigabyte (c.loop-gigabyte.gigabyte + 1) (omega arith) in
+    let more = sum_below-more f c.loop-number.number in
+    let up = sum_below-up f c.loop-number.number (c.loop-number.number + 1) (omega arith) in
     let old = pages_of (g.M.TableMem.state c.args.memory.now).memory in
-    let mid = pages_of (g.M.TableMem.state c.loop-gigabyte.memory).memory in
-    let i = c.loop-gigabyte.gigabyte in
+    let mid = pages_of (g.M.TableMem.state c.loop-number.memory).memory in
+    let i = c.loop-number.number in
     let r0 = g.M.TableMem.room c.args.memory.now in
-    let r1 = g.M.TableMem.room c.loop-gigabyte.memory in
+    let r1 = g.M.TableMem.room c.loop-number.memory in
     let part = c.gigabyte_runs-part.result.now in
-    let is = c.gigabyte_runs-part.ensures.same in
+    let here = c.new-gigabyte.ensures in
+    let is = rw here at c.gigabyte_runs-part.ensures.same in
     let v : ℕ → View = answers c.args.layout.now mid.words c.args.row in
     elim c.if-touches.branch [
       | then-touches w ↦ rw w.memory-is (record {
-        past = past-edit c.args.layout.now c.args.row c.args.runs.now c.args.access.now old c.requires.partition i (omega (arith, c.loop-gigabyte-test.true, c.gigabyte_span-span.ensures.most)) mid c.loop-gigabyte.invariant.past
+        past = past-edit c.args.layout.now c.args.row c.args.runs.now c.args.access.now old c.requires.partition i (omega (arith, c.loop-number-test.true, c.gigabyte_span-span.ensures.most)) mid c.loop-number.invariant.past
             (pages_of (g.M.TableMem.state w.edit_gigabyte.new.memory).memory)
-            (gigabyte-edits c.args.layout.now c.args.row i c.args.runs.now part c.args.access.now is mid (pages_of (g.M.TableMem.state w.edit_gigabyte.new.memory).memory) w.edit_gigabyte.ensures.edits);
-        in_step = λ free. cross-edit c.args.layout.now c.args.row c.args.runs.now c.args.access.now old c.requires.partition i (omega (arith, c.loop-gigabyte-test.true, c.gigabyte_span-span.ensures.most)) mid c.loop-gigabyte.invariant.past
-            (g.M.TableMem.state c.args.memory.now) (g.M.TableMem.state c.loop-gigabyte.memory) (g.M.TableMem.state w.edit_gigabyte.new.memory) (c.loop-gigabyte.invariant.in_step free)
-            (gigabyte-stays c.args.layout.now c.args.row i c.args.runs.now part c.args.access.now is v (g.M.TableMem.state c.loop-gigabyte.memory) (g.M.TableMem.state w.edit_gigabyte.new.memory)
-            (w.edit_gigabyte.ensures.in_step
+            (gigabyte-edits c.args.layout.now c.args.row i c.args.runs.now part c.args.access.now is mid (pages_of (g.M.TableMem.state w.edit_gigabyte.new.memory).memory) (rw here at w.edit_gigabyte.ensures.edits));
+        in_step = λ free. cross-edit c.args.layout.now c.args.row c.args.runs.now c.args.access.now old c.requires.partition i (omega (arith, c.loop-number-test.true, c.gigabyte_span-span.ensures.most)) mid c.loop-number.invariant.past
+            (g.M.TableMem.state c.args.memory.now) (g.M.TableMem.state c.loop-number.memory) (g.M.TableMem.state w.edit_gigabyte.new.memory) (c.loop-number.invariant.in_step free)
+            (gigabyte-stays c.args.layout.now c.args.row i c.args.runs.now part c.args.access.now is v (g.M.TableMem.state c.loop-number.memory) (g.M.TableMem.state w.edit_gigabyte.new.memory)
+            ((rw here at w.edit_gigabyte.ensures.in_step)
             (gigabyte-free c.args.layout.now c.args.row i c.args.runs.now part c.args.access.now is v
-            (cross-free c.args.layout.now c.args.row c.args.runs.now c.args.access.now old c.requires.partition i (omega (arith, c.loop-gigabyte-test.true, c.gigabyte_span-span.ensures.most)) mid c.loop-gigabyte.invariant.past free))));
-        room = less r0 r1 (g.M.TableMem.room w.edit_gigabyte.new.memory) (gigabyte_operations part i) (f i) (gigabyte-operations i c.args.runs.now part is) (sum_below f i) (sum_below f (i + 1)) more c.loop-gigabyte.invariant.room w.edit_gigabyte.ensures.room;
+            (cross-free c.args.layout.now c.args.row c.args.runs.now c.args.access.now old c.requires.partition i (omega (arith, c.loop-number-test.true, c.gigabyte_span-span.ensures.most)) mid c.loop-number.invariant.past free))));
+        room = less r0 r1 (g.M.TableMem.room w.edit_gigabyte.new.memory) (gigabyte_operations part i) (f i) (gigabyte-operations i c.args.runs.now part is) (sum_below f i) (sum_below f (i + 1)) more c.loop-number.invariant.room (rw here at w.edit_gigabyte.ensures.room);
       })
       | else-touches w ↦ rw w.memory-is (record {
-        past = past-skip c.args.layout.now c.args.row c.args.runs.now c.args.access.now old c.requires.partition i (omega (arith, c.loop-gigabyte-test.true, c.gigabyte_span-span.ensures.most)) mid c.loop-gigabyte.invariant.past
-            (λ n at. sym (gigabyte-covers i c.args.runs.now part is n at) ∙ c.touches.ensures.no w.if-touches.false n at);
+        past = past-skip c.args.layout.now c.args.row c.args.runs.now c.args.access.now old c.requires.partition i (omega (arith, c.loop-number-test.true, c.gigabyte_span-span.ensures.most)) mid c.loop-number.invariant.past
+            (λ n at. sym (gigabyte-covers i c.args.runs.now part is n at) ∙ (rw here at c.touches.ensures.no) w.if-touches.false n at);
         in_step = λ free. cross-skip c.args.layout.now c.args.row i c.args.runs.now (answers c.args.layout.now old.words c.args.row) (edited c.args.runs.now c.args.access.now (answers c.args.layout.now old.words c.args.row))
-            (g.M.TableMem.state c.args.memory.now) (g.M.TableMem.state c.loop-gigabyte.memory) (c.loop-gigabyte.invariant.in_step free);
-        room = same r0 r1 (sum_below f i) (sum_below f (i + 1)) up c.loop-gigabyte.invariant.room;
+            (g.M.TableMem.state c.args.memory.now) (g.M.TableMem.state c.loop-number.memory) (c.loop-number.invariant.in_step free);
+        room = same r0 r1 (sum_below f i) (sum_below f (i + 1)) up c.loop-number.invariant.room;
       })
     ]
   where
@@ -74,8 +75,8 @@ loop-gigabyte-preserved g c =
     same : (r0 r before next : ℕ) → before ≤ next → r0 ≤ r + before → r0 ≤ r + next
     same r0 r before next a b = omega arith
 
-pub loop-gigabyte-init : goal.loop-gigabyte-init
-loop-gigabyte-init g c =
+pub loop-number-init : goal.loop-number-init
+loop-number-init g c =
     let old = pages_of (g.M.TableMem.state c.args.memory.now).memory in
     let state = g.M.TableMem.state c.args.memory.now in
     let first = c.gigabyte_span-span.result.first in
@@ -96,36 +97,36 @@ loop-gigabyte-init g c =
 pub returns-clause-edits : goal.returns-clause-edits
 returns-clause-edits g c =
     let old = pages_of (g.M.TableMem.state c.args.memory.now).memory in
-    let new = pages_of (g.M.TableMem.state c.loop-gigabyte.memory).memory in
-    let i = c.loop-gigabyte.gigabyte in
+    let new = pages_of (g.M.TableMem.state c.loop-number.memory).memory in
+    let i = c.loop-number.number in
     let most = c.gigabyte_span-span.ensures.most in
-    let end = c.loop-gigabyte-test.false in
-    let last : i ≤ c.gigabyte_span-span.result.end = c.loop-gigabyte.auto.gigabyte-end c.gigabyte_span-span.ensures.ordered in
+    let end = c.loop-number-test.false in
+    let last : i ≤ c.gigabyte_span-span.result.end = c.loop-number.auto.number-end c.gigabyte_span-span.ensures.ordered in
     let none : AreUncovered c.args.layout.now c.args.row c.args.runs.now c.args.access.now old new c.requires.partition i (512 - i) =
     λ n from to. outside-gigabytes c.args.runs.now c.gigabyte_span-span.result.first c.gigabyte_span-span.result.end n c.gigabyte_span-span.ensures.within (inr (omega (arith, from, end))) in
     let e : i + (512 - i) ≡ 512 = omega (arith, most, last) in
     past-all c.args.layout.now c.args.row c.args.runs.now c.args.access.now old c.requires.partition new (subst (PastAt c.args.layout.now c.args.row c.args.runs.now c.args.access.now old new c.requires.partition) e
-    (past-gap c.args.layout.now c.args.row c.args.runs.now c.args.access.now old new c.requires.partition (512 - i) i (omega (arith, most, last)) none c.loop-gigabyte.invariant.past))
+    (past-gap c.args.layout.now c.args.row c.args.runs.now c.args.access.now old new c.requires.partition (512 - i) i (omega (arith, most, last)) none c.loop-number.invariant.past))
 
 pub returns-clause-in_step : goal.returns-clause-in_step
 returns-clause-in_step g c = λ free.
     let a = g.M.TableMem.state c.args.memory.now in
-    let b = g.M.TableMem.state c.loop-gigabyte.memory in
+    let b = g.M.TableMem.state c.loop-number.memory in
     let v : ℕ → View = answers c.args.layout.now (pages_of a.memory).words c.args.row in
     let w : ℕ → View = edited c.args.runs.now c.args.access.now v in
-    let i = c.loop-gigabyte.gigabyte in
+    let i = c.loop-number.number in
     let most = c.gigabyte_span-span.ensures.most in
-    let last : i ≤ c.gigabyte_span-span.result.end = c.loop-gigabyte.auto.gigabyte-end c.gigabyte_span-span.ensures.ordered in
+    let last : i ≤ c.gigabyte_span-span.result.end = c.loop-number.auto.number-end c.gigabyte_span-span.ensures.ordered in
     cross-all c.args.layout.now c.args.row (i + (512 - i)) c.args.runs.now v w a b (omega (arith, most, last))
-    (cross-gap c.args.layout.now c.args.row c.args.runs.now v w a b (512 - i) i (c.loop-gigabyte.invariant.in_step free))
+    (cross-gap c.args.layout.now c.args.row c.args.runs.now v w a b (512 - i) i (c.loop-number.invariant.in_step free))
 
 pub returns-clause-room : goal.returns-clause-room
 returns-clause-room g c =
     let f : ℕ → ℕ = gigabyte_operations c.args.runs.now in
     let most = c.gigabyte_span-span.ensures.most in
-    let last : c.loop-gigabyte.gigabyte ≤ c.gigabyte_span-span.result.end = c.loop-gigabyte.auto.gigabyte-end c.gigabyte_span-span.ensures.ordered in
-    let up = sum_below-up f c.loop-gigabyte.gigabyte 512 (omega (arith, most, last)) in
-    all (g.M.TableMem.room c.args.memory.now) (g.M.TableMem.room c.loop-gigabyte.memory) (sum_below f c.loop-gigabyte.gigabyte) (sum_below f 512) c.loop-gigabyte.invariant.room up
+    let last : c.loop-number.number ≤ c.gigabyte_span-span.result.end = c.loop-number.auto.number-end c.gigabyte_span-span.ensures.ordered in
+    let up = sum_below-up f c.loop-number.number 512 (omega (arith, most, last)) in
+    all (g.M.TableMem.room c.args.memory.now) (g.M.TableMem.room c.loop-number.memory) (sum_below f c.loop-number.number) (sum_below f 512) c.loop-number.invariant.room up
   where
     all : (a b x y : ℕ) → a ≤ b + x → x ≤ y → a ≤ b + y
     all a b x y le up = omega arith

@@ -6,5 +6,5 @@ use Rattle.stage2.proofs.span.chunk_span.Given as goal
 abbrev pub invariant-loop-run : goal.invariant-loop-run
 invariant-loop-run l = record {
   most : l.end ≤ 512;
-  within : (x : ℕ) → x < 512 → touches_chunk (512 * l.gigabyte + x) (take l.run-index l.runs) ≡ true → (l.first ≤ x) × (x < l.end);
+  within : (x : ℕ) → x < 512 → touches_chunk (512 * l.fn.gigabyte + x) (take l.run-index l.runs) ≡ true → (l.first ≤ x) × (x < l.end);
 }

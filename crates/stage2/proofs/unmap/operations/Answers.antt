@@ -11,8 +11,8 @@ loop-run-preserved c =
     let run = c.run-item.result in
     let more = sum_by_more chunks_in runs i run c.loop-run-test.true ∙ ap (λ r. sum_by chunks_in (take i runs) + chunks_in r) (sym c.run-item.is) in
     record {
-      operations = added c.loop-run.operations run.first run.count c.end_chunk.result c.first_chunk.result (sum_by chunks_in (take i runs)) (sum_by chunks_in (take (i + 1) runs))
-          c.end_chunk.ensures.in_range.0 c.end_chunk.ensures.same c.first_chunk.ensures more c.loop-run.invariant.operations;
+      operations = added c.loop-run.operations run.first run.count c.end_chunk.result c.number.result (sum_by chunks_in (take i runs)) (sum_by chunks_in (take (i + 1) runs))
+          c.end_chunk.ensures.in_range.0 c.end_chunk.ensures.same (c.number.ensures.same ∙ c.first_chunk.ensures) more c.loop-run.invariant.operations;
       counted = counted-next runs i run c.requires.normal c.loop-run-test.true c.run-item.is c.end_chunk.ensures.in_range c.loop-run.invariant.counted;
     }
   where

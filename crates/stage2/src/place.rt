@@ -1,0 +1,240 @@
+//! The parts of a partition's input addresses that have a word of their own in its tables.
+
+ghost use Rattle.std.specs.Prelude.{◌≡◌, ℕ, ◌+◌, ◌*◌, ◌/◌, ◌%◌, ◌<◌, Some};
+ghost use Rattle.base.specs.Pages.{IsRun};
+
+use base::{Page, Run};
+use std::marker::Model;
+
+/// How many words a table has: so many pages has a chunk, and so many chunks a gigabyte.
+const WORDS: u32 = 512;
+
+/// How many pages a gigabyte has.
+const GIGABYTE: u32 = WORDS * WORDS;
+
+/// Numbers from one up to another.
+#[derive(Clone, Copy)]
+pub(crate) struct Span {
+    pub first: u32,
+    pub end: u32,
+}
+
+/// The number of a gigabyte, below 2^9: a gigabyte is 512 chunks, for which a root has one word.
+#[derive(Clone, Copy)]
+pub(crate) struct Gigabyte(u32);
+
+impl Model for Gigabyte {
+    ghost use Rattle.std.specs.Prelude.{ℕ, ◌<◌};
+
+    ghost Value = { ℕ };
+
+    ghost view = { λ gigabyte. gigabyte.0 };
+
+    ghost invariant = { λ gigabyte. gigabyte.0 < 512 };
+
+    ghost inverse = { λ n. record { 0 = n } };
+}
+
+impl Gigabyte {
+    /// The gigabyte with this number.
+    pub(crate) fn new(number: u32) -> Self
+        requires { number < 512 }
+        ensures { result ≡ number }
+    {
+        Gigabyte(number)
+    }
+
+    /// The gigabyte of a page.
+    pub(crate) fn of(page: Page) -> Self
+        ensures { result ≡ page / 512 / 512 }
+    {
+        Gigabyte(page.number() / WORDS / WORDS)
+    }
+
+    /// The number of the gigabyte.
+    pub(crate) fn number(self) -> u32
+        ensures same { result ≡ self }
+        ensures in_range { self < 512 }
+    {
+        self.0
+    }
+
+    /// The index of its word in a root: address bits 38:30.
+    pub(crate) fn index(self) -> u32
+        ensures same { result ≡ self }
+        ensures in_range { self < 512 }
+    {
+        self.0
+    }
+
+    /// The numbers of its chunks.
+    pub(crate) fn chunks(self) -> Span
+        ensures first { result.first ≡ 512 * self }
+        ensures end { result.end ≡ 512 * self + 512 }
+        ensures in_range { self < 512 }
+    {
+        let first = WORDS * self.0;
+        Span {
+            first,
+            end: first + WORDS,
+        }
+    }
+
+    /// Its chunk whose word has this index in a level 2 table.
+    pub(crate) fn chunk(self, index: u32) -> Chunk
+        requires { index < 512 }
+        ensures same { result ≡ 512 * self + index }
+        ensures in_range { self < 512 }
+    {
+        Chunk(WORDS * self.0 + index)
+    }
+
+    /// Its first page.
+    pub(crate) fn first(self) -> Page
+        ensures same { result ≡ 262144 * self }
+        ensures in_range { self < 512 }
+    {
+        Page::new(GIGABYTE * self.0)
+    }
+
+    /// The number after its last page's.
+    pub(crate) fn end(self) -> u32
+        ensures same { result ≡ 262144 * self + 262144 }
+        ensures in_range { self < 512 }
+    {
+        GIGABYTE * self.0 + GIGABYTE
+    }
+
+    /// All its pages.
+    pub(crate) fn pages(self) -> Run
+        ensures same { result ≡ record { first = 262144 * self; count = 262144 } }
+        ensures in_range { self < 512 }
+    {
+        Run::new(self.first(), GIGABYTE)
+    }
+}
+
+/// The number of a chunk, below 2^18: a chunk is 512 pages or 2 MB, for which a level 2 table has
+/// one word.
+#[derive(Clone, Copy)]
+pub(crate) struct Chunk(u32);
+
+impl Model for Chunk {
+    ghost use Rattle.std.specs.Prelude.{ℕ, ◌<◌};
+
+    ghost Value = { ℕ };
+
+    ghost view = { λ chunk. chunk.0 };
+
+    ghost invariant = { λ chunk. chunk.0 < 262144 };
+
+    ghost inverse = { λ n. record { 0 = n } };
+}
+
+impl Chunk {
+    /// The chunk of a page.
+    pub(crate) fn of(page: Page) -> Self
+        ensures { result ≡ page / 512 }
+    {
+        Chunk(page.number() / WORDS)
+    }
+
+    /// The number of the chunk.
+    pub(crate) fn number(self) -> u32
+        ensures same { result ≡ self }
+        ensures in_range { self < 262144 }
+    {
+        self.0
+    }
+
+    /// The index of its word in a level 2 table: address bits 29:21.
+    pub(crate) fn index(self) -> u32
+        ensures same { result ≡ self % 512 }
+        ensures in_range { self < 262144 }
+    {
+        self.0 % WORDS
+    }
+
+    /// Its page whose word has this index in a level 3 table.
+    pub(crate) fn page(self, index: u32) -> Page
+        requires { index < 512 }
+        ensures same { result ≡ 512 * self + index }
+        ensures in_range { self < 262144 }
+    {
+        Page::new(WORDS * self.0 + index)
+    }
+
+    /// Its first page.
+    pub(crate) fn first(self) -> Page
+        ensures same { result ≡ 512 * self }
+        ensures in_range { self < 262144 }
+    {
+        self.page(0)
+    }
+
+    /// The number after its last page's.
+    pub(crate) fn end(self) -> u32
+        ensures same { result ≡ 512 * self + 512 }
+        ensures in_range { self < 262144 }
+    {
+        WORDS * self.0 + WORDS
+    }
+
+    /// All its pages.
+    pub(crate) fn pages(self) -> Run
+        ensures same { result ≡ record { first = 512 * self; count = 512 } }
+        ensures in_range { self < 262144 }
+    {
+        Run::new(self.first(), WORDS)
+    }
+
+    /// The page after this one, if both are in the chunk.
+    pub(crate) fn next_page(self, page: Page) -> Option<Page>
+        ensures { (next : ℕ) → result ≡ Some next
+            → (next ≡ page + 1) × ((page / 512 ≡ self) × ((page + 1) / 512 ≡ self)) }
+    {
+        let next = page.number() + 1;
+        if page.number() / WORDS == self.0 && next / WORDS == self.0 {
+            Some(Page::new(next))
+        } else {
+            None
+        }
+    }
+}
+
+/// The index of a page's word in a level 3 table: address bits 20:12.
+pub(crate) fn page_index(page: Page) -> u32
+    ensures { result ≡ page % 512 }
+{
+    page.number() % WORDS
+}
+
+/// The first chunk that a run touches.
+pub(crate) fn first_chunk(run: Run) -> Chunk
+    ensures { result ≡ run.first / 512 }
+{
+    Chunk::of(run.first())
+}
+
+/// The number after that of the last chunk that a run touches.
+pub(crate) fn end_chunk(run: Run) -> u32
+    ensures same { result ≡ (run.first + run.count + 511) / 512 }
+    ensures in_range { IsRun run }
+{
+    (run.end() + (WORDS - 1)) / WORDS
+}
+
+/// The first gigabyte that a run touches.
+pub(crate) fn first_gigabyte(run: Run) -> Gigabyte
+    ensures { result ≡ run.first / 512 / 512 }
+{
+    Gigabyte::of(run.first())
+}
+
+/// The number after that of the last gigabyte that a run touches.
+pub(crate) fn end_gigabyte(run: Run) -> u32
+    ensures same { result ≡ ((run.first + run.count + 511) / 512 + 511) / 512 }
+    ensures in_range { IsRun run }
+{
+    (end_chunk(run) + (WORDS - 1)) / WORDS
+}
