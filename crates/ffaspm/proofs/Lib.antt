@@ -1,3 +1,5 @@
+pub mod FirstLine
 pub mod HexDigits
+pub mod Outcomes
 pub mod Worlds
 pub mod Runs

@@ -2,9 +2,8 @@
 use Rattle.std.specs.Prelude.{codes}
 use Rattle.base.specs.Manifest.{ManifestRows}
 use Rattle.base.specs.Transactions.{Donation, Live}
-use Rattle.std.proofs.Common.{◌≡◌, ◌⊎◌, inl, inr, ℕ, ◌^◌, ◌<◌, List, refl, ap, ◌∙◌}
+use Rattle.std.proofs.Common.{◌≡◌, inl, inr, ℕ, ◌^◌, ◌<◌, List, ap, ◌∙◌}
 use Rattle.base.specs.State.{State, sees}
-use Rattle.base.specs.Access.{View}
 use Rattle.pool.specs.Pool.{Pool, words_of}
 use Rattle.stage2.specs.Orderly.{answer_of}
 use Rattle.stage2.specs.Slot.{layout_of}

@@ -1,3 +1,4 @@
+pub mod Left
 pub mod Output
 pub mod Script
 pub mod Texts

@@ -1,8 +1,7 @@
 -- What scripts write: the texts of their lines in order, from the state of a manifest on.
-use Rattle.std.specs.Prelude.{◌≡◌, ℕ, ◌+◌, ◌==◌, Bool, true, List, [], ◌∷◌, ◌++◌, length, position, is_none, codes, Option, Some, None, Result, Ok, Err, if◌then◌else◌}
-use Rattle.std.specs.Io.KnownBytes.{Appends, Keeps}
+use Rattle.std.specs.Prelude.{◌≡◌, ℕ, ◌+◌, ◌==◌, List, [], ◌∷◌, ◌++◌, length, is_none, codes, Option, Some, None, if◌then◌else◌}
 use Rattle.std.specs.List.{slice_split}
-use Rattle.std.specs.Option.{option_map, option_map_or}
+use Rattle.std.specs.Option.{option_map_or}
 use Rattle.base.specs.declared.transaction.Kind.{Kind}
 use Rattle.base.specs.declared.transaction.Kind.TheVariants.{Donate, Lend, Share}
 use Rattle.base.specs.Descriptors.Encoding.{SendFields, RetrieveFields, RelinquishFields, send_text, retrieve_text, relinquish_text}
@@ -13,12 +12,9 @@ use Rattle.pool.specs.declared.operation.Op.{Op}
 use Rattle.rules.specs.Call.{CallWords}
 use Rattle.rules.specs.Run.{answer, step}
 use Rattle.audit.specs.Texts.{maps_text, owners_text, tables_text}
-use Rattle.ffaspm.specs.declared.fault.RunFault.{RunFault}
-use Rattle.ffaspm.specs.declared.fault.RunFault.TheVariants.{Line, TooLong, Memory, Read, Write}
-use Rattle.ffaspm.specs.Output.{AppendsBeginning}
 use Rattle.ffaspm.specs.Texts.{reply_text, operations_text}
 use Rattle.lines.specs.declared.send.ReclaimLine.{ReclaimLine}
-use Rattle.lines.specs.Said.{Said, SaidSend, Nothing, Tx, Call, Send, Retrieve, Relinquish, Reclaim, Maps, Tables, Owners, Operations, Audit}
+use Rattle.lines.specs.Said.{Said, SaidSend, Tx, Call, Send, Retrieve, Relinquish, Reclaim, Maps, Tables, Owners, Operations, Audit}
 use Rattle.lines.specs.Grammar.{line_of}
 
 -- ---- the secure world that a script runs in
@@ -143,9 +139,11 @@ RunsLine s next bytes old new =
 abbrev pub lines_in : List ℕ → List (List ℕ)
 lines_in script = slice_split (λ b. b == 10) script
 
--- the first line that is none, counted from 0
-abbrev pub first_bad : List (List ℕ) → Option ℕ
-first_bad lines = position (λ line. is_none (line_of line)) lines
+-- the number of the first line that is none, where the first of these has this number
+abbrev pub first_bad : ℕ → List (List ℕ) → Option ℕ
+first_bad number [] = None
+first_bad number (line ∷ lines) =
+    if is_none (line_of line) then Some number else first_bad (number + 1) lines
 
 -- a line's text, and then the text of those behind it; nothing where it is none
 abbrev pub WritesLine : Option Said → World → (World → List ℕ → Type 0) → List ℕ → Type 0
@@ -158,35 +156,3 @@ WritesLine (Some line) s Behind text =
 abbrev pub Writes : List (List ℕ) → World → List ℕ → Type 0
 Writes [] s text = text ≡ []
 Writes (line ∷ lines) s text = WritesLine (line_of line) s (Writes lines) text
-
--- ---- what a run leaves with its writer
-
--- the whole text of the lines
-abbrev pub WroteText : Option (List ℕ) → Option (List ℕ) → World → List (List ℕ) → Type 0
-WroteText old new s lines = (text : List ℕ) × Writes lines s text × Appends old new text
-
--- a beginning of it
-abbrev pub WroteBeginning : Option (List ℕ) → Option (List ℕ) → World → List (List ℕ) → Type 0
-WroteBeginning old new s lines =
-    (text : List ℕ) × Writes lines s text × AppendsBeginning old new text
-
--- By how it ended: all lines, those before the first that is none, a beginning of their text, or nothing.
-abbrev pub Left : Option (List ℕ) → Option (List ℕ) → World → List (List ℕ) → Result (Unit {0}) RunFault → Type 0
-Left old new s lines (Ok done) = (first_bad lines ≡ None) × WroteText old new s lines
-Left old new s lines (Err (Line n)) =
-    (option_map (λ k. k + 1) (first_bad lines) ≡ Some n) × WroteText old new s lines
-Left old new s lines (Err Memory) = WroteBeginning old new s lines
-Left old new s lines (Err Write) = WroteBeginning old new s lines
-Left old new s lines (Err Read) = Keeps old new
-Left old new s lines (Err TooLong) = Keeps old new
-
--- the reader or the writer has failed since, as the fault says, and for a text or a bad line neither has
-abbrev pub TellsFailures : Bool → Bool → Bool → Bool → Result (Unit {0}) RunFault → Type 0
-TellsFailures reader reader_then writer writer_then (Ok done) =
-    (reader_then ≡ reader) × (writer_then ≡ writer)
-TellsFailures reader reader_then writer writer_then (Err (Line n)) =
-    (reader_then ≡ reader) × (writer_then ≡ writer)
-TellsFailures reader reader_then writer writer_then (Err Read) = reader_then ≡ true
-TellsFailures reader reader_then writer writer_then (Err Write) = writer_then ≡ true
-TellsFailures reader reader_then writer writer_then (Err Memory) = Unit {0}
-TellsFailures reader reader_then writer writer_then (Err TooLong) = Unit {0}

@@ -1,7 +1,8 @@
 //! Scripts, as bytes.
 
-ghost use Rattle.std.specs.Prelude.{◌≡◌, ◌<◌, ◌≤◌, ℕ, List, length, true, OnOk, IfOk, IfSome, IsErrOf};
+ghost use Rattle.std.specs.Prelude.{◌≡◌, ◌≢◌, ◌<◌, ◌≤◌, ◌+◌, ℕ, List, length, IfOk, IfErr, IfSome, IsErrOf};
 ghost use Rattle.std.specs.Io.KnownBytes.{Consumes};
+ghost use Rattle.ffaspm.specs.Left.{IsScriptOf, TellsOfReader, most_bytes};
 
 use crate::fault::RunFault;
 use crate::watched::Watched;
@@ -20,13 +21,13 @@ pub(crate) fn read_script<R: Read>(
     reader: &mut Watched<R>,
 ) -> Result<Vec<u8>, RunFault>
     ensures whole { IfOk result
-        (λ script. IfSome (R.remaining reader.old.inner) (λ all. script.items ≡ all)) }
-    ensures short { IfOk result (λ script. length script.items ≤ 16777216) }
-    ensures unfailed { OnOk result (reader.new.failed ≡ reader.old.failed) }
-    ensures failed { IsErrOf result RunFault.Read → reader.new.failed ≡ true }
+        (λ script. IsScriptOf (R.remaining reader.old.inner) script.items) }
+    ensures short { IfOk result (λ script. length script.items ≤ most_bytes) }
+    ensures failed { TellsOfReader reader.old.failed reader.new.failed result }
+    ensures faults { IfErr result (λ fault. (fault ≢ RunFault.Write) × ((n : ℕ) → fault ≢ RunFault.Line n)) }
     ensures too_long { IsErrOf result RunFault.TooLong
-        → IfSome (R.remaining reader.old.inner) (λ all. 16777216 < length all) }
-    ensures at_most { (taken : List ℕ) × (length taken ≤ 16777217)
+        → IfSome (R.remaining reader.old.inner) (λ all. most_bytes < length all) }
+    ensures at_most { (taken : List ℕ) × (length taken ≤ most_bytes + 1)
         × Consumes (R.remaining reader.old.inner) (R.remaining reader.new.inner) taken }
 {
     let mut script = Vec::new(alloc);

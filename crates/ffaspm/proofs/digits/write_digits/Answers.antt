@@ -1,4 +1,4 @@
-use Rattle.std.proofs.Common.{◌≡◌, ℕ, ◌-◌, ◌/◌, ◌%◌, false, List, drop, length, sym, ap, ◌∙◌, drop_of_length-le, arith}
+use Rattle.std.proofs.Common.{◌-◌, ◌/◌, false, drop, sym, ap, ◌∙◌, drop_of_length-le, arith}
 use Rattle.std.specs.Fmt.{digits_onto}
 use Rattle.std.proofs.Math.ListN.{length-set}
 use Rattle.ffaspm.proofs.HexDigits.{onto_nil, onto_last, onto_step, drop-set-cons}
