@@ -178,7 +178,8 @@ struct ffaspm_operation {
 /*
  * The operation of the last call at an index from 0 on: of the last that ffaspm_handle answered with
  * FFASPM_DONE, as long as no other call was made. To be replayed on the live tables in this
- * order, before the reply (docs/LINKING.md; Arm ARM, "Break-before-make sequence").
+ * order, before the reply, so that a walk which reads a later store reads the earlier ones too: a DMB
+ * ISHST stands after each store (docs/LINKING.md; Arm ARM, "Break-before-make sequence").
  *
  * FFASPM_DONE; FFASPM_NOTHING_THERE, where the call made no more (boot, a refused call and one that
  * moves no page make none); FFASPM_NOT_MADE.
