@@ -8,10 +8,25 @@ static size_t taken;
 
 void heap_allow(size_t allocations) { allowed = allocations; }
 
+static size_t until_refused;
+static bool has_refused;
+
+void heap_refuse(size_t number)
+{
+    until_refused = number;
+    has_refused = false;
+}
+
+bool heap_has_refused(void) { return has_refused; }
+
 size_t heap_taken(void) { return taken; }
 
 static bool is_allowed(void)
 {
+    if (until_refused > 0 && --until_refused == 0) {
+        has_refused = true;
+        return false;
+    }
     if (allowed == 0)
         return false;
     if (allowed != SIZE_MAX)
