@@ -1,7 +1,7 @@
 -- The texts of lines, one line after another.
 use Rattle.std.proofs.Common.{◌≡◌, ◌⊎◌, inl, inr, ℕ, ◌+◌, List, [], ◌∷◌, ◌++◌, Option, Some, None, Result, Err, refl, sym, ap, ◌∙◌, subst, append_assoc, append-nil}
 use Rattle.std.specs.Io.KnownBytes.{Appends}
-use Rattle.std.proofs.KnownBytes.{Appends-nil, Appends-trans}
+use Rattle.std.proofs.KnownBytes.{Appends-trans}
 use Rattle.ffaspm.specs.Output.{AppendsBeginning, IsPartWritten}
 use Rattle.ffaspm.specs.declared.fault.RunFault.{RunFault}
 use Rattle.ffaspm.specs.declared.fault.RunFault.TheVariants.{Line, Memory, Write}
@@ -52,9 +52,6 @@ some_text (line ∷ lines) s = some_behind (line_of line) s lines (λ t. some_te
 abbrev pub IsUnderWay : Option (List ℕ) → Option (List ℕ) → List ℕ → World → List (List ℕ) → World → List (List ℕ) → Type 0
 IsUnderWay old new waiting start all s left =
     (written : List ℕ) × Appends old new written × ((more : List ℕ) → Writes left s more → Writes all start (written ++ (waiting ++ more)))
-
-pub begun : (known : Option (List ℕ)) (waiting : List ℕ) (s : World) (lines : List (List ℕ)) → waiting ≡ [] → IsUnderWay known known waiting s lines s lines
-begun known waiting s lines e = ([], Appends-nil known, λ more h. rw e h)
 
 -- a line's text was appended to what waits
 pub line_done : (old new : Option (List ℕ)) (waiting next : List ℕ) (start s t : World) (all lines : List (List ℕ)) (line : List ℕ) → IsUnderWay old new waiting start all s (line ∷ lines) → RunsLine s t line waiting next → IsUnderWay old new next start all t lines
