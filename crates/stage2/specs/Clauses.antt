@@ -83,6 +83,12 @@ EditsMixed layout row c j runs access old new =
     IsOutcome c (chunk_after layout row c j runs access old) None
     → EditsChunk layout row c j runs access old new
 
+-- where they are to answer nothing, the words of pages in none of the runs are 0
+abbrev pub LeavesZero : ℕ → ℕ → List PageRun → View → Pool → Type 0
+LeavesZero k c runs answer pool =
+    answer ≡ None → (i : ℕ) → i < 512 → covers runs (512 * c + i) ≡ false
+    → words_of pool.memory.words k i ≡ 0
+
 -- they all get one answer
 abbrev pub SetsChunk : Layout → ℕ → ℕ → ℕ → View → Pool → Pool → Type 0
 SetsChunk layout row c j answer old new =

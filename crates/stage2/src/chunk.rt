@@ -1,23 +1,25 @@
 //! The edit of one chunk: its level 2 word, and its level 3 table.
 
-ghost use Rattle.std.specs.Prelude.{◌≡◌, ℕ, ◌+◌, ◌*◌, ◌/◌, ◌%◌, ◌<◌, ◌≤◌, true, Some, None, ◌^◌};
+ghost use Rattle.std.specs.Prelude.{◌≡◌, ℕ, ◌+◌, ◌*◌, ◌/◌, ◌%◌, ◌<◌, ◌≤◌, true, false, [], Some, None, is_some, if◌then◌else◌};
+ghost use Rattle.base.specs.Access.{View};
 ghost use Rattle.base.specs.Pages.{covers, are_normal};
 ghost use Rattle.base.specs.Manifest.{page_count, row_of};
 ghost use Rattle.base.specs.Access as permissions;
 ghost use Rattle.base.specs.Need as needs;
-ghost use Rattle.pool.specs.Pool.{pages_of, taken_of};
+ghost use Rattle.pool.specs.Pool.{pages_of, words_of, taken_of};
 ghost use Rattle.stage2.specs.declared.walked.Slot.TheVariants.{Next};
 ghost use Rattle.stage2.specs.Walk.{next_page};
-ghost use Rattle.stage2.specs.Chunks.{planned, IsOutcome, block_answer, covers_chunk, IsEntryFor, IsSite};
+ghost use Rattle.stage2.specs.Chunks.{planned, answers_at, IsOutcome, block_answer, covers_chunk, IsEntryFor, IsSite};
 ghost use Rattle.stage2.specs.Parts.{part_count};
 ghost use Rattle.stage2.specs.History.{Filled};
-ghost use Rattle.stage2.specs.Clauses.{Puts, WritesPlan, one_page, Breaks, Replaces, chunk_slot, read_after, AnswersAll, HasFree, GrowsChunk, EditsChunk, EditsMixed, SetsChunk, SetsInStep, MixesInStep, MapsInStep, ClearsPages, ChunkInStep};
+ghost use Rattle.stage2.specs.Clauses.{Puts, WritesPlan, one_page, Breaks, Replaces, chunk_slot, read_after, AnswersAll, HasFree, GrowsChunk, EditsChunk, EditsMixed, LeavesZero, SetsChunk, SetsInStep, MixesInStep, MapsInStep, ClearsPages, ChunkInStep};
 
 use crate::edit::{give_page, put_word, take_page, word_of};
 use crate::layout::Layout;
 use crate::part::is_covered;
-use crate::place::{Chunk, page_index};
+use crate::place::{Chunk, Span, page_index};
 use crate::read::{read_chunk, read_page, read_word};
+use crate::span::page_span;
 use crate::table_page::{Row, TablePage};
 use crate::unmap::invalidate_parts;
 use crate::walked::Slot;
@@ -61,6 +63,20 @@ fn write_page<M: TableMem>(memory: &mut M, third: TablePage, page: Page, answer:
     }
 }
 
+/// Where the pages of a chunk stand for which something is planned, counted from its first.
+fn planned_span(runs: &[Run], chunk: Chunk, others: &Option<Option<Access>>) -> Span
+    ensures ordered { result.first ≤ result.end }
+    ensures most { result.end ≤ 512 }
+    ensures within { (access : View) (x : ℕ) → x < 512
+        → is_some (planned runs.now access others.now (512 * chunk + x)) ≡ true
+        → (result.first ≤ x) × (x < result.end) }
+{
+    match others {
+        Some(_) => Span { first: 0, end: 512 },
+        None => page_span(runs, chunk),
+    }
+}
+
 /// Writes the words that are planned for the pages of a chunk, upward, into a table.
 fn write_table<M: TableMem>(
     memory: &mut M,
@@ -80,7 +96,8 @@ fn write_table<M: TableMem>(
         (M.state memory.old) (M.state memory.new) }
     ensures room { M.room memory.old ≤ M.room memory.new + 512 }
 {
-    for index in 0..512 {
+    let span = planned_span(runs, chunk, others);
+    for index in span.first..span.end {
         let page = chunk.page(index);
         if let Some(answer) = plan(runs, access, others, page) {
             write_page(memory, third, page, &answer);
@@ -143,7 +160,7 @@ fn page_after<M: TableMem>(
 }
 
 /// Whether one of the runs has all pages of a chunk.
-fn is_filled(runs: &[Run], chunk: Chunk) -> bool
+pub(crate) fn is_filled(runs: &[Run], chunk: Chunk) -> bool
     ensures { result ≡ covers_chunk chunk runs.now }
 {
     runs.iter().any(|run| run.first().number() <= chunk.first().number()
@@ -226,6 +243,20 @@ fn differs_at_an_end<M: TableMem>(
         || next_differs(memory, layout, entry, chunk, last, runs, access)
 }
 
+/// Whether the word of a page, in the chunk's table, is the one for this answer.
+fn says<M: TableMem>(memory: &M, entry: &Slot, page: Page, answer: &Option<Access>) -> bool
+    requires table { (k : ℕ) → entry.now ≡ Next k → k < page_count (M.state memory.now).memory.quotas }
+    ensures { (layout : Layout) → result ≡ true
+        → answers_at layout (words_of (M.state memory.now).memory.words) entry.now page ≡ answer.now }
+{
+    match entry {
+        Slot::Next(third) => {
+            read_word(memory, *third, page_index(page)) == word_of(page, answer)
+        }
+        _ => false,
+    }
+}
+
 /// The same, found by a look at the pages, one after another, up to the first that is reached
 /// otherwise than the chunk's first page.
 fn compared<M: TableMem>(
@@ -244,10 +275,14 @@ fn compared<M: TableMem>(
         IsOutcome chunk after result }
 {
     let first = page_after(memory, layout, entry, chunk.first(), runs, access);
+    let is_kept = is_alike(access, &first);
     for index in 0..512 {
-        let next = page_after(memory, layout, entry, chunk.page(index), runs, access);
-        if !is_alike(&next, &first) {
-            return None;
+        let page = chunk.page(index);
+        if !(is_kept && says(memory, entry, page, &first)) {
+            let next = page_after(memory, layout, entry, page, runs, access);
+            if !is_alike(&next, &first) {
+                return None;
+            }
         }
     }
     Some(first)
@@ -327,6 +362,32 @@ fn set_block<M: TableMem>(
     replace_entry(memory, p, second, chunk, block_word(chunk, answer));
 }
 
+/// Writes 0 into all words of a table, whose chunk's pages all have this answer after an edit of
+/// runs: where that is none, the words of all other pages are 0.
+fn empty_table<M: TableMem>(
+    memory: &mut M,
+    third: TablePage,
+    chunk: Chunk,
+    runs: &[Run],
+    answer: &Option<Access>,
+)
+    requires normal { are_normal runs.now ≡ true }
+    requires page_in { third < page_count (M.state memory.old).memory.quotas }
+    requires taken { taken_of (M.state memory.old).memory.taken third ≡ true }
+    requires left { LeavesZero third chunk runs.now answer.now (M.state memory.old) }
+    requires room { 512 ≤ M.room memory.old }
+    ensures writes { WritesPlan third chunk (planned [] None (Some None))
+        (M.state memory.old) (M.state memory.new) }
+    ensures filled { Filled third chunk 512 (planned [] None (Some None))
+        (M.state memory.old) (M.state memory.new) }
+    ensures room { M.room memory.old ≤ M.room memory.new + 512 }
+{
+    match answer {
+        None => write_table(memory, third, chunk, runs, &None, &None),
+        Some(_) => write_table(memory, third, chunk, &[], &None, &Some(None)),
+    }
+}
+
 /// Makes a chunk that has a table one block, or invalid, and gives the table back.
 fn drop_table<M: TableMem>(
     memory: &mut M,
@@ -336,10 +397,13 @@ fn drop_table<M: TableMem>(
     second: TablePage,
     chunk: Chunk,
     third: TablePage,
+    runs: &[Run],
     answer: &Option<Access>,
 )
+    requires normal { are_normal runs.now ≡ true }
     requires site { IsSite layout.now row chunk second (pages_of (M.state memory.old).memory) }
     requires row { row_of layout.now.ids p ≡ row }
+    requires left { LeavesZero third chunk runs.now answer.now (M.state memory.old) }
     requires table { chunk_slot layout.now chunk second (M.state memory.old) ≡ Next third }
     requires room { 515 ≤ M.room memory.old }
     ensures redoes { SetsChunk layout.now row chunk second answer.now
@@ -351,7 +415,7 @@ fn drop_table<M: TableMem>(
     let _layout = layout;
     let _row = row;
     replace_entry(memory, p, second, chunk, block_word(chunk, answer));
-    write_table(memory, third, chunk, &[], &None, &Some(None));
+    empty_table(memory, third, chunk, runs, answer);
     give_page(memory, p, third);
 }
 
@@ -384,6 +448,16 @@ fn rewrite_table<M: TableMem>(
     write_table(memory, third, chunk, runs, access, &None);
 }
 
+/// What is planned, in a table whose words are all 0, for pages that are to be reached so.
+fn filling(before: &Option<Access>) -> Option<Option<Access>>
+    ensures { result ≡ (if is_some before.now then Some before.now else None) }
+{
+    match before {
+        Some(_) => Some(*before),
+        None => None,
+    }
+}
+
 /// Hangs a table in a chunk that has none, whose pages have this answer before the edit.
 fn hang_table<M: TableMem>(
     memory: &mut M,
@@ -411,7 +485,7 @@ fn hang_table<M: TableMem>(
 {
     let _row = row;
     let third = take_page(memory, p);
-    write_table(memory, third, chunk, runs, access, &Some(*before));
+    write_table(memory, third, chunk, runs, access, &filling(before));
     replace_entry(memory, p, second, chunk, table_word(layout.address(third)));
 }
 
@@ -462,7 +536,9 @@ pub(crate) fn edit_chunk<M: TableMem>(
     let table = table_of(&entry);
     match outcome(memory, layout, &entry, chunk, runs, access) {
         Some(answer) => match table {
-            Some(third) => drop_table(memory, layout, p, row, second, chunk, third, &answer),
+            Some(third) => {
+                drop_table(memory, layout, p, row, second, chunk, third, runs, &answer)
+            }
             None => set_block(memory, layout, p, row, second, chunk, &answer),
         },
         None => match table {

@@ -12,7 +12,7 @@ ghost use Rattle.stage2.specs.Chunks.{edited};
 ghost use Rattle.stage2.specs.Clauses.{read_after, view_in, second_in, entry_read, chunks_growth};
 ghost use Rattle.stage2.specs.Gigabytes.{grows_at, gigabyte_growth, Touches};
 
-use crate::chunk::{outcome, table_of};
+use crate::chunk::{is_filled, outcome, table_of};
 use crate::gigabyte::{find_table, touches as touches_chunk};
 use crate::layout::Layout;
 use crate::part::{chunk_runs, gigabyte_runs};
@@ -76,8 +76,10 @@ fn grows<M: TableMem>(
         let after = read_after layout.now runs.now access.now entry.now now in
         result ≡ (is_mixed after chunk && not (is_some (next_page entry.now))) }
 {
-    let is_mixed = outcome(memory, layout, entry, chunk, runs, access).is_none();
-    is_mixed && table_of(entry).is_none()
+    if table_of(entry).is_some() {
+        return false;
+    }
+    outcome(memory, layout, entry, chunk, runs, access).is_none()
 }
 
 /// Whether an edit takes a table for this chunk of a gigabyte.
@@ -103,6 +105,9 @@ fn takes<M: TableMem>(
     let chunk = gigabyte.chunk(index);
     let part = chunk_runs(runs, chunk);
     if !touches_chunk(part, chunk) {
+        return false;
+    }
+    if is_filled(part, chunk) {
         return false;
     }
     let entry = entry_at(memory, layout, second, chunk);

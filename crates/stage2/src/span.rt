@@ -1,10 +1,11 @@
-//! Where runs begin and end, in gigabytes and in the chunks of one: an edit looks at no others.
+//! Where runs begin and end, in gigabytes, in the chunks of one and in the pages of one of these: an
+//! edit looks at no others.
 
 ghost use Rattle.std.specs.Prelude.{◌≡◌, ℕ, ◌+◌, ◌*◌, ◌/◌, ◌<◌, ◌≤◌, true};
 ghost use Rattle.base.specs.Pages.{covers};
 ghost use Rattle.stage2.specs.Gigabytes.{touches_chunk};
 
-use crate::place::{Gigabyte, Span, end_chunk, end_gigabyte, first_chunk, first_gigabyte};
+use crate::place::{Chunk, Gigabyte, Span, end_chunk, end_gigabyte, first_chunk, first_gigabyte};
 use base::Run;
 
 /// The gigabytes from the first that the runs touch to the last.
@@ -41,6 +42,26 @@ pub(crate) fn chunk_span(runs: &[Run], gigabyte: Gigabyte) -> Span
     for run in runs {
         first = first.min(first_chunk(*run).number().max(chunks.first) - chunks.first);
         end = end.max(end_chunk(*run).clamp(chunks.first, chunks.end) - chunks.first);
+    }
+    Span {
+        first: first.min(end),
+        end,
+    }
+}
+
+/// The pages of a chunk, counted from its first, from the first that the runs have to the last.
+pub(crate) fn page_span(runs: &[Run], chunk: Chunk) -> Span
+    ensures ordered { result.first ≤ result.end }
+    ensures most { result.end ≤ 512 }
+    ensures within { (x : ℕ) → x < 512 → covers runs.now (512 * chunk + x) ≡ true
+        → (result.first ≤ x) × (x < result.end) }
+{
+    let start = chunk.first().number();
+    let mut first = 512;
+    let mut end = 0;
+    for run in runs {
+        first = first.min(run.first().number().max(start) - start);
+        end = end.max(run.end().clamp(start, chunk.end()) - start);
     }
     Span {
         first: first.min(end),

@@ -216,6 +216,34 @@ module _ (layout : Layout) (row c j : ℕ) (m : Pages) (h : IsSite layout row c 
   not-third : (k : ℕ) → entry ≡ Next k → (b : Place) (q : ℕ) → IsPlace layout b → b ≢ Chunk row c → table_at layout old b ≡ Some q → q ≢ k
   not-third k e b q inside other at same = other (h.orderly.forest b (Chunk row c) q inside in_chunk at (third-at k e ∙ ap Some (sym same)))
 
+  -- a table's page is not that of the table above it
+  third-apart : (k : ℕ) → entry ≡ Next k → j ≢ k
+  third-apart k e = not-third k e (Gigabyte row (c / 512)) j in_gigabyte (λ f. cc) h.second
+
+  empty-slot : (s : Slot) → at_3 s ≡ Unmapped → s ≡ Empty
+  empty-slot Empty e = refl
+  empty-slot (Maps x a) e = absurd (cc)
+  empty-slot (Next x) e = absurd (cc)
+  empty-slot Bad e = absurd (cc)
+
+  -- where the chunk's pages are to answer nothing, the words of those that are in no run are 0
+  pub left-zero : (runs : List PageRun) (access : View) (k : ℕ) → entry ≡ Next k → IsOutcome c (edited runs access (answers layout old row)) (Some None) → (i : ℕ) → i < 512 → covers runs (512 * c + i) ≡ false → m.words k i ≡ 0
+  left-zero runs access k is_table outcome i small out =
+      let n = 512 * c + i in
+      let below : c < 262144 = h.chunk in
+      let chunk : n / 512 ≡ c = omega (arith, small) in
+      let index : n % 512 ≡ i = omega (arith, small) in
+      let none : answers layout old row n ≡ None = rw out at (outcome.same None refl n chunk) in
+      let here : table_at layout old (Chunk row (n / 512)) ≡ Some k = ap (λ x. table_at layout old (Chunk row x)) chunk ∙ third-at k is_table in
+      let was : walk layout old row n ≡ at_3 (slot layout 3 (old k i)) = walk-chunk layout old row n k h.partition here ∙ ap (λ x. at_3 (slot layout 3 (old k x))) index in
+      let tidy : IsTidy n (walk layout old row n) = h.orderly.tidy row n h.partition (omega (arith, small, below)) in
+      let unmapped : walk layout old row n ≡ Unmapped = tidy-answer n (walk layout old row n) tidy ∙ ap (walked n) none in
+      sym (third-seen k i (third-at k is_table)) ∙ h.orderly.clean (Chunk row c) k i in_chunk (third-at k is_table) small (empty-slot (slot layout 3 (old k i)) (sym was ∙ unmapped))
+
+  -- and they stay so where the chunk's own word is written
+  pub left-kept : (k word : ℕ) (new : Pages) → entry ≡ Next k → new ≡ with_put j (c % 512) word m → (i : ℕ) → m.words k i ≡ 0 → new.words k i ≡ 0
+  left-kept k word new is_table e i zero = ap (λ (x : Pages). x.words k i) e ∙ put-other m.words j (c % 512) word k i (λ same _. third-apart k is_table (sym same)) ∙ zero
+
   -- ---- the four edits
 
   pub does-set : (answer : ℕ → View) (one : View) (word : ℕ) (new : Pages) → next_page entry ≡ None → IsEntryFor c one word → new ≡ with_put j (c % 512) word m → IsOutcome c answer (Some one) → Redoes_in layout row c j answer m new

@@ -1,10 +1,12 @@
 -- The words of one level 3 table, one after another.
-use Rattle.std.proofs.Common.{◌≡◌, ◌≢◌, ℕ, ◌+◌, ◌*◌, ◌/◌, ◌%◌, ◌<◌, true, false, cond, eqb, ltb, Option, Some, None, refl, arith, ap, sym, ◌∙◌, inl, inr}
+use Rattle.std.proofs.Common.{◌≡◌, ◌≢◌, ℕ, ◌+◌, ◌*◌, ◌/◌, ◌%◌, ◌<◌, ◌≤◌, Bool, true, false, cond, eqb, ltb, List, [], is_some, Option, Some, None, refl, arith, ap, sym, ◌∙◌, inl, inr}
 use Rattle.std.proofs.lemmas.Bool.{cases_eq, cases_Bool, eqb-true}
 use Rattle.std.proofs.lemmas.Bool.Decides.{nat_tests}
 use Rattle.base.specs.Access.{View}
+use Rattle.words.proofs.RoundTrip.{entry-zero}
 use Rattle.pool.specs.Pool.{Pages, put, with_put}
-use Rattle.stage2.specs.Chunks.{Writes, IsWordFor, below}
+use Rattle.base.specs.Pages.{PageRun, covers}
+use Rattle.stage2.specs.Chunks.{planned, Writes, IsWordFor, below}
 use Rattle.stage2.proofs.Tree.WalkFrame.{put-other, put-same}
 
 -- one page's word
@@ -24,8 +26,8 @@ writes-put k page word answer m new is e = record {
   quotas = ap (λ (x : Pages). x.quotas) e;
   taken = ap (λ (x : Pages). x.taken) e;
   others = λ q i apart. ap (λ (x : Pages). x.words q i) e ∙ put-other m.words k (page % 512) word q i (λ same _. apart same);
-  here = λ i x small planned.
-      let f = only-at page (512 * (page / 512) + i) answer x planned in
+  here = λ i x small given.
+      let f = only-at page (512 * (page / 512) + i) answer x given in
       let index : i ≡ page % 512 = omega (arith, f.0) in
       let read : new.words k i ≡ word = ap (λ (x : Pages). x.words k i) e ∙ ap (put k (page % 512) word m.words k) index ∙ put-same m.words k (page % 512) word in
       rw (read, f.0, ← f.1) is;
@@ -33,22 +35,26 @@ writes-put k page word answer m new is e = record {
       ap (λ (x : Pages). x.words k i) e ∙ put-other m.words k (page % 512) word k i (λ _ index. let at : 512 * (page / 512) + i ≡ page = omega (arith, index) in let some : only page answer (512 * (page / 512) + i) ≡ Some answer = rw at (grind (arith, nat_tests)) in absurd (cc));
 }
 
--- nothing yet
-pub writes-none : (k c : ℕ) (plan : ℕ → Option View) (m : Pages) → Writes k c (below (512 * c + 0) plan) m m
-writes-none k c plan m = record {
-  ids = refl;
-  quotas = refl;
-  taken = refl;
-  others = λ q i apart. refl;
-  here = λ i x small planned. let no : ltb (512 * c + i) (512 * c + 0) ≡ false = grind (arith, nat_tests) in let none : None ≡ Some x = rw no at planned in absurd (cc);
-  stays = λ i small none. refl;
-}
-
 before-at : (plan : ℕ → Option View) (m n : ℕ) (x : View) → below m plan n ≡ Some x → (n < m) × (plan n ≡ Some x)
 before-at plan m n x e = elim (cases_Bool (ltb n m)) [
   | inl t ↦ let same : plan n ≡ Some x = rw t at e in (grind (arith, nat_tests, t), same)
   | inr f ↦ let none : None ≡ Some x = rw f at e in absurd (cc)
 ]
+
+-- nothing yet: nothing is planned for the pages before the i-th
+pub writes-none : (k c i : ℕ) (plan : ℕ → Option View) (m : Pages) → ((x : ℕ) → x < i → plan (512 * c + x) ≡ None) → Writes k c (below (512 * c + i) plan) m m
+writes-none k c i plan m none = record {
+  ids = refl;
+  quotas = refl;
+  taken = refl;
+  others = λ q i apart. refl;
+  here = λ x v small given.
+      let f = before-at plan (512 * c + i) (512 * c + x) v given in
+      let gone : plan (512 * c + x) ≡ None = none x (omega (arith, f.0)) in
+      let some = f.1 in
+      absurd (cc);
+  stays = λ i small none. refl;
+}
 
 below-in : (plan : ℕ → Option View) (m n : ℕ) → n < m → below m plan n ≡ plan n
 below-in plan m n lt = let t : ltb n m ≡ true = grind (arith, nat_tests) in rw t refl
@@ -61,8 +67,8 @@ writes-step k c i plan answer a b e lt some so here = record {
   quotas = here.quotas ∙ so.quotas;
   taken = here.taken ∙ so.taken;
   others = λ q x apart. here.others q x apart ∙ so.others q x apart;
-  here = λ x v small planned.
-      let f = before-at plan (512 * c + (i + 1)) (512 * c + x) v planned in
+  here = λ x v small given.
+      let f = before-at plan (512 * c + (i + 1)) (512 * c + x) v given in
       elim (cases_eq x i) [
         | inl same ↦
             let is : Some v ≡ Some answer = sym f.1 ∙ ap (λ y. plan (512 * c + y)) same ∙ some in
@@ -95,8 +101,8 @@ writes-skip k c i plan a b none so = record {
   quotas = so.quotas;
   taken = so.taken;
   others = so.others;
-  here = λ x v small planned.
-      let f = before-at plan (512 * c + (i + 1)) (512 * c + x) v planned in
+  here = λ x v small given.
+      let f = before-at plan (512 * c + (i + 1)) (512 * c + x) v given in
       elim (cases_eq x i) [
         | inl same ↦ let bad : plan (512 * c + x) ≡ None = ap (λ y. plan (512 * c + y)) same ∙ none in let some = f.1 in absurd (cc)
         | inr differs ↦ so.here x v small (below-in plan (512 * c + i) (512 * c + x) (omega (arith, f.0, differs)) ∙ f.1)
@@ -113,13 +119,69 @@ writes-skip k c i plan a b none so = record {
       | inr f ↦ rw f refl
     ]
 
--- all of them
-pub writes-all : (k c : ℕ) (plan : ℕ → Option View) (a b : Pages) → Writes k c (below (512 * c + 512) plan) a b → Writes k c plan a b
-writes-all k c plan a b so = record {
+-- all of them: nothing is planned for the pages from the i-th on
+pub writes-all : (k c i : ℕ) (plan : ℕ → Option View) (a b : Pages) → ((x : ℕ) → x < 512 → i ≤ x → plan (512 * c + x) ≡ None) → Writes k c (below (512 * c + i) plan) a b → Writes k c plan a b
+writes-all k c i plan a b none so = record {
   ids = so.ids;
   quotas = so.quotas;
   taken = so.taken;
   others = so.others;
-  here = λ i x small planned. so.here i x small (below-in plan (512 * c + 512) (512 * c + i) (omega arith) ∙ planned);
-  stays = λ i small none. so.stays i small (below-in plan (512 * c + 512) (512 * c + i) (omega arith) ∙ none);
+  here = λ x v small given. elim (cases_Bool (ltb x i)) [
+    | inl t ↦ so.here x v small (below-in plan (512 * c + i) (512 * c + x) (let lt : x < i = grind (arith, nat_tests, t) in omega (arith, lt)) ∙ given)
+    | inr f ↦ let gone : plan (512 * c + x) ≡ None = none x small (grind (arith, nat_tests, f)) in absurd (cc)
+  ];
+  stays = λ x small gone. so.stays x small (below-none plan (512 * c + i) (512 * c + x) gone);
 }
+  where
+    below-none : (plan : ℕ → Option View) (m n : ℕ) → plan n ≡ None → below m plan n ≡ None
+    below-none plan m n none = elim (cases_Bool (ltb n m)) [
+      | inl t ↦ rw t none
+      | inr f ↦ rw f refl
+    ]
+
+-- ---- plans of the same words
+
+-- where the words of all pages in none of the runs are 0, they need no write
+pub writes-rest : (k c : ℕ) (runs : List PageRun) (access : View) (a b : Pages) → ((i : ℕ) → i < 512 → covers runs (512 * c + i) ≡ false → a.words k i ≡ 0)
+    → Writes k c (planned runs access None) a b → Writes k c (planned runs access (Some None)) a b
+writes-rest k c runs access a b zero so = record {
+  ids = so.ids;
+  quotas = so.quotas;
+  taken = so.taken;
+  others = so.others;
+  here = λ i x small at. here i x small (covers runs (512 * c + i)) refl at;
+  stays = λ i small none. absurd (never runs access (512 * c + i) (covers runs (512 * c + i)) refl none);
+}
+  where
+    never : (runs : List PageRun) (access : View) (n : ℕ) (t : Bool) → covers runs n ≡ t → planned runs access (Some None) n ≡ None → ⊥
+    never runs access n true e none = let bad : Some access ≡ None = rw e at none in cc
+    never runs access n false e none = let bad : Some None ≡ None = rw e at none in cc
+
+    here : (i : ℕ) (x : View) → i < 512 → (t : Bool) → covers runs (512 * c + i) ≡ t → planned runs access (Some None) (512 * c + i) ≡ Some x → IsWordFor (512 * c + i) x (b.words k i)
+    here i x small true e given = so.here i x small (rw e (rw e at given))
+    here i x small false e given =
+        let same : Some None ≡ Some x = rw e at given in
+        let none : None ≡ x = cc in
+        let read : b.words k i ≡ 0 = so.stays i small (rw e refl) ∙ zero i small e in
+        rw (read, ← none) (record { entry = entry-zero 3; zero = λ same. refl })
+
+-- nor do those of a table that is all 0, for pages that are not to be reached
+pub writes-fresh : (k c : ℕ) (runs : List PageRun) (access before : View) (a b : Pages) → ((i : ℕ) → a.words k i ≡ 0)
+    → Writes k c (planned runs access (cond (is_some before) (Some before) None)) a b → Writes k c (planned runs access (Some before)) a b
+writes-fresh k c runs access (Some before) a b fresh so = so
+writes-fresh k c runs access None a b fresh so = writes-rest k c runs access a b (λ i small out. fresh i) so
+
+-- no runs, and all others: all words are 0
+pub writes-zero : (k c : ℕ) (runs : List PageRun) (a b : Pages) → Writes k c (planned runs None (Some None)) a b → Writes k c (planned [] None (Some None)) a b
+writes-zero k c runs a b so = record {
+  ids = so.ids;
+  quotas = so.quotas;
+  taken = so.taken;
+  others = so.others;
+  here = λ i x small given. so.here i x small (all runs (512 * c + i) (covers runs (512 * c + i)) refl ∙ given);
+  stays = λ i small none. absurd (cc);
+}
+  where
+    all : (runs : List PageRun) (n : ℕ) (t : Bool) → covers runs n ≡ t → planned runs None (Some None) n ≡ Some None
+    all runs n true e = rw e refl
+    all runs n false e = rw e refl

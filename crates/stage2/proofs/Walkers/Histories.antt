@@ -71,4 +71,14 @@ filled-step k c i plan answer a b e some so here = record {
 pub filled-wider : (k c i b : ℕ) (plan : ℕ → Option View) (a e : Pool) → i ≤ b → Filled k c i plan a e → Filled k c b plan a e
 filled-wider k c i b plan a e le h = record { ops = h.ops; made = h.made; sets = sets-wider k c i b plan h.ops le h.sets }
 
+-- what is planned may be part of another plan
+sets-more : (k c b : ℕ) (plan more : ℕ → Option View) (ops : List Op) → ((n : ℕ) (answer : View) → plan n ≡ Some answer → more n ≡ Some answer) → AreSets k c plan b ops → AreSets k c more b ops
+sets-more k c b plan more [] all s = tt
+sets-more k c b plan more (Set q x w ∷ ops) all s = (s.0, s.1, (s.2.0, all (512 * c + x) s.2.0 s.2.1, s.2.2), sets-more k c x plan more ops all s.3)
+sets-more k c b plan more (Invalidate p r ∷ ops) all s = absurd s
+sets-more k c b plan more (Clear r ∷ ops) all s = absurd s
+
+pub filled-more : (k c b : ℕ) (plan more : ℕ → Option View) (a e : Pool) → ((n : ℕ) (answer : View) → plan n ≡ Some answer → more n ≡ Some answer) → Filled k c b plan a e → Filled k c b more a e
+filled-more k c b plan more a e all h = record { ops = h.ops; made = h.made; sets = sets-more k c b plan more h.ops all h.sets }
+
 -- ---- break before make

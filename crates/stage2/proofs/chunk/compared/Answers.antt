@@ -1,9 +1,18 @@
-use Rattle.std.proofs.Common.{◌≡◌, Some, sym, ap, ap₂, subst, ◌∙◌, arith}
+use Rattle.std.proofs.Common.{◌≡◌, ℕ, ◌+◌, ◌*◌, Bool, true, false, cond, Some, refl, sym, ap, ap₂, subst, ◌∙◌, arith}
 use Rattle.pool.specs.Pool.{words_of}
+use Rattle.base.specs.Access.{View}
 use Rattle.base.specs.Need.{is_alike}
+use Rattle.base.specs.Pages.{covers}
+use Rattle.manifest.proofs.Tables.{alike-refl}
 use Rattle.stage2.specs.Chunks.{edited, answers_at, AreAlike, IsOutcome}
 use Rattle.stage2.proofs.Counting.Needs.{alike-none, alike-more, outcome-mixed, outcome-one}
 use Rattle.stage2.proofs.chunk.compared.Goals as goal
+use Rattle.stage2.proofs.chunk.compared.Goals.{then-not-says+else-not-is_alike, else-not-says, then-is_kept, else-is_kept}
+
+-- a page that answers so before the edit, where the edit's own pages do
+kept-alike : (b : Bool) (access before first : View) → is_alike access first ≡ true → before ≡ first → is_alike (cond b access before) first ≡ true
+kept-alike true access before first alike same = alike
+kept-alike false access before first alike same = rw same (alike-refl first)
 
 pub loop-index-init : goal.loop-index-init
 loop-index-init g c = alike-none (edited c.args.runs.now c.args.access.now (answers_at c.args.layout.now (words_of (g.M.TableMem.state c.args.memory.now).memory.words) c.args.entry.now)) c.args.chunk
@@ -12,17 +21,31 @@ pub returns-then-not-is_alike : goal.returns-then-not-is_alike
 returns-then-not-is_alike g c =
     let answer = edited c.args.runs.now c.args.access.now (answers_at c.args.layout.now (words_of (g.M.TableMem.state c.args.memory.now).memory.words) c.args.entry.now) in
     let first = c.page_after-first.ensures ∙ ap answer c.first.ensures.same in
-    let next = c.page_after-next.ensures ∙ ap answer c.page.ensures.same in
+    let next = c.page_after-next.ensures ∙ ap answer c.page-page.ensures.same in
     outcome-mixed answer c.args.chunk c.loop-index.index c.loop-index-test.true
     (sym (c.is_alike.ensures ∙ ap₂ is_alike next first) ∙ c.if-not-is_alike.true)
 
 pub loop-index-preserved : goal.loop-index-preserved
 loop-index-preserved g c =
-    let answer = edited c.args.runs.now c.args.access.now (answers_at c.args.layout.now (words_of (g.M.TableMem.state c.args.memory.now).memory.words) c.args.entry.now) in
+    let before : ℕ → View = answers_at c.args.layout.now (words_of (g.M.TableMem.state c.args.memory.now).memory.words) c.args.entry.now in
+    let answer = edited c.args.runs.now c.args.access.now before in
+    let i = c.loop-index.index in
     let first = c.page_after-first.ensures ∙ ap answer c.first.ensures.same in
-    let next = c.page_after-next.ensures ∙ ap answer c.page.ensures.same in
-    alike-more answer c.args.chunk c.loop-index.index c.loop-index.invariant
-    (sym (c.is_alike.ensures ∙ ap₂ is_alike next first) ∙ c.if-not-is_alike.false)
+    elim c.if-not-says.branch [
+      | then-not-says+else-not-is_alike w ↦
+          let next = w.page_after-next.ensures ∙ ap answer c.page-page.ensures.same in
+          alike-more answer c.args.chunk i c.loop-index.invariant
+          (sym (w.is_alike.ensures ∙ ap₂ is_alike next first) ∙ w.if-not-is_alike.false)
+      | else-not-says w ↦ elim c.if-is_kept.branch [
+          | then-is_kept v ↦
+              let n = 512 * c.args.chunk + i in
+              let says : v.says.result ≡ true = sym v.value-is ∙ w.if-not-says.false in
+              let kept : is_alike c.args.access.now (answer (512 * c.args.chunk)) ≡ true = sym (c.is_alike-is_kept.ensures ∙ ap (is_alike c.args.access.now) first) ∙ v.if-is_kept.true in
+              let same : before n ≡ answer (512 * c.args.chunk) = ap before (sym c.page-page.ensures.same) ∙ v.says.ensures c.args.layout.now says ∙ first in
+              alike-more answer c.args.chunk i c.loop-index.invariant (kept-alike (covers c.args.runs.now n) c.args.access.now (before n) (answer (512 * c.args.chunk)) kept same)
+          | else-is_kept v ↦ absurd (let bad : true ≡ false = sym w.if-not-says.false ∙ v.value-is ∙ v.if-is_kept.false in cc)
+        ]
+    ]
 
 pub returns : goal.returns
 returns g c =

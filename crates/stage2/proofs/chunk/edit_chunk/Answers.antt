@@ -6,14 +6,21 @@ use Rattle.stage2.specs.Walk.{walked}
 use Rattle.stage2.proofs.Walkers.ZeroedTables.{stays-cleared}
 use Rattle.stage2.proofs.Walkers.Disturbed.{stays-whole, stays-covered, unmixed-after, unmixed-before}
 use Rattle.pool.specs.Pool.{Memory, pages_of}
-use Rattle.stage2.specs.Chunks.{edited, answers_in, block_answer, Redoes_in}
-use Rattle.stage2.proofs.Editing.FourChunkEdits.{second-inside, outcome-read, unhung, growing, before-block}
+use Rattle.stage2.specs.Chunks.{edited, answers_in, block_answer, IsOutcome, Redoes_in}
+use Rattle.stage2.proofs.Editing.FourChunkEdits.{second-inside, outcome-read, left-zero, unhung, growing, before-block, is-next}
 use Rattle.stage2.proofs.chunk.edit_chunk.Goals as goal
 
 pub read_chunk-entry-requires-clause-table : goal.read_chunk-entry-requires-clause-table
 read_chunk-entry-requires-clause-table g c =
     let inside = second-inside c.args.layout.now c.args.row c.args.chunk c.args.second (pages_of (g.M.TableMem.state c.args.memory.now).memory) c.requires.site in
     subst (λ x. c.args.second < x) (sym c.requires.site.orderly.pages) inside
+
+pub drop_table-requires-clause-left : goal.drop_table-requires-clause-left
+drop_table-requires-clause-left g c = λ none.
+    let m = pages_of (g.M.TableMem.state c.args.memory.now).memory in
+    let outcome = outcome-read c.args.layout.now c.args.row c.args.chunk c.args.second m c.requires.site c.args.runs.now c.args.access.now c.read_chunk-entry.result c.outcome.result (Some c.in-Some.answer) c.read_chunk-entry.ensures.same c.in-Some.is c.outcome.ensures in
+    left-zero c.args.layout.now c.args.row c.args.chunk c.args.second m c.requires.site c.args.runs.now c.args.access.now c.in-Some-table.third (sym c.read_chunk-entry.ensures.same ∙ is-next c.read_chunk-entry.result c.in-Some-table.third (sym c.table_of-table.ensures ∙ c.in-Some-table.is))
+    (subst (λ o. IsOutcome c.args.chunk (edited c.args.runs.now c.args.access.now (answers_in c.args.layout.now c.args.row c.args.chunk c.args.second m)) (Some o)) none outcome)
 
 pub hang_table-requires-clause-before : goal.hang_table-requires-clause-before
 hang_table-requires-clause-before g c = λ n at.

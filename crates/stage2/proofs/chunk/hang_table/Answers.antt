@@ -4,13 +4,14 @@ use Rattle.words.specs.Words.{table_word_of}
 use Rattle.pool.specs.Pool.{Pages, Pool, Words, pages_of, words_of, put, with_put, row_in, InShare, IsLowestFree}
 use Rattle.pool.proofs.Words.{mark-same, mark-kept}
 use Rattle.stage2.proofs.Editing.FourChunkEdits.{second-inside, second-taken, does-hang}
+use Rattle.stage2.proofs.Editing.Level3Words.{writes-fresh}
 use Rattle.stage2.proofs.Tree.TakenPages.{pages_of-take}
 use Rattle.base.specs.Access.{View}
 use Rattle.pool.proofs.Shares.{share_inside}
 use Rattle.stage2.specs.declared.walked.Walked.{Walked}
 use Rattle.stage2.specs.Slot.{Next, slot}
 use Rattle.stage2.specs.Walk.{at_2, walked}
-use Rattle.stage2.specs.Chunks.{planned, edited, answers_in}
+use Rattle.stage2.specs.Chunks.{planned, Writes, edited, answers_in}
 use Rattle.stage2.specs.Moments.{StaysInStep}
 use Rattle.stage2.proofs.Tree.WalkFrame.{put-same, IsUnheld}
 use Rattle.stage2.proofs.Tree.LinkTable.{slot-table}
@@ -53,7 +54,10 @@ returns-clause-redoes g c = λ outcome.
     let lowest : IsLowestFree m c.args.row k = subst (λ x. IsLowestFree m x k) is c.take_page-third.ensures.lowest in
     let word : c.table_word.result ≡ table_word_of (c.args.layout.now.base + k) = c.table_word.ensures.value ∙ ap table_word_of c.address.ensures in
     does-hang c.args.layout.now c.args.row c.args.chunk c.args.second m c.requires.site
-    c.args.runs.now c.args.access.now c.args.before.now k m1 m2 new c.requires.none lowest c.requires.before marked c.write_table.ensures.writes
+    c.args.runs.now c.args.access.now c.args.before.now k m1 m2 new c.requires.none lowest c.requires.before marked
+    (writes-fresh k c.args.chunk c.args.runs.now c.args.access.now c.args.before.now m1 m2
+    (λ i. ap (λ (x : Pages). x.words k i) marked ∙ g.met.M.TableMem.free_is_zero c.args.memory.now k i lowest.free)
+    (subst (λ o. Writes k c.args.chunk (planned c.args.runs.now c.args.access.now o) m1 m2) c.filling.ensures c.write_table.ensures.writes))
     (subst (λ x. new ≡ with_put c.args.second (c.args.chunk % 512) x m2) word c.replace_entry.ensures.pages)
     outcome
 
@@ -80,7 +84,7 @@ returns-clause-in_step g c = λ outcome seated.
     stays-taken layout row which answer x y took (ap (λ (s : Pool). s.operations) c.take_page-third.ensures.state) (ap (λ (s : Pool). s.made) c.take_page-third.ensures.state) in
     let loose : IsUnheld layout (words_of y.memory.words) k = subst (λ (w : Words). IsUnheld layout w k) (sym took) (unheld-free layout row chunk j m site seated k free) in
     let second : StaysInStep layout row which answer y z =
-    stays-filled layout row k chunk 512 (planned c.args.runs.now c.args.access.now (Some c.args.before.now)) which answer y z c.write_table.ensures.filled loose in
+    stays-filled layout row k chunk 512 (planned c.args.runs.now c.args.access.now c.filling.result) which answer y z c.write_table.ensures.filled loose in
     let hung : IsHung layout (words_of y.memory.words) row chunk j = subst (λ (w : Words). IsHung layout w row chunk j) (sym took) (hung-seen layout row chunk j m site seated) in
     let hung_z : IsHung layout (words_of z.memory.words) row chunk j = hung-outside layout (words_of y.memory.words) (words_of z.memory.words) row chunk j k site.partition site.chunk loose c.write_table.ensures.writes.others hung in
     let loose_z : IsUnheld layout (words_of z.memory.words) k = unheld-outside layout (words_of y.memory.words) (words_of z.memory.words) k loose c.write_table.ensures.writes.others in

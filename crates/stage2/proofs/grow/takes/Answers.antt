@@ -6,6 +6,7 @@ use Rattle.stage2.specs.Walk.{next_page}
 use Rattle.base.specs.Need.{is_mixed}
 use Rattle.stage2.specs.Chunks.{edited, answers_at, answers_of}
 use Rattle.stage2.proofs.Editing.ChunkByChunk.{untouched}
+use Rattle.stage2.proofs.Counting.Needs.{outcome-filled}
 use Rattle.stage2.proofs.Counting.Growth.{grows-entry, grows-nothing, second-inside}
 use Rattle.stage2.proofs.Runs.OwnRuns.{chunk-covers, chunk-touches, chunk-mixed}
 use Rattle.stage2.proofs.grow.takes.Goals as goal
@@ -35,3 +36,15 @@ returns-then-not-touches g c =
     let here = c.chunk-chunk.ensures.same in
     sym (grows-nothing c.args.runs.now c.args.access.now (answers_of c.args.layout.now m.words c.args.row.now) chunk
     (λ n at. untouched chunk c.args.runs.now n (sym (chunk-touches chunk c.args.runs.now c.chunk_runs-part.result.now (rw here at c.chunk_runs-part.ensures.same)) ∙ sym (rw here at c.touches.ensures) ∙ c.if-not-touches.true) at))
+
+pub returns-then-is_filled : goal.returns-then-is_filled
+returns-then-is_filled g c =
+    let m = pages_of (g.M.TableMem.state c.args.memory.now).memory in
+    let runs = c.args.runs.now in
+    let part = c.chunk_runs-part.result.now in
+    let access = c.args.access.now in
+    let chunk = 512 * c.args.gigabyte + c.args.index in
+    let here = c.chunk-chunk.ensures.same in
+    let before : ℕ → View = answers_of c.args.layout.now m.words c.args.row.now in
+    let filled = outcome-filled part access before chunk (sym (rw here at c.is_filled.ensures) ∙ c.if-is_filled.true) in
+    ap (λ b. b && not (is_mixed before chunk)) (filled.mixed ∙ chunk-mixed chunk runs part access (chunk-covers chunk runs part (rw here at c.chunk_runs-part.ensures.same)) before)
