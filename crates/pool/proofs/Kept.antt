@@ -1,19 +1,19 @@
 -- What a table memory keeps at each write, and what its searches find.
-use Rattle.std.proofs.Common.{◌≡◌, ℕ, ◌+◌, ◌-◌, ◌<◌, ◌≤◌, ◌^◌, Bool, true, false, not, List, length, take, drop, slice_index_or, slice_set, ◌*◌, replicate, ◌++◌, get_or, refl, arith, inl, inr, zero, suc, add-one, add-zero, IsTrue, IsSome, Some, ◌==◌}
+use Rattle.std.proofs.Common.{◌≡◌, ◌≢◌, ℕ, ◌+◌, ◌-◌, ◌<◌, ◌≤◌, ◌^◌, Bool, true, false, not, List, length, take, drop, slice_index, slice_index_or, slice_set, ◌∙◌, ap, ap₂, ◌*◌, replicate, ◌++◌, get_or, refl, arith, inl, inr, zero, suc, add-one, add-zero, IsTrue, IsSome, Some, ◌==◌}
 use Rattle.std.specs.List.{count_by, position}
 use Rattle.std.proofs.lemmas.Grind.{common_steps}
 use Rattle.std.proofs.lemmas.Bool.{cases_eq, cases_lt, cases_Bool}
 use Rattle.std.proofs.lemmas.Bool.Decides.{nat_tests}
 use Rattle.std.proofs.lemmas.List.{get_or-drop, length-drop, length-map}
-use Rattle.std.proofs.lemmas.List.Sums.{count_by_more_yes, count_by_more_no}
 use Rattle.base.specs.Manifest.{PartitionRow, ManifestRows, row_of, quotas_of, page_count}
 use Rattle.manifest.specs.Valid.{is_valid}
-use Rattle.pool.specs.Pool.{Memory, Pages, InShare, IsLowestFree, words_of, taken_of, put, mark, share_start, quota_of, pages_of, free_of}
+use Rattle.pool.specs.Pool.{Memory, Pages, InShare, IsLowestFree, words_of, taken_of, put, mark, with_mark, share_start, quota_of, pages_of, free_of, CountsFree, new_memory, used_by, used_of}
 use Rattle.base.specs.Counts.{count_below}
 use Rattle.pool.specs.declared.table_pool.TablePool.{TablePool}
 use Rattle.pool.specs.declared.word_store.WordStore.{Ghosts}
 use Rattle.pool.proofs.Words.{words_of-set, taken_of-set}
-use Rattle.pool.proofs.Shares.{quota_of-none, share_at, share_inside}
+use Rattle.std.proofs.lemmas.List.{length-set, get_or-set_same, get_or-set_other}
+use Rattle.pool.proofs.Shares.{quota_of-none, share_at, share_inside, used_by-new, used_by-take, used_by-give, used_by-other}
 use Rattle.pool.proofs.Count.{count_below-all}
 
 -- ---- free pages hold zeros
@@ -54,9 +54,12 @@ pub taken_of-read : (items : List Bool) (page : ℕ) (is : Bool) → is ≡ slic
 unfolding taken_of
 taken_of-read items page is read inside = grind (arith, common_steps)
 
--- the pages of a memory, as functions
+-- what a memory holds, and its pages as functions
+abbrev pub memory_in : {S : Type 0} {g : Ghosts S} → TablePool S g → Memory
+memory_in {g = g} m = record { ids = m.ids.items; quotas = m.quotas.items; words = g.words m.store; taken = m.taken.items }
+
 abbrev pub pages_in : {S : Type 0} {g : Ghosts S} → TablePool S g → Pages
-pages_in {g = g} m = pages_of (record { ids = m.ids.items; quotas = m.quotas.items; words = g.words m.store; taken = m.taken.items })
+pages_in m = pages_of (memory_in m)
 
 -- the pages of a row's share below a page are taken, and the page stands in the share
 pub record IsSearched (m : Pages) (row page : ℕ) : Type 0 where
@@ -96,32 +99,51 @@ searched-found m row page searched free = record { inside = searched.inside; fre
 
 -- ---- the pages of a share that are free
 
--- each page is free or taken
-free_and_taken : (taken : List Bool) (start count : ℕ) → start + count ≤ length taken
-    → count_by not (take count (drop start taken)) + count_below (λ k. taken_of taken (start + k)) count ≡ count
-unfolding count_below taken_of
-free_and_taken taken start zero within = refl
-free_and_taken taken start (suc count) within =
-    let rest = free_and_taken taken start count (omega arith) in
-    let here : get_or (drop start taken) count false ≡ taken_of taken (start + count) = get_or-drop start taken count false in
-    let inside : count < length (drop start taken) = simp length-drop (omega arith) in
-    elim (cases_Bool (taken_of taken (start + count))) [
-      | inl held ↦
-          let more = count_by_more_no not (drop start taken) count false inside (rw (here, held)) in
-          rw held (omega (arith, rest, rw (add-one count) at more))
-      | inr free ↦
-          let more = count_by_more_yes not (drop start taken) count false inside (rw (here, free)) in
-          rw free (omega (arith, rest, rw (add-one count) at more))
-    ]
+-- at first all are
+pub counts-new : (m : ManifestRows) → CountsFree (quotas_of m.partitions) (new_memory m).taken (quotas_of m.partitions)
+counts-new m = record {
+  rows = refl;
+  each = λ row below. let none = used_by-new m row in omega (arith, none);
+}
 
--- so those of a share that are free are the quota without those that are used
-pub count_by-share : (m : Memory) (p row start end : ℕ) → row_of m.ids p ≡ row → start ≡ share_start m.quotas row → end ≡ start + quota_of m.quotas row → end ≤ length m.taken
-    → count_by not (take (end - start) (drop start m.taken)) ≡ free_of (pages_of m) p
-count_by-share m p row start end is begins ends within =
-    let size : end - start ≡ quota_of m.quotas row = omega arith in
-    let share : start + quota_of m.quotas row ≤ length m.taken = omega arith in
-    let all = free_and_taken m.taken (share_start m.quotas row) (quota_of m.quotas row) (rw begins at share) in
-    rw (size, begins, is) (omega (arith, all))
+-- a page of a row's share gets another mark, and the row another count, which is right
+counts-set : (m : Memory) (free : List ℕ) (row page n : ℕ) (is : Bool) → CountsFree m.quotas m.taken free → InShare m.quotas row page → page < length m.taken
+    → n + used_by (with_mark page is (pages_of m)) row ≡ quota_of m.quotas row
+    → CountsFree m.quotas (slice_set m.taken page is) (slice_set free row n)
+counts-set m free row page n is counts inside below right = record {
+  rows = length-set free row n ∙ counts.rows;
+  each = λ r small. ap (λ t. slice_index (slice_set free row n) r + used_of m.quotas t r) (taken_of-set m.taken page is below) ∙ (elim (cases_eq r row) [
+    | inl same ↦ rw same (ap (λ x. x + used_by (with_mark page is (pages_of m)) row) (get_or-set_same free row n 0 (let rows = counts.rows in omega (arith, rows, inside.partition))) ∙ right)
+    | inr differs ↦ ap₂ (λ x y. x + y) (get_or-set_other free row r n 0 differs) (used_by-other (pages_of m) row r page is inside differs) ∙ counts.each r small
+  ]);
+}
+
+-- one page less is free, once one is taken
+pub counts-take : (m : Memory) (free : List ℕ) (row page n : ℕ) → CountsFree m.quotas m.taken free → InShare m.quotas row page → page < length m.taken → taken_of m.taken page ≡ false → n + 1 ≡ slice_index free row
+    → CountsFree m.quotas (slice_set m.taken page true) (slice_set free row n)
+counts-take m free row page n counts inside below is_free less =
+    let was = counts.each row inside.partition in
+    let now = used_by-take (pages_of m) row page inside is_free in
+    counts-set m free row page n true counts inside below (omega (arith, was, now, less))
+
+-- and one more, once one is given back
+pub counts-give : (m : Memory) (free : List ℕ) (row page n : ℕ) → CountsFree m.quotas m.taken free → InShare m.quotas row page → page < length m.taken → taken_of m.taken page ≡ true → n ≡ slice_index free row + 1
+    → CountsFree m.quotas (slice_set m.taken page false) (slice_set free row n)
+counts-give m free row page n counts inside below is_taken more =
+    let was = counts.each row inside.partition in
+    let now = used_by-give (pages_of m) row page inside is_taken in
+    counts-set m free row page n false counts inside below (omega (arith, was, now, more))
+
+-- while a page is taken, not all are free
+pub counts-below : (m : Memory) (free : List ℕ) (row page : ℕ) → CountsFree m.quotas m.taken free → InShare m.quotas row page → taken_of m.taken page ≡ true → slice_index free row + 1 ≤ quota_of m.quotas row
+counts-below m free row page counts inside is_taken =
+    let was = counts.each row inside.partition in
+    let now = used_by-give (pages_of m) row page inside is_taken in
+    omega (arith, was, now)
+
+-- what is counted for a partition
+pub counts-free : (m : Memory) (free : List ℕ) (p row : ℕ) → CountsFree m.quotas m.taken free → row_of m.ids p ≡ row → row < length m.quotas → slice_index free row ≡ free_of (pages_of m) p
+counts-free m free p row counts is small = let each = counts.each row small in rw is (omega (arith, each))
 
 -- ---- rows
 

@@ -76,8 +76,17 @@ pub record InShare (quotas : List ℕ) (row page : ℕ) : Type 0 where
   pub to : page < share_start quotas row + quota_of quotas row
 
 -- how many pages of a row's share are taken
+abbrev pub used_of : List ℕ → (ℕ → Bool) → ℕ → ℕ
+used_of quotas taken row = count_below (λ k. taken (share_start quotas row + k)) (quota_of quotas row)
+
 abbrev pub used_by : Pages → ℕ → ℕ
-used_by m row = count_below (λ k. m.taken (share_start m.quotas row + k)) (quota_of m.quotas row)
+used_by m row = used_of m.quotas m.taken row
+
+-- a list of how many pages of each row's share are free
+pub record CountsFree (quotas : List ℕ) (taken : List Bool) (free : List ℕ) : Type 0 where
+  pub rows : length free ≡ length quotas
+  pub each : (row : ℕ) → row < length quotas
+      → slice_index free row + used_of quotas (taken_of taken) row ≡ quota_of quotas row
 
 -- how many pages of a partition's share are free
 abbrev pub free_of : Pages → ℕ → ℕ

@@ -1,7 +1,7 @@
-ghost use Rattle.std.specs.Prelude.{◌≡◌, ℕ, ◌+◌, ◌*◌, ◌<◌, ◌≤◌, ◌^◌, ◌==◌, ◌++◌, length, position, sum, count_by, replicate, not, true, false, IfOk};
+ghost use Rattle.std.specs.Prelude.{◌≡◌, ℕ, ◌+◌, ◌*◌, ◌<◌, ◌≤◌, ◌^◌, ◌==◌, ◌++◌, length, position, sum, replicate, true, false, IfOk};
 ghost use Rattle.base.specs.Manifest.{page_count};
 ghost use Rattle.base.specs.Manifest as rows;
-ghost use Rattle.pool.specs.Pool.{words_of, taken_of};
+ghost use Rattle.pool.specs.Pool.{CountsFree, words_of, taken_of};
 ghost use Rattle.pool.specs.Pool as shares;
 
 use crate::image::Image;
@@ -16,18 +16,20 @@ use std::alloc::Global;
 mod tests;
 
 /// Table memory whose words stand in a store, 512 for each page, page by page. `taken` has a mark for
-/// each page.
+/// each page, and `free` says for each row how many pages of its share are free.
 #[derive(Drop)]
 pub struct TablePool<S: WordStore> {
     ids: Vec<PartitionId>,
     quotas: Vec<u32>,
     pub(crate) store: S,
     taken: Vec<bool>,
+    free: Vec<u32>,
     operations: Vec<Op>,
     made: u64,
     ghost ids_whole: { length ids.items ≡ length quotas.items },
     ghost words_whole: { length (S.words store) ≡ 512 * page_count quotas.items },
     ghost taken_whole: { length taken.items ≡ page_count quotas.items },
+    ghost free_counted: { CountsFree quotas.items taken.items free.items },
     ghost fits: { page_count quotas.items ≤ 2 ^ 27 },
     ghost roots: { (row : ℕ) → row < length quotas.items → taken_of taken.items row ≡ true },
     ghost free_zero: { (page index : ℕ) → taken_of taken.items page ≡ false
@@ -82,13 +84,6 @@ fn share_start(quotas: &[u32], row: usize) -> u32
     quotas.len() as u32 + total(&quotas[..row])
 }
 
-/// How many pages are free, by whether each is taken.
-fn free_count(taken: &[bool]) -> usize
-    ensures { result ≡ count_by not taken.now }
-{
-    taken.iter().filter(|is_taken| !**is_taken).count()
-}
-
 impl<S: WordStore> TableMem for TablePool<S> {
     ghost use Rattle.std.specs.Prelude.{◌-◌, vec_len, vec_capacity, reverse};
 
@@ -126,6 +121,7 @@ impl<S: WordStore> TableMem for TablePool<S> {
             quotas,
             store: S::zeroed(alloc, 512 * (roots + shares))?,
             taken: marks(alloc, roots, shares)?,
+            free: quotas_of(alloc, partitions)?,
             operations: Vec::new(alloc),
             made: 0,
         })
@@ -160,21 +156,20 @@ impl<S: WordStore> TableMem for TablePool<S> {
             page += 1;
         }
         self.taken[page as usize] = true;
+        self.free[row] -= 1;
         page
     }
 
-    fn give_page(&mut self, _p: PartitionId, page: u32) {
+    fn give_page(&mut self, p: PartitionId, page: u32) {
+        let row = row_of(&self.ids, p).unwrap();
         self.taken[page as usize] = false;
+        self.free[row] += 1;
     }
 
     fn free(&self, p: PartitionId) -> u32 {
         match row_of(&self.ids, p) {
+            Some(row) => self.free[row],
             None => 0,
-            Some(row) => {
-                let start = share_start(&self.quotas, row) as usize;
-                let end = start + self.quotas[row] as usize;
-                free_count(&self.taken[start..end]) as u32
-            }
         }
     }
 

@@ -37,14 +37,14 @@ loop-index-preserved g c =
           alike-more answer c.args.chunk i c.loop-index.invariant
           (sym (w.is_alike.ensures ∙ ap₂ is_alike next first) ∙ w.if-not-is_alike.false)
       | else-not-says w ↦ elim c.if-is_kept.branch [
-          | then-is_kept v ↦
-              let n = 512 * c.args.chunk + i in
-              let says : v.says.result ≡ true = sym v.value-is ∙ w.if-not-says.false in
-              let kept : is_alike c.args.access.now (answer (512 * c.args.chunk)) ≡ true = sym (c.is_alike-is_kept.ensures ∙ ap (is_alike c.args.access.now) first) ∙ v.if-is_kept.true in
-              let same : before n ≡ answer (512 * c.args.chunk) = ap before (sym c.page-page.ensures.same) ∙ v.says.ensures c.args.layout.now says ∙ first in
-              alike-more answer c.args.chunk i c.loop-index.invariant (kept-alike (covers c.args.runs.now n) c.args.access.now (before n) (answer (512 * c.args.chunk)) kept same)
-          | else-is_kept v ↦ absurd (let bad : true ≡ false = sym w.if-not-says.false ∙ v.value-is ∙ v.if-is_kept.false in cc)
-        ]
+        | then-is_kept v ↦
+            let n = 512 * c.args.chunk + i in
+            let says : v.says.result ≡ true = sym v.value-is ∙ w.if-not-says.false in
+            let kept : is_alike c.args.access.now (answer (512 * c.args.chunk)) ≡ true = sym (c.is_alike-is_kept.ensures ∙ ap (is_alike c.args.access.now) first) ∙ v.if-is_kept.true in
+            let same : before n ≡ answer (512 * c.args.chunk) = ap before (sym c.page-page.ensures.same) ∙ v.says.ensures c.args.layout.now says ∙ first in
+            alike-more answer c.args.chunk i c.loop-index.invariant (kept-alike (covers c.args.runs.now n) c.args.access.now (before n) (answer (512 * c.args.chunk)) kept same)
+        | else-is_kept v ↦ absurd (let bad : true ≡ false = sym w.if-not-says.false ∙ v.value-is ∙ v.if-is_kept.false in cc)
+      ]
     ]
 
 pub returns : goal.returns

@@ -1,7 +1,8 @@
-use Rattle.std.proofs.Common.{◌≡◌, ◌+◌, ◌*◌, ◌∙◌, ap, arith, length, sum}
+use Rattle.std.proofs.Common.{◌≡◌, ◌+◌, ◌*◌, ◌∙◌, ap, arith, true, false, length, replicate, ◌++◌, sum}
+use Rattle.base.specs.Manifest.{quotas_of}
 use Rattle.std.proofs.lemmas.List.{length-append, length-replicate}
 use Rattle.pool.proofs.Words.{words_of-zeros}
-use Rattle.pool.proofs.Kept.{roots-new, length-quotas_of, page_count-le}
+use Rattle.pool.proofs.Kept.{roots-new, length-quotas_of, page_count-le, counts-new}
 use Rattle.pool.proofs.table_pool.TablePoolTableMem.make.Goals as goal
 
 pub invariant_of-result-clause-words_whole : goal.invariant_of-result-clause-words_whole
@@ -28,3 +29,13 @@ invariant_of-result-clause-roots g c = λ row below.
 pub invariant_of-result-clause-free_zero : goal.invariant_of-result-clause-free_zero
 invariant_of-result-clause-free_zero g c = λ page index free.
     rw c.in_ok-zeroed.ensures (words_of-zeros (512 * (length c.partitions-partitions.result.now + c.total-shares.result)) page index)
+
+pub invariant_of-result-clause-free_counted : goal.invariant_of-result-clause-free_counted
+invariant_of-result-clause-free_counted g c =
+    let parts = c.partitions-partitions.result.now in
+    let quotas : c.in_ok-quotas.quotas.items ≡ quotas_of parts = c.in_ok-quotas.ensures in
+    let again : c.in_ok-quotas_of.field-0.items ≡ quotas_of parts = c.in_ok-quotas_of.ensures in
+    let shares : c.total-shares.result ≡ sum (quotas_of parts) = (rw c.deref.ensures.value at c.total-shares.ensures) ∙ ap sum quotas in
+    let marks : c.in_ok-marks.field-0.items ≡ replicate (length parts) true ++ replicate (sum (quotas_of parts)) false =
+    c.in_ok-marks.ensures ∙ ap (λ n. replicate (length parts) true ++ replicate n false) shares in
+    rw (quotas, again, marks, c.partitions-partitions.ensures.same) (counts-new c.args.manifest.now)

@@ -1,10 +1,11 @@
-use Rattle.std.proofs.Common.{◌≡◌, ◌==◌, ◌∙◌, sym, arith, length, Some}
+use Rattle.std.proofs.Common.{◌≡◌, ◌==◌, ◌-◌, ◌∙◌, sym, subst, arith, length, slice_index, Some}
+use Rattle.std.proofs.lemmas.List.{get_or_read}
 use Rattle.std.proofs.Math.ListN.{length-set}
 use Rattle.std.specs.List.{position}
 use Rattle.base.specs.Manifest.{row_of}
-use Rattle.pool.specs.Pool.{share_start}
+use Rattle.pool.specs.Pool.{InShare, share_start}
 use Rattle.pool.proofs.Shares.{share_inside}
-use Rattle.pool.proofs.Kept.{pages_in, free_zero-mark, roots-mark, taken_of-read, searched-first, searched-next, searched-within, searched-found, position-found, row_of-within, row_of-found}
+use Rattle.pool.proofs.Kept.{memory_in, pages_in, free_zero-mark, roots-mark, taken_of-read, searched-first, searched-next, searched-within, searched-found, position-found, row_of-within, row_of-found, counts-take, counts-free}
 use Rattle.pool.proofs.table_pool.TablePoolTableMem.take_page.Goals as goal
 
 pub unwrap-row-requires : goal.unwrap-row-requires
@@ -59,3 +60,30 @@ invariant_of-self-clause-roots g c =
     let old = c.args.self.now in
     let inside = searched-within old _ _ c.loop-page.invariant in
     roots-mark old.taken.items (length old.quotas.items) c.loop-page.page _ inside (omega (arith, c.loop-page.invariant.inside.from)) old.roots
+
+pub overflow_sub-index_mut : goal.overflow_sub-index_mut
+overflow_sub-index_mut g c =
+    let old = c.args.self.now in
+    let memory = memory_in old in
+    let found : position (λ id. id == c.args.p) old.ids.items ≡ Some c.unwrap-row.result = rw (← c.deref.ensures.value) (sym c.row_of.ensures ∙ c.unwrap-row.ensures) in
+    let placed = row_of-found old.ids.items c.args.p c.unwrap-row.result found in
+    let rows = old.free_counted.rows in
+    let here = get_or_read old.free.items _ _ (omega (arith, placed.1, old.ids_whole, rows)) c.index_mut-2.ensures.value 0 in
+    let counted = counts-free memory old.free.items c.args.p c.unwrap-row.result old.free_counted placed.0 (omega (arith, placed.1, old.ids_whole)) in
+    let free = c.requires.free in
+    omega (arith, here, counted, free)
+
+pub invariant_of-self-clause-free_counted : goal.invariant_of-self-clause-free_counted
+invariant_of-self-clause-free_counted g c =
+    let old = c.args.self.now in
+    let memory = memory_in old in
+    let found : position (λ id. id == c.args.p) old.ids.items ≡ Some c.unwrap-row.result = rw (← c.deref.ensures.value) (sym c.row_of.ensures ∙ c.unwrap-row.ensures) in
+    let placed = row_of-found old.ids.items c.args.p c.unwrap-row.result found in
+    let rows = old.free_counted.rows in
+    let here : c.index_mut-2.result.now ≡ slice_index old.free.items c.unwrap-row.result = get_or_read old.free.items _ _ (omega (arith, placed.1, old.ids_whole, rows)) c.index_mut-2.ensures.value 0 in
+    let counted = counts-free memory old.free.items c.args.p c.unwrap-row.result old.free_counted placed.0 (omega (arith, placed.1, old.ids_whole)) in
+    let some = c.requires.free in
+    let inside = searched-within old _ _ c.loop-page.invariant in
+    let free = taken_of-read old.taken.items _ _ c.index.ensures inside ∙ c.loop-page-test.false in
+    counts-take memory old.free.items c.unwrap-row.result c.loop-page.page (c.index_mut-2.result.now - 1) old.free_counted
+    (subst (λ r. InShare old.quotas.items r c.loop-page.page) placed.0 c.loop-page.invariant.inside) inside free (omega (arith, here, counted, some))
