@@ -1,13 +1,12 @@
 -- Pages that each item of a list has alike.
-use Rattle.std.proofs.Common.{◌≡◌, ℕ, zero, suc, ◌+◌, ◌<◌, ◌≤◌, ◌^◌, Bool, true, false, ◌||◌, cond, List, [], ◌∷◌, ◌++◌, length, take, get_or, Option, Some, None, find, refl, sym, ap, ap₂, subst, ◌∙◌, arith, inl, inr}
+use Rattle.std.proofs.Common.{◌≡◌, ℕ, suc, ◌+◌, ◌<◌, ◌≤◌, Bool, true, false, ◌||◌, cond, List, [], ◌∷◌, ◌++◌, length, take, get_or, Option, Some, None, find, refl, sym, ap, ap₂, ◌∙◌, arith, inl, inr}
 use Rattle.std.specs.List.{list_any}
 use Rattle.std.specs.Option.{option_map, option_map_or}
 use Rattle.std.proofs.lemmas.Bool.{cases_lt}
 use Rattle.std.proofs.lemmas.List.{get_or_default, take_more}
-use Rattle.base.specs.Pages.{PageRun, in_run, covers}
-use Rattle.base.specs.Ledger.{donation_at, live_at}
-use Rattle.base.specs.Manifest.{RegionRow}
-use Rattle.base.specs.Transactions.{Donation, Live}
+use Rattle.base.specs.Pages.{PageRun, covers}
+use Rattle.base.specs.Ledger.{donation_at}
+use Rattle.base.specs.Transactions.{Donation}
 use Rattle.spans.specs.Alike.{IsAlikeUntil}
 use Rattle.audit.specs.Alike.{AreWhole, Given, given_by, given_at}
 

@@ -1,5 +1,5 @@
 -- Lists that are made number by number.
-use Rattle.std.proofs.Common.{◌≡◌, ℕ, zero, suc, ◌+◌, ◌<◌, ◌≤◌, List, [], ◌∷◌, ◌++◌, refl, sym, ap, ap₂, subst, ◌∙◌, append-nil, append_assoc, add-one, arith}
+use Rattle.std.proofs.Common.{◌≡◌, ℕ, zero, suc, ◌+◌, ◌<◌, ◌≤◌, List, [], ◌∷◌, ◌++◌, refl, sym, ap, ap₂, ◌∙◌, append-nil, append_assoc, arith}
 use Rattle.audit.specs.Entries.{each_below}
 
 pub each-none : {A : Type 0} (xs : List A) (f : ℕ → List A) → xs ≡ xs ++ each_below f 0

@@ -1,11 +1,11 @@
 -- The runs of the entries of views are the maximal runs of the views.
-use Rattle.std.proofs.Common.{◌≡◌, ℕ, zero, suc, ◌+◌, ◌-◌, ◌*◌, ◌/◌, ◌^◌, ◌<◌, ◌≤◌, Bool, true, false, cond, List, [], ◌∷◌, ◌++◌, drop, get_or, length, Option, Some, None, refl, sym, ap, subst, ◌∙◌, arith, inl, inr, drop-cons, add-one}
+use Rattle.std.proofs.Common.{◌≡◌, ℕ, zero, suc, ◌+◌, ◌-◌, ◌*◌, ◌<◌, ◌≤◌, true, List, [], ◌∷◌, ◌++◌, drop, get_or, length, Some, None, refl, sym, ap, ◌∙◌, arith, inl, inr, drop-cons, add-one}
 use Rattle.std.proofs.lemmas.Bool.{cases_Bool}
 use Rattle.base.specs.Access.{Access, View, is_same}
-use Rattle.base.specs.Need.{is_alike, is_mixed, is_reached}
+use Rattle.base.specs.Need.{is_mixed, is_reached}
 use Rattle.stage2.proofs.Counting.Needs.{alike-self, equal-first}
 use Rattle.stage2.proofs.Editing.Gigabyte.{not-reached}
-use Rattle.audit.specs.Entries.{TableEntry, each_below, leaf_entries, table_entry, page_entries, chunk_entries, gigabyte_entries, entries}
+use Rattle.audit.specs.Entries.{TableEntry, each_below, leaf_entries, page_entries, chunk_entries, gigabyte_entries, entries}
 use Rattle.audit.specs.Runs.{ValuedRun, valued, with_next, maximal_runs, reached_runs, pages_at, with_entry, with_entries}
 use Rattle.audit.proofs.MaximalRuns.{none-until, some-until}
 

@@ -1,19 +1,17 @@
 -- The views of a reached state, as the tables are filled with them.
-use Rattle.std.proofs.Common.{◌≡◌, ◌≢◌, ℕ, ◌+◌, ◌^◌, ◌<◌, ◌≤◌, Bool, true, false, cond, eqb, ltb, List, length, get_or, [], ◌∷◌, not, suc, find, Option, Some, None, refl, sym, ap, subst, ◌∙◌, arith, inl, inr, add-one}
+use Rattle.std.proofs.Common.{◌≡◌, ◌≢◌, ℕ, ◌+◌, ◌^◌, ◌<◌, ◌≤◌, true, false, cond, eqb, ltb, List, length, get_or, [], ◌∷◌, not, suc, find, Option, Some, None, refl, sym, ap, subst, ◌∙◌, arith, inl, inr}
 use Rattle.std.specs.Option.{option_map_or, option_and_then}
 use Rattle.std.proofs.lemmas.Bool.{cases_lt, cases_eq}
 use Rattle.std.proofs.lemmas.Bool.Decides.{nat_tests}
 use Rattle.std.proofs.lemmas.List.{length-map}
-use Rattle.base.specs.Access.{Access, View}
+use Rattle.base.specs.Access.{View}
 use Rattle.base.specs.Ledger.{donation_at, live_at, view, view_under}
 use Rattle.base.specs.Manifest.{PartitionRow, RegionRow, ManifestRows, region_at, granted_in, ids_of, row_of}
 use Rattle.base.specs.Need.{need}
-use Rattle.base.specs.State.{State, sees}
 use Rattle.base.specs.Transactions.{Donation, Live}
-use Rattle.manifest.specs.Valid.{quota_of, is_valid}
+use Rattle.manifest.specs.Valid.{quota_of}
 use Rattle.manifest.proofs.Facts.{Facts}
 use Rattle.pool.proofs.Shares.{row_of-injective}
-use Rattle.stage2.specs.Boot.{view_below}
 use Rattle.stage2.proofs.Editing.BootRegions.{row-at}
 use Rattle.stage2.specs.Slot.{layout_of}
 use Rattle.stage2.specs.Tables.{TablesView, walk_in, AreCanonical}
@@ -23,7 +21,7 @@ use Rattle.audit.specs.Alike.{IsSegment}
 use Rattle.audit.specs.Filling.{views, KeepsOthers, IsFilled, AreFilled}
 use Rattle.audit.specs.Laws.{AreOfReached}
 use Rattle.audit.proofs.FillUpward.{below-in}
-use Rattle.audit.proofs.Quotas.{within_quotas, need-same, none-needed, quota_at}
+use Rattle.audit.proofs.Quotas.{within_quotas, need-same, none-needed}
 
 no_quota : (rows : List PartitionRow) (p : ℕ) → length (ids_of rows) ≤ row_of (ids_of rows) p → option_map_or (λ (row : PartitionRow). row.quota) (find (λ row. eqb row.id p) rows) 0 ≡ 0
 no_quota [] p le = refl

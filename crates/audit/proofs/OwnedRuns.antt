@@ -1,8 +1,8 @@
 -- Runs of pages with one owner and one home, made segment by segment.
-use Rattle.std.proofs.Common.{◌≡◌, ℕ, ◌-◌, ◌<◌, ◌≤◌, true, eqb, List, Option, Some, None, refl, sym, ap, ◌∙◌, arith, eq-eqb}
+use Rattle.std.proofs.Common.{◌≡◌, ℕ, ◌<◌, ◌≤◌, true, eqb, List, Option, Some, None, refl, sym, ap, ◌∙◌, arith, eq-eqb}
 use Rattle.base.specs.Access.{is_same}
 use Rattle.base.proofs.Booleans.{and_true}
-use Rattle.audit.specs.Runs.{ValuedRun, Ownership, OwnedRun, valued, with_next, maximal_runs, is_same_ownership, with_owned}
+use Rattle.audit.specs.Runs.{Ownership, OwnedRun, maximal_runs, is_same_ownership, with_owned}
 use Rattle.audit.proofs.EntryRuns.{same-self}
 use Rattle.audit.proofs.MaximalRuns.{none-until, some-until}
 

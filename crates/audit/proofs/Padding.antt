@@ -1,7 +1,7 @@
 -- Numbers with zeros in front.
-use Rattle.std.proofs.Common.{◌≡◌, ℕ, ◌+◌, ◌-◌, ◌^◌, false, ◌*◌, List, [], ◌++◌, length, replicate, Some, refl, sym, ap, ◌∙◌, subst, append-nil, arith}
+use Rattle.std.proofs.Common.{◌≡◌, ℕ, ◌-◌, ◌^◌, false, List, [], ◌++◌, length, replicate, Some, ap, ◌∙◌, subst, append-nil, arith}
 use Rattle.std.specs.Option.{option_map}
-use Rattle.std.specs.Fmt.{AppendsText, digits, char_count, padded_integral, format_spec, digits_output, styled_digits_output, shown_prefix, radix_prefix}
+use Rattle.std.specs.Fmt.{AppendsText, digits, char_count, padded_integral, format_spec, digits_output, styled_digits_output}
 use Rattle.audit.specs.Texts.{hex}
 
 -- what a hole such as `{:04x}` writes

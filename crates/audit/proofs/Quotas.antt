@@ -1,5 +1,5 @@
 -- In each reached state what a partition reaches fits its quota.
-use Rattle.std.proofs.Common.{◌≡◌, ℕ, zero, suc, ◌+◌, ◌*◌, ◌/◌, ◌%◌, ◌^◌, ◌<◌, ◌≤◌, Bool, true, false, not, ◌&&◌, cond, eqb, leb, List, [], ◌∷◌, Option, Some, None, IsTrue, length, get_or, find, refl, sym, ap, ap₂, subst, ◌∙◌, arith, inl, inr}
+use Rattle.std.proofs.Common.{◌≡◌, ℕ, zero, suc, ◌+◌, ◌*◌, ◌/◌, ◌%◌, ◌^◌, ◌<◌, ◌≤◌, Bool, true, false, not, ◌&&◌, cond, eqb, List, [], ◌∷◌, Option, Some, None, IsTrue, length, get_or, find, refl, sym, ap, ap₂, subst, ◌∙◌, arith, inl, inr}
 use Rattle.std.specs.Option.{option_map_or}
 use Rattle.std.proofs.lemmas.Bool.{leb-true, eqb-true, cases_Bool, cases_lt}
 use Rattle.base.specs.Access.{View}
@@ -8,7 +8,6 @@ use Rattle.base.specs.Manifest.{PartitionRow, ManifestRows, ids_of, quotas_of, r
 use Rattle.base.specs.Need.{is_mixed, is_reached, need, grow, reaching}
 use Rattle.base.specs.Pages.{covers}
 use Rattle.base.specs.State.{State, sees, start}
-use Rattle.base.proofs.Booleans.{both}
 use Rattle.manifest.specs.Valid.{is_valid, quota_of}
 use Rattle.manifest.proofs.Facts.{facts, fits_of, stranger}
 use Rattle.pool.proofs.Count.{count_below-same, count_below-none, count_below-some}

@@ -1,10 +1,9 @@
 -- Views that are alike have the same entries, and what is compared partition by partition.
-use Rattle.std.proofs.Common.{◌≡◌, ℕ, zero, suc, ◌+◌, ◌*◌, ◌^◌, ◌<◌, ◌≤◌, Bool, true, false, ◌||◌, cond, eqb, List, [], ◌∷◌, ◌++◌, length, get_or, refl, sym, ap, ap₂, subst, ◌∙◌, arith, inl, inr, eq-eqb, codes}
+use Rattle.std.proofs.Common.{◌≡◌, ℕ, zero, suc, ◌+◌, ◌*◌, ◌^◌, ◌<◌, ◌≤◌, Bool, true, false, ◌||◌, eqb, List, [], ◌∷◌, length, get_or, refl, sym, ap, subst, ◌∙◌, arith, inl, inr, eq-eqb, codes}
 use Rattle.std.specs.List.{list_any}
-use Rattle.std.proofs.lemmas.Bool.{cases_Bool, cases_lt}
+use Rattle.std.proofs.lemmas.Bool.{cases_lt}
 use Rattle.base.specs.Access.{View}
 use Rattle.base.specs.Manifest.{PartitionRow, ManifestRows, is_partition, ids_of, row_of}
-use Rattle.base.specs.Need.{is_mixed, is_reached}
 use Rattle.manifest.proofs.Facts.{not_partition, id-row_of}
 use Rattle.stage2.proofs.Counting.Needs.{mixed-same, reached-same}
 use Rattle.base.specs.Ledger.{view}
@@ -14,7 +13,7 @@ use Rattle.stage2.specs.Orderly.{answer_of}
 use Rattle.stage2.specs.Tables.{TablesView, view_of}
 use Rattle.stage2.proofs.Editing.ChunkKeeps.{answer-walked}
 use Rattle.audit.specs.Audit.{HaveEntriesOf, HaveSameEntries, Tells, IsAuditText}
-use Rattle.audit.specs.Entries.{TableEntry, each_below, leaf_entries, table_entry, page_entries, chunk_entries, gigabyte_entries, entries}
+use Rattle.audit.specs.Entries.{leaf_entries, page_entries, chunk_entries, gigabyte_entries, entries}
 use Rattle.audit.proofs.EachBelow.{each-same}
 
 module _ (v w : ℕ → View) (alike : (n : ℕ) → n < 2 ^ 27 → w n ≡ v n) where

@@ -1,10 +1,9 @@
 -- The texts of views that are alike on all pages are the same.
-use Rattle.std.proofs.Common.{◌≡◌, ℕ, ◌^◌, ◌<◌, ◌++◌, List, length, refl, sym, ap, ap₂, ◌∙◌}
+use Rattle.std.proofs.Common.{◌≡◌, ℕ, ◌^◌, ◌<◌, ◌++◌, List, length, ap, ap₂}
 use Rattle.std.specs.List.{flat_map}
-use Rattle.base.specs.Access.{Access, View, is_same}
-use Rattle.base.specs.Need.{need}
-use Rattle.audit.specs.Entries.{TableEntry, entries}
-use Rattle.audit.specs.Runs.{ReachedRun, reached_runs}
+use Rattle.base.specs.Access.{View, is_same}
+use Rattle.audit.specs.Entries.{TableEntry}
+use Rattle.audit.specs.Runs.{ReachedRun}
 use Rattle.audit.specs.Texts.{maps_header, maps_line, maps_text, tables_header, entry_line, tables_text}
 use Rattle.audit.proofs.MaximalRuns.{runs-same}
 use Rattle.audit.proofs.Quotas.{need-same}

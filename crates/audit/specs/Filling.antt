@@ -1,5 +1,5 @@
 -- Tables of one partition that are filled upward, run by run.
-use Rattle.std.specs.Prelude.{◌≡◌, ◌≢◌, ℕ, ◌-◌, ◌^◌, ◌<◌, ◌≤◌, true, List, [], ◌∷◌, Option, Some, None, if◌then◌else◌, nat_lt, length}
+use Rattle.std.specs.Prelude.{◌≡◌, ◌≢◌, ℕ, ◌-◌, ◌^◌, ◌<◌, ◌≤◌, List, [], ◌∷◌, Some, None, if◌then◌else◌, nat_lt}
 use Rattle.base.specs.Access.{Access, View}
 use Rattle.base.specs.Ledger.{view}
 use Rattle.base.specs.Manifest.{ManifestRows, row_of, ids_of}

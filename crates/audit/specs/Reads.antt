@@ -1,11 +1,15 @@
 -- What a read of the tables finds of the places where tables hang.
-use Rattle.std.specs.Prelude.{◌≡◌, ℕ, ◌<◌, Bool, Option, Some, length}
+use Rattle.std.specs.Prelude.{◌≡◌, ℕ, ◌<◌, Bool, Option, Some, None, length}
+use Rattle.base.specs.Access.{View}
 use Rattle.base.specs.Manifest.{row_of}
 use Rattle.base.specs.Need.{is_mixed, is_reached}
 use Rattle.pool.specs.Pool.{words_of}
+use Rattle.words.specs.declared.word.Entry.{Entry}
+use Rattle.words.specs.declared.word.Entry.TheVariants.{Invalid, Table, Leaf, Wrong}
+use Rattle.words.specs.Words.{entry_of}
 use Rattle.stage2.specs.Slot.{slot}
 use Rattle.stage2.specs.Tables.{TablesView, view_of}
-use Rattle.stage2.specs.Walk.{Gigabyte, next_page, table_at}
+use Rattle.stage2.specs.Walk.{Gigabyte, Chunk, next_page, table_at}
 
 -- the pool page of the table that a word points at
 abbrev pub next_in : TablesView → ℕ → ℕ → ℕ → Option ℕ
@@ -18,6 +22,24 @@ pub record IsLevel2 (t : TablesView) (p g j : ℕ) : Type 0 where
   pub hangs : table_at t.layout (words_of t.pool.memory.words) (Gigabyte (row_of t.layout.ids p) g)
       ≡ Some j
   pub inside : j < t.layout.pages
+
+-- and this one the level 3 table of a chunk
+pub record IsLevel3 (t : TablesView) (p c k : ℕ) : Type 0 where
+  pub row : row_of t.layout.ids p < length t.layout.ids
+  pub hangs : table_at t.layout (words_of t.pool.memory.words) (Chunk (row_of t.layout.ids p) c)
+      ≡ Some k
+  pub inside : k < t.layout.pages
+
+-- what is reached by a block or a page
+abbrev pub leaf_of : Entry → View
+leaf_of Invalid = None
+leaf_of (Table page) = None
+leaf_of (Leaf page access) = Some access
+leaf_of Wrong = None
+
+-- what is reached by the word at an index of a table
+abbrev pub leaf_in : TablesView → ℕ → ℕ → ℕ → View
+leaf_in t level table index = leaf_of (entry_of level (words_of t.pool.memory.words table index))
 
 -- a page of the gigabyte is reached
 abbrev pub is_reached_in : TablesView → ℕ → ℕ → Bool

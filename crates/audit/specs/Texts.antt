@@ -1,5 +1,5 @@
 -- The texts: each is a function of the views, of the owners or of the manifest alone.
-use Rattle.std.specs.Prelude.{ℕ, ◌+◌, ◌-◌, ◌*◌, false, ◌==◌, List, [], ◌∷◌, ◌++◌, Some, None, length, replicate, codes, if◌then◌else◌}
+use Rattle.std.specs.Prelude.{ℕ, ◌-◌, ◌*◌, false, ◌==◌, List, ◌++◌, Some, None, length, replicate, codes, if◌then◌else◌}
 use Rattle.std.specs.List.{flat_map}
 use Rattle.std.specs.Fmt.{digits, decimal}
 use Rattle.base.specs.Access.{Access, View, is_rw, is_normal}

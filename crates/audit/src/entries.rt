@@ -145,21 +145,43 @@ fn level2_table<M: TableMem + Drop>(
     next_table(manifest, tables, 1, root, gigabyte)
 }
 
-/// Whether a chunk has a level 3 table, as its word in the level 2 table of its gigabyte says.
-fn has_level3_table<M: TableMem + Drop>(
+/// The pool page of the level 3 table of a chunk, where its pages are not all reached alike, as its
+/// word in the level 2 table of its gigabyte says.
+fn level3_table<M: TableMem + Drop>(
     manifest: &Manifest,
     tables: &Tables<M>,
     p: PartitionId,
     table: u32,
     chunk: u32,
-) -> bool
+) -> Option<u32>
     requires placed { tables.now.layout ≡ layout_of manifest.now }
     requires chunk { chunk < 262144 }
     requires level2 { reads.IsLevel2 tables.now p (chunk / 512) table }
-    ensures { result ≡ reads.is_mixed_in tables.now p chunk }
+    ensures is_level3 { (k : ℕ) → result ≡ Some k → reads.IsLevel3 tables.now p chunk k }
+    ensures mixed { is_some result ≡ reads.is_mixed_in tables.now p chunk }
 {
     let _p = p;
-    next_table(manifest, tables, 2, table, chunk % WORDS).is_some()
+    next_table(manifest, tables, 2, table, chunk % WORDS)
+}
+
+/// What is reached by the block or page at an index of a table.
+fn leaf_at<M: TableMem + Drop>(
+    tables: &Tables<M>,
+    level: u8,
+    table: u32,
+    index: u32,
+) -> Option<Access>
+    requires least { 1 ≤ level }
+    requires most { level ≤ 3 }
+    requires table { table < tables.now.layout.pages }
+    requires index { index < 512 }
+    ensures same { result ≡ reads.leaf_in tables.now level table index }
+    ensures canonical { AreCanonical tables.now }
+{
+    match read_entry(level, tables.memory().word(table, index)) {
+        Entry::Leaf(_, access) => Some(access),
+        Entry::Invalid | Entry::Table(_) | Entry::Wrong => None,
+    }
 }
 
 /// The valid entries of a partition's tables in address order, those of a table right after its own.
@@ -228,11 +250,15 @@ fn push_chunk<M: TableMem + Drop>(
     ensures { OnOk result (entries.new.items
         ≡ entries.old.items ++ spec.chunk_entries (view_of tables.now p) chunk) }
 {
-    if has_level3_table(manifest, tables, p, table, chunk) {
-        push_table(2, CHUNK * chunk, entries)?;
-        push_pages(tables, p, chunk, entries)
-    } else {
-        push_leaf(tables, p, 2, CHUNK * chunk, entries)
+    match level3_table(manifest, tables, p, table, chunk) {
+        Some(third) => {
+            push_table(2, CHUNK * chunk, entries)?;
+            push_pages(tables, p, chunk, third, entries)
+        }
+        None => {
+            let block = leaf_at(tables, 2, table, chunk % WORDS);
+            push_leaf(2, CHUNK * chunk, block, entries)
+        }
     }
 }
 
@@ -242,14 +268,18 @@ fn push_pages<M: TableMem + Drop>(
     tables: &Tables<M>,
     p: PartitionId,
     chunk: u32,
+    third: u32,
     entries: &mut Vec<TableEntry>,
 ) -> Result<(), OutOfMemory>
     requires chunk { chunk < 262144 }
+    requires level3 { reads.IsLevel3 tables.now p chunk third }
     ensures { OnOk result (entries.new.items
         ≡ entries.old.items ++ spec.page_entries (view_of tables.now p) chunk) }
 {
+    let _p = p;
     for index in 0..WORDS {
-        push_leaf(tables, p, 3, CHUNK * chunk + index, entries)?;
+        let page = leaf_at(tables, 3, third, index);
+        push_leaf(3, CHUNK * chunk + index, page, entries)?;
     }
     Ok(())
 }
@@ -270,24 +300,22 @@ fn push_table(level: u8, first: u32, entries: &mut Vec<TableEntry>) -> Result<()
 }
 
 /// Appends the block or page that begins at a page, where that is reached.
-fn push_leaf<M: TableMem + Drop>(
-    tables: &Tables<M>,
-    p: PartitionId,
+fn push_leaf(
     level: u8,
     first: u32,
+    leaf: Option<Access>,
     entries: &mut Vec<TableEntry>,
 ) -> Result<(), OutOfMemory>
     requires in_range { first < 2 ^ 27 }
     requires aligned { level ≡ 2 → first % 512 ≡ 0 }
     ensures { OnOk result (entries.new.items
-        ≡ entries.old.items ++ spec.leaf_entries level first (view_of tables.now p first)) }
+        ≡ entries.old.items ++ spec.leaf_entries level first leaf) }
 {
-    let first = Page::new(first);
-    match tables.walk(p, first) {
+    match leaf {
         Some(access) => {
             entries.push(TableEntry {
                 level,
-                first,
+                first: Page::new(first),
                 leaf: Some(access),
             })?;
             Ok(())

@@ -1,4 +1,4 @@
-use Rattle.std.proofs.Common.{◌≡◌, cond, Some, sym, ap, ◌∙◌}
+use Rattle.std.proofs.Common.{cond, Some, sym, ap, ◌∙◌}
 use Rattle.base.specs.Transactions.{Donation}
 use Rattle.audit.specs.Alike.{Given, given_by}
 use Rattle.audit.proofs.AlikePages.{given-step}

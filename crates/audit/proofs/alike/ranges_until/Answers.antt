@@ -1,6 +1,3 @@
-use Rattle.base.specs.Pages.{in_run, covers}
-use Rattle.base.specs.Manifest.{RegionRow}
-use Rattle.base.specs.Transactions.{Live}
 use Rattle.audit.proofs.AlikePages.{any-until}
 use Rattle.audit.proofs.alike.ranges_until.Goals as goal
 

@@ -1,5 +1,4 @@
-use Rattle.std.proofs.Common.{◌≡◌}
-use Rattle.base.specs.Pages.{in_run, covers}
+use Rattle.base.specs.Pages.{in_run}
 use Rattle.audit.specs.Alike.{AreWhole}
 use Rattle.audit.proofs.alike.regions_until.Given as goal
 

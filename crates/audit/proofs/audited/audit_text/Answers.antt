@@ -1,4 +1,4 @@
-use Rattle.std.proofs.Common.{◌≡◌, List, ◌++◌, codes, string_bytes, sym, ap, subst, ◌∙◌}
+use Rattle.std.proofs.Common.{◌≡◌, List, ◌++◌, codes, string_bytes, ap, subst, ◌∙◌}
 use Rattle.base.specs.Ledger.{view}
 use Rattle.base.specs.Transactions.{Donation, Live}
 use Rattle.stage2.specs.Boot.{AllWalksAre}

@@ -1,4 +1,4 @@
-use Rattle.std.proofs.Common.{◌≡◌, ℕ, ◌<◌, List, length, get_or, refl, sym, ap, subst, ◌∙◌, inl, inr, arith}
+use Rattle.std.proofs.Common.{◌≡◌, ℕ, ◌<◌, List, length, get_or, refl, ap, subst, inl, arith}
 use Rattle.base.specs.Manifest.{PartitionRow}
 use Rattle.stage2.specs.Tables.{view_of}
 use Rattle.audit.specs.Entries.{entries}

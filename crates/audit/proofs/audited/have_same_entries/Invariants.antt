@@ -1,4 +1,4 @@
-use Rattle.std.proofs.Common.{◌≡◌, ℕ}
+use Rattle.std.proofs.Common.{◌≡◌}
 use Rattle.stage2.specs.Tables.{view_of}
 use Rattle.audit.specs.Entries.{entries}
 use Rattle.audit.proofs.SameEntries.{HoldsBelow}

@@ -1,4 +1,4 @@
-use Rattle.std.proofs.Common.{◌≡◌, ℕ, eqb, position, Some, None, is_some, sym, ap, subst, ◌∙◌}
+use Rattle.std.proofs.Common.{eqb, position, is_some, sym, ap, ◌∙◌}
 use Rattle.stage2.specs.Slot.{Layout}
 use Rattle.audit.proofs.WordReads.{reached-read, level2-read, rootless-read}
 use Rattle.audit.proofs.entries.level2_table.Goals as goal

@@ -1,4 +1,4 @@
-use Rattle.std.proofs.Common.{◌≡◌, ◌++◌, ap, ◌∙◌}
+use Rattle.std.proofs.Common.{◌++◌, ap, ◌∙◌}
 use Rattle.stage2.specs.Tables.{view_of}
 use Rattle.audit.specs.Entries.{each_below, gigabyte_entries, entries}
 use Rattle.audit.proofs.EachBelow.{each-none, each-more, each-all}

@@ -1,4 +1,4 @@
-use Rattle.std.proofs.Common.{◌≡◌, ◌++◌, ◌+◌, ◌*◌}
+use Rattle.std.proofs.Common.{◌≡◌, ◌++◌}
 use Rattle.stage2.specs.Tables.{view_of}
 use Rattle.audit.specs.Entries as spec
 use Rattle.audit.proofs.entries.table_entries.Given as goal

@@ -1,7 +1,5 @@
 use Rattle.std.proofs.Common.{◌≡◌, ◌++◌, string_bytes, length, take}
 use Rattle.std.specs.List.{flat_map}
-use Rattle.stage2.specs.Tables.{view_of}
-use Rattle.audit.specs.Runs.{reached_runs}
 use Rattle.audit.specs.Texts as spec
 use Rattle.audit.proofs.maps.maps_text.Given as goal
 

@@ -1,6 +1,6 @@
-use Rattle.std.proofs.Common.{◌≡◌, ℕ, ◌≤◌, List, sym, ap, ◌∙◌, arith}
+use Rattle.std.proofs.Common.{ap, arith}
 use Rattle.base.specs.Manifest.{ManifestRows}
-use Rattle.audit.specs.Runs.{maximal_runs, ownership, is_same_ownership}
+use Rattle.audit.specs.Runs.{maximal_runs, ownership}
 use Rattle.audit.proofs.OwnedRuns.{owned-more}
 use Rattle.audit.proofs.owners.owned_runs.Goals as goal
 

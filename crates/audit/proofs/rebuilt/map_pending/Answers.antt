@@ -1,4 +1,4 @@
-use Rattle.std.proofs.Common.{◌≡◌, ℕ, ◌-◌, ◌<◌, ◌≤◌, [], ◌∷◌, Some, sym, ap, subst, ◌∙◌, arith}
+use Rattle.std.proofs.Common.{◌≡◌, ℕ, ◌-◌, [], ◌∷◌, Some, sym, ap, subst, ◌∙◌, arith}
 use Rattle.base.specs.Pages.{PageRun}
 use Rattle.stage2.specs.Tables.{Fits}
 use Rattle.audit.proofs.FillUpward.{fits-same}

@@ -1,12 +1,11 @@
-use Rattle.std.proofs.Common.{◌≡◌, ℕ, ◌^◌, ◌<◌, true, false, Some, sym, ap, subst, ◌∙◌, arith}
+use Rattle.std.proofs.Common.{◌≡◌, ◌^◌, true, false, sym, ap, subst, ◌∙◌}
 use Rattle.std.proofs.lemmas.Result.{on_ok_weaker}
-use Rattle.base.specs.Access.{Access, View}
 use Rattle.base.specs.Ledger.{view}
 use Rattle.base.specs.Need.{is_alike}
 use Rattle.stage2.specs.Tables.{TablesView}
 use Rattle.audit.specs.Alike.{IsSegment}
 use Rattle.audit.specs.Filling.{views, KeepsOthers}
-use Rattle.audit.proofs.FillUpward.{below-in, can-map, mapped, others, others-more, others-none, edge-between, edge-last, filling-more, filling-next, filling-after, filled}
+use Rattle.audit.proofs.FillUpward.{below-in, can-map, mapped, others, others-more, edge-between, edge-last, filling-more, filling-next, filling-after, filled}
 use Rattle.audit.proofs.FillViews.{views-alike, views-fit}
 use Rattle.audit.proofs.rebuilt.map_views.Goals as goal
 use Rattle.audit.proofs.rebuilt.map_views.Goals.{then-not-is_alike+in_ok-map_pending, else-not-is_alike}

@@ -1,5 +1,4 @@
-use Rattle.std.proofs.Common.{◌≡◌, ◌-◌}
-use Rattle.stage2.specs.Slot.{layout_of}
+use Rattle.std.proofs.Common.{◌-◌}
 use Rattle.audit.specs.Filling.{views, IsFilling, KeepsOthers}
 use Rattle.audit.proofs.rebuilt.map_views.Given as goal
 

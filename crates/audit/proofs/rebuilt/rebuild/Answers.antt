@@ -1,4 +1,4 @@
-use Rattle.std.proofs.Common.{◌≡◌, ℕ, ◌+◌, ◌<◌, List, length, get_or, sym, ap, subst, ◌∙◌, arith}
+use Rattle.std.proofs.Common.{◌≡◌, ◌<◌, List, length, get_or, ap, subst, arith}
 use Rattle.base.specs.Manifest.{PartitionRow}
 use Rattle.manifest.proofs.Facts.{facts}
 use Rattle.audit.proofs.FillViews.{filled-none, not-filled, filled-more, filled-all}

@@ -1,4 +1,4 @@
-use Rattle.std.proofs.Common.{ℕ, ◌*◌, false, Some, string_bytes, ap, ◌∙◌}
+use Rattle.std.proofs.Common.{ℕ, false, Some, string_bytes, ap, ◌∙◌}
 use Rattle.std.specs.Fmt.{digits}
 use Rattle.audit.proofs.Padding.{appends-hex}
 use Rattle.audit.proofs.text.write_id.Goals as goal
