@@ -12,9 +12,10 @@ ghost use Rattle.stage2.specs.Chunks.{edited};
 ghost use Rattle.stage2.specs.Clauses.{read_after, view_in, second_in, entry_read, chunks_growth};
 ghost use Rattle.stage2.specs.Gigabytes.{grows_at, gigabyte_growth, Touches};
 
-use crate::chunk::{is_filled, outcome, table_of};
+use crate::chunk::table_of;
 use crate::gigabyte::{find_table, touches as touches_chunk};
 use crate::layout::Layout;
+use crate::outcome::{is_filled, outcome};
 use crate::part::{chunk_runs, gigabyte_runs};
 use crate::place::{Chunk, Gigabyte};
 use crate::read::read_chunk;

@@ -3,7 +3,7 @@ use Rattle.base.specs.Access.{View}
 use Rattle.base.specs.Need.{is_alike}
 use Rattle.stage2.specs.Clauses.{read_after}
 use Rattle.stage2.proofs.Counting.Needs.{unlike-mixed}
-use Rattle.stage2.proofs.chunk.next_differs.Goals as goal
+use Rattle.stage2.proofs.outcome.next_differs.Goals as goal
 
 was_not : (b : Bool) → not b ≡ true → b ≡ false
 was_not true e = absurd cc

@@ -5,7 +5,7 @@ use Rattle.pool.specs.Pool.{pages_of}
 use Rattle.stage2.specs.Chunks.{planned}
 use Rattle.stage2.proofs.Editing.Level3Words.{writes-rest, writes-zero}
 use Rattle.stage2.proofs.Walkers.Histories.{filled-more}
-use Rattle.stage2.proofs.chunk.empty_table.Goals as goal
+use Rattle.stage2.proofs.page_words.empty_table.Goals as goal
 
 -- what is planned for the pages of the runs is planned for all
 all-none : (runs : List PageRun) (n : ℕ) (answer : View) → planned runs None None n ≡ Some answer → planned [] None (Some None) n ≡ Some answer

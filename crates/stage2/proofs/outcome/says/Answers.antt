@@ -9,7 +9,7 @@ use Rattle.stage2.specs.Orderly.{answer_of}
 use Rattle.stage2.specs.Slot.{Slot, Next, slot}
 use Rattle.stage2.specs.Walk.{at_3, walked}
 use Rattle.stage2.proofs.Walkers.Level3Write.{at_3-word}
-use Rattle.stage2.proofs.chunk.says.Goals as goal
+use Rattle.stage2.proofs.outcome.says.Goals as goal
 
 answer-walked : (n : ℕ) (answer : View) → answer_of (walked n answer) ≡ answer
 answer-walked n None = refl

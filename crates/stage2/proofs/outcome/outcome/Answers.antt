@@ -2,7 +2,7 @@ use Rattle.std.proofs.Common.{sym, ◌∙◌}
 use Rattle.pool.specs.Pool.{words_of}
 use Rattle.stage2.specs.Chunks.{answers_at}
 use Rattle.stage2.proofs.Counting.Needs.{outcome-filled}
-use Rattle.stage2.proofs.chunk.outcome.Goals as goal
+use Rattle.stage2.proofs.outcome.outcome.Goals as goal
 
 pub returns-then-is_filled : goal.returns-then-is_filled
 returns-then-is_filled g c =

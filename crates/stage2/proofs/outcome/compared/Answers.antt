@@ -6,8 +6,8 @@ use Rattle.base.specs.Pages.{covers}
 use Rattle.manifest.proofs.Tables.{alike-refl}
 use Rattle.stage2.specs.Chunks.{edited, answers_at, AreAlike, IsOutcome}
 use Rattle.stage2.proofs.Counting.Needs.{alike-none, alike-more, outcome-mixed, outcome-one}
-use Rattle.stage2.proofs.chunk.compared.Goals as goal
-use Rattle.stage2.proofs.chunk.compared.Goals.{then-not-says+else-not-is_alike, else-not-says, then-is_kept, else-is_kept}
+use Rattle.stage2.proofs.outcome.compared.Goals as goal
+use Rattle.stage2.proofs.outcome.compared.Goals.{then-not-says+else-not-is_alike, else-not-says, then-is_kept, else-is_kept}
 
 -- a page that answers so before the edit, where the edit's own pages do
 kept-alike : (b : Bool) (access before first : View) → is_alike access first ≡ true → before ≡ first → is_alike (cond b access before) first ≡ true
