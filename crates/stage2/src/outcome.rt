@@ -159,9 +159,11 @@ fn differs_at_an_end<M: TableMem>(
 
 /// Whether the word of a page, in the chunk's table, is the one for this answer.
 fn says<M: TableMem>(memory: &M, entry: &Slot, page: Page, answer: &Option<Access>) -> bool
-    requires table { (k : ℕ) → entry.now ≡ Next k → k < page_count (M.state memory.now).memory.quotas }
+    requires table { (k : ℕ) → entry.now ≡ Next k
+        → k < page_count (M.state memory.now).memory.quotas }
     ensures { (layout : Layout) → result ≡ true
-        → answers_at layout (words_of (M.state memory.now).memory.words) entry.now page ≡ answer.now }
+        → answers_at layout (words_of (M.state memory.now).memory.words) entry.now page
+        ≡ answer.now }
 {
     match entry {
         Slot::Next(third) => {
