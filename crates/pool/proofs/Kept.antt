@@ -1,14 +1,13 @@
 -- What a table memory keeps at each write, and what its searches find.
-use Rattle.std.proofs.Common.{◌≡◌, ◌≢◌, ℕ, ◌+◌, ◌-◌, ◌<◌, ◌≤◌, ◌^◌, Bool, true, false, not, List, length, take, drop, slice_index, slice_index_or, slice_set, ◌∙◌, ap, ap₂, ◌*◌, replicate, ◌++◌, get_or, refl, arith, inl, inr, zero, suc, add-one, add-zero, IsTrue, IsSome, Some, ◌==◌}
-use Rattle.std.specs.List.{count_by, position}
+use Rattle.std.proofs.Common.{◌≡◌, ℕ, ◌+◌, ◌<◌, ◌≤◌, ◌^◌, Bool, true, false, List, length, slice_index, slice_index_or, slice_set, ◌∙◌, ap, ap₂, ◌*◌, replicate, ◌++◌, refl, arith, inl, inr, add-zero, IsTrue, IsSome, Some, ◌==◌}
+use Rattle.std.specs.List.{position}
 use Rattle.std.proofs.lemmas.Grind.{common_steps}
-use Rattle.std.proofs.lemmas.Bool.{cases_eq, cases_lt, cases_Bool}
+use Rattle.std.proofs.lemmas.Bool.{cases_eq, cases_lt}
 use Rattle.std.proofs.lemmas.Bool.Decides.{nat_tests}
-use Rattle.std.proofs.lemmas.List.{get_or-drop, length-drop, length-map}
+use Rattle.std.proofs.lemmas.List.{length-map}
 use Rattle.base.specs.Manifest.{PartitionRow, ManifestRows, row_of, quotas_of, page_count}
 use Rattle.manifest.specs.Valid.{is_valid}
 use Rattle.pool.specs.Pool.{Memory, Pages, InShare, IsLowestFree, words_of, taken_of, put, mark, with_mark, share_start, quota_of, pages_of, free_of, CountsFree, new_memory, used_by, used_of}
-use Rattle.base.specs.Counts.{count_below}
 use Rattle.pool.specs.declared.table_pool.TablePool.{TablePool}
 use Rattle.pool.specs.declared.word_store.WordStore.{Ghosts}
 use Rattle.pool.proofs.Words.{words_of-set, taken_of-set}

@@ -1,4 +1,4 @@
-use Rattle.std.proofs.Common.{◌≡◌, ℕ, ◌+◌, ◌/◌, ◌%◌, ◌<◌, Bool, eqb, Some, true, false, arith, sym, ap, subst, ◌∙◌}
+use Rattle.std.proofs.Common.{◌≡◌, ℕ, ◌+◌, ◌/◌, ◌%◌, ◌<◌, Bool, eqb, true, false, arith, sym, ap, subst, ◌∙◌}
 use Rattle.base.specs.Manifest.{row_of, page_count}
 use Rattle.words.specs.Words.{table_word_of}
 use Rattle.pool.specs.Pool.{Pages, Pool, Words, pages_of, words_of, put, with_put, row_in, InShare, IsLowestFree}

@@ -1,4 +1,4 @@
-use Rattle.std.proofs.Common.{◌≡◌, ℕ, ◌+◌, ◌*◌, Bool, true, false, cond, Some, refl, sym, ap, ap₂, subst, ◌∙◌, arith}
+use Rattle.std.proofs.Common.{◌≡◌, ℕ, ◌+◌, ◌*◌, Bool, true, false, cond, Some, sym, ap, ap₂, subst, ◌∙◌, arith}
 use Rattle.pool.specs.Pool.{words_of}
 use Rattle.base.specs.Access.{View}
 use Rattle.base.specs.Need.{is_alike}

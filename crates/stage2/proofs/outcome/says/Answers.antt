@@ -6,8 +6,8 @@ use Rattle.pool.specs.Pool.{words_of}
 use Rattle.stage2.specs.Change.{entry_for}
 use Rattle.stage2.specs.Chunks.{answers_at}
 use Rattle.stage2.specs.Orderly.{answer_of}
-use Rattle.stage2.specs.Slot.{Slot, Next, slot}
-use Rattle.stage2.specs.Walk.{at_3, walked}
+use Rattle.stage2.specs.Slot.{Slot}
+use Rattle.stage2.specs.Walk.{walked}
 use Rattle.stage2.proofs.Walkers.Level3Write.{at_3-word}
 use Rattle.stage2.proofs.outcome.says.Goals as goal
 
