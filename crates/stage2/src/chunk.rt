@@ -6,7 +6,7 @@ ghost use Rattle.base.specs.Manifest.{page_count, row_of};
 ghost use Rattle.pool.specs.Pool.{pages_of, taken_of};
 ghost use Rattle.stage2.specs.declared.walked.Slot.TheVariants.{Next};
 ghost use Rattle.stage2.specs.Walk.{next_page};
-ghost use Rattle.stage2.specs.Chunks.{block_answer, IsEntryFor, IsSite};
+ghost use Rattle.stage2.specs.Chunks.{block_answer, covers_chunk, IsEntryFor, IsSite};
 ghost use Rattle.stage2.specs.Parts.{part_count};
 ghost use Rattle.stage2.specs.Clauses.{Puts, Breaks, Replaces, chunk_slot, AnswersAll, HasFree, GrowsChunk, EditsChunk, EditsMixed, LeavesZero, SetsChunk, SetsInStep, MixesInStep, MapsInStep, ClearsPages, ChunkInStep};
 
@@ -73,6 +73,7 @@ fn block_word(chunk: Chunk, answer: &Option<Access>) -> u64
 }
 
 /// Makes a chunk that has no table one block, or invalid.
+#[inline(always)]
 fn set_block<M: TableMem>(
     memory: &mut M,
     layout: &Layout,
@@ -262,5 +263,33 @@ pub(crate) fn edit_chunk<M: TableMem>(
                 hang_table(memory, layout, p, row, second, chunk, &before, runs, access)
             }
         },
+    }
+}
+
+/// Edits the pages of a chunk that one of the runs has whole: the chunk is one block, or invalid.
+pub(crate) fn fill_chunk<M: TableMem>(
+    memory: &mut M,
+    layout: &Layout,
+    p: PartitionId,
+    row: Row,
+    second: TablePage,
+    chunk: Chunk,
+    runs: &[Run],
+    access: &Option<Access>,
+)
+    requires normal { are_normal runs.now ≡ true }
+    requires filled { covers_chunk chunk runs.now ≡ true }
+    requires site { IsSite layout.now row chunk second (pages_of (M.state memory.old).memory) }
+    requires row { row_of layout.now.ids p ≡ row }
+    requires room { 515 ≤ M.room memory.old }
+    ensures redoes { EditsChunk layout.now row chunk second runs.now access.now
+        (M.state memory.old) (M.state memory.new) }
+    ensures in_step { ChunkInStep layout.now row chunk second runs.now access.now
+        (M.state memory.old) (M.state memory.new) }
+    ensures room { M.room memory.old ≤ M.room memory.new + 515 }
+{
+    match table_of(&read_chunk(memory, layout, second, chunk)) {
+        Some(third) => drop_table(memory, layout, p, row, second, chunk, third, runs, access),
+        None => set_block(memory, layout, p, row, second, chunk, access),
     }
 }

@@ -8,13 +8,13 @@ ghost use Rattle.stage2.specs.Orderly.{IsCanonical};
 ghost use Rattle.stage2.specs.Gigabytes.{gigabyte_operations, touches_run, touches_chunk, Touches};
 ghost use Rattle.stage2.specs.Clauses.{IsLinkedOrderly, IsSecond, FitsChunks, chunks_operations, EditsChunks, ChunksInStep, second_at, word_in, IsEmpty, Unlinks, UnlinksInStep, FitsInGigabyte, EditsInGigabyte, GigabyteInStep};
 
-use crate::chunk::{edit_chunk, table_of};
+use crate::chunk::{edit_chunk, fill_chunk, table_of};
 use crate::edit::{give_page, put_word, take_page};
 use crate::layout::Layout;
 use crate::part::chunk_runs;
 use crate::place::{Chunk, Gigabyte, end_chunk, first_chunk};
 use crate::read::{read_gigabyte, read_word};
-use crate::span::chunk_span;
+use crate::span::{chunk_span, next_unfilled};
 use crate::table_page::{Row, TablePage};
 use base::{Access, PartitionId, Run};
 use pool::TableMem;
@@ -61,11 +61,17 @@ fn edit_chunks<M: TableMem>(
     ensures room { M.room memory.old ≤ M.room memory.new + chunks_operations runs.now gigabyte }
 {
     let span = chunk_span(runs, gigabyte);
+    let mut unfilled = span.first;
     for index in span.first..span.end {
         let chunk = gigabyte.chunk(index);
-        let part = chunk_runs(runs, chunk);
-        if touches(part, chunk) {
-            edit_chunk(memory, layout, p, row, second, chunk, part, access);
+        if index < unfilled {
+            fill_chunk(memory, layout, p, row, second, chunk, runs, access);
+        } else {
+            let part = chunk_runs(runs, chunk);
+            if touches(part, chunk) {
+                edit_chunk(memory, layout, p, row, second, chunk, part, access);
+            }
+            unfilled = next_unfilled(runs, gigabyte, index);
         }
     }
 }

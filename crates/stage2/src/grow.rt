@@ -20,7 +20,7 @@ use crate::part::{chunk_runs, gigabyte_runs};
 use crate::place::{Chunk, Gigabyte};
 use crate::read::read_chunk;
 use crate::row::touches;
-use crate::span::{chunk_span, gigabyte_span};
+use crate::span::{chunk_span, gigabyte_span, next_unfilled};
 use crate::table_page::{Row, TablePage};
 use crate::walked::Slot;
 use base::{Access, Run};
@@ -135,10 +135,12 @@ fn grow_chunks<M: TableMem>(
 {
     let span = chunk_span(runs, gigabyte);
     let mut count = 0;
-    for index in span.first..span.end {
+    let mut index = span.first;
+    while index < span.end {
         if takes(memory, layout, row, second, gigabyte, index, runs, access) {
             count += 1;
         }
+        index = next_unfilled(runs, gigabyte, index);
     }
     count
 }

@@ -1,6 +1,6 @@
 //! What the pages of a chunk answer after an edit: whether all the same.
 
-ghost use Rattle.std.specs.Prelude.{◌≡◌, ℕ, ◌<◌, true};
+ghost use Rattle.std.specs.Prelude.{◌≡◌, ℕ, ◌<◌, true, None, is_some};
 ghost use Rattle.base.specs.Pages.{are_normal};
 ghost use Rattle.base.specs.Manifest.{page_count};
 ghost use Rattle.base.specs.Access as permissions;
@@ -8,11 +8,13 @@ ghost use Rattle.base.specs.Need as needs;
 ghost use Rattle.pool.specs.Pool.{words_of};
 ghost use Rattle.stage2.specs.declared.walked.Slot.TheVariants.{Next};
 ghost use Rattle.stage2.specs.Chunks.{answers_at, IsOutcome, covers_chunk};
-ghost use Rattle.stage2.specs.Clauses.{read_after};
+ghost use Rattle.stage2.specs.Clauses.{read_after, LeavesZero};
+ghost use Rattle.stage2.specs.Walk.{next_page};
 
 use crate::edit::word_of;
 use crate::layout::Layout;
-use crate::part::is_covered;
+use crate::page_words::leaves_zero;
+use crate::part::{is_covered, runs_from};
 use crate::place::{Chunk, page_index};
 use crate::read::{read_page, read_word};
 use crate::walked::Slot;
@@ -101,8 +103,25 @@ pub(crate) fn outcome<M: TableMem>(
         Some(*access)
     } else if differs_at_an_end(memory, layout, entry, chunk, runs, access) {
         None
+    } else if access.is_none() && is_emptied(memory, entry, chunk, runs) {
+        Some(None)
     } else {
         compared(memory, layout, entry, chunk, runs, access)
+    }
+}
+
+/// Whether a chunk has a table, in which the words of pages in none of the runs are 0.
+fn is_emptied<M: TableMem>(memory: &M, entry: &Slot, chunk: Chunk, runs: &[Run]) -> bool
+    requires normal { are_normal runs.now ≡ true }
+    requires table { (k : ℕ) → entry.now ≡ Next k
+        → k < page_count (M.state memory.now).memory.quotas }
+    ensures zero { (k : ℕ) → entry.now ≡ Next k → result ≡ true
+        → LeavesZero k chunk runs.now None (M.state memory.now) }
+    ensures table { result ≡ true → is_some (next_page entry.now) ≡ true }
+{
+    match entry {
+        Slot::Next(third) => leaves_zero(memory, *third, chunk, runs),
+        _ => false,
     }
 }
 
@@ -192,10 +211,12 @@ fn compared<M: TableMem>(
 {
     let first = page_after(memory, layout, entry, chunk.first(), runs, access);
     let is_kept = is_alike(access, &first);
+    let mut rest = runs;
     for index in 0..512 {
         let page = chunk.page(index);
+        rest = runs_from(rest, page);
         if !(is_kept && says(memory, entry, page, &first)) {
-            let next = page_after(memory, layout, entry, page, runs, access);
+            let next = page_after(memory, layout, entry, page, rest, access);
             if !is_alike(&next, &first) {
                 return None;
             }

@@ -10,31 +10,13 @@ ghost use Rattle.stage2.specs.History.{Filled};
 ghost use Rattle.stage2.specs.Clauses.{WritesPlan, one_page, LeavesZero};
 
 use crate::edit::{put_word, word_of};
-use crate::part::is_covered;
+use crate::part::{is_covered, runs_from};
 use crate::place::{Chunk, Span, page_index};
 use crate::read::read_word;
 use crate::span::page_span;
 use crate::table_page::TablePage;
 use base::{Access, Page, Run};
 use pool::TableMem;
-
-/// What is planned for a page: pages of the runs get one answer, and the others another one, or
-/// stay.
-fn plan(
-    runs: &[Run],
-    access: &Option<Access>,
-    others: &Option<Option<Access>>,
-    page: Page,
-) -> Option<Option<Access>>
-    requires normal { are_normal runs.now ≡ true }
-    ensures { result ≡ planned runs.now access.now others.now page }
-{
-    if is_covered(runs, page) {
-        Some(*access)
-    } else {
-        *others
-    }
-}
 
 /// Writes the level 3 word of a page into a table, if it is not there.
 fn write_page<M: TableMem>(memory: &mut M, third: TablePage, page: Page, answer: &Option<Access>)
@@ -68,7 +50,8 @@ fn planned_span(runs: &[Run], chunk: Chunk, others: &Option<Option<Access>>) -> 
     }
 }
 
-/// Writes the words that are planned for the pages of a chunk, upward, into a table.
+/// Writes the words that are planned for the pages of a chunk, upward, into a table: pages of the
+/// runs get one answer, and the others another one, or stay.
 pub(crate) fn write_table<M: TableMem>(
     memory: &mut M,
     third: TablePage,
@@ -88,10 +71,15 @@ pub(crate) fn write_table<M: TableMem>(
     ensures room { M.room memory.old ≤ M.room memory.new + 512 }
 {
     let span = planned_span(runs, chunk, others);
+    let (inside, outside) = (*access, *others);
+    let mut rest = runs;
     for index in span.first..span.end {
         let page = chunk.page(index);
-        if let Some(answer) = plan(runs, access, others, page) {
-            write_page(memory, third, page, &answer);
+        rest = runs_from(rest, page);
+        if is_covered(rest, page) {
+            write_page(memory, third, page, &inside);
+        } else if let Some(answer) = &outside {
+            write_page(memory, third, page, answer);
         }
     }
 }
@@ -120,4 +108,28 @@ pub(crate) fn empty_table<M: TableMem>(
         None => write_table(memory, third, chunk, runs, &None, &None),
         Some(_) => write_table(memory, third, chunk, &[], &None, &Some(None)),
     }
+}
+
+/// Whether the words of pages in none of the runs are 0.
+pub(crate) fn leaves_zero<M: TableMem>(
+    memory: &M,
+    third: TablePage,
+    chunk: Chunk,
+    runs: &[Run],
+) -> bool
+    requires normal { are_normal runs.now ≡ true }
+    requires page_in { third < page_count (M.state memory.now).memory.quotas }
+    ensures { result ≡ true → LeavesZero third chunk runs.now None (M.state memory.now) }
+{
+    let mut rest = runs;
+    for index in 0..512 {
+        if read_word(memory, third, index) != 0 {
+            let page = chunk.page(index);
+            rest = runs_from(rest, page);
+            if !is_covered(rest, page) {
+                return false;
+            }
+        }
+    }
+    true
 }

@@ -1,6 +1,6 @@
 //! The runs that an edit of one gigabyte, or of one chunk, looks at.
 
-ghost use Rattle.std.specs.Prelude.{◌≡◌, ◌<◌, true};
+ghost use Rattle.std.specs.Prelude.{◌≡◌, ℕ, ◌<◌, ◌≤◌, true};
 ghost use Rattle.base.specs.Pages.{are_normal, covers};
 ghost use Rattle.stage2.specs.Parts as parts;
 
@@ -8,7 +8,7 @@ use crate::place::{Chunk, Gigabyte};
 use base::{Page, Run};
 
 /// Those of the runs that have a page from one up to another.
-fn runs_between(runs: &[Run], first: u32, end: u32) -> &[Run]
+pub(crate) fn runs_between(runs: &[Run], first: u32, end: u32) -> &[Run]
     requires { are_normal runs.now ≡ true }
     ensures same { result.now ≡ parts.runs_between first end runs.now }
     ensures normal { are_normal result.now ≡ true }
@@ -19,13 +19,42 @@ fn runs_between(runs: &[Run], first: u32, end: u32) -> &[Run]
     &rest[..count]
 }
 
-/// Whether a page is in one of the runs.
+/// Whether a page is in one of the runs. Where the first of them does not end before it, that one
+/// tells.
 pub(crate) fn is_covered(runs: &[Run], page: Page) -> bool
     requires normal { are_normal runs.now ≡ true }
     ensures { result ≡ covers runs.now page }
 {
     let n = page.number();
-    !runs_between(runs, n, n + 1).is_empty()
+    match runs.first() {
+        Some(run) => {
+            if n < run.end() {
+                run.first().number() <= n
+            } else {
+                !runs_between(runs, n, n + 1).is_empty()
+            }
+        }
+        None => false,
+    }
+}
+
+/// The runs without the first, if that ends before a page: whoever goes along with the pages has the
+/// run of a page, or the next one, always first.
+pub(crate) fn runs_from(runs: &[Run], page: Page) -> &[Run]
+    requires normal { are_normal runs.now ≡ true }
+    ensures same { (n : ℕ) → page ≤ n → covers result.now n ≡ covers runs.now n }
+    ensures normal { are_normal result.now ≡ true }
+{
+    match runs.first() {
+        Some(run) => {
+            if run.end() <= page.number() {
+                &runs[1..]
+            } else {
+                runs
+            }
+        }
+        None => runs,
+    }
 }
 
 /// Those of the runs that have a page in a chunk.

@@ -209,6 +209,13 @@ pub(crate) fn page_index(page: Page) -> u32
     page.number() % WORDS
 }
 
+/// How many chunks end before or at a page's begin.
+pub(crate) fn whole_chunks(page: u32) -> u32
+    ensures { result ≡ page / 512 }
+{
+    page / WORDS
+}
+
 /// The first chunk that a run touches.
 pub(crate) fn first_chunk(run: Run) -> Chunk
     ensures { result ≡ run.first / 512 }

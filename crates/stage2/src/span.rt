@@ -2,10 +2,14 @@
 //! edit looks at no others.
 
 ghost use Rattle.std.specs.Prelude.{◌≡◌, ℕ, ◌+◌, ◌*◌, ◌/◌, ◌<◌, ◌≤◌, true};
-ghost use Rattle.base.specs.Pages.{covers};
+ghost use Rattle.base.specs.Pages.{are_normal, covers};
+ghost use Rattle.stage2.specs.Chunks.{covers_chunk};
 ghost use Rattle.stage2.specs.Gigabytes.{touches_chunk};
 
-use crate::place::{Chunk, Gigabyte, Span, end_chunk, end_gigabyte, first_chunk, first_gigabyte};
+use crate::part::runs_between;
+use crate::place::{
+    Chunk, Gigabyte, Span, end_chunk, end_gigabyte, first_chunk, first_gigabyte, whole_chunks,
+};
 use base::Run;
 
 /// The gigabytes from the first that the runs touch to the last.
@@ -66,5 +70,22 @@ pub(crate) fn page_span(runs: &[Run], chunk: Chunk) -> Span
     Span {
         first: first.min(end),
         end,
+    }
+}
+
+/// The first chunk of a gigabyte behind this one, counted from its first, that is not known to be
+/// filled by the run that goes on there.
+pub(crate) fn next_unfilled(runs: &[Run], gigabyte: Gigabyte, index: u32) -> u32
+    requires normal { are_normal runs.now ≡ true }
+    requires index { index < 512 }
+    ensures after { index < result }
+    ensures most { result ≤ 512 }
+    ensures filled { (x : ℕ) → index < x → x < result
+        → covers_chunk (512 * gigabyte + x) runs.now ≡ true }
+{
+    let next = gigabyte.chunk(index).end();
+    match runs_between(runs, next, next + 1).first() {
+        Some(run) => whole_chunks(run.end().min(gigabyte.end())) - gigabyte.chunks().first,
+        None => index + 1,
     }
 }

@@ -8,6 +8,7 @@ use Rattle.base.specs.Counts.{any_below}
 use Rattle.base.specs.Pages.{PageRun, in_run, covers}
 use Rattle.manifest.proofs.Tables.{alike-same, alike-refl, any_below-some, any_below-none, any_below-no}
 use Rattle.stage2.specs.Chunks.{edited, covers_chunk, IsOutcome, AreAlike}
+use Rattle.stage2.specs.Gigabytes.{touches_run, touches_chunk}
 
 pub any_below-same : (f g : ℕ → Bool) (n : ℕ) → ((k : ℕ) → k < n → g k ≡ f k) → any_below g n ≡ any_below f n
 unfolding any_below
@@ -90,7 +91,7 @@ reached-some v g i below some = any_below-some (λ i. is_some (v (262144 * g + i
 
 -- ---- a chunk that one run fills
 
-filled-page : (runs : List PageRun) (c n : ℕ) → covers_chunk c runs ≡ true → n / 512 ≡ c → covers runs n ≡ true
+pub filled-page : (runs : List PageRun) (c n : ℕ) → covers_chunk c runs ≡ true → n / 512 ≡ c → covers runs n ≡ true
 filled-page [] c n filled at = absurd (cc)
 filled-page (run ∷ runs) c n filled at = elim (cases_Bool (leb run.first (512 * c) && leb (512 * c + 512) (run.first + run.count))) [
   | inl t ↦ let here : in_run run n ≡ true = inside run.first run.count c n t at in rw here refl
@@ -114,10 +115,34 @@ same-unmixed answer c one same =
     alike-all None = refl
     alike-all (Some a) = alike-self (Some a) a refl
 
+pub filled-touches : (runs : List PageRun) (c : ℕ) → covers_chunk c runs ≡ true → touches_chunk c runs ≡ true
+filled-touches [] c filled = absurd (cc)
+filled-touches (run ∷ runs) c filled = elim (cases_Bool (leb run.first (512 * c) && leb (512 * c + 512) (run.first + run.count))) [
+  | inl t ↦ let here : touches_run c run ≡ true = inside run.first run.count c t in rw here refl
+  | inr f ↦ let rest = filled-touches runs c (rw f at filled) in rw rest (either (touches_run c run))
+]
+  where
+    inside : (first count c : ℕ) → (leb first (512 * c) && leb (512 * c + 512) (first + count)) ≡ true → (ltb 0 count && (leb (first / 512) c && ltb c ((first + count + 511) / 512))) ≡ true
+    inside first count c t = grind (arith, nat_tests)
+
+    either : (x : Bool) → (x || true) ≡ true
+    either true = refl
+    either false = refl
+
 pub outcome-filled : (runs : List PageRun) (access : View) (before : ℕ → View) (c : ℕ) → covers_chunk c runs ≡ true → IsOutcome c (edited runs access before) (Some access)
 outcome-filled runs access before c filled =
     let same = λ (n : ℕ) (at : n / 512 ≡ c). ap (λ b. cond b access (before n)) (filled-page runs c n filled at) in
     record { same = λ one is n at. same n at ∙ (let e : access ≡ one = cc in e); mixed = sym (same-unmixed (edited runs access before) c access same) }
+
+-- where nothing is mapped and no page beside the runs is reached, none is
+pub outcome-emptied : (runs : List PageRun) (access : View) (before : ℕ → View) (c : ℕ) → access ≡ None → ((n : ℕ) → n / 512 ≡ c → covers runs n ≡ false → before n ≡ None) → IsOutcome c (edited runs access before) (Some None)
+outcome-emptied runs access before c none others =
+    let same = λ (n : ℕ) (at : n / 512 ≡ c). all (covers runs n) n refl at in
+    record { same = λ one is n at. same n at ∙ (let e : None ≡ one = cc in e); mixed = sym (same-unmixed (edited runs access before) c None same) }
+  where
+    all : (b : Bool) (n : ℕ) → covers runs n ≡ b → n / 512 ≡ c → edited runs access before n ≡ None
+    all true n e at = rw e none
+    all false n e at = rw e (others n at e)
 
 -- ---- chunks that are not mixed
 

@@ -1,9 +1,11 @@
 -- The runs with pages from one up to another are found by two halvings, as runs stand upward.
-use Rattle.std.proofs.Common.{◌≡◌, ℕ, zero, suc, ◌+◌, ◌<◌, ◌≤◌, true, false, not, ◌&&◌, ◌||◌, cond, eqb, leb, ltb, List, [], ◌∷◌, get_or, length, take, drop, refl, arith, ap, sym, ◌∙◌}
+use Rattle.std.proofs.Common.{◌≡◌, ℕ, zero, suc, ◌+◌, ◌<◌, ◌≤◌, true, false, not, ◌&&◌, ◌||◌, Bool, cond, eqb, leb, ltb, List, [], ◌∷◌, get_or, length, take, drop, refl, arith, ap, sym, ◌∙◌, inl, inr}
 use Rattle.std.specs.List.Sorted.{IsPartitionPoint}
 use Rattle.std.proofs.lemmas.List.{get_or-drop, length-drop}
+use Rattle.std.proofs.lemmas.Bool.{cases_Bool, ltb-true, and_parts}
 use Rattle.std.proofs.lemmas.Bool.Decides.{nat_tests}
-use Rattle.base.specs.Pages.{PageRun, in_run, covers}
+use Rattle.std.specs.List.{list_any}
+use Rattle.base.specs.Pages.{PageRun, in_run, covers, rise_above, are_normal}
 use Rattle.stage2.specs.Parts.{runs_between}
 use Rattle.stage2.proofs.Runs.Normal.{end_of, first_of}
 
@@ -54,3 +56,46 @@ covered-between (r ∷ runs) n =
   where
     not_none : (k : ℕ) → eqb (suc k) 0 ≡ false
     not_none k = grind (arith, nat_tests)
+
+-- ---- the first of runs
+
+-- runs that begin above a page don't have it
+before-all : (end : ℕ) (runs : List PageRun) (n : ℕ) → rise_above end runs ≡ true → n ≤ end → covers runs n ≡ false
+before-all end [] n rises le = refl
+before-all end (r ∷ runs) n rises le =
+    let both = and_parts (ltb end r.first) (rise_above (end_of r) runs) rises in
+    let above = ltb-true _ _ both.0 in
+    let out : in_run r n ≡ false = grind (arith, nat_tests) in
+    rw out (before-all (end_of r) runs n both.1 (omega (arith, above, le)))
+
+pub first-tells : (runs : List PageRun) (run : PageRun) (n : ℕ) → are_normal runs ≡ true → 0 < length runs → run ≡ get_or runs 0 run → n < end_of run → covers runs n ≡ leb run.first n
+first-tells [] run n normal some is lt = absurd (omega arith)
+first-tells (r ∷ runs) run n normal some is lt =
+    let early : n < end_of r = rw is at lt in
+    let rest : covers runs n ≡ false = before-all (end_of r) runs n normal (omega (arith, early)) in
+    rw (is, rest) (inside r.first r.count n early)
+  where
+    inside : (first count n : ℕ) → n < first + count → ((leb first n && ltb n (first + count)) || false) ≡ leb first n
+    inside first count n lt = grind (arith, nat_tests)
+
+-- what a run is known to be that is the first of those with pages from one up to another
+pub record IsFirstBetween (first end : ℕ) (run : PageRun) (runs : List PageRun) : Type 0 where
+  pub reaches : first < end_of run
+  pub begins : run.first < end
+  pub one_of : (p : PageRun → Bool) → p run ≡ true → list_any p runs ≡ true
+
+or_right : (a b : Bool) → b ≡ true → (a || b) ≡ true
+or_right true b e = refl
+or_right false b e = e
+
+pub between-first : (first end : ℕ) (runs : List PageRun) (run : PageRun) → 0 < length (runs_between first end runs) → run ≡ get_or (runs_between first end runs) 0 run → IsFirstBetween first end run runs
+between-first first end [] run some is = absurd (omega arith)
+between-first first end (r ∷ runs) run some is = elim (cases_Bool (ltb first (end_of r) && ltb r.first end)) [
+  | inl meets ↦
+      let two = and_parts (ltb first (end_of r)) (ltb r.first end) meets in
+      let here : run ≡ r = rw meets at is in
+      rw here (record { reaches = ltb-true _ _ two.0; begins = ltb-true _ _ two.1; one_of = λ p holds. rw holds refl })
+  | inr out ↦
+      let rest = between-first first end runs run (rw out at some) (rw out at is) in
+      record { reaches = rest.reaches; begins = rest.begins; one_of = λ p holds. or_right (p r) (list_any p runs) (rest.one_of p holds) }
+]

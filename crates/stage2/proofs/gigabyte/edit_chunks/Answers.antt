@@ -3,7 +3,8 @@ use Rattle.base.specs.Access.{View}
 use Rattle.stage2.specs.Walk.{walked}
 use Rattle.stage2.specs.Orderly.{answers, linked}
 use Rattle.base.specs.Pages.{PageRun}
-use Rattle.stage2.specs.Chunks.{edited, answers_in}
+use Rattle.stage2.specs.Chunks.{edited, answers_in, covers_chunk}
+use Rattle.stage2.proofs.Counting.Needs.{filled-touches}
 use Rattle.stage2.specs.Steps.{disturbed_below}
 use Rattle.pool.specs.Pool.{pages_of}
 use Rattle.stage2.specs.Parts.{part_count, chunk_runs}
@@ -14,7 +15,7 @@ use Rattle.stage2.proofs.Runs.Spans.{AreUntouched, UnderwayAt, StaysAt, underway
 use Rattle.stage2.proofs.Runs.OwnRuns.{chunk-covers, chunk-touches, chunk-count, chunk-growing, chunk-redoes, chunk-free, chunk-stays}
 use Rattle.stage2.proofs.Walkers.ZeroedTables.{stays-none}
 use Rattle.stage2.proofs.gigabyte.edit_chunks.Goals as goal
-use Rattle.stage2.proofs.gigabyte.edit_chunks.Goals.{then-touches, else-touches}
+use Rattle.stage2.proofs.gigabyte.edit_chunks.Goals.{then-index-unfilled, else-index-unfilled, then-touches, else-touches}
 
 -- the operations of a chunk that is touched
 cost : (c : ℕ) (runs part : List PageRun) → part ≡ chunk_runs c runs → touches_chunk c part ≡ true → chunk_operations runs c ≡ 515 + part_count c part
@@ -49,52 +50,100 @@ edit_chunk-requires-clause-room g c =
     enough : (r0 r one cost before next all : ℕ) → one ≡ cost → next ≡ one + before → next ≤ all → r0 ≤ r + before → all ≤ r0 → cost ≤ r
     enough r0 r one cost before next all e a b c d = omega arith
 
+pub fill_chunk-requires-clause-filled : goal.fill_chunk-requires-clause-filled
+fill_chunk-requires-clause-filled g c = rw c.chunk-chunk.ensures.same (c.loop-index.invariant.filled c.loop-index.index (omega arith) c.if-index-unfilled.true)
+
+pub fill_chunk-requires-clause-site : goal.fill_chunk-requires-clause-site
+fill_chunk-requires-clause-site g c =
+    rw c.chunk-chunk.ensures.same (site c.args.layout.now c.args.row c.args.gigabyte c.args.second c.args.runs.now c.args.access.now (pages_of (g.M.TableMem.state c.args.memory.now).memory) c.requires.partition c.chunk_span-span.ensures.in_range
+    c.loop-index.index (omega (arith, c.loop-index-test.true, c.chunk_span-span.ensures.most)) (pages_of (g.M.TableMem.state c.loop-index.memory).memory) c.loop-index.invariant.underway)
+
+-- what a chunk that is filled costs at least
+filled-cost : (runs : List PageRun) (c : ℕ) → covers_chunk c runs ≡ true → 515 ≤ chunk_operations runs c
+filled-cost runs c filled = let touched = filled-touches runs c filled in rw touched (omega arith)
+
+pub fill_chunk-requires-clause-room : goal.fill_chunk-requires-clause-room
+fill_chunk-requires-clause-room g c =
+    let f : ℕ → ℕ = λ x. chunk_operations c.args.runs.now (512 * c.args.gigabyte + x) in
+    let i = c.loop-index.index in
+    let more = sum_below-more f i in
+    let up = sum_below-up f (i + 1) 512 (omega (arith, c.loop-index-test.true, c.chunk_span-span.ensures.most)) in
+    let one = filled-cost c.args.runs.now (512 * c.args.gigabyte + i) (c.loop-index.invariant.filled i (omega arith) c.if-index-unfilled.true) in
+    enough (g.M.TableMem.room c.args.memory.now) (g.M.TableMem.room c.loop-index.memory) (f i) (sum_below f i) (sum_below f (i + 1)) (sum_below f 512) one more up c.loop-index.invariant.room c.requires.room
+  where
+    enough : (r0 r one before next all : ℕ) → 515 ≤ one → next ≡ one + before → next ≤ all → r0 ≤ r + before → all ≤ r0 → 515 ≤ r
+    enough r0 r one before next all e a b c d = omega arith
+
 pub loop-index-preserved : goal.loop-index-preserved
 loop-index-preserved g c =
     let f : ℕ → ℕ = λ x. chunk_operations c.args.runs.now (512 * c.args.gigabyte + x) in
-    let more = sum_below-more f c.loop-index.index in
-    let up = sum_below-up f c.loop-index.index (c.loop-index.index + 1) (omega arith) in
+    let i = c.loop-index.index in
+    let more = sum_below-more f i in
+    let up = sum_below-up f i (i + 1) (omega arith) in
     let old = pages_of (g.M.TableMem.state c.args.memory.now).memory in
     let mid = pages_of (g.M.TableMem.state c.loop-index.memory).memory in
-    let chunk = 512 * c.args.gigabyte + c.loop-index.index in
+    let chunk = 512 * c.args.gigabyte + i in
     let runs = c.args.runs.now in
-    let part = c.chunk_runs-part.result.now in
     let here = c.chunk-chunk.ensures.same in
-    let is = rw here at c.chunk_runs-part.ensures.same in
-    let touches = rw here at c.touches.ensures in
-    let covered = chunk-covers chunk runs part is in
     let v : ℕ → View = answers_in c.args.layout.now c.args.row chunk c.args.second mid in
-    elim c.if-touches.branch [
-      | then-touches w ↦ rw w.memory-is (record {
-        underway = underway-edit c.args.layout.now c.args.row c.args.gigabyte c.args.second c.args.runs.now c.args.access.now old c.requires.partition c.chunk_span-span.ensures.in_range
-            c.loop-index.index (omega (arith, c.loop-index-test.true, c.chunk_span-span.ensures.most)) mid c.loop-index.invariant.underway (pages_of (g.M.TableMem.state w.edit_chunk.new.memory).memory)
-            (chunk-redoes c.args.layout.now c.args.row chunk runs part c.args.access.now covered c.args.second v mid (pages_of (g.M.TableMem.state w.edit_chunk.new.memory).memory) (rw here at w.edit_chunk.ensures.redoes));
-        in_step = λ seated free.
-            march-edit c.args.layout.now c.args.row c.args.gigabyte c.args.second c.args.runs.now c.args.access.now old c.requires.partition c.chunk_span-span.ensures.in_range
-            c.loop-index.index (omega (arith, c.loop-index-test.true, c.chunk_span-span.ensures.most)) mid c.loop-index.invariant.underway (g.M.TableMem.state c.args.memory.now) (g.M.TableMem.state c.loop-index.memory) (g.M.TableMem.state w.edit_chunk.new.memory)
-            (sym (chunk-touches chunk runs part is) ∙ sym touches ∙ w.if-touches.true) (c.loop-index.invariant.in_step seated free)
-            (chunk-stays c.args.layout.now c.args.row chunk runs part c.args.access.now covered v (g.M.TableMem.state c.loop-index.memory) (g.M.TableMem.state w.edit_chunk.new.memory)
-            ((rw here at w.edit_chunk.ensures.in_step)
-            (march-seated c.args.layout.now c.args.row c.args.gigabyte c.args.second c.args.runs.now c.args.access.now old c.requires.partition c.chunk_span-span.ensures.in_range c.loop-index.index (omega (arith, c.loop-index-test.true, c.chunk_span-span.ensures.most)) mid c.loop-index.invariant.underway seated)
-            (chunk-free chunk runs part c.args.access.now covered v
-            (march-free c.args.layout.now c.args.row c.args.gigabyte c.args.second c.args.runs.now c.args.access.now old c.requires.partition c.chunk_span-span.ensures.in_range c.loop-index.index (omega (arith, c.loop-index-test.true, c.chunk_span-span.ensures.most)) mid c.loop-index.invariant.underway free))));
-        room = less (g.M.TableMem.room c.args.memory.now) (g.M.TableMem.room c.loop-index.memory) (g.M.TableMem.room w.edit_chunk.new.memory) (f c.loop-index.index) (515 + part_count chunk part) (sum_below f c.loop-index.index) (sum_below f (c.loop-index.index + 1))
-            (cost chunk runs part is (sym touches ∙ w.if-touches.true)) more c.loop-index.invariant.room (rw here at w.edit_chunk.ensures.room);
-      })
-      | else-touches w ↦ rw w.memory-is (record {
-        underway = underway-skip c.args.layout.now c.args.row c.args.gigabyte c.args.second c.args.runs.now c.args.access.now old c.requires.partition c.chunk_span-span.ensures.in_range
-            c.loop-index.index (omega (arith, c.loop-index-test.true, c.chunk_span-span.ensures.most)) mid c.loop-index.invariant.underway
-            (λ n small at. untouched chunk runs n (sym (chunk-touches chunk runs part is) ∙ sym touches ∙ w.if-touches.false) at);
-        in_step = λ seated free.
-            march-skip c.args.layout.now c.args.row c.args.gigabyte c.args.second c.args.runs.now c.args.access.now old c.requires.partition c.chunk_span-span.ensures.in_range
-            c.loop-index.index (omega (arith, c.loop-index-test.true, c.chunk_span-span.ensures.most)) mid c.loop-index.invariant.underway (g.M.TableMem.state c.args.memory.now) (g.M.TableMem.state c.loop-index.memory)
-            (sym (chunk-touches chunk runs part is) ∙ sym touches ∙ w.if-touches.false) (c.loop-index.invariant.in_step seated free);
-        room = omega (arith, up, c.loop-index.invariant.room);
-      })
+    elim c.if-index-unfilled.branch [
+      | then-index-unfilled w ↦
+          let filled = c.loop-index.invariant.filled i (omega arith) w.if-index-unfilled.true in
+          rw (w.memory-is, w.unfilled-is) (record {
+            underway = underway-edit c.args.layout.now c.args.row c.args.gigabyte c.args.second c.args.runs.now c.args.access.now old c.requires.partition c.chunk_span-span.ensures.in_range
+                i (omega (arith, c.loop-index-test.true, c.chunk_span-span.ensures.most)) mid c.loop-index.invariant.underway (pages_of (g.M.TableMem.state w.fill_chunk.new.memory).memory) (rw here at w.fill_chunk.ensures.redoes);
+            in_step = λ seated free.
+                march-edit c.args.layout.now c.args.row c.args.gigabyte c.args.second c.args.runs.now c.args.access.now old c.requires.partition c.chunk_span-span.ensures.in_range
+                i (omega (arith, c.loop-index-test.true, c.chunk_span-span.ensures.most)) mid c.loop-index.invariant.underway (g.M.TableMem.state c.args.memory.now) (g.M.TableMem.state c.loop-index.memory) (g.M.TableMem.state w.fill_chunk.new.memory)
+                (filled-touches runs chunk filled) (c.loop-index.invariant.in_step seated free)
+                ((rw here at w.fill_chunk.ensures.in_step)
+                (march-seated c.args.layout.now c.args.row c.args.gigabyte c.args.second c.args.runs.now c.args.access.now old c.requires.partition c.chunk_span-span.ensures.in_range i (omega (arith, c.loop-index-test.true, c.chunk_span-span.ensures.most)) mid c.loop-index.invariant.underway seated)
+                (march-free c.args.layout.now c.args.row c.args.gigabyte c.args.second c.args.runs.now c.args.access.now old c.requires.partition c.chunk_span-span.ensures.in_range i (omega (arith, c.loop-index-test.true, c.chunk_span-span.ensures.most)) mid c.loop-index.invariant.underway free));
+            filled = λ x from to. c.loop-index.invariant.filled x (omega (arith, from)) to;
+            room = whole (g.M.TableMem.room c.args.memory.now) (g.M.TableMem.room c.loop-index.memory) (g.M.TableMem.room w.fill_chunk.new.memory) (f i) (sum_below f i) (sum_below f (i + 1)) (filled-cost runs chunk filled) more c.loop-index.invariant.room w.fill_chunk.ensures.room;
+          })
+      | else-index-unfilled w ↦
+          let part = w.chunk_runs-part.result.now in
+          let is = rw here at w.chunk_runs-part.ensures.same in
+          let touches = rw here at w.touches.ensures in
+          let covered = chunk-covers chunk runs part is in
+          rw (w.memory-is, w.unfilled-is) (elim w.if-touches.branch [
+            | then-touches t ↦ rw t.memory-is (record {
+              underway = underway-edit c.args.layout.now c.args.row c.args.gigabyte c.args.second c.args.runs.now c.args.access.now old c.requires.partition c.chunk_span-span.ensures.in_range
+                  i (omega (arith, c.loop-index-test.true, c.chunk_span-span.ensures.most)) mid c.loop-index.invariant.underway (pages_of (g.M.TableMem.state t.edit_chunk.new.memory).memory)
+                  (chunk-redoes c.args.layout.now c.args.row chunk runs part c.args.access.now covered c.args.second v mid (pages_of (g.M.TableMem.state t.edit_chunk.new.memory).memory) (rw here at t.edit_chunk.ensures.redoes));
+              in_step = λ seated free.
+                  march-edit c.args.layout.now c.args.row c.args.gigabyte c.args.second c.args.runs.now c.args.access.now old c.requires.partition c.chunk_span-span.ensures.in_range
+                  i (omega (arith, c.loop-index-test.true, c.chunk_span-span.ensures.most)) mid c.loop-index.invariant.underway (g.M.TableMem.state c.args.memory.now) (g.M.TableMem.state c.loop-index.memory) (g.M.TableMem.state t.edit_chunk.new.memory)
+                  (sym (chunk-touches chunk runs part is) ∙ sym touches ∙ t.if-touches.true) (c.loop-index.invariant.in_step seated free)
+                  (chunk-stays c.args.layout.now c.args.row chunk runs part c.args.access.now covered v (g.M.TableMem.state c.loop-index.memory) (g.M.TableMem.state t.edit_chunk.new.memory)
+                  ((rw here at t.edit_chunk.ensures.in_step)
+                  (march-seated c.args.layout.now c.args.row c.args.gigabyte c.args.second c.args.runs.now c.args.access.now old c.requires.partition c.chunk_span-span.ensures.in_range i (omega (arith, c.loop-index-test.true, c.chunk_span-span.ensures.most)) mid c.loop-index.invariant.underway seated)
+                  (chunk-free chunk runs part c.args.access.now covered v
+                  (march-free c.args.layout.now c.args.row c.args.gigabyte c.args.second c.args.runs.now c.args.access.now old c.requires.partition c.chunk_span-span.ensures.in_range i (omega (arith, c.loop-index-test.true, c.chunk_span-span.ensures.most)) mid c.loop-index.invariant.underway free))));
+              filled = λ x from to. w.next_unfilled-unfilled.ensures.filled x (omega (arith, from)) to;
+              room = less (g.M.TableMem.room c.args.memory.now) (g.M.TableMem.room c.loop-index.memory) (g.M.TableMem.room t.edit_chunk.new.memory) (f i) (515 + part_count chunk part) (sum_below f i) (sum_below f (i + 1))
+                  (cost chunk runs part is (sym touches ∙ t.if-touches.true)) more c.loop-index.invariant.room (rw here at t.edit_chunk.ensures.room);
+            })
+            | else-touches t ↦ rw t.memory-is (record {
+              underway = underway-skip c.args.layout.now c.args.row c.args.gigabyte c.args.second c.args.runs.now c.args.access.now old c.requires.partition c.chunk_span-span.ensures.in_range
+                  i (omega (arith, c.loop-index-test.true, c.chunk_span-span.ensures.most)) mid c.loop-index.invariant.underway
+                  (λ n small at. untouched chunk runs n (sym (chunk-touches chunk runs part is) ∙ sym touches ∙ t.if-touches.false) at);
+              in_step = λ seated free.
+                  march-skip c.args.layout.now c.args.row c.args.gigabyte c.args.second c.args.runs.now c.args.access.now old c.requires.partition c.chunk_span-span.ensures.in_range
+                  i (omega (arith, c.loop-index-test.true, c.chunk_span-span.ensures.most)) mid c.loop-index.invariant.underway (g.M.TableMem.state c.args.memory.now) (g.M.TableMem.state c.loop-index.memory)
+                  (sym (chunk-touches chunk runs part is) ∙ sym touches ∙ t.if-touches.false) (c.loop-index.invariant.in_step seated free);
+              filled = λ x from to. w.next_unfilled-unfilled.ensures.filled x (omega (arith, from)) to;
+              room = omega (arith, up, c.loop-index.invariant.room);
+            })
+          ])
     ]
   where
     less : (r0 r r2 one cost before next : ℕ) → one ≡ cost → next ≡ one + before → r0 ≤ r + before → r ≤ r2 + cost → r0 ≤ r2 + next
     less r0 r r2 one cost before next e a b c = omega arith
+
+    whole : (r0 r r2 one before next : ℕ) → 515 ≤ one → next ≡ one + before → r0 ≤ r + before → r ≤ r2 + 515 → r0 ≤ r2 + next
+    whole r0 r r2 one before next e a b c = omega arith
 
 pub loop-index-init : goal.loop-index-init
 loop-index-init g c =
@@ -112,6 +161,7 @@ loop-index-init g c =
     let le : 0 + first ≤ 512 = omega (arith, most, ordered) in
     record {
       underway = subst (UnderwayAt c.args.layout.now c.args.row c.args.gigabyte c.args.second c.args.runs.now c.args.access.now old old c.requires.partition c.chunk_span-span.ensures.in_range) e (underway-gap c.args.layout.now c.args.row c.args.gigabyte c.args.second c.args.runs.now c.args.access.now old old c.requires.partition c.chunk_span-span.ensures.in_range first 0 le none start);
+      filled = λ x from to. absurd (omega (arith, from, to));
       in_step = λ seated free. stays-none c.args.layout.now c.args.row (disturbed_below c.args.gigabyte first c.args.runs.now v w) (λ n. walked n (w n)) state;
       room = omega arith;
     }

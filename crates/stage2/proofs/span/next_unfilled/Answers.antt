@@ -1,0 +1,44 @@
+use Rattle.std.proofs.Common.{◌≡◌, ℕ, ◌+◌, ◌*◌, ◌/◌, ◌<◌, ◌≤◌, ◌&&◌, true, ◌-◌, leb, min, List, length, get_or, sym, arith}
+use Rattle.std.proofs.lemmas.Bool.{ltb-true}
+use Rattle.std.proofs.lemmas.Bool.Decides.{nat_tests}
+use Rattle.base.specs.Pages.{PageRun}
+use Rattle.stage2.specs.Parts.{runs_between}
+use Rattle.stage2.proofs.Runs.Between.{IsFirstBetween, between-first}
+use Rattle.stage2.proofs.span.next_unfilled.Goals as goal
+
+-- the run that has the next chunk's first page
+found : (run : PageRun) (next : ℕ) (runs part : List PageRun) → part ≡ runs_between next (next + 1) runs → 0 < length part → run ≡ get_or part 0 run → IsFirstBetween next (next + 1) run runs
+found run next runs part same some is = between-first next (next + 1) runs run (rw same at some) (rw same at is)
+
+module _ (first count next end from to whole base g index : ℕ) (begins : first < next + 1) (reaches : next < first + count) (is : next ≡ 512 * (512 * g + index) + 512) (below : index < 512) (ends : end ≡ first + count)
+    (last : to ≡ 262144 * g + 262144) (least : from ≡ min end to) (chunks : whole ≡ from / 512) (start : base ≡ 512 * g) where
+  beyond : base ≤ whole
+  beyond = omega arith
+
+  after : index < whole - base
+  after = omega arith
+
+  most : whole - base ≤ 512
+  most = omega arith
+
+  fills : (x : ℕ) → index < x → x < whole - base → (leb first (512 * (512 * g + x)) && leb (512 * (512 * g + x) + 512) (first + count)) ≡ true
+  fills x above under = grind (arith, nat_tests)
+
+pub overflow_sub-result : goal.overflow_sub-result
+overflow_sub-result c =
+    let run = c.in-Some.run'.now in
+    let f = found run c.end-next.result c.args.runs.now c.runs_between.result.now c.runs_between.ensures.same (ltb-true _ _ (sym c.in-Some.ensures.item.0)) c.in-Some.ensures.item.1 in
+    beyond run.first run.count c.end-next.result c.end.result c.min.result c.end-in-Some.result c.whole_chunks.result c.chunks.result.first c.args.gigabyte c.args.index f.begins f.reaches (rw c.chunk.ensures.same at c.end-next.ensures.same) c.requires.index c.end.ensures.same c.end-in-Some.ensures.same c.min.ensures c.whole_chunks.ensures c.chunks.ensures.first
+
+pub returns-in-Some-clause-after : goal.returns-in-Some-clause-after
+returns-in-Some-clause-after c =
+    let run = c.in-Some.run'.now in
+    let f = found run c.end-next.result c.args.runs.now c.runs_between.result.now c.runs_between.ensures.same (ltb-true _ _ (sym c.in-Some.ensures.item.0)) c.in-Some.ensures.item.1 in
+    after run.first run.count c.end-next.result c.end.result c.min.result c.end-in-Some.result c.whole_chunks.result c.chunks.result.first c.args.gigabyte c.args.index f.begins f.reaches (rw c.chunk.ensures.same at c.end-next.ensures.same) c.requires.index c.end.ensures.same c.end-in-Some.ensures.same c.min.ensures c.whole_chunks.ensures c.chunks.ensures.first
+
+pub returns-in-Some-clause-filled : goal.returns-in-Some-clause-filled
+returns-in-Some-clause-filled c = λ x above under.
+    let run = c.in-Some.run'.now in
+    let f = found run c.end-next.result c.args.runs.now c.runs_between.result.now c.runs_between.ensures.same (ltb-true _ _ (sym c.in-Some.ensures.item.0)) c.in-Some.ensures.item.1 in
+    f.one_of (λ r. leb r.first (512 * (512 * c.args.gigabyte + x)) && leb (512 * (512 * c.args.gigabyte + x) + 512) (r.first + r.count))
+    (fills run.first run.count c.end-next.result c.end.result c.min.result c.end-in-Some.result c.whole_chunks.result c.chunks.result.first c.args.gigabyte c.args.index f.begins f.reaches (rw c.chunk.ensures.same at c.end-next.ensures.same) c.requires.index c.end.ensures.same c.end-in-Some.ensures.same c.min.ensures c.whole_chunks.ensures c.chunks.ensures.first x above under)
