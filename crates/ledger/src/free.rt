@@ -1,11 +1,11 @@
 //! Pages that are free for a partition, buffers apart, segment by segment.
 
 ghost use Rattle.std.specs.Prelude.{◌≡◌, ◌==◌, ◌≤◌, ◌<◌, ◌^◌, ℕ, false};
-ghost use Rattle.std.specs.Option.{option_map_or};
+ghost use Rattle.std.specs.Option.{option_map, option_map_or};
 ghost use Rattle.base.specs.Manifest as rows;
 ghost use Rattle.ledger.specs.Free as spec;
 
-use crate::ledger::Ledger;
+use crate::ledger::{Ledger, home_by, owner_by};
 use base::{Access, MemoryKind, Page, PartitionId};
 use manifest::{Manifest, Region};
 
@@ -51,25 +51,26 @@ impl Ledger {
         ensures alike { (n : ℕ) → page ≤ n → n < result.end
             → spec.IsAlike self.now.manifest self.now.donations self.now.live result n }
     {
-        let end = self.end_of_lists(page);
+        let manifest = self.manifest();
+        let lists = self.listed(page);
+        let region = manifest.region_at(page);
         Segment {
-            owner: self.owner(page),
-            home: self.home(page),
-            is_live: self.is_live(page),
-            is_sharable: self.is_sharable(page),
-            end: end.min(end_of_region(self.manifest(), page)),
+            owner: owner_by(lists.donation, region),
+            home: home_by(lists.donation, region),
+            is_live: lists.is_live,
+            is_sharable: is_in_sharable(region),
+            end: lists.end.min(end_of_region(manifest, region, page)),
         }
     }
+}
 
-    /// Whether a page is normal memory with exactly one grant in the manifest.
-    fn is_sharable(&self, page: Page) -> bool
-        ensures { result
-            ≡ option_map_or rows.is_sharable (rows.region_at self.now.manifest page) false }
-    {
-        match self.manifest().region_at(page) {
-            Some(region) => is_sharable(region),
-            None => false,
-        }
+/// Whether there is a region, which is normal memory with exactly one grant.
+fn is_in_sharable(region: Option<&Region>) -> bool
+    ensures { result ≡ option_map_or rows.is_sharable (option_map (λ r. r.now) region.entry) false }
+{
+    match region {
+        Some(region) => is_sharable(region),
+        None => false,
     }
 }
 
@@ -90,7 +91,8 @@ fn is_sharable(region: &Region) -> bool
 }
 
 /// The number of the page after the last of the region of a page; outside all regions, of the next page.
-fn end_of_region(manifest: &Manifest, page: Page) -> u32
+fn end_of_region(manifest: &Manifest, region: Option<&Region>, page: Page) -> u32
+    requires { option_map (λ r. r.now) region ≡ rows.region_at manifest.now page }
     ensures behind { page < result }
     ensures in_range { result ≤ 2 ^ 27 }
     ensures same { (n : ℕ) → page ≤ n → n < result
@@ -98,7 +100,7 @@ fn end_of_region(manifest: &Manifest, page: Page) -> u32
 {
     // What `regions` says of them, that they stand apart, is what the proof needs.
     let _ = manifest.regions();
-    match manifest.region_at(page) {
+    match region {
         Some(region) => region.pages().end(),
         None => page.number() + 1,
     }

@@ -1,5 +1,6 @@
 ghost use Rattle.std.specs.Prelude.{◌≡◌, ◌==◌, ◌++◌, ◌∷◌, [], ◌≤◌, ◌<◌, ◌^◌, ℕ, None, Some, true, is_some, length, filter, OnOk};
-ghost use Rattle.std.specs.Option.{option_map};
+ghost use Rattle.std.specs.Option.{option_map, option_map_or, option_and_then};
+ghost use Rattle.base.specs.Manifest.{granted_in};
 ghost use Rattle.base.specs.Pages.{covers};
 ghost use Rattle.base.specs.Ledger as rules;
 ghost use Rattle.spans.specs.Spans.{room_for};
@@ -10,10 +11,21 @@ use crate::donation::Donation;
 use crate::intervals::{cut_all, put_all};
 use crate::live::{self, Live, place_of, set_retrieved};
 use base::{Access, Handle, Kind, OutOfMemory, Page, PartitionId};
-use manifest::Manifest;
+use manifest::{Manifest, Region};
 use spans::Spans;
 use std::alloc::Global;
 use std::marker::Model;
+
+/// What the donations and the live transactions say of pages that follow one another.
+#[derive(Clone, Copy)]
+pub(crate) struct Listed<'a> {
+    /// The last donation that covers them.
+    pub(crate) donation: Option<&'a Donation>,
+    /// Whether a live transaction covers them.
+    pub(crate) is_live: bool,
+    /// The number of the page after the last of them.
+    pub(crate) end: u32,
+}
 
 /// The manifest, the completed donations in order, and the live transactions. No two live transactions
 /// share a page or a handle. A page is looked up by halving.
@@ -98,10 +110,7 @@ impl Ledger {
     pub fn owner(&self, page: Page) -> Option<PartitionId>
         ensures { result ≡ rules.owner self.now.manifest self.now.donations page }
     {
-        match self.donation_at(page) {
-            Some(donation) => Some(donation.taker),
-            None => self.manifest.owner(page),
-        }
+        owner_by(self.donation_at(page), self.manifest.region_at(page))
     }
 
     /// What a page is to its owner: the access of the last donation that covers it, else the owner's
@@ -109,13 +118,7 @@ impl Ledger {
     pub fn home(&self, page: Page) -> Option<Access>
         ensures { result ≡ rules.home self.now.manifest self.now.donations page }
     {
-        match self.donation_at(page) {
-            Some(donation) => Some(donation.access),
-            None => {
-                let region = self.manifest.region_at(page)?;
-                region.access(region.owner())
-            }
-        }
+        home_by(self.donation_at(page), self.manifest.region_at(page))
     }
 
     /// Whether a live transaction covers a page.
@@ -125,19 +128,27 @@ impl Ledger {
         self.shared.get(page).is_some()
     }
 
-    /// The number of a page up to which the donations and the live transactions cover a page and those
-    /// behind it alike.
-    pub(crate) fn end_of_lists(&self, page: Page) -> u32
-        ensures behind { page < result }
-        ensures in_range { result ≤ 2 ^ 27 }
-        ensures donations { (n : ℕ) → page ≤ n → n < result
-            → rules.donation_at self.now.donations n ≡ rules.donation_at self.now.donations page }
-        ensures live { (n : ℕ) → page ≤ n → n < result
-            → is_some (rules.live_at self.now.live n) ≡ is_some (rules.live_at self.now.live page) }
+    /// What the donations and the live transactions say of a page, and up to which page they say the
+    /// same of those behind it.
+    pub(crate) fn listed(&self, page: Page) -> Listed<'_>
+        ensures behind { page < result.end }
+        ensures in_range { result.end ≤ 2 ^ 27 }
+        ensures donations { (n : ℕ) → page ≤ n → n < result.end
+            → rules.donation_at self.now.donations n ≡ option_map (λ d. d.now) result.donation }
+        ensures live { (n : ℕ) → page ≤ n → n < result.end
+            → is_some (rules.live_at self.now.live n) ≡ result.is_live }
     {
         let given = self.given.segment_at(page);
         let shared = self.shared.segment_at(page);
-        given.end.min(shared.end)
+        let donation = match given.value {
+            Some(place) => self.donations.get(place as usize),
+            None => None,
+        };
+        Listed {
+            donation,
+            is_live: shared.value.is_some(),
+            end: given.end.min(shared.end),
+        }
     }
 
     /// The live transaction of a handle.
@@ -272,5 +283,30 @@ impl Ledger {
             taker: p,
             access,
         });
+    }
+}
+
+/// The owner of a page, by the last donation that covers it and by its region.
+pub(crate) fn owner_by(donation: Option<&Donation>, region: Option<&Region>) -> Option<PartitionId>
+    ensures { result ≡ option_map_or (λ d. Some d.taker) (option_map (λ d. d.now) donation.entry)
+        (option_map (λ r. r.owner) (option_map (λ r. r.now) region.entry)) }
+{
+    match donation {
+        Some(donation) => Some(donation.taker),
+        None => Some(region?.owner()),
+    }
+}
+
+/// What a page is to its owner, by the last donation that covers it and by its region.
+pub(crate) fn home_by(donation: Option<&Donation>, region: Option<&Region>) -> Option<Access>
+    ensures { result ≡ option_map_or (λ d. Some d.access) (option_map (λ d. d.now) donation.entry)
+        (option_and_then (λ r. granted_in r r.owner) (option_map (λ r. r.now) region.entry)) }
+{
+    match donation {
+        Some(donation) => Some(donation.access),
+        None => {
+            let region = region?;
+            region.access(region.owner())
+        }
     }
 }

@@ -1,15 +1,15 @@
 -- What the clauses of an edit say, of the pool before it and the pool after it.
-use Rattle.std.specs.Prelude.{◌≡◌, ℕ, ◌+◌, ◌*◌, ◌/◌, ◌%◌, ◌^◌, ◌<◌, Bool, true, false, ◌&&◌, ◌==◌, if◌then◌else◌, is_some, Option, Some, None, List, length}
+use Rattle.std.specs.Prelude.{◌≡◌, ℕ, ◌+◌, ◌*◌, ◌/◌, ◌%◌, ◌^◌, ◌<◌, ◌≤◌, Bool, true, false, ◌&&◌, ◌==◌, if◌then◌else◌, is_some, Option, Some, None, List, length}
 use Rattle.base.specs.Access.{View}
 use Rattle.base.specs.Counts.{count_below}
 use Rattle.base.specs.Manifest.{row_of}
 use Rattle.base.specs.Pages.{PageRun, covers}
-use Rattle.pool.specs.Pool.{Pool, pages_of, words_of, with_put, with_mark, used_by, quota_of}
+use Rattle.pool.specs.Pool.{Pool, Pages, pages_of, words_of, with_put, with_mark, used_by, quota_of}
 use Rattle.stage2.specs.declared.walked.Walked.{Walked}
 use Rattle.stage2.specs.declared.walked.Walked.TheVariants.{None as Unmapped}
-use Rattle.stage2.specs.Chunks.{edited, Writes, answers_at, answers_in, answers_of, second_of, entry_in, IsOutcome, IsGrowing, Redoes_in}
+use Rattle.stage2.specs.Chunks.{edited, below, IsWordFor, Writes, answers_at, answers_in, answers_of, second_of, entry_in, IsOutcome, IsGrowing, Redoes_in}
 use Rattle.stage2.specs.Gigabytes.{sum_below, chunk_operations, grows_at, Fits, FitsGigabyte, FitsRow, IsUnderway, EditsGigabyte, EditsRow}
-use Rattle.stage2.specs.History.{Made, broken, replaced}
+use Rattle.stage2.specs.History.{Made, Filled, broken, replaced}
 use Rattle.stage2.specs.Moments.{StaysInStep, Clears}
 use Rattle.stage2.specs.Orderly.{IsOrderly, answers, linked}
 use Rattle.stage2.specs.Slot.{Layout, Slot, slot}
@@ -29,6 +29,16 @@ WritesPlan k c plan old new = Writes k c plan (pages_of old.memory) (pages_of ne
 -- the word of one page
 abbrev pub one_page : ℕ → View → ℕ → Option View
 one_page page answer n = if n == page then Some answer else None
+
+-- whatever is planned with this answer for the pages of a chunk from one up to another: what was written up to the first is now written up to the other
+pub record GoesOn (k c first end : ℕ) (answer : View) (old new : Pool) : Type 0 where
+  pub writes : (plan : ℕ → Option View) (start : Pages)
+      → ((x : ℕ) → first ≤ x → x < end → plan (512 * c + x) ≡ Some answer)
+      → Writes k c (below (512 * c + first) plan) start (pages_of old.memory)
+      → Writes k c (below (512 * c + end) plan) start (pages_of new.memory)
+  pub filled : (plan : ℕ → Option View) (start : Pool)
+      → ((x : ℕ) → first ≤ x → x < end → plan (512 * c + x) ≡ Some answer)
+      → Filled k c first plan start old → Filled k c end plan start new
 
 -- the level 2 word of a chunk is made invalid
 abbrev pub Breaks : ℕ → ℕ → ℕ → Pool → Pool → Type 0
@@ -88,6 +98,12 @@ abbrev pub LeavesZero : ℕ → ℕ → List PageRun → View → Pool → Type 
 LeavesZero k c runs answer pool =
     answer ≡ None → (i : ℕ) → i < 512 → covers runs (512 * c + i) ≡ false
     → words_of pool.memory.words k i ≡ 0
+
+-- the words for pages in none of the runs are those of pages with this answer
+abbrev pub OthersAnswer : ℕ → ℕ → List PageRun → View → Pool → Type 0
+OthersAnswer k c runs answer pool =
+    (i : ℕ) → i < 512 → covers runs (512 * c + i) ≡ false
+    → IsWordFor (512 * c + i) answer (words_of pool.memory.words k i)
 
 -- they all get one answer
 abbrev pub SetsChunk : Layout → ℕ → ℕ → ℕ → View → Pool → Pool → Type 0

@@ -71,7 +71,7 @@ fn edit_chunks<M: TableMem>(
             if touches(part, chunk) {
                 edit_chunk(memory, layout, p, row, second, chunk, part, access);
             }
-            unfilled = next_unfilled(runs, gigabyte, index);
+            unfilled = next_unfilled(runs, gigabyte, index, span.end);
         }
     }
 }
@@ -91,12 +91,19 @@ pub(crate) fn find_table<M: TableMem>(
     table_of(&read_gigabyte(memory, layout, row, gigabyte))
 }
 
-/// The index of a word of a table that is not 0.
-fn first_word<M: TableMem>(memory: &M, table: TablePage) -> Option<u32>
+/// The index of a word of a table that is not 0. The word of the first run's chunk is looked at before
+/// all others.
+fn first_word<M: TableMem>(memory: &M, table: TablePage, runs: &[Run]) -> Option<u32>
     requires { table < page_count (M.state memory.now).memory.quotas }
     ensures some { IfSome result (λ x. (x < 512) × (word_in (M.state memory.now) table x ≢ 0)) }
     ensures none { IfNone result (IsEmpty table (M.state memory.now)) }
 {
+    if let Some(run) = runs.first() {
+        let index = first_chunk(*run).index();
+        if read_word(memory, table, index) != 0 {
+            return Some(index);
+        }
+    }
     for index in 0..512 {
         if read_word(memory, table, index) != 0 {
             return Some(index);
@@ -155,7 +162,7 @@ fn edit_tabled<M: TableMem>(
     ensures room { M.room memory.old ≤ M.room memory.new + gigabyte_operations runs.now gigabyte }
 {
     edit_chunks(memory, layout, p, row, second, gigabyte, runs, access);
-    match first_word(memory, second) {
+    match first_word(memory, second, runs) {
         Some(_) => {}
         None => unlink(memory, p, row, gigabyte, second),
     }

@@ -140,7 +140,7 @@ fn grow_chunks<M: TableMem>(
         if takes(memory, layout, row, second, gigabyte, index, runs, access) {
             count += 1;
         }
-        index = next_unfilled(runs, gigabyte, index);
+        index = next_unfilled(runs, gigabyte, index, span.end);
     }
     count
 }

@@ -1,22 +1,20 @@
 //! What the pages of a chunk answer after an edit: whether all the same.
 
-ghost use Rattle.std.specs.Prelude.{◌≡◌, ℕ, ◌<◌, true, None, is_some};
+ghost use Rattle.std.specs.Prelude.{◌≡◌, ℕ, ◌<◌, true};
 ghost use Rattle.base.specs.Pages.{are_normal};
 ghost use Rattle.base.specs.Manifest.{page_count};
 ghost use Rattle.base.specs.Access as permissions;
 ghost use Rattle.base.specs.Need as needs;
-ghost use Rattle.pool.specs.Pool.{words_of};
 ghost use Rattle.stage2.specs.declared.walked.Slot.TheVariants.{Next};
-ghost use Rattle.stage2.specs.Chunks.{answers_at, IsOutcome, covers_chunk};
-ghost use Rattle.stage2.specs.Clauses.{read_after, LeavesZero};
-ghost use Rattle.stage2.specs.Walk.{next_page};
+ghost use Rattle.stage2.specs.Chunks.{IsOutcome, covers_chunk};
+ghost use Rattle.stage2.specs.Clauses.{read_after};
 
-use crate::edit::word_of;
 use crate::layout::Layout;
-use crate::page_words::leaves_zero;
+use crate::page_words::stray_page;
 use crate::part::{is_covered, runs_from};
-use crate::place::{Chunk, page_index};
-use crate::read::{read_page, read_word};
+use crate::place::Chunk;
+use crate::read::read_page;
+use crate::table_page::TablePage;
 use crate::walked::Slot;
 use base::{Access, MemoryKind, Page, Rights, Run};
 use pool::TableMem;
@@ -100,29 +98,101 @@ pub(crate) fn outcome<M: TableMem>(
         IsOutcome chunk after result }
 {
     if is_filled(runs, chunk) {
-        Some(*access)
-    } else if differs_at_an_end(memory, layout, entry, chunk, runs, access) {
-        None
-    } else if access.is_none() && is_emptied(memory, entry, chunk, runs) {
-        Some(None)
-    } else {
-        compared(memory, layout, entry, chunk, runs, access)
+        return Some(*access);
+    }
+    if differs_at_an_end(memory, layout, entry, chunk, runs, access) {
+        return None;
+    }
+    match entry {
+        Slot::Next(third) => {
+            outcome_in_table(memory, layout, entry, *third, chunk, runs, access)
+        }
+        _ => compared(memory, layout, entry, chunk, runs, access),
     }
 }
 
-/// Whether a chunk has a table, in which the words of pages in none of the runs are 0.
-fn is_emptied<M: TableMem>(memory: &M, entry: &Slot, chunk: Chunk, runs: &[Run]) -> bool
+/// The same, for a chunk that has a table: its pages in none of the runs are told by their words, as
+/// long as these are the ones for the runs' answer.
+fn outcome_in_table<M: TableMem>(
+    memory: &M,
+    layout: &Layout,
+    entry: &Slot,
+    third: TablePage,
+    chunk: Chunk,
+    runs: &[Run],
+    access: &Option<Access>,
+) -> Option<Option<Access>>
     requires normal { are_normal runs.now ≡ true }
-    requires table { (k : ℕ) → entry.now ≡ Next k
-        → k < page_count (M.state memory.now).memory.quotas }
-    ensures zero { (k : ℕ) → entry.now ≡ Next k → result ≡ true
-        → LeavesZero k chunk runs.now None (M.state memory.now) }
-    ensures table { result ≡ true → is_some (next_page entry.now) ≡ true }
+    requires pages { layout.now.pages ≡ page_count (M.state memory.now).memory.quotas }
+    requires entry { entry.now ≡ Next third }
+    requires table { third < layout.now.pages }
+    ensures { let now = M.state memory.now in
+        let after = read_after layout.now runs.now access.now entry.now now in
+        IsOutcome chunk after result }
 {
-    match entry {
-        Slot::Next(third) => leaves_zero(memory, *third, chunk, runs),
-        _ => false,
+    match stray_page(memory, third, chunk, runs, access) {
+        Some(page) => {
+            if differs_from_runs(memory, layout, entry, chunk, page, runs, access) {
+                None
+            } else {
+                compared(memory, layout, entry, chunk, runs, access)
+            }
+        }
+        None => Some(*access),
     }
+}
+
+/// Whether a page and one of the first run are both of the chunk, and reached otherwise after the edit.
+fn differs_from_runs<M: TableMem>(
+    memory: &M,
+    layout: &Layout,
+    entry: &Slot,
+    chunk: Chunk,
+    page: Page,
+    runs: &[Run],
+    access: &Option<Access>,
+) -> bool
+    requires normal { are_normal runs.now ≡ true }
+    requires pages { layout.now.pages ≡ page_count (M.state memory.now).memory.quotas }
+    requires table { (k : ℕ) → entry.now ≡ Next k → k < layout.now.pages }
+    ensures { let now = M.state memory.now in
+        let after = read_after layout.now runs.now access.now entry.now now in
+        result ≡ true → needs.is_mixed after chunk ≡ true }
+{
+    match runs.first() {
+        Some(run) => {
+            let other = if chunk.has(run.first()) {
+                run.first()
+            } else {
+                chunk.first()
+            };
+            pages_differ(memory, layout, entry, chunk, page, other, runs, access)
+        }
+        None => false,
+    }
+}
+
+/// Whether two pages are both of the chunk, and reached otherwise after the edit.
+fn pages_differ<M: TableMem>(
+    memory: &M,
+    layout: &Layout,
+    entry: &Slot,
+    chunk: Chunk,
+    a: Page,
+    b: Page,
+    runs: &[Run],
+    access: &Option<Access>,
+) -> bool
+    requires normal { are_normal runs.now ≡ true }
+    requires pages { layout.now.pages ≡ page_count (M.state memory.now).memory.quotas }
+    requires table { (k : ℕ) → entry.now ≡ Next k → k < layout.now.pages }
+    ensures { let now = M.state memory.now in
+        let after = read_after layout.now runs.now access.now entry.now now in
+        result ≡ true → needs.is_mixed after chunk ≡ true }
+{
+    let one = page_after(memory, layout, entry, a, runs, access);
+    let other = page_after(memory, layout, entry, b, runs, access);
+    chunk.has(a) && chunk.has(b) && !is_alike(&one, &other)
 }
 
 /// Whether a page and the next one are both of the chunk, and reached otherwise after the edit.
@@ -142,12 +212,10 @@ fn next_differs<M: TableMem>(
         let after = read_after layout.now runs.now access.now entry.now now in
         result ≡ true → needs.is_mixed after chunk ≡ true }
 {
-    let Some(next) = chunk.next_page(page) else {
-        return false;
-    };
-    let here = page_after(memory, layout, entry, page, runs, access);
-    let next = page_after(memory, layout, entry, next, runs, access);
-    !is_alike(&here, &next)
+    match chunk.next_page(page) {
+        Some(next) => pages_differ(memory, layout, entry, chunk, page, next, runs, access),
+        None => false,
+    }
 }
 
 /// Whether the pages at an end of the first run, one in it and one beside it, are reached otherwise
@@ -176,22 +244,6 @@ fn differs_at_an_end<M: TableMem>(
         || next_differs(memory, layout, entry, chunk, last, runs, access)
 }
 
-/// Whether the word of a page, in the chunk's table, is the one for this answer.
-fn says<M: TableMem>(memory: &M, entry: &Slot, page: Page, answer: &Option<Access>) -> bool
-    requires table { (k : ℕ) → entry.now ≡ Next k
-        → k < page_count (M.state memory.now).memory.quotas }
-    ensures { (layout : Layout) → result ≡ true
-        → answers_at layout (words_of (M.state memory.now).memory.words) entry.now page
-        ≡ answer.now }
-{
-    match entry {
-        Slot::Next(third) => {
-            read_word(memory, *third, page_index(page)) == word_of(page, answer)
-        }
-        _ => false,
-    }
-}
-
 /// The same, found by a look at the pages, one after another, up to the first that is reached
 /// otherwise than the chunk's first page.
 fn compared<M: TableMem>(
@@ -210,16 +262,13 @@ fn compared<M: TableMem>(
         IsOutcome chunk after result }
 {
     let first = page_after(memory, layout, entry, chunk.first(), runs, access);
-    let is_kept = is_alike(access, &first);
     let mut rest = runs;
     for index in 0..512 {
         let page = chunk.page(index);
         rest = runs_from(rest, page);
-        if !(is_kept && says(memory, entry, page, &first)) {
-            let next = page_after(memory, layout, entry, page, rest, access);
-            if !is_alike(&next, &first) {
-                return None;
-            }
+        let next = page_after(memory, layout, entry, page, rest, access);
+        if !is_alike(&next, &first) {
+            return None;
         }
     }
     Some(first)

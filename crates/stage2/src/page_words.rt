@@ -1,16 +1,16 @@
 //! The words of a chunk's pages, in its level 3 table.
 
-ghost use Rattle.std.specs.Prelude.{◌≡◌, ℕ, ◌+◌, ◌*◌, ◌/◌, ◌%◌, ◌<◌, ◌≤◌, true, [], Some, None, is_some};
+ghost use Rattle.std.specs.Prelude.{◌≡◌, ℕ, ◌+◌, ◌*◌, ◌/◌, ◌%◌, ◌<◌, ◌≤◌, true, [], Some, None, is_some, if◌then◌else◌, IfNone};
 ghost use Rattle.base.specs.Access.{View};
 ghost use Rattle.base.specs.Pages.{are_normal};
 ghost use Rattle.base.specs.Manifest.{page_count};
 ghost use Rattle.pool.specs.Pool.{taken_of};
-ghost use Rattle.stage2.specs.Chunks.{planned};
+ghost use Rattle.stage2.specs.Chunks.{planned, IsWordFor};
 ghost use Rattle.stage2.specs.History.{Filled};
-ghost use Rattle.stage2.specs.Clauses.{WritesPlan, one_page, LeavesZero};
+ghost use Rattle.stage2.specs.Clauses.{WritesPlan, one_page, GoesOn, LeavesZero, OthersAnswer, word_in};
 
 use crate::edit::{put_word, word_of};
-use crate::part::{is_covered, runs_from};
+use crate::part::{runs_from, stretch_at};
 use crate::place::{Chunk, Span, page_index};
 use crate::read::read_word;
 use crate::span::page_span;
@@ -36,6 +36,29 @@ fn write_page<M: TableMem>(memory: &mut M, third: TablePage, page: Page, answer:
     }
 }
 
+/// Writes the words for pages of a chunk that follow one another, counted from its first, into a
+/// table, where they are not there. The pages have one answer.
+fn write_pages<M: TableMem>(
+    memory: &mut M,
+    third: TablePage,
+    chunk: Chunk,
+    pages: Span,
+    answer: Option<Access>,
+)
+    requires page_in { third < page_count (M.state memory.old).memory.quotas }
+    requires taken { taken_of (M.state memory.old).memory.taken third ≡ true }
+    requires ordered { pages.first ≤ pages.end }
+    requires most { pages.end ≤ 512 }
+    requires room { pages.end ≤ M.room memory.old + pages.first }
+    ensures goes_on { GoesOn third chunk pages.first pages.end answer
+        (M.state memory.old) (M.state memory.new) }
+    ensures room { M.room memory.old + pages.first ≤ M.room memory.new + pages.end }
+{
+    for index in pages.first..pages.end {
+        write_page(memory, third, chunk.page(index), &answer);
+    }
+}
+
 /// Where the pages of a chunk stand for which something is planned, counted from its first.
 fn planned_span(runs: &[Run], chunk: Chunk, others: &Option<Option<Access>>) -> Span
     ensures ordered { result.first ≤ result.end }
@@ -48,6 +71,17 @@ fn planned_span(runs: &[Run], chunk: Chunk, others: &Option<Option<Access>>) -> 
         Some(_) => Span { first: 0, end: 512 },
         None => page_span(runs, chunk),
     }
+}
+
+/// What is planned for pages that the runs have, or that they have not.
+fn plan_of(
+    is_covered: bool,
+    access: &Option<Access>,
+    others: &Option<Option<Access>>,
+) -> Option<Option<Access>>
+    ensures { result ≡ (if is_covered then Some access.now else others.now) }
+{
+    if is_covered { Some(*access) } else { *others }
 }
 
 /// Writes the words that are planned for the pages of a chunk, upward, into a table: pages of the
@@ -71,16 +105,17 @@ pub(crate) fn write_table<M: TableMem>(
     ensures room { M.room memory.old ≤ M.room memory.new + 512 }
 {
     let span = planned_span(runs, chunk, others);
-    let (inside, outside) = (*access, *others);
     let mut rest = runs;
-    for index in span.first..span.end {
-        let page = chunk.page(index);
-        rest = runs_from(rest, page);
-        if is_covered(rest, page) {
-            write_page(memory, third, page, &inside);
-        } else if let Some(answer) = &outside {
-            write_page(memory, third, page, answer);
+    let mut first = span.first;
+    while first < span.end {
+        rest = runs_from(rest, chunk.page(first));
+        let part = stretch_at(rest, chunk, first, span.end);
+        let end = part.end;
+        match plan_of(part.is_covered, access, others) {
+            Some(answer) => write_pages(memory, third, chunk, Span { first, end }, answer),
+            None => {}
         }
+        first = end;
     }
 }
 
@@ -110,26 +145,55 @@ pub(crate) fn empty_table<M: TableMem>(
     }
 }
 
-/// Whether the words of pages in none of the runs are 0.
-pub(crate) fn leaves_zero<M: TableMem>(
+/// The first of the pages of a chunk, counted from its first, whose word in a table is not that of a
+/// page with this answer.
+fn first_other<M: TableMem>(
+    memory: &M,
+    third: TablePage,
+    chunk: Chunk,
+    pages: Span,
+    answer: Option<Access>,
+) -> Option<Page>
+    requires page_in { third < page_count (M.state memory.now).memory.quotas }
+    requires most { pages.end ≤ 512 }
+    ensures none { IfNone result ((x : ℕ) → pages.first ≤ x → x < pages.end
+        → IsWordFor (512 * chunk + x) answer (word_in (M.state memory.now) third x)) }
+{
+    for index in pages.first..pages.end {
+        let page = chunk.page(index);
+        if read_word(memory, third, index) != word_of(page, &answer) {
+            return Some(page);
+        }
+    }
+    None
+}
+
+/// A page of a chunk, in none of the runs, whose word in a table is not that of a page with this
+/// answer; none where there is no such page.
+pub(crate) fn stray_page<M: TableMem>(
     memory: &M,
     third: TablePage,
     chunk: Chunk,
     runs: &[Run],
-) -> bool
+    answer: &Option<Access>,
+) -> Option<Page>
     requires normal { are_normal runs.now ≡ true }
     requires page_in { third < page_count (M.state memory.now).memory.quotas }
-    ensures { result ≡ true → LeavesZero third chunk runs.now None (M.state memory.now) }
+    ensures none { IfNone result (OthersAnswer third chunk runs.now answer.now (M.state memory.now)) }
 {
     let mut rest = runs;
-    for index in 0..512 {
-        if read_word(memory, third, index) != 0 {
-            let page = chunk.page(index);
-            rest = runs_from(rest, page);
-            if !is_covered(rest, page) {
-                return false;
+    let mut first = 0;
+    while first < 512 {
+        rest = runs_from(rest, chunk.page(first));
+        let part = stretch_at(rest, chunk, first, 512);
+        let end = part.end;
+        if !part.is_covered {
+            let found = first_other(memory, third, chunk, Span { first, end }, *answer);
+            if found.is_some() {
+                return found;
             }
         }
+        first = end;
     }
-    true
+    None
 }

@@ -1,11 +1,20 @@
 //! The runs that an edit of one gigabyte, or of one chunk, looks at.
 
-ghost use Rattle.std.specs.Prelude.{◌≡◌, ℕ, ◌<◌, ◌≤◌, true};
+ghost use Rattle.std.specs.Prelude.{◌≡◌, ℕ, ◌+◌, ◌*◌, ◌<◌, ◌≤◌, true};
 ghost use Rattle.base.specs.Pages.{are_normal, covers};
 ghost use Rattle.stage2.specs.Parts as parts;
 
 use crate::place::{Chunk, Gigabyte};
 use base::{Page, Run};
+
+/// Pages of a chunk that follow one another, all of which the runs have, or none.
+#[derive(Clone, Copy)]
+pub(crate) struct Stretch {
+    /// Whether the runs have them.
+    pub(crate) is_covered: bool,
+    /// The page after the last of them, counted from the chunk's first.
+    pub(crate) end: u32,
+}
 
 /// Those of the runs that have a page from one up to another.
 pub(crate) fn runs_between(runs: &[Run], first: u32, end: u32) -> &[Run]
@@ -54,6 +63,46 @@ pub(crate) fn runs_from(runs: &[Run], page: Page) -> &[Run]
             }
         }
         None => runs,
+    }
+}
+
+/// The pages of a chunk from one on that the runs have as they have that one, up to a limit, counted
+/// from the chunk's first.
+pub(crate) fn stretch_at(runs: &[Run], chunk: Chunk, index: u32, limit: u32) -> Stretch
+    requires normal { are_normal runs.now ≡ true }
+    requires index { index < limit }
+    requires limit { limit ≤ 512 }
+    ensures behind { index < result.end }
+    ensures most { result.end ≤ limit }
+    ensures alike { (x : ℕ) → index ≤ x → x < result.end
+        → covers runs.now (512 * chunk + x) ≡ result.is_covered }
+{
+    let start = chunk.first().number();
+    let page = chunk.page(index);
+    let n = page.number();
+    match runs.first() {
+        Some(run) => {
+            if n < run.first().number() {
+                Stretch {
+                    is_covered: false,
+                    end: limit.min(run.first().number() - start),
+                }
+            } else if n < run.end() {
+                Stretch {
+                    is_covered: true,
+                    end: limit.min(run.end() - start),
+                }
+            } else {
+                Stretch {
+                    is_covered: is_covered(runs, page),
+                    end: index + 1,
+                }
+            }
+        }
+        None => Stretch {
+            is_covered: false,
+            end: limit,
+        },
     }
 }
 

@@ -1,6 +1,6 @@
 //! The parts of a partition's input addresses that have a word of their own in its tables.
 
-ghost use Rattle.std.specs.Prelude.{◌≡◌, ℕ, ◌+◌, ◌*◌, ◌/◌, ◌%◌, ◌<◌, Some};
+ghost use Rattle.std.specs.Prelude.{◌≡◌, ℕ, ◌+◌, ◌*◌, ◌/◌, ◌%◌, ◌<◌, ◌==◌, Some};
 ghost use Rattle.base.specs.Pages.{IsRun};
 
 use base::{Page, Run};
@@ -186,6 +186,13 @@ impl Chunk {
         ensures in_range { self < 262144 }
     {
         Run::new(self.first(), WORDS)
+    }
+
+    /// Whether a page is in the chunk.
+    pub(crate) fn has(self, page: Page) -> bool
+        ensures { result ≡ (page / 512 == self) }
+    {
+        page.number() / WORDS == self.0
     }
 
     /// The page after this one, if both are in the chunk.

@@ -74,8 +74,8 @@ pub(crate) fn page_span(runs: &[Run], chunk: Chunk) -> Span
 }
 
 /// The first chunk of a gigabyte behind this one, counted from its first, that is not known to be
-/// filled by the run that goes on there.
-pub(crate) fn next_unfilled(runs: &[Run], gigabyte: Gigabyte, index: u32) -> u32
+/// filled by the run that goes on there. Chunks from the last one's end on are not asked for.
+pub(crate) fn next_unfilled(runs: &[Run], gigabyte: Gigabyte, index: u32, end: u32) -> u32
     requires normal { are_normal runs.now ≡ true }
     requires index { index < 512 }
     ensures after { index < result }
@@ -83,6 +83,9 @@ pub(crate) fn next_unfilled(runs: &[Run], gigabyte: Gigabyte, index: u32) -> u32
     ensures filled { (x : ℕ) → index < x → x < result
         → covers_chunk (512 * gigabyte + x) runs.now ≡ true }
 {
+    if end <= index + 1 {
+        return index + 1;
+    }
     let next = gigabyte.chunk(index).end();
     match runs_between(runs, next, next + 1).first() {
         Some(run) => whole_chunks(run.end().min(gigabyte.end())) - gigabyte.chunks().first,

@@ -134,14 +134,14 @@ outcome-filled runs access before c filled =
     let same = λ (n : ℕ) (at : n / 512 ≡ c). ap (λ b. cond b access (before n)) (filled-page runs c n filled at) in
     record { same = λ one is n at. same n at ∙ (let e : access ≡ one = cc in e); mixed = sym (same-unmixed (edited runs access before) c access same) }
 
--- where nothing is mapped and no page beside the runs is reached, none is
-pub outcome-emptied : (runs : List PageRun) (access : View) (before : ℕ → View) (c : ℕ) → access ≡ None → ((n : ℕ) → n / 512 ≡ c → covers runs n ≡ false → before n ≡ None) → IsOutcome c (edited runs access before) (Some None)
-outcome-emptied runs access before c none others =
+-- where the pages in none of the runs answer as those of the runs, all do
+pub outcome-others : (runs : List PageRun) (access : View) (before : ℕ → View) (c : ℕ) → ((n : ℕ) → n / 512 ≡ c → covers runs n ≡ false → before n ≡ access) → IsOutcome c (edited runs access before) (Some access)
+outcome-others runs access before c others =
     let same = λ (n : ℕ) (at : n / 512 ≡ c). all (covers runs n) n refl at in
-    record { same = λ one is n at. same n at ∙ (let e : None ≡ one = cc in e); mixed = sym (same-unmixed (edited runs access before) c None same) }
+    record { same = λ one is n at. same n at ∙ (let e : access ≡ one = cc in e); mixed = sym (same-unmixed (edited runs access before) c access same) }
   where
-    all : (b : Bool) (n : ℕ) → covers runs n ≡ b → n / 512 ≡ c → edited runs access before n ≡ None
-    all true n e at = rw e none
+    all : (b : Bool) (n : ℕ) → covers runs n ≡ b → n / 512 ≡ c → edited runs access before n ≡ access
+    all true n e at = rw e refl
     all false n e at = rw e (others n at e)
 
 -- ---- chunks that are not mixed

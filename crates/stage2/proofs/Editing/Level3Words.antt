@@ -1,5 +1,5 @@
 -- The words of one level 3 table, one after another.
-use Rattle.std.proofs.Common.{◌≡◌, ◌≢◌, ℕ, ◌+◌, ◌*◌, ◌/◌, ◌%◌, ◌<◌, ◌≤◌, Bool, true, false, cond, eqb, ltb, List, [], is_some, Option, Some, None, refl, arith, ap, sym, ◌∙◌, inl, inr}
+use Rattle.std.proofs.Common.{◌≡◌, ◌≢◌, ℕ, zero, suc, subst, ◌+◌, ◌*◌, ◌/◌, ◌%◌, ◌<◌, ◌≤◌, Bool, true, false, cond, eqb, ltb, List, [], is_some, Option, Some, None, refl, arith, ap, sym, ◌∙◌, inl, inr}
 use Rattle.std.proofs.lemmas.Bool.{cases_eq, cases_Bool, eqb-true}
 use Rattle.std.proofs.lemmas.Bool.Decides.{nat_tests}
 use Rattle.base.specs.Access.{View}
@@ -119,6 +119,19 @@ writes-skip k c i plan a b none so = record {
       | inr f ↦ rw f refl
     ]
 
+-- pages from the i-th up to the j-th, for which nothing is planned
+pub writes-pass : (k c i j : ℕ) (plan : ℕ → Option View) (a b : Pages) → i ≤ j → ((x : ℕ) → i ≤ x → x < j → plan (512 * c + x) ≡ None)
+    → Writes k c (below (512 * c + i) plan) a b → Writes k c (below (512 * c + j) plan) a b
+writes-pass k c i zero plan a b le none so = let is : i ≡ 0 = omega (arith, le) in subst (λ x. Writes k c (below (512 * c + x) plan) a b) is so
+writes-pass k c i (suc j) plan a b le none so = elim (cases_eq i (suc j)) [
+  | inl is ↦ subst (λ x. Writes k c (below (512 * c + x) plan) a b) is so
+  | inr other ↦
+      let from : i ≤ j = omega (arith, le, other) in
+      let next : j + 1 ≡ suc j = omega arith in
+      subst (λ x. Writes k c (below (512 * c + x) plan) a b) next
+      (writes-skip k c j plan a b (none j from (omega arith)) (writes-pass k c i j plan a b from (λ x least lt. none x least (omega (arith, lt))) so))
+]
+
 -- all of them: nothing is planned for the pages from the i-th on
 pub writes-all : (k c i : ℕ) (plan : ℕ → Option View) (a b : Pages) → ((x : ℕ) → x < 512 → i ≤ x → plan (512 * c + x) ≡ None) → Writes k c (below (512 * c + i) plan) a b → Writes k c plan a b
 writes-all k c i plan a b none so = record {
@@ -144,7 +157,7 @@ writes-all k c i plan a b none so = record {
 -- where the words of all pages in none of the runs are 0, they need no write
 pub writes-rest : (k c : ℕ) (runs : List PageRun) (access : View) (a b : Pages) → ((i : ℕ) → i < 512 → covers runs (512 * c + i) ≡ false → a.words k i ≡ 0)
     → Writes k c (planned runs access None) a b → Writes k c (planned runs access (Some None)) a b
-writes-rest k c runs access a b zero so = record {
+writes-rest k c runs access a b left so = record {
   ids = so.ids;
   quotas = so.quotas;
   taken = so.taken;
@@ -162,7 +175,7 @@ writes-rest k c runs access a b zero so = record {
     here i x small false e given =
         let same : Some None ≡ Some x = rw e at given in
         let none : None ≡ x = cc in
-        let read : b.words k i ≡ 0 = so.stays i small (rw e refl) ∙ zero i small e in
+        let read : b.words k i ≡ 0 = so.stays i small (rw e refl) ∙ left i small e in
         rw (read, ← none) (record { entry = entry-zero 3; zero = λ same. refl })
 
 -- nor do those of a table that is all 0, for pages that are not to be reached

@@ -78,6 +78,10 @@ first-tells (r ∷ runs) run n normal some is lt =
     inside : (first count n : ℕ) → n < first + count → ((leb first n && ltb n (first + count)) || false) ≡ leb first n
     inside first count n lt = grind (arith, nat_tests)
 
+-- runs don't have the pages before the first
+pub before-first : (runs : List PageRun) (run : PageRun) (n : ℕ) → are_normal runs ≡ true → 0 < length runs → run ≡ get_or runs 0 run → n < run.first → covers runs n ≡ false
+before-first runs run n normal some is lt = first-tells runs run n normal some is (omega (arith, lt)) ∙ grind (arith, nat_tests, lt)
+
 -- what a run is known to be that is the first of those with pages from one up to another
 pub record IsFirstBetween (first end : ℕ) (run : PageRun) (runs : List PageRun) : Type 0 where
   pub reaches : first < end_of run

@@ -1,4 +1,5 @@
-use Rattle.std.proofs.Common.{◌+◌, ◌<◌, sym, ap, arith}
+use Rattle.std.proofs.Common.{◌+◌, ◌<◌, sym, ap, ◌∙◌, arith}
+use Rattle.std.specs.Option.{option_map}
 use Rattle.base.specs.Pages.{PageRun}
 use Rattle.manifest.proofs.Facts.{facts}
 use Rattle.ledger.proofs.Regions.{in_run-before, found_has, region_at-same}
@@ -7,11 +8,11 @@ use Rattle.ledger.proofs.free.end_of_region.Goals as goal
 pub returns-in-Some-clause-behind : goal.returns-in-Some-clause-behind
 returns-in-Some-clause-behind c =
     let r = c.in-Some.region.now in
-    let inside : c.args.page < r.pages.first + r.pages.count = in_run-before r.pages c.args.page (found_has c.args.manifest.now.regions c.args.page r (sym c.in-Some.ensures)) in
+    let inside : c.args.page < r.pages.first + r.pages.count = in_run-before r.pages c.args.page (found_has c.args.manifest.now.regions c.args.page r (sym c.requires ∙ ap (λ x. option_map (λ d. d.now) x) c.in-Some.is)) in
     omega (arith, inside, ap (λ (run : PageRun). run.first + run.count) c.pages.ensures.same)
 
 pub returns-in-Some-clause-same : goal.returns-in-Some-clause-same
 returns-in-Some-clause-same c = λ n from to.
     let r = c.in-Some.region.now in
     let inside : n < r.pages.first + r.pages.count = omega (arith, ap (λ (run : PageRun). run.first + run.count) c.pages.ensures.same) in
-    region_at-same c.args.manifest.now.regions c.args.page n r (facts c.args.manifest.now c.regions.ensures.valid).begin (sym c.in-Some.ensures) from inside
+    region_at-same c.args.manifest.now.regions c.args.page n r (facts c.args.manifest.now c.regions.ensures.valid).begin (sym c.requires ∙ ap (λ x. option_map (λ d. d.now) x) c.in-Some.is) from inside

@@ -1,18 +1,11 @@
-use Rattle.std.proofs.Common.{◌≡◌, ℕ, ◌+◌, ◌*◌, ◌≤◌, Bool, true, false, cond, Some, refl, sym, ap, ap₂, subst, ◌∙◌, arith}
+use Rattle.std.proofs.Common.{◌≡◌, ℕ, ◌+◌, ◌*◌, ◌≤◌, cond, Some, refl, sym, ap, ap₂, subst, ◌∙◌, arith}
 use Rattle.pool.specs.Pool.{words_of}
 use Rattle.base.specs.Access.{View}
 use Rattle.base.specs.Need.{is_alike}
 use Rattle.base.specs.Pages.{covers}
-use Rattle.manifest.proofs.Tables.{alike-refl}
 use Rattle.stage2.specs.Chunks.{edited, answers_at, AreAlike, IsOutcome}
 use Rattle.stage2.proofs.Counting.Needs.{alike-none, alike-more, outcome-mixed, outcome-one}
 use Rattle.stage2.proofs.outcome.compared.Goals as goal
-use Rattle.stage2.proofs.outcome.compared.Goals.{then-not-says+else-not-is_alike, else-not-says, then-is_kept, else-is_kept}
-
--- a page that answers so before the edit, where the edit's own pages do
-kept-alike : (b : Bool) (access before first : View) → is_alike access first ≡ true → before ≡ first → is_alike (cond b access before) first ≡ true
-kept-alike true access before first alike same = alike
-kept-alike false access before first alike same = rw same (alike-refl first)
 
 pub loop-index-init : goal.loop-index-init
 loop-index-init g c = record {
@@ -42,22 +35,12 @@ loop-index-preserved g c =
     let first = c.page_after-first.ensures ∙ ap answer c.first.ensures.same in
     let ahead : (n : ℕ) → 512 * c.args.chunk + i ≤ n → covers c.runs_from-rest.result.now n ≡ covers c.args.runs.now n =
     λ n from. c.runs_from-rest.ensures.same n (omega (arith, from, c.page-page.ensures.same)) ∙ c.loop-index.invariant.ahead n from in
-    let alike : AreAlike answer c.args.chunk (i + 1) = elim c.if-not-says.branch [
-      | then-not-says+else-not-is_alike w ↦
-          let next = w.page_after-next.ensures ∙ ap (λ b. cond b c.args.access.now (before c.page-page.result)) (ahead c.page-page.result (omega (arith, c.page-page.ensures.same))) ∙ ap answer c.page-page.ensures.same in
-          alike-more answer c.args.chunk i c.loop-index.invariant.alike
-          (sym (w.is_alike.ensures ∙ ap₂ is_alike next first) ∙ w.if-not-is_alike.false)
-      | else-not-says w ↦ elim c.if-is_kept.branch [
-        | then-is_kept v ↦
-            let n = 512 * c.args.chunk + i in
-            let says : v.says.result ≡ true = sym v.value-is ∙ w.if-not-says.false in
-            let kept : is_alike c.args.access.now (answer (512 * c.args.chunk)) ≡ true = sym (c.is_alike-is_kept.ensures ∙ ap (is_alike c.args.access.now) first) ∙ v.if-is_kept.true in
-            let same : before n ≡ answer (512 * c.args.chunk) = ap before (sym c.page-page.ensures.same) ∙ v.says.ensures c.args.layout.now says ∙ first in
-            alike-more answer c.args.chunk i c.loop-index.invariant.alike (kept-alike (covers c.args.runs.now n) c.args.access.now (before n) (answer (512 * c.args.chunk)) kept same)
-        | else-is_kept v ↦ absurd (let bad : true ≡ false = sym w.if-not-says.false ∙ v.value-is ∙ v.if-is_kept.false in cc)
-      ]
-    ] in
-    record { alike = alike; ahead = λ n from. ahead n (omega (arith, from)); normal = c.runs_from-rest.ensures.normal }
+    let next = c.page_after-next.ensures ∙ ap (λ b. cond b c.args.access.now (before c.page-page.result)) (ahead c.page-page.result (omega (arith, c.page-page.ensures.same))) ∙ ap answer c.page-page.ensures.same in
+    record {
+      alike = alike-more answer c.args.chunk i c.loop-index.invariant.alike (sym (c.is_alike.ensures ∙ ap₂ is_alike next first) ∙ c.if-not-is_alike.false);
+      ahead = λ n from. ahead n (omega (arith, from));
+      normal = c.runs_from-rest.ensures.normal;
+    }
 
 pub returns : goal.returns
 returns g c =
