@@ -10,13 +10,16 @@ ghost use Rattle.stage2.specs.History.{Filled};
 ghost use Rattle.stage2.specs.Clauses.{WritesPlan, one_page, GoesOn, LeavesZero, OthersAnswer, word_in};
 
 use crate::edit::{put_word, word_of};
-use crate::part::{runs_from, stretch_at};
+use crate::part::{is_covered, runs_from, stretch_at};
 use crate::place::{Chunk, Span, page_index};
 use crate::read::read_word;
 use crate::span::page_span;
 use crate::table_page::TablePage;
 use base::{Access, Page, Run};
 use pool::TableMem;
+
+/// From so many runs in a chunk on, which are short then, its pages are written one by one.
+const MANY_RUNS: usize = 8;
 
 /// Writes the level 3 word of a page into a table, if it is not there.
 fn write_page<M: TableMem>(memory: &mut M, third: TablePage, page: Page, answer: &Option<Access>)
@@ -84,9 +87,8 @@ fn plan_of(
     if is_covered { Some(*access) } else { *others }
 }
 
-/// Writes the words that are planned for the pages of a chunk, upward, into a table: pages of the
-/// runs get one answer, and the others another one, or stay.
-pub(crate) fn write_table<M: TableMem>(
+/// The same as `write_table`, one stretch of pages after another.
+fn write_stretches<M: TableMem>(
     memory: &mut M,
     third: TablePage,
     chunk: Chunk,
@@ -116,6 +118,66 @@ pub(crate) fn write_table<M: TableMem>(
             None => {}
         }
         first = end;
+    }
+}
+
+/// The same as `write_table`, one page after another.
+fn write_each<M: TableMem>(
+    memory: &mut M,
+    third: TablePage,
+    chunk: Chunk,
+    runs: &[Run],
+    access: &Option<Access>,
+    others: &Option<Option<Access>>,
+)
+    requires normal { are_normal runs.now ≡ true }
+    requires page_in { third < page_count (M.state memory.old).memory.quotas }
+    requires taken { taken_of (M.state memory.old).memory.taken third ≡ true }
+    requires room { 512 ≤ M.room memory.old }
+    ensures writes { WritesPlan third chunk (planned runs.now access.now others.now)
+        (M.state memory.old) (M.state memory.new) }
+    ensures filled { Filled third chunk 512 (planned runs.now access.now others.now)
+        (M.state memory.old) (M.state memory.new) }
+    ensures room { M.room memory.old ≤ M.room memory.new + 512 }
+{
+    let span = planned_span(runs, chunk, others);
+    let (inside, outside) = (*access, *others);
+    let mut rest = runs;
+    for index in span.first..span.end {
+        let page = chunk.page(index);
+        rest = runs_from(rest, page);
+        if is_covered(rest, page) {
+            write_page(memory, third, page, &inside);
+        } else if let Some(answer) = &outside {
+            write_page(memory, third, page, answer);
+        }
+    }
+}
+
+/// Writes the words that are planned for the pages of a chunk, upward, into a table: pages of the
+/// runs get one answer, and the others another one, or stay.
+pub(crate) fn write_table<M: TableMem>(
+    memory: &mut M,
+    third: TablePage,
+    chunk: Chunk,
+    runs: &[Run],
+    access: &Option<Access>,
+    others: &Option<Option<Access>>,
+)
+    requires normal { are_normal runs.now ≡ true }
+    requires page_in { third < page_count (M.state memory.old).memory.quotas }
+    requires taken { taken_of (M.state memory.old).memory.taken third ≡ true }
+    requires room { 512 ≤ M.room memory.old }
+    ensures writes { WritesPlan third chunk (planned runs.now access.now others.now)
+        (M.state memory.old) (M.state memory.new) }
+    ensures filled { Filled third chunk 512 (planned runs.now access.now others.now)
+        (M.state memory.old) (M.state memory.new) }
+    ensures room { M.room memory.old ≤ M.room memory.new + 512 }
+{
+    if runs.len() < MANY_RUNS {
+        write_stretches(memory, third, chunk, runs, access, others);
+    } else {
+        write_each(memory, third, chunk, runs, access, others);
     }
 }
 
