@@ -3,6 +3,7 @@ pub mod ChunkEdit
 pub mod Trades
 pub mod ChunkKeeps
 pub mod Level3Words
+pub mod PlannedWords
 pub mod FourChunkEdits
 pub mod RootLinks
 pub mod ChunkByChunk

@@ -1,17 +1,13 @@
-use Rattle.std.proofs.Common.{◌≡◌, ℕ, ◌+◌, ◌*◌, ◌/◌, ◌%◌, ◌<◌, ◌≤◌, true, false, cond, List, Option, Some, None, is_some, refl, sym, ap, subst, ◌∙◌, arith}
+use Rattle.std.proofs.Common.{◌≡◌, ℕ, ◌+◌, ◌*◌, ◌/◌, ◌%◌, ◌<◌, ◌≤◌, true, false, cond, List, Option, Some, None, refl, sym, ap, ◌∙◌, arith}
 use Rattle.base.specs.Access.{View}
 use Rattle.base.specs.Pages.{PageRun, covers}
-use Rattle.pool.specs.Pool.{Pool, Pages, pages_of}
-use Rattle.stage2.specs.Chunks.{planned, Writes}
-use Rattle.stage2.specs.History.{Filled}
+use Rattle.pool.specs.Pool.{pages_of}
+use Rattle.stage2.specs.Chunks.{planned}
 use Rattle.stage2.proofs.Walkers.Histories.{filled-none, filled-step, filled-wider}
-use Rattle.stage2.proofs.Editing.Level3Words.{only, writes-none, writes-step, writes-skip, writes-all}
+use Rattle.stage2.proofs.Editing.Level3Words.{writes-none, writes-step, writes-skip, writes-all}
+use Rattle.stage2.proofs.Editing.PlannedWords.{here-writes, here-filled, not-some}
 use Rattle.stage2.proofs.page_words.write_each.Goals as goal
 use Rattle.stage2.proofs.page_words.write_each.Goals.{then-is_covered, else-is_covered+in-Some, else-is_covered+in_default}
-
-not-some : (o : Option View) → (is_some o ≡ true → ⊥) → o ≡ None
-not-some None never = refl
-not-some (Some v) never = absurd (never refl)
 
 pub loop-index-init : goal.loop-index-init
 loop-index-init g c =
@@ -33,17 +29,6 @@ module _ (runs : List PageRun) (access : View) (others : Option View) (n : ℕ) 
 
   outside-plan : covers runs n ≡ false → planned runs access others n ≡ others
   outside-plan e = ap (λ b. cond b (Some access) others) e
-
--- the word of a page, by its chunk and index
-here-writes : (k chunk n : ℕ) (answer : View) (old new : Pages) (page : ℕ) → page / 512 ≡ chunk → page ≡ n → Writes k (page / 512) (only page answer) old new → Writes k chunk (only n answer) old new
-here-writes k chunk n answer old new page quotient is writes =
-    subst (λ y. Writes k chunk (only y answer) old new) is (subst (λ x. Writes k x (only page answer) old new) quotient writes)
-
-here-filled : (k chunk n i : ℕ) (answer : View) (old new : Pool) (page : ℕ) → page / 512 ≡ chunk → page ≡ n → page % 512 + 1 ≡ i + 1 → Filled k (page / 512) (page % 512 + 1) (only page answer) old new → Filled k chunk (i + 1) (only n answer) old new
-here-filled k chunk n i answer old new page quotient is next filled =
-    subst (λ z. Filled k chunk z (only n answer) old new) next
-    (subst (λ y. Filled k chunk (page % 512 + 1) (only y answer) old new) is
-    (subst (λ x. Filled k x (page % 512 + 1) (only page answer) old new) quotient filled))
 
 pub loop-index-preserved : goal.loop-index-preserved
 loop-index-preserved g c =
