@@ -241,7 +241,8 @@ pub(crate) fn stray_page<M: TableMem>(
 ) -> Option<Page>
     requires normal { are_normal runs.now ≡ true }
     requires page_in { third < page_count (M.state memory.now).memory.quotas }
-    ensures none { IfNone result (OthersAnswer third chunk runs.now answer.now (M.state memory.now)) }
+    ensures none { IfNone result
+        (OthersAnswer third chunk runs.now answer.now (M.state memory.now)) }
 {
     let mut rest = runs;
     let mut first = 0;
