@@ -18,7 +18,7 @@ use crate::table_page::TablePage;
 use base::{Access, Page, Run};
 use pool::TableMem;
 
-/// From so many runs in a chunk on, which are short then, its pages are written one by one.
+/// From so many runs in a chunk on, which are short then, its pages are looked at one by one.
 const MANY_RUNS: usize = 8;
 
 /// Writes the level 3 word of a page into a table, if it is not there.
@@ -230,9 +230,8 @@ fn first_other<M: TableMem>(
     None
 }
 
-/// A page of a chunk, in none of the runs, whose word in a table is not that of a page with this
-/// answer; none where there is no such page.
-pub(crate) fn stray_page<M: TableMem>(
+/// The same as `stray_page`, one stretch of pages after another.
+fn stray_in_stretches<M: TableMem>(
     memory: &M,
     third: TablePage,
     chunk: Chunk,
@@ -259,4 +258,52 @@ pub(crate) fn stray_page<M: TableMem>(
         first = end;
     }
     None
+}
+
+/// The same as `stray_page`, one word after another: of pages whose words differ, the runs are asked.
+fn stray_word<M: TableMem>(
+    memory: &M,
+    third: TablePage,
+    chunk: Chunk,
+    runs: &[Run],
+    answer: &Option<Access>,
+) -> Option<Page>
+    requires normal { are_normal runs.now ≡ true }
+    requires page_in { third < page_count (M.state memory.now).memory.quotas }
+    ensures none { IfNone result
+        (OthersAnswer third chunk runs.now answer.now (M.state memory.now)) }
+{
+    let expected = *answer;
+    let mut rest = runs;
+    for index in 0..512 {
+        let page = chunk.page(index);
+        if read_word(memory, third, index) != word_of(page, &expected) {
+            rest = runs_from(rest, page);
+            if !is_covered(rest, page) {
+                return Some(page);
+            }
+        }
+    }
+    None
+}
+
+/// A page of a chunk, in none of the runs, whose word in a table is not that of a page with this
+/// answer; none where there is no such page.
+pub(crate) fn stray_page<M: TableMem>(
+    memory: &M,
+    third: TablePage,
+    chunk: Chunk,
+    runs: &[Run],
+    answer: &Option<Access>,
+) -> Option<Page>
+    requires normal { are_normal runs.now ≡ true }
+    requires page_in { third < page_count (M.state memory.now).memory.quotas }
+    ensures none { IfNone result
+        (OthersAnswer third chunk runs.now answer.now (M.state memory.now)) }
+{
+    if runs.len() < MANY_RUNS {
+        stray_in_stretches(memory, third, chunk, runs, answer)
+    } else {
+        stray_word(memory, third, chunk, runs, answer)
+    }
 }
