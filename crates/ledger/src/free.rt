@@ -58,19 +58,9 @@ impl Ledger {
             owner: owner_by(lists.donation, region),
             home: home_by(lists.donation, region),
             is_live: lists.is_live,
-            is_sharable: is_in_sharable(region),
+            is_sharable: is_sharable(region),
             end: lists.end.min(end_of_region(manifest, region, page)),
         }
-    }
-}
-
-/// Whether there is a region, which is normal memory with exactly one grant.
-fn is_in_sharable(region: Option<&Region>) -> bool
-    ensures { result ≡ option_map_or rows.is_sharable (option_map (λ r. r.now) region.entry) false }
-{
-    match region {
-        Some(region) => is_sharable(region),
-        None => false,
     }
 }
 
@@ -83,11 +73,16 @@ fn is_owned_by(owner: Option<PartitionId>, p: PartitionId) -> bool
     }
 }
 
-/// Whether a region is normal memory with exactly one grant.
-fn is_sharable(region: &Region) -> bool
-    ensures { result ≡ rows.is_sharable region.now }
+/// Whether there is a region, which is normal memory with exactly one grant.
+fn is_sharable(region: Option<&Region>) -> bool
+    ensures { result ≡ option_map_or rows.is_sharable (option_map (λ r. r.now) region.entry) false }
 {
-    matches!(region.kind(), MemoryKind::Normal) && region.grants().len() == 1
+    match region {
+        Some(region) => {
+            matches!(region.kind(), MemoryKind::Normal) && region.grants().len() == 1
+        }
+        None => false,
+    }
 }
 
 /// The number of the page after the last of the region of a page; outside all regions, of the next page.

@@ -121,13 +121,6 @@ impl Ledger {
         home_by(self.donation_at(page), self.manifest.region_at(page))
     }
 
-    /// Whether a live transaction covers a page.
-    pub fn is_live(&self, page: Page) -> bool
-        ensures { result ≡ is_some (rules.live_at self.now.live page) }
-    {
-        self.shared.get(page).is_some()
-    }
-
     /// What the donations and the live transactions say of a page, and up to which page they say the
     /// same of those behind it.
     pub(crate) fn listed(&self, page: Page) -> Listed<'_>

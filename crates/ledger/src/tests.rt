@@ -107,8 +107,8 @@ fn settled(rt: &impl Abort, ledger: &Ledger, pages: &[(u32, u16, Access)]) {
         let owner = PartitionId::new(*owner);
         assert_eq!(rt; ledger.owner(page), Some(owner), "{number:x}");
         assert_eq!(rt; ledger.home(page), Some(*home), "{number:x}");
-        assert!(rt; !ledger.is_live(page), "{number:x}");
         let segment = ledger.segment(page);
+        assert!(rt; !segment.is_live, "{number:x}");
         assert_eq!(rt; segment.idle_home(owner), Some(*home), "{number:x}");
     }
 }
@@ -117,7 +117,6 @@ fn settled(rt: &impl Abort, ledger: &Ledger, pages: &[(u32, u16, Access)]) {
 fn segments(rt: &impl Abort, ledger: &Ledger, pages: &[(u32, bool, u32)]) {
     for (number, is_live, end) in pages {
         let page = run(rt, *number, 1).first();
-        assert_eq!(rt; ledger.is_live(page), *is_live, "{number:x}");
         let segment = ledger.segment(page);
         assert_eq!(rt; segment.is_live, *is_live, "{number:x}");
         assert_eq!(rt; segment.end, *end, "{number:x}");

@@ -1,13 +1,13 @@
 -- What the clauses of an edit say, of the pool before it and the pool after it.
-use Rattle.std.specs.Prelude.{◌≡◌, ℕ, ◌+◌, ◌*◌, ◌/◌, ◌%◌, ◌^◌, ◌<◌, ◌≤◌, Bool, true, false, ◌&&◌, ◌==◌, if◌then◌else◌, is_some, Option, Some, None, List, length}
+use Rattle.std.specs.Prelude.{◌≡◌, ℕ, ◌+◌, ◌*◌, ◌/◌, ◌%◌, ◌^◌, ◌<◌, ◌≤◌, Bool, nat_le, nat_lt, true, false, ◌&&◌, ◌==◌, if◌then◌else◌, is_some, Option, Some, None, List, length}
 use Rattle.base.specs.Access.{View}
 use Rattle.base.specs.Counts.{count_below}
 use Rattle.base.specs.Manifest.{row_of}
 use Rattle.base.specs.Pages.{PageRun, covers}
-use Rattle.pool.specs.Pool.{Pool, Pages, pages_of, words_of, with_put, with_mark, used_by, quota_of}
+use Rattle.pool.specs.Pool.{Pool, pages_of, words_of, with_put, with_mark, used_by, quota_of}
 use Rattle.stage2.specs.declared.walked.Walked.{Walked}
 use Rattle.stage2.specs.declared.walked.Walked.TheVariants.{None as Unmapped}
-use Rattle.stage2.specs.Chunks.{edited, below, IsWordFor, Writes, answers_at, answers_in, answers_of, second_of, entry_in, IsOutcome, IsGrowing, Redoes_in}
+use Rattle.stage2.specs.Chunks.{edited, IsWordFor, Writes, answers_at, answers_in, answers_of, second_of, entry_in, IsOutcome, IsGrowing, Redoes_in}
 use Rattle.stage2.specs.Gigabytes.{sum_below, chunk_operations, grows_at, Fits, FitsGigabyte, FitsRow, IsUnderway, EditsGigabyte, EditsRow}
 use Rattle.stage2.specs.History.{Made, Filled, broken, replaced}
 use Rattle.stage2.specs.Moments.{StaysInStep, Clears}
@@ -30,15 +30,10 @@ WritesPlan k c plan old new = Writes k c plan (pages_of old.memory) (pages_of ne
 abbrev pub one_page : ℕ → View → ℕ → Option View
 one_page page answer n = if n == page then Some answer else None
 
--- whatever is planned with this answer for the pages of a chunk from one up to another: what was written up to the first is now written up to the other
-pub record GoesOn (k c first end : ℕ) (answer : View) (old new : Pool) : Type 0 where
-  pub writes : (plan : ℕ → Option View) (start : Pages)
-      → ((x : ℕ) → first ≤ x → x < end → plan (512 * c + x) ≡ Some answer)
-      → Writes k c (below (512 * c + first) plan) start (pages_of old.memory)
-      → Writes k c (below (512 * c + end) plan) start (pages_of new.memory)
-  pub filled : (plan : ℕ → Option View) (start : Pool)
-      → ((x : ℕ) → first ≤ x → x < end → plan (512 * c + x) ≡ Some answer)
-      → Filled k c first plan start old → Filled k c end plan start new
+-- the words of a chunk's pages from one up to another, counted from its first
+abbrev pub some_pages : ℕ → ℕ → ℕ → View → ℕ → Option View
+some_pages c first end answer n =
+    if nat_le (512 * c + first) n && nat_lt n (512 * c + end) then Some answer else None
 
 -- the level 2 word of a chunk is made invalid
 abbrev pub Breaks : ℕ → ℕ → ℕ → Pool → Pool → Type 0

@@ -130,46 +130,17 @@ fn outcome_in_table<M: TableMem>(
         let after = read_after layout.now runs.now access.now entry.now now in
         IsOutcome chunk after result }
 {
-    match stray_page(memory, third, chunk, runs, access) {
-        Some(page) => {
-            if differs_from_runs(memory, layout, entry, chunk, page, runs, access) {
-                None
-            } else {
-                compared(memory, layout, entry, chunk, runs, access)
-            }
-        }
-        None => Some(*access),
+    let Some(page) = stray_page(memory, third, chunk, runs, access) else {
+        return Some(*access);
+    };
+    let other = match runs.first() {
+        Some(run) if chunk.has(run.first()) => run.first(),
+        _ => chunk.first(),
+    };
+    if pages_differ(memory, layout, entry, chunk, page, other, runs, access) {
+        return None;
     }
-}
-
-/// Whether a page and one of the first run are both of the chunk, and reached otherwise after the edit.
-fn differs_from_runs<M: TableMem>(
-    memory: &M,
-    layout: &Layout,
-    entry: &Slot,
-    chunk: Chunk,
-    page: Page,
-    runs: &[Run],
-    access: &Option<Access>,
-) -> bool
-    requires normal { are_normal runs.now ≡ true }
-    requires pages { layout.now.pages ≡ page_count (M.state memory.now).memory.quotas }
-    requires table { (k : ℕ) → entry.now ≡ Next k → k < layout.now.pages }
-    ensures { let now = M.state memory.now in
-        let after = read_after layout.now runs.now access.now entry.now now in
-        result ≡ true → needs.is_mixed after chunk ≡ true }
-{
-    match runs.first() {
-        Some(run) => {
-            let other = if chunk.has(run.first()) {
-                run.first()
-            } else {
-                chunk.first()
-            };
-            pages_differ(memory, layout, entry, chunk, page, other, runs, access)
-        }
-        None => false,
-    }
+    compared(memory, layout, entry, chunk, runs, access)
 }
 
 /// Whether two pages are both of the chunk, and reached otherwise after the edit.

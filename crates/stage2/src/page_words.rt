@@ -7,7 +7,7 @@ ghost use Rattle.base.specs.Manifest.{page_count};
 ghost use Rattle.pool.specs.Pool.{taken_of};
 ghost use Rattle.stage2.specs.Chunks.{planned, IsWordFor};
 ghost use Rattle.stage2.specs.History.{Filled};
-ghost use Rattle.stage2.specs.Clauses.{WritesPlan, one_page, GoesOn, LeavesZero, OthersAnswer, word_in};
+ghost use Rattle.stage2.specs.Clauses.{WritesPlan, one_page, some_pages, LeavesZero, OthersAnswer, word_in};
 
 use crate::edit::{put_word, word_of};
 use crate::part::{is_covered, runs_from, stretch_at};
@@ -53,7 +53,9 @@ fn write_pages<M: TableMem>(
     requires ordered { pages.first ≤ pages.end }
     requires most { pages.end ≤ 512 }
     requires room { pages.end ≤ M.room memory.old + pages.first }
-    ensures goes_on { GoesOn third chunk pages.first pages.end answer
+    ensures writes { WritesPlan third chunk (some_pages chunk pages.first pages.end answer)
+        (M.state memory.old) (M.state memory.new) }
+    ensures filled { Filled third chunk pages.end (some_pages chunk pages.first pages.end answer)
         (M.state memory.old) (M.state memory.new) }
     ensures room { M.room memory.old + pages.first ≤ M.room memory.new + pages.end }
 {
@@ -85,40 +87,6 @@ fn plan_of(
     ensures { result ≡ (if is_covered then Some access.now else others.now) }
 {
     if is_covered { Some(*access) } else { *others }
-}
-
-/// The same as `write_table`, one stretch of pages after another.
-fn write_stretches<M: TableMem>(
-    memory: &mut M,
-    third: TablePage,
-    chunk: Chunk,
-    runs: &[Run],
-    access: &Option<Access>,
-    others: &Option<Option<Access>>,
-)
-    requires normal { are_normal runs.now ≡ true }
-    requires page_in { third < page_count (M.state memory.old).memory.quotas }
-    requires taken { taken_of (M.state memory.old).memory.taken third ≡ true }
-    requires room { 512 ≤ M.room memory.old }
-    ensures writes { WritesPlan third chunk (planned runs.now access.now others.now)
-        (M.state memory.old) (M.state memory.new) }
-    ensures filled { Filled third chunk 512 (planned runs.now access.now others.now)
-        (M.state memory.old) (M.state memory.new) }
-    ensures room { M.room memory.old ≤ M.room memory.new + 512 }
-{
-    let span = planned_span(runs, chunk, others);
-    let mut rest = runs;
-    let mut first = span.first;
-    while first < span.end {
-        rest = runs_from(rest, chunk.page(first));
-        let part = stretch_at(rest, chunk, first, span.end);
-        let end = part.end;
-        match plan_of(part.is_covered, access, others) {
-            Some(answer) => write_pages(memory, third, chunk, Span { first, end }, answer),
-            None => {}
-        }
-        first = end;
-    }
 }
 
 /// The same as `write_table`, one page after another.
@@ -174,10 +142,22 @@ pub(crate) fn write_table<M: TableMem>(
         (M.state memory.old) (M.state memory.new) }
     ensures room { M.room memory.old ≤ M.room memory.new + 512 }
 {
-    if runs.len() < MANY_RUNS {
-        write_stretches(memory, third, chunk, runs, access, others);
-    } else {
+    if runs.len() >= MANY_RUNS {
         write_each(memory, third, chunk, runs, access, others);
+        return;
+    }
+    let span = planned_span(runs, chunk, others);
+    let mut rest = runs;
+    let mut first = span.first;
+    while first < span.end {
+        rest = runs_from(rest, chunk.page(first));
+        let part = stretch_at(rest, chunk, first, span.end);
+        let end = part.end;
+        match plan_of(part.is_covered, access, others) {
+            Some(answer) => write_pages(memory, third, chunk, Span { first, end }, answer),
+            None => {}
+        }
+        first = end;
     }
 }
 
@@ -230,36 +210,6 @@ fn first_other<M: TableMem>(
     None
 }
 
-/// The same as `stray_page`, one stretch of pages after another.
-fn stray_in_stretches<M: TableMem>(
-    memory: &M,
-    third: TablePage,
-    chunk: Chunk,
-    runs: &[Run],
-    answer: &Option<Access>,
-) -> Option<Page>
-    requires normal { are_normal runs.now ≡ true }
-    requires page_in { third < page_count (M.state memory.now).memory.quotas }
-    ensures none { IfNone result
-        (OthersAnswer third chunk runs.now answer.now (M.state memory.now)) }
-{
-    let mut rest = runs;
-    let mut first = 0;
-    while first < 512 {
-        rest = runs_from(rest, chunk.page(first));
-        let part = stretch_at(rest, chunk, first, 512);
-        let end = part.end;
-        if !part.is_covered {
-            let found = first_other(memory, third, chunk, Span { first, end }, *answer);
-            if found.is_some() {
-                return found;
-            }
-        }
-        first = end;
-    }
-    None
-}
-
 /// The same as `stray_page`, one word after another: of pages whose words differ, the runs are asked.
 fn stray_word<M: TableMem>(
     memory: &M,
@@ -301,9 +251,22 @@ pub(crate) fn stray_page<M: TableMem>(
     ensures none { IfNone result
         (OthersAnswer third chunk runs.now answer.now (M.state memory.now)) }
 {
-    if runs.len() < MANY_RUNS {
-        stray_in_stretches(memory, third, chunk, runs, answer)
-    } else {
-        stray_word(memory, third, chunk, runs, answer)
+    if runs.len() >= MANY_RUNS {
+        return stray_word(memory, third, chunk, runs, answer);
     }
+    let mut rest = runs;
+    let mut first = 0;
+    while first < 512 {
+        rest = runs_from(rest, chunk.page(first));
+        let part = stretch_at(rest, chunk, first, 512);
+        let end = part.end;
+        if !part.is_covered {
+            let found = first_other(memory, third, chunk, Span { first, end }, *answer);
+            if found.is_some() {
+                return found;
+            }
+        }
+        first = end;
+    }
+    None
 }

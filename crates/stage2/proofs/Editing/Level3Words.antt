@@ -59,78 +59,64 @@ writes-none k c i plan m none = record {
 below-in : (plan : ℕ → Option View) (m n : ℕ) → n < m → below m plan n ≡ plan n
 below-in plan m n lt = let t : ltb n m ≡ true = grind (arith, nat_tests) in rw t refl
 
--- one page more, whose word is written
-pub writes-step : (k c i : ℕ) (plan : ℕ → Option View) (answer : View) (a b e : Pages) → i < 512 → plan (512 * c + i) ≡ Some answer
-    → Writes k c (below (512 * c + i) plan) a b → Writes k c (only (512 * c + i) answer) b e → Writes k c (below (512 * c + (i + 1)) plan) a e
-writes-step k c i plan answer a b e lt some so here = record {
-  ids = here.ids ∙ so.ids;
-  quotas = here.quotas ∙ so.quotas;
-  taken = here.taken ∙ so.taken;
-  others = λ q x apart. here.others q x apart ∙ so.others q x apart;
+below-out : (plan : ℕ → Option View) (m n : ℕ) → m ≤ n → below m plan n ≡ None
+below-out plan m n from = let f : ltb n m ≡ false = grind (arith, nat_tests) in rw f refl
+
+-- after the pages before the i-th, those up to the j-th, as they are planned
+pub writes-over : (k c i j : ℕ) (plan part : ℕ → Option View) (a b e : Pages) → i ≤ j → ((x : ℕ) → x < i → part (512 * c + x) ≡ None) → ((x : ℕ) → i ≤ x → x < j → plan (512 * c + x) ≡ part (512 * c + x)) → ((x : ℕ) → j ≤ x → part (512 * c + x) ≡ None)
+    → Writes k c (below (512 * c + i) plan) a b → Writes k c part b e → Writes k c (below (512 * c + j) plan) a e
+writes-over k c i j plan part a b e le before same after so next = record {
+  ids = next.ids ∙ so.ids;
+  quotas = next.quotas ∙ so.quotas;
+  taken = next.taken ∙ so.taken;
+  others = λ q x apart. next.others q x apart ∙ so.others q x apart;
   here = λ x v small given.
-      let f = before-at plan (512 * c + (i + 1)) (512 * c + x) v given in
-      elim (cases_eq x i) [
-        | inl same ↦
-            let is : Some v ≡ Some answer = sym f.1 ∙ ap (λ y. plan (512 * c + y)) same ∙ some in
-            let is_v : answer ≡ v = cc in
-            here.here x v small (rw (same, is_v) (grind (arith, nat_tests)))
-        | inr differs ↦
-            let was : IsWordFor (512 * c + x) v (b.words k x) = so.here x v small (below-in plan (512 * c + i) (512 * c + x) (omega (arith, f.0, differs)) ∙ f.1) in
-            let stays : e.words k x ≡ b.words k x = here.stays x small (let no : eqb (512 * c + x) (512 * c + i) ≡ false = grind (arith, nat_tests, differs) in rw no refl) in
+      let f = before-at plan (512 * c + j) (512 * c + x) v given in
+      elim (cases_Bool (ltb x i)) [
+        | inl t ↦
+            let lt : x < i = grind (arith, nat_tests, t) in
+            let was : IsWordFor (512 * c + x) v (b.words k x) = so.here x v small (below-in plan (512 * c + i) (512 * c + x) (omega (arith, lt)) ∙ f.1) in
+            let stays : e.words k x ≡ b.words k x = next.stays x small (before x lt) in
             rw stays was
+        | inr t ↦ next.here x v small (sym (same x (grind (arith, nat_tests, t)) (omega (arith, f.0))) ∙ f.1)
       ];
   stays = λ x small none.
-      elim (cases_eq x i) [
-        | inl same ↦ let bad : below (512 * c + (i + 1)) plan (512 * c + x) ≡ Some answer = below-in plan (512 * c + (i + 1)) (512 * c + x) (omega (arith, same)) ∙ ap (λ y. plan (512 * c + y)) same ∙ some in absurd (cc)
-        | inr differs ↦
-            let first : e.words k x ≡ b.words k x = here.stays x small (let no : eqb (512 * c + x) (512 * c + i) ≡ false = grind (arith, nat_tests, differs) in rw no refl) in
-            first ∙ so.stays x small (less plan c i x differs none)
+      elim (cases_Bool (ltb x i)) [
+        | inl t ↦
+            let lt : x < i = grind (arith, nat_tests, t) in
+            next.stays x small (before x lt) ∙ so.stays x small (below-in plan (512 * c + i) (512 * c + x) (omega (arith, lt)) ∙ sym (below-in plan (512 * c + j) (512 * c + x) (omega (arith, lt, le))) ∙ none)
+        | inr t ↦
+            let from : i ≤ x = grind (arith, nat_tests, t) in
+            next.stays x small (unplanned x from none) ∙ so.stays x small (below-out plan (512 * c + i) (512 * c + x) (omega (arith, from)))
       ];
 }
   where
-    less : (plan : ℕ → Option View) (c i x : ℕ) → x ≢ i → below (512 * c + (i + 1)) plan (512 * c + x) ≡ None → below (512 * c + i) plan (512 * c + x) ≡ None
-    less plan c i x differs none = elim (cases_Bool (ltb (512 * c + x) (512 * c + i))) [
-      | inl t ↦ let more : ltb (512 * c + x) (512 * c + (i + 1)) ≡ true = grind (arith, nat_tests) in rw t (rw more at none)
-      | inr f ↦ rw f refl
+    unplanned : (x : ℕ) → i ≤ x → below (512 * c + j) plan (512 * c + x) ≡ None → part (512 * c + x) ≡ None
+    unplanned x from none = elim (cases_Bool (ltb x j)) [
+      | inl t ↦ let lt : x < j = grind (arith, nat_tests, t) in sym (same x from lt) ∙ sym (below-in plan (512 * c + j) (512 * c + x) (omega (arith, lt))) ∙ none
+      | inr t ↦ after x (grind (arith, nat_tests, t))
     ]
 
--- one page more, for which nothing is planned
-pub writes-skip : (k c i : ℕ) (plan : ℕ → Option View) (a b : Pages) → plan (512 * c + i) ≡ None → Writes k c (below (512 * c + i) plan) a b → Writes k c (below (512 * c + (i + 1)) plan) a b
-writes-skip k c i plan a b none so = record {
-  ids = so.ids;
-  quotas = so.quotas;
-  taken = so.taken;
-  others = so.others;
-  here = λ x v small given.
-      let f = before-at plan (512 * c + (i + 1)) (512 * c + x) v given in
-      elim (cases_eq x i) [
-        | inl same ↦ let bad : plan (512 * c + x) ≡ None = ap (λ y. plan (512 * c + y)) same ∙ none in let some = f.1 in absurd (cc)
-        | inr differs ↦ so.here x v small (below-in plan (512 * c + i) (512 * c + x) (omega (arith, f.0, differs)) ∙ f.1)
-      ];
-  stays = λ x small gone. so.stays x small (elim (cases_eq x i) [
-    | inl same ↦ let no : ltb (512 * c + x) (512 * c + i) ≡ false = grind (arith, nat_tests) in rw no refl
-    | inr differs ↦ less plan c i x differs gone
-  ]);
-}
-  where
-    less : (plan : ℕ → Option View) (c i x : ℕ) → x ≢ i → below (512 * c + (i + 1)) plan (512 * c + x) ≡ None → below (512 * c + i) plan (512 * c + x) ≡ None
-    less plan c i x differs none = elim (cases_Bool (ltb (512 * c + x) (512 * c + i))) [
-      | inl t ↦ let more : ltb (512 * c + x) (512 * c + (i + 1)) ≡ true = grind (arith, nat_tests) in rw t (rw more at none)
-      | inr f ↦ rw f refl
-    ]
+only-other : (page n : ℕ) (answer : View) → n ≢ page → only page answer n ≡ None
+only-other page n answer apart = let no : eqb n page ≡ false = grind (arith, nat_tests, apart) in rw no refl
+
+only-same : (page : ℕ) (answer : View) → only page answer page ≡ Some answer
+only-same page answer = let yes : eqb page page ≡ true = grind (arith, nat_tests) in rw yes refl
+
+-- one page more, whose word is written
+pub writes-step : (k c i : ℕ) (plan : ℕ → Option View) (answer : View) (a b e : Pages) → plan (512 * c + i) ≡ Some answer
+    → Writes k c (below (512 * c + i) plan) a b → Writes k c (only (512 * c + i) answer) b e → Writes k c (below (512 * c + (i + 1)) plan) a e
+writes-step k c i plan answer a b e some so next = writes-over k c i (i + 1) plan (only (512 * c + i) answer) a b e (omega arith)
+    (λ x lt. only-other (512 * c + i) (512 * c + x) answer (λ is. omega (arith, is, lt)))
+    (λ x from lt. let is : x ≡ i = omega (arith, from, lt) in rw is (some ∙ sym (only-same (512 * c + i) answer)))
+    (λ x from. only-other (512 * c + i) (512 * c + x) answer (λ is. omega (arith, is, from)))
+    so next
 
 -- pages from the i-th up to the j-th, for which nothing is planned
 pub writes-pass : (k c i j : ℕ) (plan : ℕ → Option View) (a b : Pages) → i ≤ j → ((x : ℕ) → i ≤ x → x < j → plan (512 * c + x) ≡ None)
     → Writes k c (below (512 * c + i) plan) a b → Writes k c (below (512 * c + j) plan) a b
-writes-pass k c i zero plan a b le none so = let is : i ≡ 0 = omega (arith, le) in subst (λ x. Writes k c (below (512 * c + x) plan) a b) is so
-writes-pass k c i (suc j) plan a b le none so = elim (cases_eq i (suc j)) [
-  | inl is ↦ subst (λ x. Writes k c (below (512 * c + x) plan) a b) is so
-  | inr other ↦
-      let from : i ≤ j = omega (arith, le, other) in
-      let next : j + 1 ≡ suc j = omega arith in
-      subst (λ x. Writes k c (below (512 * c + x) plan) a b) next
-      (writes-skip k c j plan a b (none j from (omega arith)) (writes-pass k c i j plan a b from (λ x least lt. none x least (omega (arith, lt))) so))
-]
+writes-pass k c i j plan a b le none so = writes-over k c i j plan (λ n. None) a b b le (λ x lt. refl) none (λ x from. refl) so
+    (record { ids = refl; quotas = refl; taken = refl; others = λ q x apart. refl; here = λ x v small given. absurd (cc); stays = λ x small gone. refl })
 
 -- all of them: nothing is planned for the pages from the i-th on
 pub writes-all : (k c i : ℕ) (plan : ℕ → Option View) (a b : Pages) → ((x : ℕ) → x < 512 → i ≤ x → plan (512 * c + x) ≡ None) → Writes k c (below (512 * c + i) plan) a b → Writes k c plan a b

@@ -1,10 +1,14 @@
 -- The words of a level 3 table as they are planned: one page's, by its chunk and index.
-use Rattle.std.proofs.Common.{◌≡◌, ℕ, ◌+◌, ◌/◌, ◌%◌, true, Option, Some, None, is_some, refl, subst}
+use Rattle.std.proofs.Common.{◌≡◌, ℕ, ◌+◌, ◌*◌, ◌/◌, ◌%◌, ◌<◌, ◌≤◌, true, false, ◌&&◌, leb, ltb, Option, Some, None, is_some, refl, subst, sym, ◌∙◌, arith, inl, inr}
+use Rattle.std.proofs.lemmas.Bool.{cases_Bool}
+use Rattle.std.proofs.lemmas.Bool.Decides.{nat_tests}
 use Rattle.base.specs.Access.{View}
 use Rattle.pool.specs.Pool.{Pool, Pages}
-use Rattle.stage2.specs.Chunks.{Writes}
+use Rattle.stage2.specs.Chunks.{Writes, below}
+use Rattle.stage2.specs.Clauses.{some_pages}
 use Rattle.stage2.specs.History.{Filled}
-use Rattle.stage2.proofs.Editing.Level3Words.{only}
+use Rattle.stage2.proofs.Walkers.Histories.{filled-over}
+use Rattle.stage2.proofs.Editing.Level3Words.{only, writes-over}
 
 -- the word of a page, by its chunk and index
 pub here-writes : (k chunk n : ℕ) (answer : View) (old new : Pages) (page : ℕ) → page / 512 ≡ chunk → page ≡ n → Writes k (page / 512) (only page answer) old new → Writes k chunk (only n answer) old new
@@ -16,6 +20,41 @@ here-filled k chunk n i answer old new page quotient is next filled =
     subst (λ z. Filled k chunk z (only n answer) old new) next
     (subst (λ y. Filled k chunk (page % 512 + 1) (only y answer) old new) is
     (subst (λ x. Filled k x (page % 512 + 1) (only page answer) old new) quotient filled))
+
+-- what is planned for some pages
+module _ (c i j : ℕ) (answer : View) (x : ℕ) where
+  pub some-in : i ≤ x → x < j → some_pages c i j answer (512 * c + x) ≡ Some answer
+  some-in from lt = let t : (leb (512 * c + i) (512 * c + x) && ltb (512 * c + x) (512 * c + j)) ≡ true = grind (arith, nat_tests, from, lt) in rw t refl
+
+  pub some-before : x < i → some_pages c i j answer (512 * c + x) ≡ None
+  some-before lt = let f : (leb (512 * c + i) (512 * c + x) && ltb (512 * c + x) (512 * c + j)) ≡ false = grind (arith, nat_tests, lt) in rw f refl
+
+  pub some-after : j ≤ x → some_pages c i j answer (512 * c + x) ≡ None
+  some-after from = let f : (leb (512 * c + i) (512 * c + x) && ltb (512 * c + x) (512 * c + j)) ≡ false = grind (arith, nat_tests, from) in rw f refl
+
+-- pages whose words are written, after those before them
+pub writes-join : (k c i j : ℕ) (plan : ℕ → Option View) (answer : View) (a b e : Pages) → i ≤ j → ((x : ℕ) → i ≤ x → x < j → plan (512 * c + x) ≡ Some answer)
+    → Writes k c (below (512 * c + i) plan) a b → Writes k c (some_pages c i j answer) b e → Writes k c (below (512 * c + j) plan) a e
+writes-join k c i j plan answer a b e le there so next = writes-over k c i j plan (some_pages c i j answer) a b e le
+    (λ x lt. some-before c i j answer x lt)
+    (λ x from lt. there x from lt ∙ sym (some-in c i j answer x from lt))
+    (λ x from. some-after c i j answer x from)
+    so next
+
+pub filled-join : (k c i j : ℕ) (plan : ℕ → Option View) (answer : View) (a b e : Pool) → i ≤ j → ((x : ℕ) → i ≤ x → x < j → plan (512 * c + x) ≡ Some answer) → Filled k c i plan a b → Filled k c j (some_pages c i j answer) b e → Filled k c j plan a e
+filled-join k c i j plan answer a b e le there so next = filled-over k c i j plan (some_pages c i j answer) a b e le this so next
+  where
+    this : (x : ℕ) (v : View) → some_pages c i j answer (512 * c + x) ≡ Some v → (i ≤ x) × (plan (512 * c + x) ≡ Some v)
+    this x v given = elim (cases_Bool (ltb x i)) [
+      | inl t ↦ let bad : None ≡ Some v = sym (some-before c i j answer x (grind (arith, nat_tests, t))) ∙ given in absurd (cc)
+      | inr t ↦ elim (cases_Bool (ltb x j)) [
+        | inl u ↦
+            let from : i ≤ x = grind (arith, nat_tests, t) in
+            let lt : x < j = grind (arith, nat_tests, u) in
+            (from, there x from lt ∙ sym (some-in c i j answer x from lt) ∙ given)
+        | inr u ↦ let bad : None ≡ Some v = sym (some-after c i j answer x (grind (arith, nat_tests, u))) ∙ given in absurd (cc)
+      ]
+    ]
 
 -- what is not planned
 pub not-some : (o : Option View) → (is_some o ≡ true → ⊥) → o ≡ None

@@ -46,27 +46,36 @@ sets-wider k c i b plan (Clear r ∷ ops) le s = absurd s
 pub filled-none : (k c b : ℕ) (plan : ℕ → Option View) (s : Pool) → Filled k c b plan s s
 filled-none k c b plan s = record { ops = []; made = made-none s; sets = tt }
 
--- the writes of one word, after those of lower ones
-sets-over : (k c i b : ℕ) (plan : ℕ → Option View) (answer : View) (ops so : List Op) → i ≤ b → plan (512 * c + i) ≡ Some answer → AreSets k c (λ n. cond (eqb n (512 * c + i)) (Some answer) None) b ops → AreSets k c plan i so
+-- writes as they are planned, after those of words below the i-th
+sets-over : (k c i b : ℕ) (plan part : ℕ → Option View) (ops so : List Op) → i ≤ b → ((x : ℕ) (v : View) → part (512 * c + x) ≡ Some v → (i ≤ x) × (plan (512 * c + x) ≡ Some v)) → AreSets k c part b ops → AreSets k c plan i so
     → AreSets k c plan b (ops ++ so)
-sets-over k c i b plan answer [] so le e h below = sets-wider k c i b plan so le below
-sets-over k c i b plan answer (Set q x word ∷ ops) so le e h below = elim (cases_Bool (eqb (512 * c + x) (512 * c + i))) [
-  | inl t ↦
-      let here : 512 * c + x ≡ 512 * c + i = eqb-true _ _ t in
-      let same : Some answer ≡ Some h.2.0 = rw t at h.2.1 in
-      (h.0, h.1, (h.2.0, ap plan here ∙ e ∙ same, h.2.2), sets-over k c i x plan answer ops so (omega (arith, here)) e h.3 below)
-  | inr f ↦ let none : None ≡ Some h.2.0 = rw f at h.2.1 in absurd (cc)
-]
-sets-over k c i b plan answer (Invalidate p r ∷ ops) so le e h below = absurd h
-sets-over k c i b plan answer (Clear r ∷ ops) so le e h below = absurd h
+sets-over k c i b plan part [] so le over h below = sets-wider k c i b plan so le below
+sets-over k c i b plan part (Set q x word ∷ ops) so le over h below =
+    let this = over x h.2.0 h.2.1 in
+    (h.0, h.1, (h.2.0, this.1, h.2.2), sets-over k c i x plan part ops so this.0 over h.3 below)
+sets-over k c i b plan part (Invalidate p r ∷ ops) so le over h below = absurd h
+sets-over k c i b plan part (Clear r ∷ ops) so le over h below = absurd h
+
+-- after the pages before the i-th, some up to the j-th, as they are planned
+pub filled-over : (k c i j : ℕ) (plan part : ℕ → Option View) (a b e : Pool) → i ≤ j → ((x : ℕ) (v : View) → part (512 * c + x) ≡ Some v → (i ≤ x) × (plan (512 * c + x) ≡ Some v)) → Filled k c i plan a b → Filled k c j part b e → Filled k c j plan a e
+filled-over k c i j plan part a b e le over so next = record {
+  ops = next.ops ++ so.ops;
+  made = made-more so.ops next.ops a b e so.made next.made;
+  sets = sets-over k c i j plan part next.ops so.ops le over next.sets so.sets;
+}
 
 -- one page more
 pub filled-step : (k c i : ℕ) (plan : ℕ → Option View) (answer : View) (a b e : Pool) → plan (512 * c + i) ≡ Some answer → Filled k c i plan a b → Filled k c (i + 1) (λ n. cond (eqb n (512 * c + i)) (Some answer) None) b e → Filled k c (i + 1) plan a e
-filled-step k c i plan answer a b e some so here = record {
-  ops = here.ops ++ so.ops;
-  made = made-more so.ops here.ops a b e so.made here.made;
-  sets = sets-over k c i (i + 1) plan answer here.ops so.ops (omega arith) some here.sets so.sets;
-}
+filled-step k c i plan answer a b e some so next = filled-over k c i (i + 1) plan (λ n. cond (eqb n (512 * c + i)) (Some answer) None) a b e (omega arith) this so next
+  where
+    this : (x : ℕ) (v : View) → cond (eqb (512 * c + x) (512 * c + i)) (Some answer) None ≡ Some v → (i ≤ x) × (plan (512 * c + x) ≡ Some v)
+    this x v given = elim (cases_Bool (eqb (512 * c + x) (512 * c + i))) [
+      | inl t ↦
+          let here : 512 * c + x ≡ 512 * c + i = eqb-true _ _ t in
+          let same : Some answer ≡ Some v = rw t at given in
+          (omega (arith, here), ap plan here ∙ some ∙ same)
+      | inr f ↦ let none : None ≡ Some v = rw f at given in absurd (cc)
+    ]
 
 pub filled-wider : (k c i b : ℕ) (plan : ℕ → Option View) (a e : Pool) → i ≤ b → Filled k c i plan a e → Filled k c b plan a e
 filled-wider k c i b plan a e le h = record { ops = h.ops; made = h.made; sets = sets-wider k c i b plan h.ops le h.sets }

@@ -4,7 +4,7 @@ use Rattle.base.specs.Pages.{PageRun, covers}
 use Rattle.pool.specs.Pool.{pages_of}
 use Rattle.stage2.specs.Chunks.{planned}
 use Rattle.stage2.proofs.Walkers.Histories.{filled-none, filled-step, filled-wider}
-use Rattle.stage2.proofs.Editing.Level3Words.{writes-none, writes-step, writes-skip, writes-all}
+use Rattle.stage2.proofs.Editing.Level3Words.{writes-none, writes-step, writes-pass, writes-all}
 use Rattle.stage2.proofs.Editing.PlannedWords.{here-writes, here-filled, not-some}
 use Rattle.stage2.proofs.page_words.write_each.Goals as goal
 use Rattle.stage2.proofs.page_words.write_each.Goals.{then-is_covered, else-is_covered+in-Some, else-is_covered+in_default}
@@ -58,7 +58,7 @@ loop-index-preserved g c =
           let new = g.M.TableMem.state w.write_page.new.memory in
           let some : p n ≡ Some access = inside-plan runs access others n (sym covered ∙ w.if-is_covered.true) in
           rw w.memory-is (record {
-            writes = writes-step k chunk i p access old mid (pages_of new.memory) small some c.loop-index.invariant.writes
+            writes = writes-step k chunk i p access old mid (pages_of new.memory) some c.loop-index.invariant.writes
                 (here-writes k chunk n access mid (pages_of new.memory) c.page-page.result quotient page w.write_page.ensures.writes);
             filled = filled-step k chunk i p access start before new some c.loop-index.invariant.filled
                 (here-filled k chunk n i access before new c.page-page.result quotient page next w.write_page.ensures.filled);
@@ -71,7 +71,7 @@ loop-index-preserved g c =
           let answer = w.in-Some.answer in
           let some : p n ≡ Some answer = outside-plan runs access others n (sym covered ∙ w.if-is_covered.false) ∙ w.in-Some.is in
           rw w.memory-is (record {
-            writes = writes-step k chunk i p answer old mid (pages_of new.memory) small some c.loop-index.invariant.writes
+            writes = writes-step k chunk i p answer old mid (pages_of new.memory) some c.loop-index.invariant.writes
                 (here-writes k chunk n answer mid (pages_of new.memory) c.page-page.result quotient page w.write_page-in-Some.ensures.writes);
             filled = filled-step k chunk i p answer start before new some c.loop-index.invariant.filled
                 (here-filled k chunk n i answer before new c.page-page.result quotient page next w.write_page-in-Some.ensures.filled);
@@ -82,7 +82,7 @@ loop-index-preserved g c =
       | else-is_covered+in_default w ↦
           let none : p n ≡ None = outside-plan runs access others n (sym covered ∙ w.if-is_covered.false) ∙ w.in_default.is in
           rw w.memory-is (record {
-            writes = writes-skip k chunk i p old mid none c.loop-index.invariant.writes;
+            writes = writes-pass k chunk i (i + 1) p old mid (omega arith) (λ x from lt. let is : x ≡ i = omega (arith, from, lt) in rw is none) c.loop-index.invariant.writes;
             filled = filled-wider k chunk i (i + 1) p start before (omega arith) c.loop-index.invariant.filled;
             ahead = further;
             normal = c.runs_from-rest.ensures.normal;

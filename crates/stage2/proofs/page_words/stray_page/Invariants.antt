@@ -2,7 +2,7 @@ use Rattle.std.proofs.Common.{◌≡◌, ℕ, ◌+◌, ◌-◌, ◌*◌, ◌<◌
 use Rattle.base.specs.Pages.{covers, are_normal}
 use Rattle.pool.specs.Pool.{words_of}
 use Rattle.stage2.specs.Chunks.{IsWordFor}
-use Rattle.stage2.proofs.page_words.stray_in_stretches.Given as goal
+use Rattle.stage2.proofs.page_words.stray_page.Given as goal
 
 -- the words before this index are those of pages that answer so, but for pages of the runs
 abbrev pub invariant-loop-first : goal.invariant-loop-first
