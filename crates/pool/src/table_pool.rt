@@ -16,7 +16,8 @@ use std::alloc::Global;
 mod tests;
 
 /// Table memory whose words stand in a store, 512 for each page, page by page. `taken` has a mark for
-/// each page, and `free` says for each row how many pages of its share are free.
+/// each page, `free` says for each row how many pages of its share are free, and `made_before` how many
+/// operations were made before those that are listed, modulo 2^64.
 #[derive(Drop)]
 pub struct TablePool<S: WordStore> {
     ids: Vec<PartitionId>,
@@ -25,7 +26,7 @@ pub struct TablePool<S: WordStore> {
     taken: Vec<bool>,
     free: Vec<u32>,
     operations: Vec<Op>,
-    made: u64,
+    made_before: u64,
     ghost ids_whole: { length ids.items ≡ length quotas.items },
     ghost words_whole: { length (S.words store) ≡ 512 * page_count quotas.items },
     ghost taken_whole: { length taken.items ≡ page_count quotas.items },
@@ -85,7 +86,7 @@ fn share_start(quotas: &[u32], row: usize) -> u32
 }
 
 impl<S: WordStore> TableMem for TablePool<S> {
-    ghost use Rattle.std.specs.Prelude.{◌-◌, vec_len, vec_capacity, reverse};
+    ghost use Rattle.std.specs.Prelude.{◌-◌, ◌%◌, vec_len, vec_capacity, reverse};
 
     ghost state = { λ m. record {
       memory = record {
@@ -95,7 +96,7 @@ impl<S: WordStore> TableMem for TablePool<S> {
         taken = m.taken.items;
       };
       operations = reverse m.operations.items;
-      made = m.made;
+      made = (m.made_before + length m.operations.items) % 2 ^ 64;
     } };
 
     ghost room = { λ m. vec_capacity m.operations - vec_len m.operations };
@@ -123,7 +124,7 @@ impl<S: WordStore> TableMem for TablePool<S> {
             taken: marks(alloc, roots, shares)?,
             free: quotas_of(alloc, partitions)?,
             operations: Vec::new(alloc),
-            made: 0,
+            made_before: 0,
         })
     }
 
@@ -135,18 +136,15 @@ impl<S: WordStore> TableMem for TablePool<S> {
         self.store
             .set_word(512 * page as usize + index as usize, word);
         self.operations.push_reserved(Op::Set { page, index, word });
-        self.made = self.made.wrapping_add(1);
     }
 
     fn invalidate(&mut self, p: PartitionId, run: Run) {
         self.operations
             .push_reserved(Op::Invalidate { who: p, run });
-        self.made = self.made.wrapping_add(1);
     }
 
     fn clear(&mut self, run: Run) {
         self.operations.push_reserved(Op::Clear { run });
-        self.made = self.made.wrapping_add(1);
     }
 
     fn take_page(&mut self, p: PartitionId) -> u32 {
@@ -179,6 +177,7 @@ impl<S: WordStore> TableMem for TablePool<S> {
     }
 
     fn begin(&mut self) {
+        self.made_before = self.made();
         self.operations.clear();
     }
 
@@ -187,7 +186,7 @@ impl<S: WordStore> TableMem for TablePool<S> {
     }
 
     fn made(&self) -> u64 {
-        self.made
+        self.made_before.wrapping_add(self.operations.len() as u64)
     }
 
     fn image(&self, alloc: Global) -> Result<Image, OutOfMemory> {

@@ -1,5 +1,5 @@
 -- What the clauses of an edit say, of the pool before it and the pool after it.
-use Rattle.std.specs.Prelude.{◌≡◌, ℕ, ◌+◌, ◌*◌, ◌/◌, ◌%◌, ◌^◌, ◌<◌, ◌≤◌, Bool, nat_le, nat_lt, true, false, ◌&&◌, ◌==◌, if◌then◌else◌, is_some, Option, Some, None, List, length}
+use Rattle.std.specs.Prelude.{◌≡◌, ℕ, ◌+◌, ◌*◌, ◌/◌, ◌%◌, ◌^◌, ◌<◌, Bool, nat_le, nat_lt, true, false, ◌&&◌, ◌==◌, if◌then◌else◌, is_some, Option, Some, None, List, length}
 use Rattle.base.specs.Access.{View}
 use Rattle.base.specs.Counts.{count_below}
 use Rattle.base.specs.Manifest.{row_of}
@@ -9,7 +9,7 @@ use Rattle.stage2.specs.declared.walked.Walked.{Walked}
 use Rattle.stage2.specs.declared.walked.Walked.TheVariants.{None as Unmapped}
 use Rattle.stage2.specs.Chunks.{edited, IsWordFor, Writes, answers_at, answers_in, answers_of, second_of, entry_in, IsOutcome, IsGrowing, Redoes_in}
 use Rattle.stage2.specs.Gigabytes.{sum_below, chunk_operations, grows_at, Fits, FitsGigabyte, FitsRow, IsUnderway, EditsGigabyte, EditsRow}
-use Rattle.stage2.specs.History.{Made, Filled, broken, replaced}
+use Rattle.stage2.specs.History.{Made, broken, replaced}
 use Rattle.stage2.specs.Moments.{StaysInStep, Clears}
 use Rattle.stage2.specs.Orderly.{IsOrderly, answers, linked}
 use Rattle.stage2.specs.Slot.{Layout, Slot, slot}

@@ -1,6 +1,6 @@
 //! The edit of one gigabyte: its level 2 table, and the chunks under it.
 
-ghost use Rattle.std.specs.Prelude.{◌≡◌, ◌≢◌, ◌+◌, ◌*◌, ◌<◌, ◌≤◌, length, true, Some, None, is_some, IfSome, IfNone};
+ghost use Rattle.std.specs.Prelude.{◌≡◌, ◌≢◌, ℕ, ◌+◌, ◌*◌, ◌<◌, ◌≤◌, length, true, Some, None, is_some, IfSome, IfNone};
 ghost use Rattle.base.specs.Pages.{are_normal};
 ghost use Rattle.base.specs.Manifest.{page_count, row_of};
 ghost use Rattle.pool.specs.Pool.{pages_of, taken_of, row_in, InShare};
@@ -13,7 +13,7 @@ use crate::edit::{give_page, put_word, take_page};
 use crate::layout::Layout;
 use crate::part::chunk_runs;
 use crate::place::{Chunk, Gigabyte, end_chunk, first_chunk};
-use crate::read::{read_gigabyte, read_word};
+use crate::read::{AT_ONCE, read_gigabyte, read_word};
 use crate::span::{chunk_span, next_unfilled};
 use crate::table_page::{Row, TablePage};
 use base::{Access, PartitionId, Run};
@@ -61,11 +61,12 @@ fn edit_chunks<M: TableMem>(
     ensures room { M.room memory.old ≤ M.room memory.new + chunks_operations runs.now gigabyte }
 {
     let span = chunk_span(runs, gigabyte);
+    let filling = *access;
     let mut unfilled = span.first;
     for index in span.first..span.end {
         let chunk = gigabyte.chunk(index);
         if index < unfilled {
-            fill_chunk(memory, layout, p, row, second, chunk, runs, access);
+            fill_chunk(memory, layout, p, row, second, chunk, runs, &filling);
         } else {
             let part = chunk_runs(runs, chunk);
             if touches(part, chunk) {
@@ -91,6 +92,32 @@ pub(crate) fn find_table<M: TableMem>(
     table_of(&read_gigabyte(memory, layout, row, gigabyte))
 }
 
+/// Whether 64 words of a table, from this one on, are 0.
+fn are_zeros<M: TableMem>(memory: &M, table: TablePage, first: u32) -> bool
+    requires table { table < page_count (M.state memory.now).memory.quotas }
+    requires most { first + 64 ≤ 512 }
+    ensures { result ≡ true → (x : ℕ) → first ≤ x → x < first + 64
+        → word_in (M.state memory.now) table x ≡ 0 }
+{
+    let mut are = true;
+    for index in first..first + AT_ONCE {
+        are &= read_word(memory, table, index) == 0;
+    }
+    are
+}
+
+/// Up to where the words of a table are 0, as far as many words at once tell it.
+fn zeros_until<M: TableMem>(memory: &M, table: TablePage) -> u32
+    requires { table < page_count (M.state memory.now).memory.quotas }
+    ensures { (x : ℕ) → x < result → word_in (M.state memory.now) table x ≡ 0 }
+{
+    let mut first = 0;
+    while first < 512 && are_zeros(memory, table, first) {
+        first += AT_ONCE;
+    }
+    first
+}
+
 /// The index of a word of a table that is not 0. The word of the first run's chunk is looked at before
 /// all others.
 fn first_word<M: TableMem>(memory: &M, table: TablePage, runs: &[Run]) -> Option<u32>
@@ -104,7 +131,7 @@ fn first_word<M: TableMem>(memory: &M, table: TablePage, runs: &[Run]) -> Option
             return Some(index);
         }
     }
-    for index in 0..512 {
+    for index in zeros_until(memory, table)..512 {
         if read_word(memory, table, index) != 0 {
             return Some(index);
         }

@@ -12,7 +12,7 @@ ghost use Rattle.stage2.specs.Clauses.{WritesPlan, one_page, some_pages, LeavesZ
 use crate::edit::{put_word, word_of};
 use crate::part::{is_covered, runs_from, stretch_at};
 use crate::place::{Chunk, Span, page_index};
-use crate::read::read_word;
+use crate::read::{AT_ONCE, read_word};
 use crate::span::page_span;
 use crate::table_page::TablePage;
 use base::{Access, Page, Run};
@@ -187,6 +187,52 @@ pub(crate) fn empty_table<M: TableMem>(
     }
 }
 
+/// Whether the words of 64 pages of a chunk that follow one another, from this one on, are those of
+/// pages with this answer.
+fn are_words<M: TableMem>(
+    memory: &M,
+    third: TablePage,
+    chunk: Chunk,
+    first: u32,
+    answer: &Option<Access>,
+) -> bool
+    requires page_in { third < page_count (M.state memory.now).memory.quotas }
+    requires most { first + 64 ≤ 512 }
+    ensures { result ≡ true → (x : ℕ) → first ≤ x → x < first + 64
+        → IsWordFor (512 * chunk + x) answer.now (word_in (M.state memory.now) third x) }
+{
+    let expected = *answer;
+    let mut are = true;
+    for index in first..first + AT_ONCE {
+        are &= read_word(memory, third, index) == word_of(chunk.page(index), &expected);
+    }
+    are
+}
+
+/// Up to where the words of some pages of a chunk, counted from its first, are those of pages with
+/// this answer, as far as many words at once tell it.
+fn alike_until<M: TableMem>(
+    memory: &M,
+    third: TablePage,
+    chunk: Chunk,
+    pages: Span,
+    answer: &Option<Access>,
+) -> u32
+    requires page_in { third < page_count (M.state memory.now).memory.quotas }
+    requires most { pages.end ≤ 512 }
+    ensures { (x : ℕ) → pages.first ≤ x → x < result
+        → IsWordFor (512 * chunk + x) answer.now (word_in (M.state memory.now) third x) }
+{
+    let mut first = pages.first;
+    while first < pages.end && pages.end - first >= AT_ONCE {
+        if !are_words(memory, third, chunk, first, answer) {
+            return first;
+        }
+        first += AT_ONCE;
+    }
+    first
+}
+
 /// The first of the pages of a chunk, counted from its first, whose word in a table is not that of a
 /// page with this answer.
 fn first_other<M: TableMem>(
@@ -201,7 +247,7 @@ fn first_other<M: TableMem>(
     ensures none { IfNone result ((x : ℕ) → pages.first ≤ x → x < pages.end
         → IsWordFor (512 * chunk + x) answer (word_in (M.state memory.now) third x)) }
 {
-    for index in pages.first..pages.end {
+    for index in alike_until(memory, third, chunk, pages, &answer)..pages.end {
         let page = chunk.page(index);
         if read_word(memory, third, index) != word_of(page, &answer) {
             return Some(page);

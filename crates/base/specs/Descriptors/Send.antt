@@ -1,5 +1,5 @@
 -- The memory transaction descriptor of a send: its fields at their offsets, and the rules that they keep (FF-A 1.1 and 1.0, "Memory transaction descriptor", "Endpoint memory access descriptor", "Composite memory region descriptor", "Constituent memory region descriptor").
-use Rattle.std.specs.Prelude.{◌≡◌, ℕ, zero, suc, ◌+◌, ◌*◌, ◌/◌, ◌%◌, ◌^◌, Bool, true, ◌&&◌, ◌||◌, ◌==◌, nat_le, nat_lt, List, [], ◌∷◌, length, drop, slice_index, IsTrue, sum_by}
+use Rattle.std.specs.Prelude.{◌≡◌, ℕ, zero, suc, ◌+◌, ◌*◌, ◌/◌, ◌%◌, ◌^◌, Bool, true, ◌&&◌, ◌||◌, ◌==◌, nat_le, List, [], ◌∷◌, length, drop, slice_index, IsTrue, sum_by}
 use Rattle.byteorder.specs.Endian.{little_number}
 use Rattle.base.specs.declared.partition.Version.{Version}
 use Rattle.base.specs.declared.partition.Version.TheVariants.{V10, V11}

@@ -1,4 +1,4 @@
-use Rattle.std.proofs.Common.{◌≡◌, ◌≤◌, ◌<◌, drop}
+use Rattle.std.proofs.Common.{◌≤◌, ◌<◌, drop}
 use Rattle.base.specs.Buffers.{is_buffer}
 use Rattle.spans.specs.Alike.{IsAlikeUntil}
 use Rattle.mailbox.proofs.pairs.buffers_until.Given as goal

@@ -1,4 +1,4 @@
-use Rattle.std.proofs.Common.{◌≡◌, ℕ, ◌+◌, ◌*◌, ◌/◌, ◌%◌, ◌<◌, ◌≤◌, Some, arith}
+use Rattle.std.proofs.Common.{◌≡◌, ◌+◌, ◌*◌, ◌/◌, ◌%◌, ◌<◌, Some, arith}
 use Rattle.pool.specs.Pool.{pages_of}
 use Rattle.stage2.specs.Clauses.{some_pages}
 use Rattle.stage2.proofs.Walkers.Histories.{filled-none, filled-step, filled-wider}

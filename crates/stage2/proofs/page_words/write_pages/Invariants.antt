@@ -1,4 +1,4 @@
-use Rattle.std.proofs.Common.{◌≡◌, ◌+◌, ◌*◌, ◌≤◌}
+use Rattle.std.proofs.Common.{◌+◌, ◌*◌, ◌≤◌}
 use Rattle.pool.specs.Pool.{pages_of}
 use Rattle.stage2.specs.Chunks.{below, Writes}
 use Rattle.stage2.specs.Clauses.{some_pages}
