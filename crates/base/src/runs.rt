@@ -19,8 +19,37 @@ pub fn normal(alloc: Global, runs: &[Run]) -> Result<Vec<Run>, OutOfMemory>
     ensures fewer { IfOk result (λ normal. length normal.items ≤ length runs.now) }
     ensures sum { IfOk result (λ normal. pages_in normal.items ≡ pages_in runs.now) }
 {
+    if are_normal(runs) {
+        return copied(alloc, runs);
+    }
     let ascending = ascending(alloc, runs)?;
     joined(alloc, &ascending)
+}
+
+/// Whether the runs are maximal already, and in ascending order.
+fn are_normal(runs: &[Run]) -> bool
+    ensures { result ≡ are_normal runs.now }
+{
+    let Some((first, others)) = runs.split_first() else {
+        return true;
+    };
+    let mut end = first.end();
+    for run in others {
+        if run.first().number() <= end {
+            return false;
+        }
+        end = run.end();
+    }
+    true
+}
+
+/// The same runs.
+fn copied(alloc: Global, runs: &[Run]) -> Result<Vec<Run>, OutOfMemory>
+    ensures { IfOk result (λ copy. copy.items ≡ runs.now) }
+{
+    let mut copy = Vec::with_capacity(alloc, runs.len())?;
+    copy.extend_from_slice(runs)?;
+    Ok(copy)
 }
 
 /// The runs in the order of their first pages.
