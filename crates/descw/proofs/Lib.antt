@@ -1,4 +1,5 @@
 mod Turns
+mod Joins
 mod Reading
 mod Arrays
 mod Header

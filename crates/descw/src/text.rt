@@ -56,23 +56,59 @@ pub(crate) fn write_u64(out: &mut Vec<u8>, number: u64) -> Result<(), AllocError
     out.extend_from_slice(&number.to_le_bytes())
 }
 
-/// Appends the header from byte 24 on: the count of access descriptors, and in FF-A 1.1 their size and
-/// offset.
-fn write_header_end(out: &mut Vec<u8>, version: Version, count: u32) -> Result<(), AllocError>
+/// Appends a number of 16 bytes.
+fn write_u128(out: &mut Vec<u8>, number: u128) -> Result<(), AllocError>
+    ensures { IfOk result (λ _. out.new.items ≡ out.old.items ++ little_bytes 16 number) }
+{
+    out.extend_from_slice(&number.to_le_bytes())
+}
+
+/// Appends two numbers of 8 bytes. The parts of a descriptor are put together of such pairs, so that
+/// room is looked for once in 16 bytes.
+fn write_pair(out: &mut Vec<u8>, first: u64, second: u64) -> Result<(), AllocError>
     ensures { IfOk result (λ _.
-        out.new.items ≡ out.old.items ++ texts.header_end version count) }
+        out.new.items ≡ out.old.items ++ (little_bytes 8 first ++ little_bytes 8 second)) }
+{
+    write_u128(out, join_longs(first, second))
+}
+
+/// Two numbers of 8 bytes as one of 16.
+fn join_longs(low: u64, high: u64) -> u128
+    ensures { little_bytes 16 result ≡ little_bytes 8 low ++ little_bytes 8 high }
+{
+    u128::from(low) + u128::from(high) * 0x1_0000_0000_0000_0000
+}
+
+/// Two numbers of 4 bytes as one of 8.
+fn join_words(low: u32, high: u32) -> u64
+    ensures { little_bytes 8 result ≡ little_bytes 4 low ++ little_bytes 4 high }
+{
+    u64::from(low) + u64::from(high) * 0x1_0000_0000
+}
+
+/// Two numbers of 2 bytes as one of 4.
+fn join_halves(low: u16, high: u16) -> u32
+    ensures { little_bytes 4 result ≡ little_bytes 2 low ++ little_bytes 2 high }
+{
+    u32::from(low) + u32::from(high) * 0x1_0000
+}
+
+/// Appends the header from byte 16 on: the tag, the count of access descriptors, and in FF-A 1.1 their
+/// size and offset.
+fn write_header_end(
+    out: &mut Vec<u8>,
+    version: Version,
+    tag: u64,
+    count: u32,
+) -> Result<(), AllocError>
+    ensures { IfOk result (λ _.
+        out.new.items ≡ out.old.items ++ (little_bytes 8 tag ++ texts.header_end version count)) }
 {
     match version {
-        Version::V10 => {
-            write_u32(out, 0)?;
-            write_u32(out, count)
-        }
+        Version::V10 => write_pair(out, tag, join_words(0, count)),
         Version::V11 => {
-            write_u32(out, PART_SIZE)?;
-            write_u32(out, count)?;
-            write_u32(out, HEADER_1_1)?;
-            write_u64(out, 0)?;
-            write_u32(out, 0)
+            write_pair(out, tag, join_words(PART_SIZE, count))?;
+            write_pair(out, u64::from(HEADER_1_1), 0)
         }
     }
 }
@@ -88,12 +124,9 @@ pub(crate) fn write_header(
         out.new.items ≡ out.old.items ++ texts.header_text version header count) }
     ensures fits { IfOk result (λ _. FitsHeader header) }
 {
-    write_u16(out, header.sender.number())?;
-    write_u16(out, header.attributes.bits())?;
-    write_u32(out, header.flags)?;
-    write_u64(out, header.handle.bits())?;
-    write_u64(out, header.tag)?;
-    write_header_end(out, version, count)
+    let head = join_halves(header.sender.number(), header.attributes.bits());
+    write_pair(out, join_words(head, header.flags), header.handle.bits())?;
+    write_header_end(out, version, header.tag, count)
 }
 
 /// Appends an access descriptor that points at this composite descriptor.
@@ -106,10 +139,9 @@ pub(crate) fn write_access(
         out.new.items ≡ out.old.items ++ texts.access_text composite endpoint) }
     ensures fits { IfOk result (λ _. endpoint.partition < 2 ^ 16) }
 {
-    write_u16(out, endpoint.partition.number())?;
-    out.extend_from_slice(&[endpoint.permissions.byte(), 0])?;
-    write_u32(out, composite)?;
-    write_u64(out, 0)
+    let permissions = u16::from(endpoint.permissions.byte());
+    let head = join_halves(endpoint.partition.number(), permissions);
+    write_pair(out, join_words(head, composite), 0)
 }
 
 /// Appends the access descriptors of these receivers.
@@ -133,18 +165,14 @@ pub(crate) fn write_composite(out: &mut Vec<u8>, total: u32, count: u32) -> Resu
     ensures { IfOk result (λ _.
         out.new.items ≡ out.old.items ++ texts.composite_text total count) }
 {
-    write_u32(out, total)?;
-    write_u32(out, count)?;
-    write_u64(out, 0)
+    write_pair(out, join_words(total, count), 0)
 }
 
 /// Appends a range.
 fn write_range(out: &mut Vec<u8>, range: RangeFields) -> Result<(), AllocError>
     ensures { IfOk result (λ _. out.new.items ≡ out.old.items ++ texts.range_text range) }
 {
-    write_u64(out, range.address)?;
-    write_u32(out, range.count)?;
-    write_u32(out, 0)
+    write_pair(out, range.address, join_words(range.count, 0))
 }
 
 /// Appends these ranges.
