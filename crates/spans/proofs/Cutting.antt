@@ -1,11 +1,10 @@
 -- The pages of a run are taken out of intervals one after the other.
-use Rattle.std.proofs.Common.{◌≡◌, ℕ, zero, suc, ◌+◌, ◌-◌, ◌<◌, ◌≤◌, Bool, true, false, ◌&&◌, not, cond, leb, ltb, List, [], ◌∷◌, ◌++◌, length, get_or, take, drop, Option, Some, None, min, max, refl, sym, ap, subst, ◌∙◌, append_assoc, length-append, arith}
+use Rattle.std.proofs.Common.{◌≡◌, ℕ, suc, ◌+◌, ◌-◌, ◌<◌, ◌≤◌, Bool, true, false, ◌&&◌, not, cond, leb, ltb, List, [], ◌∷◌, ◌++◌, length, get_or, take, drop, Option, Some, None, min, max, refl, sym, ap, subst, ◌∙◌, append_assoc, length-append, arith}
 use Rattle.std.specs.Option.{option_map_or}
 use Rattle.std.specs.List.{insert, remove}
 use Rattle.std.proofs.Math.ListN.{set}
 use Rattle.std.proofs.Math.Seq.{take-append_seam, drop-append_seam, set-append_seam, drop-cons}
 use Rattle.std.proofs.lemmas.List.{take-append-drop, drop_all, length-take}
-use Rattle.std.proofs.lemmas.Bool.{and_parts, and_from, leb-true}
 use Rattle.std.proofs.lemmas.Bool.Decides.{nat_tests}
 use Rattle.base.specs.Pages.{PageRun, in_run}
 use Rattle.spans.specs.Spans.{Span, value_at, end_of, ascend, end_from}
@@ -14,10 +13,10 @@ use Rattle.spans.proofs.Ascending.{Begins, begins, far, ascend-cons, least, end_
 
 -- ---- the parts of one interval
 
-no_left : (page : ℕ) (s : Span) → page ≤ s.run.first → left_of page s ≡ None
+pub no_left : (page : ℕ) (s : Span) → page ≤ s.run.first → left_of page s ≡ None
 no_left page s le = let e : leb page s.run.first ≡ true = grind (arith, nat_tests) in rw e refl
 
-no_right : (page : ℕ) (s : Span) → end_of s.run ≤ page → right_of page s ≡ None
+pub no_right : (page : ℕ) (s : Span) → end_of s.run ≤ page → right_of page s ≡ None
 no_right page s le = let e : leb (end_of s.run) page ≡ true = grind (arith, nat_tests) in rw e refl
 
 remade : (s : Span) (first count : ℕ) → first ≡ s.run.first → count ≡ s.run.count → Some (record { run = record { first = first; count = count }; value = s.value }) ≡ Some s
@@ -271,7 +270,7 @@ both_none : (a b : Option ℕ) → option_map_or (λ (v : ℕ). Some v) a b ≡ 
 both_none None b e = refl
 both_none (Some v) b e = absurd cc
 
-put_at : (xs ys old : Option ℕ) (is : Bool) (v : ℕ) → option_map_or (λ (x : ℕ). Some x) xs ys ≡ cond is None old → option_map_or (λ (x : ℕ). Some x) xs (cond is (Some v) ys) ≡ cond is (Some v) old
+pub put_at : (xs ys old : Option ℕ) (is : Bool) (v : ℕ) → option_map_or (λ (x : ℕ). Some x) xs ys ≡ cond is None old → option_map_or (λ (x : ℕ). Some x) xs (cond is (Some v) ys) ≡ cond is (Some v) old
 put_at xs ys old true v e = rw (both_none xs ys e) refl
 put_at xs ys old false v e = e
 

@@ -1,13 +1,12 @@
 -- A page is looked for by halving.
-use Rattle.std.proofs.Common.{◌≡◌, ℕ, zero, suc, ◌+◌, ◌-◌, ◌*◌, ◌^◌, ◌<◌, ◌≤◌, Bool, true, false, ◌&&◌, cond, List, [], ◌∷◌, ◌++◌, length, get_or, take, drop, Option, Some, None, refl, sym, ap, subst, ◌∙◌, arith}
-use Rattle.std.specs.Option.{option_map_or}
+use Rattle.std.proofs.Common.{◌≡◌, ℕ, suc, ◌+◌, ◌-◌, ◌*◌, ◌^◌, ◌<◌, ◌≤◌, true, List, [], ◌∷◌, ◌++◌, length, take, drop, Some, None, refl, sym, ap, ◌∙◌, arith}
 use Rattle.std.proofs.Math.Nat.{mul-le-mul_left}
 use Rattle.std.proofs.Math.Seq.{drop-cons}
 use Rattle.std.proofs.lemmas.List.{take-append-drop}
 use Rattle.std.proofs.lemmas.Bool.Decides.{nat_tests}
 use Rattle.base.specs.Pages.{PageRun, in_run}
-use Rattle.spans.specs.Spans.{Span, value_at, end_of, ascend, end_from, IsSpanAt}
-use Rattle.spans.specs.Search.{IsInside, IsBefore, begins_at, IsFirstOf}
+use Rattle.spans.specs.Spans.{Span, value_at, ascend, end_from, IsSpanAt}
+use Rattle.spans.specs.Search.{IsBefore, begins_at, IsFirstOf}
 use Rattle.spans.proofs.Ascending.{begins, ascend-cons, ascend-left, ascend-right, end_from-take, value_at-append, value_at-behind, value_at-ahead, value_at-here}
 
 -- ---- the count of looks

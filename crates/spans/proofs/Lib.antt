@@ -1,4 +1,5 @@
 mod Ascending
 mod Cutting
+mod Ends
 mod Halving
 pub mod Segments

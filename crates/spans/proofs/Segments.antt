@@ -1,7 +1,6 @@
 -- Pages that each of two things leaves alike are left alike by both.
-use Rattle.std.proofs.Common.{◌≡◌, ℕ, ◌+◌, ◌<◌, ◌≤◌, ◌||◌, List, ◌∷◌, length, drop, get_or, refl, sym, ap, subst, ◌∙◌, arith}
+use Rattle.std.proofs.Common.{◌≡◌, ℕ, ◌+◌, ◌<◌, List, ◌∷◌, length, drop, get_or, refl, sym, ap, subst, ◌∙◌, arith}
 use Rattle.std.proofs.lemmas.List.{drop_more}
-use Rattle.base.specs.Pages.{PageRun, in_run, covers}
 use Rattle.spans.specs.Alike.{IsAlikeUntil}
 
 pub alike-none : {A : Type 0} (f : ℕ → A) (page limit : ℕ) → page < limit → ((n : ℕ) → f n ≡ f page) → IsAlikeUntil f page limit limit

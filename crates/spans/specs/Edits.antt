@@ -1,5 +1,5 @@
 -- Intervals without the pages of a run.
-use Rattle.std.specs.Prelude.{◌≡◌, ℕ, ◌+◌, ◌-◌, ◌≤◌, true, nat_le, List, [], ◌∷◌, ◌++◌, Option, Some, None, length, take, drop, min, max, if◌then◌else◌}
+use Rattle.std.specs.Prelude.{◌≡◌, ℕ, ◌-◌, ◌<◌, ◌≤◌, true, nat_le, List, [], ◌∷◌, ◌++◌, Option, Some, None, length, take, drop, slice_index_or, min, max, if◌then◌else◌}
 use Rattle.base.specs.Pages.{PageRun}
 use Rattle.spans.specs.Spans.{Span, end_of, ascend, end_from}
 
@@ -35,3 +35,8 @@ pub record IsGap (ss : List Span) (i : ℕ) (run : PageRun) : Type 0 where
   pub inside : i ≤ length ss
   pub before : end_from 0 (take i ss) ≤ run.first
   pub after : ascend (end_of run) (drop i ss) ≡ true
+
+-- the last of the intervals has the pages of the run
+pub record EndWith (run : PageRun) (ss : List Span) : Type 0 where
+  pub some : 0 < length ss
+  pub last : (d : Span) → (slice_index_or ss (length ss - 1) d).run ≡ run

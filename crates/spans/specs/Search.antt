@@ -1,5 +1,5 @@
 -- What a search for a page finds.
-use Rattle.std.specs.Prelude.{◌≡◌, ℕ, ◌+◌, ◌^◌, ◌≤◌, ◌<◌, true, List, [], ◌∷◌, Some, length, take, drop}
+use Rattle.std.specs.Prelude.{◌≡◌, ℕ, ◌+◌, ◌^◌, ◌≤◌, true, List, [], ◌∷◌, Some, length, take, drop}
 use Rattle.base.specs.Pages.{PageRun, in_run}
 use Rattle.spans.specs.declared.find.Place.{Place}
 use Rattle.spans.specs.declared.find.Place.TheVariants.{Inside, Before}

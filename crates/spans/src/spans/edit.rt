@@ -1,9 +1,9 @@
 //! Takes pages out of intervals, and puts others in their place.
 
-ghost use Rattle.std.specs.Prelude.{◌≡◌, ◌+◌, ◌^◌, ◌<◌, ◌≤◌, true, Some, None, length, take, vec_len, vec_capacity, if◌then◌else◌};
+ghost use Rattle.std.specs.Prelude.{◌≡◌, ◌+◌, ◌^◌, ◌<◌, ◌≤◌, true, Some, None, IsTrue, length, take, vec_len, vec_capacity, if◌then◌else◌};
 ghost use Rattle.base.specs.Pages.{in_run};
 ghost use Rattle.spans.specs.Spans as spec;
-ghost use Rattle.spans.specs.Edits.{left_of, right_of, without, IsGap};
+ghost use Rattle.spans.specs.Edits.{left_of, right_of, without, IsGap, EndWith};
 
 use super::Span;
 use base::{Page, Run};
@@ -46,6 +46,28 @@ fn place_of(spans: &[Span], page: u32) -> usize
     spans.partition_point(|span| span.run.end() <= page)
 }
 
+/// Whether all intervals end at a page or before it.
+fn end_before(spans: &[Span], page: u32) -> bool
+    ensures { IsTrue result → spec.end_from 0 spans.now ≤ page }
+{
+    if spans.is_empty() {
+        return true;
+    }
+    let last = spans[spans.len() - 1];
+    last.run.end() <= page
+}
+
+/// Whether the last interval has just the pages of a run.
+fn end_with(spans: &[Span], run: Run) -> bool
+    ensures { IsTrue result → EndWith run spans.now }
+{
+    if spans.is_empty() {
+        return false;
+    }
+    let last = spans[spans.len() - 1];
+    last.run.first().number() == run.first().number() && last.run.count() == run.count()
+}
+
 /// Takes the pages of a run out of the intervals, and gives the place where an interval of them would
 /// stand.
 fn cut_out(spans: &mut Vec<Span>, run: Run) -> usize
@@ -82,7 +104,8 @@ fn cut_out(spans: &mut Vec<Span>, run: Run) -> usize
     at
 }
 
-/// Takes the pages of a run out.
+/// Takes the pages of a run out. What was put last is behind all others, mostly, and so is found without
+/// a search.
 pub(super) fn cut(spans: &mut Vec<Span>, run: Run)
     requires ascending { spec.ascend 0 spans.old.items ≡ true }
     requires room { vec_len spans.old < vec_capacity spans.old }
@@ -92,10 +115,14 @@ pub(super) fn cut(spans: &mut Vec<Span>, run: Run)
     ensures len { vec_len spans.new ≤ vec_len spans.old + 1 }
     ensures capacity { vec_capacity spans.new ≡ vec_capacity spans.old }
 {
-    let _ = cut_out(spans, run);
+    if end_with(spans, run) {
+        let _ = spans.pop();
+    } else {
+        let _ = cut_out(spans, run);
+    }
 }
 
-/// Puts an interval in the place of what its pages were in.
+/// Puts an interval in the place of what its pages were in. One behind all others needs no search.
 pub(super) fn put(spans: &mut Vec<Span>, span: Span)
     requires ascending { spec.ascend 0 spans.old.items ≡ true }
     requires room { vec_len spans.old + 2 ≤ vec_capacity spans.old }
@@ -105,6 +132,10 @@ pub(super) fn put(spans: &mut Vec<Span>, span: Span)
     ensures len { vec_len spans.new ≤ vec_len spans.old + 2 }
     ensures capacity { vec_capacity spans.new ≡ vec_capacity spans.old }
 {
-    let at = cut_out(spans, span.run);
-    let _ = spans.insert(at, span);
+    if end_before(spans, span.run.first().number()) {
+        spans.push_reserved(span);
+    } else {
+        let at = cut_out(spans, span.run);
+        let _ = spans.insert(at, span);
+    }
 }

@@ -1,4 +1,4 @@
-use Rattle.std.proofs.Common.{◌+◌, ◌-◌, ◌*◌, ◌/◌, ◌^◌, ◌≤◌, length, ap, arith}
+use Rattle.std.proofs.Common.{◌+◌, ◌-◌, ◌*◌, ◌/◌, ◌^◌, ◌≤◌, length, arith}
 use Rattle.spans.proofs.Halving.{halved, looked, look-above, look-below, look-inside, within}
 use Rattle.spans.proofs.spans.Spans.place_of.Goals as goal
 
