@@ -18,13 +18,16 @@ pub(crate) fn put_all(spans: &mut Spans, runs: &[Run], value: u64)
     }
 }
 
-/// Takes the numbers of all pages of the runs away; other pages keep theirs. This takes no memory.
+/// Takes the numbers of all pages of the runs away; other pages keep theirs. This takes no memory. The
+/// last run is cut first: where the runs ascend, no interval behind it has to move up.
 pub(crate) fn cut_all(spans: &mut Spans, runs: &[Run])
     requires { room_for (length runs.now) ≤ spans.old.room }
     ensures { (n : _) → value_at spans.new.spans n
         ≡ (if covers runs.now n then None else value_at spans.old.spans n) }
 {
-    for run in runs {
-        spans.cut(*run);
+    let mut left = runs.len();
+    while 0 < left {
+        left -= 1;
+        spans.cut(runs[left]);
     }
 }
