@@ -38,7 +38,7 @@ impl Pair {
     }
 
     /// The number of a page behind this one, up to a limit, before which neither buffer begins or ends.
-    pub(crate) fn until(&self, page: Page, limit: u32) -> u32
+    pub fn until(&self, page: Page, limit: u32) -> u32
         requires { page < limit }
         ensures { IsAlikeUntil (spec.in_pair self.now) page limit result }
     {

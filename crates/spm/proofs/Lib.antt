@@ -1,4 +1,5 @@
 mod Rows
+mod OwnBufferLemmas
 mod SegmentLemmas
 mod OpenLemmas
 mod ReclaimLemmas

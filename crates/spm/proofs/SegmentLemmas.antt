@@ -1,37 +1,47 @@
 -- Pages that are alike are free alike, and a page of each segment tells of all.
-use Rattle.std.proofs.Common.{◌≡◌, ℕ, zero, suc, ◌+◌, ◌-◌, ◌<◌, ◌≤◌, Bool, true, false, ◌&&◌, not, cond, None, refl, sym, ap, ◌∙◌, arith}
+use Rattle.std.proofs.Common.{◌≡◌, ℕ, zero, suc, ◌+◌, ◌-◌, ◌<◌, ◌≤◌, Bool, true, false, ◌&&◌, not, cond, Option, None, refl, sym, ap, ◌∙◌, arith}
 use Rattle.std.specs.Option.{option_map_or}
 use Rattle.base.specs.Access.{Access, View, is_rw, is_reached_with}
 use Rattle.base.specs.Ledger.{is_idle}
-use Rattle.base.specs.Buffers.{is_buffer}
+use Rattle.base.specs.Buffers.{Pair, in_pair, is_buffer, pair_of}
 use Rattle.base.specs.State.{State, is_free, free_home, home_of, is_free_with, each_page}
 use Rattle.rules.specs.Calls.Buffers.{may_be_buffer}
+use Rattle.rules.specs.Run.{IsReached}
 use Rattle.spans.specs.Alike.{IsAlikeUntil}
 use Rattle.ledger.specs.Free.{idle_home}
+use Rattle.spm.proofs.OwnBufferLemmas.{own_buffer}
 
-both-tests : (idle buffer : Bool) (home : View) → cond (idle && not buffer) home None ≡ cond buffer None (cond idle home None)
-both-tests true true home = refl
-both-tests true false home = refl
-both-tests false true home = refl
-both-tests false false home = refl
+-- the page lies in the pair, if there is one
+abbrev has_page : Option Pair → ℕ → Bool
+has_page pair n = option_map_or (λ a. in_pair a n) pair false
 
--- the home of a page that is idle, where no buffer has it
-pub home-of : (s : State) (p n : ℕ) (home : View) → idle_home s.manifest s.donations s.live p n ≡ home → free_home s p n ≡ cond (is_buffer s.mailboxes n) None home
-unfolding free_home is_free
-home-of s p n home is = both-tests (is_idle s.manifest s.donations s.live p n) (is_buffer s.mailboxes n) (home_of s n) ∙ ap (cond (is_buffer s.mailboxes n) None) is
+both-tests : (idle buffer own : Bool) (home : View) → (idle ≡ true → buffer ≡ own) → cond (idle && not buffer) home None ≡ cond own None (cond idle home None)
+both-tests true true own home same = rw (← same refl) refl
+both-tests true false own home same = rw (← same refl) refl
+both-tests false buffer true home same = refl
+both-tests false buffer false home same = refl
 
--- pages that are idle alike, with the same home, are free alike where no buffer begins or ends
-pub free-alike : (s : State) (p page limit until end : ℕ) (home : View) → ((n : ℕ) → page ≤ n → n < until → idle_home s.manifest s.donations s.live p n ≡ home)
-    → page < until → limit ≤ until → IsAlikeUntil (is_buffer s.mailboxes) page limit end → (most : ℕ) → limit ≤ most → IsAlikeUntil (free_home s p) page most end
-free-alike s p page limit until end home is lt inside buffer most below =
-    record {
-      behind = buffer.behind;
-      inside = omega (arith, buffer.inside);
-      alike = λ n from to.
-          home-of s p n home (is n from (omega (arith, buffer.inside)))
-          ∙ ap (λ b. cond b None home) (buffer.alike n from to)
-          ∙ sym (home-of s p page home (is page (omega arith) lt));
-    }
+-- pages that are idle with the same home, for a partition with this pair
+module _ (s : State) (p : ℕ) (own : Option Pair) (page until : ℕ) (home : View) (reached : IsReached s) (mine : own ≡ pair_of s.mailboxes p) (is : (n : ℕ) → page ≤ n → n < until → idle_home s.manifest s.donations s.live p n ≡ home) where
+  -- one of them is free where the pair does not have it
+  pub home-of : (n : ℕ) → page ≤ n → n < until → free_home s p n ≡ cond (has_page own n) None home
+  unfolding free_home is_free
+  home-of n from to =
+      let same : is_idle s.manifest s.donations s.live p n ≡ true → is_buffer s.mailboxes n ≡ has_page own n = λ idle. own_buffer s p n reached idle ∙ ap (λ (o : Option Pair). has_page o n) (sym mine) in
+      both-tests (is_idle s.manifest s.donations s.live p n) (is_buffer s.mailboxes n) (has_page own n) (home_of s n) same
+      ∙ ap (cond (has_page own n) None) (is n from to)
+
+  -- they are free alike where neither buffer begins or ends
+  pub free-alike : (limit end most : ℕ) → IsAlikeUntil (has_page own) page limit end → limit ≤ until → limit ≤ most → IsAlikeUntil (free_home s p) page most end
+  free-alike limit end most alike inside below =
+      record {
+        behind = alike.behind;
+        inside = omega (arith, alike.inside);
+        alike = λ n from to.
+            home-of n from (omega (arith, alike.inside))
+            ∙ ap (λ b. cond b None home) (alike.alike n from to)
+            ∙ sym (home-of page (omega arith) (omega (arith, alike.inside, alike.behind)));
+      }
 
 -- what the home of a free page decides
 pub free_with-by : (s : State) (p : ℕ) (home : Access) (n : ℕ) → is_free_with s p home n ≡ is_reached_with home (free_home s p n)

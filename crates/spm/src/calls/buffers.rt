@@ -6,6 +6,7 @@ ghost use Rattle.base.specs.Access.{is_rw};
 ghost use Rattle.base.specs.Refusals.{first_refusal};
 ghost use Rattle.base.specs.Buffers as pairs;
 ghost use Rattle.rules.specs.Calls.Buffers as rules;
+ghost use Rattle.rules.specs.Run.{IsReached};
 ghost use Rattle.spm.specs.Granted.{IsGranted, IsStopped};
 
 use crate::call::Call;
@@ -22,6 +23,7 @@ mod tests;
 
 /// The caller registers TX and RX at these addresses in bytes, with so many pages each.
 pub(crate) fn map(state: &State, call: &Call, tx: u64, rx: u64, pages: u32) -> Result<Change, Stop>
+    requires { IsReached state.now }
     ensures granted { IfOk result (λ change. IsGranted state.now call.now.caller
         (rules.map_rule state.now call.now tx rx pages) false change) }
     ensures stopped { IfErr result (λ stop. IsStopped
@@ -35,6 +37,7 @@ pub(crate) fn map(state: &State, call: &Call, tx: u64, rx: u64, pages: u32) -> R
 
 /// The tests of FFA_RXTX_MAP, in order. Gives the pair that the call names.
 fn check_map(state: &State, p: PartitionId, tx: u64, rx: u64, pages: u32) -> Result<Pair, Status>
+    requires { IsReached state.now }
     ensures refused { IfErr result (λ status. first_refusal
         (rules.map_tests state.now p tx rx pages) ≡ Some status) }
     ensures passed { IfOk result (λ pair. (first_refusal (rules.map_tests state.now p tx rx pages)
@@ -49,11 +52,13 @@ fn check_map(state: &State, p: PartitionId, tx: u64, rx: u64, pages: u32) -> Res
 
 /// Whether each page of a run may be a buffer of a partition.
 fn may_be_buffers(state: &State, p: PartitionId, run: Run) -> bool
+    requires { IsReached state.now }
     ensures { result ≡ rules.may_be_buffers state.now p run }
 {
+    let pair = state.pairs.pair_of(p);
     let mut number = run.first().number();
     while number < run.end() {
-        let segment = state.free_segment(p, Page::new(number), run.end());
+        let segment = state.free_segment(p, &pair, Page::new(number), run.end());
         if !is_read_write(segment.home) {
             return false;
         }

@@ -71,6 +71,7 @@ fn check<'a>(
     kind: Kind,
     transfer: Transfer,
 ) -> Result<Checked<'a>, Status>
+    requires { IsReached state.now }
     ensures refused { IfErr result (λ status. first_refusal
         (rules.send_tests state.now call.now kind transfer) ≡ Some status) }
     ensures passed { IfOk result (λ checked. IsChecked state.now call.now kind transfer
@@ -78,7 +79,8 @@ fn check<'a>(
 {
     let p = call.partition();
     let row = state.row(p);
-    let Some(pair) = state.pairs.pair_of(p) else {
+    let own = state.pairs.pair_of(p);
+    let Some(pair) = own else {
         return Err(Status::InvalidParameters);
     };
     if !names_tx(transfer) || !are_lengths(transfer, pair, call) {
@@ -91,7 +93,7 @@ fn check<'a>(
     if !are_parties(state, p, &desc) || !suits(kind, &desc) {
         return Err(Status::InvalidParameters);
     }
-    let Some(home) = state.common_home(p, &desc) else {
+    let Some(home) = state.common_home(p, &own, &desc) else {
         return Err(Status::Denied);
     };
     if !are_capped(kind, home, &desc.receivers) || !may_clear_sent(desc.clears, home) {
