@@ -1,10 +1,11 @@
 -- Pages that are alike are free alike, and a page of each segment tells of all.
-use Rattle.std.proofs.Common.{◌≡◌, ℕ, zero, suc, ◌+◌, ◌-◌, ◌<◌, ◌≤◌, Bool, true, false, ◌&&◌, not, cond, Option, None, refl, sym, ap, ◌∙◌, arith}
+use Rattle.std.proofs.Common.{◌≡◌, ℕ, zero, suc, ◌+◌, ◌-◌, ◌<◌, ◌≤◌, Bool, true, false, ◌&&◌, not, cond, drop, List, ◌∷◌, Option, Some, None, refl, sym, ap, ap₂, ◌∙◌, arith}
 use Rattle.std.specs.Option.{option_map_or}
-use Rattle.base.specs.Access.{Access, View, is_rw, is_reached_with}
+use Rattle.base.specs.Access.{Access, View, is_rw, is_normal, is_same_bool, is_reached_with}
 use Rattle.base.specs.Ledger.{is_idle}
 use Rattle.base.specs.Buffers.{Pair, in_pair, is_buffer, pair_of}
-use Rattle.base.specs.State.{State, is_free, free_home, home_of, is_free_with, each_page}
+use Rattle.base.specs.State.{State, is_free, free_home, home_of, is_free_with, each_page, each_page_in, common_home}
+use Rattle.base.specs.Pages.{PageRun}
 use Rattle.rules.specs.Calls.Buffers.{may_be_buffer}
 use Rattle.rules.specs.Run.{IsReached}
 use Rattle.spans.specs.Alike.{IsAlikeUntil}
@@ -91,3 +92,28 @@ module _ (f : ℕ → Bool) (homes : ℕ → View) (test : View → Bool) (by : 
   -- where it fails, it fails of the run
   pub segment-fails : n < end → test here ≡ false → all ≡ false
   segment-fails lt fails = sym so_far ∙ each_page-fails f end n lt (one ∙ fails)
+
+-- ---- the first range of a send
+
+same_bool : (a : Bool) → is_same_bool a a ≡ true
+same_bool true = refl
+same_bool false = refl
+
+-- a home is reached with itself
+with-itself : (home : Access) → is_reached_with home (Some home) ≡ true
+with-itself home = rw (same_bool (is_rw home.rights), same_bool home.exec, same_bool (is_normal home.kind)) refl
+
+-- the pages behind the first segment decide, and the ranges behind the first
+pub common-home : (s : State) (p : ℕ) (ranges rest : List PageRun) (run : PageRun) (home : Access) (page until : ℕ) (first others : Bool) → ranges ≡ run ∷ rest → page ≡ run.first → Some home ≡ free_home s p page → IsAlikeUntil (free_home s p) page (run.first + run.count) until
+    → first ≡ each_page (is_free_with s p home) until (run.first + run.count - until) → others ≡ each_page_in (is_free_with s p home) (drop 1 ranges)
+    → cond (first && others) (Some home) None ≡ common_home s p ranges
+unfolding common_home
+common-home s p ranges rest run home page until first others are at here alike is behind =
+    let f = is_free_with s p home in
+    let left : run.first + run.count - run.first ≡ run.count = omega arith in
+    let all : each_page f run.first (run.first + run.count - run.first) ≡ each_page f run.first run.count = ap (each_page f run.first) left in
+    let decided = segment-holds f (free_home s p) (is_reached_with home) (free_with-by s p home) (run.first + run.count) run.first page (each_page f run.first run.count) (Some home) at here all until alike (with-itself home) in
+    let found : free_home s p run.first ≡ Some home = ap (free_home s p) (sym at) ∙ sym here in
+    let tail : drop 1 ranges ≡ rest = ap (drop 1) are in
+    let whole : (first && others) ≡ each_page_in f (run ∷ rest) = ap₂ (◌&&◌) (is ∙ decided) (behind ∙ ap (each_page_in f) tail) in
+    rw (are, found, whole) refl
