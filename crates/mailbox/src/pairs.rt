@@ -120,26 +120,27 @@ impl Pairs {
         if !self.holds_rx(p) {
             return Err(Status::Denied);
         }
-        self.set_held(p, false);
+        set_held(&mut self.mailboxes, p, false);
         Ok(())
     }
 
     /// Gives RX to partition `p`, as a call that fills it does: the partition holds it from now on.
     /// It is refused as `InvalidParameters` where the partition has no pair, and as `Busy` where it
     /// holds RX already, and changes nothing then.
+    #[tactic(auto, unfolding(base::specs::Buffers::has_pair, base::specs::Buffers::holds_rx))]
     pub fn fill(&mut self, p: PartitionId) -> Result<(), Status>
         ensures refused { IfErr result (RefusesWith (spec.fill_tests self.old p)) }
         ensures err { OnErr result (self.new ≡ self.old) }
         ensures passed { OnOk result (NoneRefuses (spec.fill_tests self.old p)) }
         ensures ok { OnOk result (self.new ≡ spec.with_rx p true self.old) }
     {
-        if !self.has_pair(p) {
+        let Some(pair) = self.pair_of(p) else {
             return Err(Status::InvalidParameters);
-        }
-        if self.holds_rx(p) {
+        };
+        if pair.held {
             return Err(Status::Busy);
         }
-        self.set_held(p, true);
+        set_held(&mut self.mailboxes, p, true);
         Ok(())
     }
 
@@ -190,13 +191,6 @@ impl Pairs {
     {
         self.mailboxes.iter().find(|mailbox| mailbox.partition == p)
     }
-
-    fn set_held(&mut self, p: PartitionId, held: bool)
-        ensures { self.new ≡ spec.with_rx p held self.old }
-    {
-        let pair = self.pair_of(p).map(|pair| pair.holding(held));
-        set_pair(&mut self.mailboxes, p, pair);
-    }
 }
 
 /// The partitions of these rows, with no pair registered.
@@ -224,6 +218,24 @@ fn set_pair(mailboxes: &mut [Mailbox], p: PartitionId, pair: Option<Pair>)
             return;
         }
     }
+}
+
+/// Makes RX held or not, where the partition has a pair.
+fn set_held(mailboxes: &mut [Mailbox], p: PartitionId, held: bool)
+    ensures { mailboxes.new ≡ spec.with_rx p held mailboxes.old }
+{
+    for mailbox in mailboxes.iter_mut() {
+        if mailbox.partition == p {
+            mailbox.pair = with_held(mailbox.pair, held);
+            return;
+        }
+    }
+}
+
+fn with_held(pair: Option<Pair>, held: bool) -> Option<Pair>
+    ensures { result ≡ option_map (spec.holding held) pair }
+{
+    pair.map(|pair| pair.holding(held))
 }
 
 fn buffers_until(mailboxes: &[Mailbox], page: Page, limit: u32) -> u32
