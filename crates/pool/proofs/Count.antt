@@ -1,6 +1,7 @@
 -- How many of the first numbers pass a test.
-use Rattle.std.proofs.Common.{◌≡◌, ◌≢◌, ℕ, zero, suc, ◌+◌, ◌<◌, ◌≤◌, arith, Bool, true, false, cond, refl, inl, inr, add-one}
+use Rattle.std.proofs.Common.{◌≡◌, ◌≢◌, ℕ, zero, suc, ◌+◌, ◌<◌, ◌≤◌, arith, Bool, true, false, cond, eqb, refl, inl, inr, add-one}
 use Rattle.std.proofs.lemmas.Bool.{cases_eq, cases_Bool}
+use Rattle.std.proofs.lemmas.Bool.Decides.{nat_tests}
 use Rattle.base.specs.Counts.{count_below}
 
 -- tests that agree have the same count
@@ -82,3 +83,26 @@ count_below-le passes (suc n) =
       | inl is_one ↦ rw is_one (omega (arith, rest))
       | inr is_none ↦ rw is_none (omega (arith, rest))
     ]
+
+-- one of the counted numbers
+pub count_below-witness : (a : ℕ → Bool) (n : ℕ) → 0 < count_below a n → (x : ℕ) × (x < n) × (a x ≡ true)
+unfolding count_below
+count_below-witness a zero some = absurd (omega (arith, some))
+count_below-witness a (suc n) some = elim (cases_Bool (a n)) [
+  | inl is ↦ (n, omega arith, is)
+  | inr isnt ↦
+      let fewer : 0 < 0 + count_below a n = (rw isnt at some) in
+      let rest = count_below-witness a n (omega (arith, fewer)) in
+      (rest.0, (let lt = rest.1 in omega (arith, lt)), rest.2)
+]
+
+-- where all are counted, each passes
+pub count_below-full : (passes : ℕ → Bool) (n k : ℕ) → count_below passes n ≡ n → k < n → passes k ≡ true
+count_below-full passes n k full below = elim (cases_Bool (passes k)) [
+  | inl is ↦ is
+  | inr isnt ↦
+      let others : ℕ → Bool = λ j. cond (eqb j k) true (passes j) in
+      let more = count_below-one passes others n k below isnt (grind (arith, nat_tests)) (λ j lt differs. let test : eqb j k ≡ false = grind (arith, nat_tests, differs) in rw test refl) in
+      let most = count_below-le others n in
+      absurd (omega (arith, full, more, most))
+]

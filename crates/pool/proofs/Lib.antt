@@ -2,6 +2,9 @@ pub mod Words
 pub mod Count
 pub mod Shares
 mod Kept
+pub mod Nonzero
+pub mod Stretches
+pub mod Replaced
 pub mod Applying
 mod Contents
 mod CellMemory

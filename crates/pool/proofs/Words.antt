@@ -26,10 +26,11 @@ words_at-set : (items : List ℕ) (page index word q i : ℕ) → index < 512 �
 unfolding words_of put
 words_at-set items page index word q i below inside = grind (arith, common_steps, nat_tests)
 
+pub words_of-set_at : (items : List ℕ) (page index word : ℕ) → index < 512 → 512 * page + index < length items → words_of (slice_set items (512 * page + index) word) ≡ put page index word (words_of items)
+words_of-set_at items page index word below here = fun_ext (λ q. fun_ext (λ i. words_at-set items page index word q i below here))
+
 pub words_of-set : (items : List ℕ) (count page index word : ℕ) → length items ≡ 512 * count → page < count → index < 512 → words_of (slice_set items (512 * page + index) word) ≡ put page index word (words_of items)
-words_of-set items count page index word whole inside below =
-    let here : 512 * page + index < length items = omega arith in
-    fun_ext (λ q. fun_ext (λ i. words_at-set items page index word q i below here))
+words_of-set items count page index word whole inside below = words_of-set_at items page index word below (omega arith)
 
 -- a word past the end of a page is 0, so a page of zeros is 0 at each index
 pub words_of-beyond : (items : List ℕ) (page : ℕ) → ((i : ℕ) → i < 512 → words_of items page i ≡ 0) → (i : ℕ) → words_of items page i ≡ 0

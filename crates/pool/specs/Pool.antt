@@ -1,5 +1,5 @@
 -- What a table memory holds, and what its calls make of it.
-use Rattle.std.specs.Prelude.{◌≡◌, ℕ, ◌+◌, ◌-◌, ◌*◌, ◌%◌, ◌^◌, ◌<◌, ◌≤◌, Bool, true, false, ◌==◌, ◌&&◌, if◌then◌else◌, nat_lt, List, [], ◌∷◌, ◌++◌, length, sum, take, replicate, slice_index, slice_index_or, slice_set}
+use Rattle.std.specs.Prelude.{◌≡◌, ℕ, zero, suc, ◌+◌, ◌-◌, ◌*◌, ◌%◌, ◌^◌, ◌<◌, ◌≤◌, Bool, true, false, not, ◌==◌, ◌&&◌, if◌then◌else◌, nat_lt, List, [], ◌∷◌, ◌++◌, length, sum, take, replicate, slice_index, slice_index_or, slice_set}
 use Rattle.base.specs.Counts.{count_below}
 use Rattle.base.specs.Pages.{PageRun}
 use Rattle.base.specs.Manifest.{ManifestRows, ids_of, quotas_of, row_of, page_count}
@@ -28,6 +28,10 @@ Words = ℕ → ℕ → ℕ
 unfoldable pub words_of : List ℕ → Words
 words_of words =
     λ page index. if nat_lt index 512 then slice_index words (512 * page + index) else 0
+
+-- how many words of a page are not 0
+unfoldable pub nonzero_in : Words → ℕ → ℕ
+nonzero_in words page = count_below (λ i. not (words page i == 0)) 512
 
 unfoldable pub taken_of : List Bool → ℕ → Bool
 taken_of taken = λ page. slice_index_or taken page false
@@ -92,6 +96,11 @@ pub record CountsFree (quotas : List ℕ) (taken : List Bool) (free : List ℕ) 
 abbrev pub free_of : Pages → ℕ → ℕ
 free_of m p = quota_of m.quotas (row_of m.ids p) - used_by m (row_of m.ids p)
 
+-- a list of how many words of each page are not 0
+pub record CountsNonzero (quotas words nonzero : List ℕ) : Type 0 where
+  pub pages : length nonzero ≡ page_count quotas
+  pub each : (page : ℕ) → page < page_count quotas → slice_index nonzero page ≡ nonzero_in (words_of words) page
+
 -- the free page of a row's share with the lowest number
 pub record IsLowestFree (m : Pages) (row page : ℕ) : Type 0 where
   pub inside : InShare m.quotas row page
@@ -137,11 +146,56 @@ abbrev pub after_set : ℕ → ℕ → ℕ → Pool → Pool
 after_set page index word pool =
     logged (Set page index word) (with_word page index word pool.memory) pool
 
+-- these words of a page with others in their place: from an index on so many, each a step more than the one before
+unfoldable pub words_set : List ℕ → ℕ → ℕ → ℕ → ℕ → ℕ → List ℕ
+words_set words page first zero word step = words
+words_set words page first (suc n) word step =
+    slice_set (words_set words page first n word step) (512 * page + (first + n)) (word + step * n)
+
+-- the writes that make them, upward, of those that are not there; the latest stands first
+unfoldable pub sets_of : List ℕ → ℕ → ℕ → ℕ → ℕ → ℕ → List Op
+sets_of words page first zero word step = []
+sets_of words page first (suc n) word step =
+    (if slice_index (words_set words page first n word step) (512 * page + (first + n)) == word + step * n then [] else (Set page (first + n) (word + step * n) ∷ []))
+    ++ sets_of words page first n word step
+
+-- how many operations were made, modulo 2^64, after these
+abbrev pub counted : List Op → ℕ → ℕ
+counted [] n = n
+counted (op ∷ ops) n = (counted ops n + 1) % 2 ^ 64
+
+abbrev pub after_sets : ℕ → ℕ → ℕ → ℕ → ℕ → Pool → Pool
+after_sets page first n word step pool =
+    record {
+      memory = record pool.memory { words = words_set pool.memory.words page first n word step };
+      operations = sets_of pool.memory.words page first n word step ++ pool.operations;
+      made = counted (sets_of pool.memory.words page first n word step) pool.made;
+    }
+
 abbrev pub after_invalidate : ℕ → PageRun → Pool → Pool
 after_invalidate p run pool = logged (Invalidate p run) pool.memory pool
 
 abbrev pub after_clear : PageRun → Pool → Pool
 after_clear run pool = logged (Clear run) pool.memory pool
+
+-- a word that is not 0 becomes 0, and the pages that it stands for are invalidated for a partition
+abbrev pub after_break : ℕ → ℕ → ℕ → PageRun → Pool → Pool
+after_break p page index run pool =
+    if words_of pool.memory.words page index == 0 then pool
+    else after_invalidate p run (after_set page index 0 pool)
+
+-- a word is written where 0 stands, if it is not 0
+abbrev pub after_make : ℕ → ℕ → ℕ → Pool → Pool
+after_make page index word pool = if word == 0 then pool else after_set page index word pool
+
+-- Words of a page, from an index on so many, are broken, and others are written there, one after another: each is a step more than the one before, and
+-- each stands for 512 pages.
+unfoldable pub after_replaces : ℕ → ℕ → ℕ → ℕ → ℕ → ℕ → ℕ → Pool → Pool
+after_replaces p page first zero word step start pool = pool
+after_replaces p page first (suc n) word step start pool =
+    after_make page (first + n) (word + step * n)
+    (after_break p page (first + n) (record { first = start + 512 * n; count = 512 })
+    (after_replaces p page first n word step start pool))
 
 abbrev pub after_take : ℕ → Pool → Pool
 after_take page pool = record pool { memory = with_taken page true pool.memory }

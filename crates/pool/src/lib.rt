@@ -7,6 +7,8 @@ mod image;
 mod list_pool;
 mod operation;
 mod raw_pool;
+mod replace;
+mod stretch;
 mod table_mem;
 mod table_pool;
 mod word_store;

@@ -1,10 +1,10 @@
-ghost use Rattle.std.specs.Prelude.{◌≡◌, ℕ, ◌+◌, ◌<◌, ◌≤◌, length, reverse, IfOk, OnOk, true, false};
+ghost use Rattle.std.specs.Prelude.{◌≡◌, ℕ, ◌+◌, ◌-◌, ◌*◌, ◌^◌, ◌<◌, ◌≤◌, length, reverse, IfOk, OnOk, true, false};
 ghost use Rattle.base.specs.Manifest.{ManifestRows, page_count};
-ghost use Rattle.pool.specs.Pool.{Pool, IsWhole, InShareOf, IsLowestFreeOf, pages_of, words_of, taken_of, new_pool, after_set, after_invalidate, after_clear, after_take, after_give, emptied, free_of, image_of};
+ghost use Rattle.pool.specs.Pool.{Pool, IsWhole, InShareOf, IsLowestFreeOf, pages_of, words_of, taken_of, nonzero_in, new_pool, after_set, after_sets, after_replaces, after_invalidate, after_clear, after_take, after_give, emptied, free_of, image_of};
 
 use crate::image::Image;
 use crate::operation::Op;
-use base::{OutOfMemory, PartitionId, Run};
+use base::{OutOfMemory, Page, PartitionId, Run};
 use manifest::Manifest;
 use std::alloc::Global;
 
@@ -33,6 +33,11 @@ pub trait TableMem {
         requires index_in { index < 512 }
         ensures { result ≡ words_of (state self.now).memory.words page index };
 
+    /// How many words of a page are not 0.
+    fn nonzero(&self, page: u32) -> u32
+        requires { page < page_count (state self.now).memory.quotas }
+        ensures { result ≡ nonzero_in (words_of (state self.now).memory.words) page };
+
     /// Writes a word of a root or of a page that is taken.
     fn set_word(&mut self, page: u32, index: u32, word: u64)
         requires page_in { page < page_count (state self.old).memory.quotas }
@@ -41,6 +46,44 @@ pub trait TableMem {
         requires ready { 0 < room self.old }
         ensures state { state self.new ≡ after_set page index word (state self.old) }
         ensures room { room self.new + 1 ≡ room self.old };
+
+    /// Writes words of a root, or of a page that is taken, from one index up to another: the first is
+    /// this word, and each other a step more than the one before. A word that is there is not written.
+    fn set_words(&mut self, page: u32, first: u32, end: u32, word: u64, step: u64)
+        requires page_in { page < page_count (state self.old).memory.quotas }
+        requires ordered { first ≤ end }
+        requires index_in { end ≤ 512 }
+        requires taken { taken_of (state self.old).memory.taken page ≡ true }
+        requires in_range { word + step * (end - first) < 2 ^ 64 }
+        requires ready { end ≤ room self.old + first }
+        ensures state { state self.new
+            ≡ after_sets page first (end - first) word step (state self.old) }
+        ensures room { room self.old + first ≤ room self.new + end };
+
+    /// Replaces words of a root, or of a page that is taken, from one index up to another: the first by
+    /// this word, and each other by one that is a step more than the one before. Each stands for 512
+    /// pages, the first for those from `start` on. A word that is not 0 is made 0 before, and its pages
+    /// are invalidated for a partition.
+    fn replace_words(
+        &mut self,
+        p: PartitionId,
+        page: u32,
+        first: u32,
+        end: u32,
+        word: u64,
+        step: u64,
+        start: Page,
+    )
+        requires page_in { page < page_count (state self.old).memory.quotas }
+        requires ordered { first ≤ end }
+        requires index_in { end ≤ 512 }
+        requires taken { taken_of (state self.old).memory.taken page ≡ true }
+        requires in_range { word + step * (end - first) < 2 ^ 64 }
+        requires pages_in { start + 512 * (end - first) ≤ 2 ^ 27 }
+        requires ready { 3 * end ≤ room self.old + 3 * first }
+        ensures state { state self.new
+            ≡ after_replaces p page first (end - first) word step start (state self.old) }
+        ensures room { room self.old + 3 * first ≤ room self.new + 3 * end };
 
     /// Records that a partition's translations of these pages are invalidated.
     fn invalidate(&mut self, p: PartitionId, run: Run)

@@ -1,23 +1,27 @@
-ghost use Rattle.std.specs.Prelude.{◌≡◌, ℕ, ◌+◌, ◌*◌, ◌<◌, ◌≤◌, ◌^◌, ◌==◌, ◌++◌, length, position, sum, replicate, true, false, IfOk};
+ghost use Rattle.std.specs.Prelude.{◌≡◌, ℕ, ◌+◌, ◌-◌, ◌*◌, ◌<◌, ◌≤◌, ◌^◌, ◌==◌, ◌++◌, ◌⊎◌, length, position, sum, replicate, reverse, vec_len, vec_capacity, true, false, IfOk, if◌then◌else◌};
 ghost use Rattle.base.specs.Manifest.{page_count};
 ghost use Rattle.base.specs.Manifest as rows;
-ghost use Rattle.pool.specs.Pool.{CountsFree, words_of, taken_of};
+ghost use Rattle.pool.specs.Pool.{CountsFree, CountsNonzero, words_of, taken_of};
 ghost use Rattle.pool.specs.Pool as shares;
 
 use crate::image::Image;
 use crate::operation::Op;
+use crate::replace::{Replacement, replace_all};
+use crate::stretch::{Stretch, recounted, write_words};
 use crate::table_mem::TableMem;
 use crate::word_store::WordStore;
-use base::{OutOfMemory, PartitionId, Run};
+use base::{OutOfMemory, Page, PartitionId, Run};
 use manifest::{Manifest, Partition};
 use std::alloc::Global;
+use std::mem::replace;
 
 #[cfg(test)]
 mod tests;
 
 /// Table memory whose words stand in a store, 512 for each page, page by page. `taken` has a mark for
-/// each page, `free` says for each row how many pages of its share are free, and `made_before` how many
-/// operations were made before those that are listed, modulo 2^64.
+/// each page, `free` says for each row how many pages of its share are free, `nonzero` for each page how
+/// many of its words are not 0, and `made_before` how many operations were made before those that are
+/// listed, modulo 2^64.
 #[derive(Drop)]
 pub struct TablePool<S: WordStore> {
     ids: Vec<PartitionId>,
@@ -25,12 +29,14 @@ pub struct TablePool<S: WordStore> {
     pub(crate) store: S,
     taken: Vec<bool>,
     free: Vec<u32>,
+    nonzero: Vec<u32>,
     operations: Vec<Op>,
     made_before: u64,
     ghost ids_whole: { length ids.items ≡ length quotas.items },
     ghost words_whole: { length (S.words store) ≡ 512 * page_count quotas.items },
     ghost taken_whole: { length taken.items ≡ page_count quotas.items },
     ghost free_counted: { CountsFree quotas.items taken.items free.items },
+    ghost nonzero_counted: { CountsNonzero quotas.items (S.words store) nonzero.items },
     ghost fits: { page_count quotas.items ≤ 2 ^ 27 },
     ghost roots: { (row : ℕ) → row < length quotas.items → taken_of taken.items row ≡ true },
     ghost free_zero: { (page index : ℕ) → taken_of taken.items page ≡ false
@@ -61,6 +67,13 @@ fn marks(alloc: Global, taken: usize, free: usize) -> Result<Vec<bool>, OutOfMem
     Ok(marks)
 }
 
+/// So many counts, all of them 0.
+fn zeros(alloc: Global, pages: usize) -> Result<Vec<u32>, OutOfMemory>
+    ensures { IfOk result (λ zeros. zeros.items ≡ replicate pages 0) }
+{
+    Ok(vec![in alloc; 0; pages]?)
+}
+
 /// The row of a partition.
 fn row_of(ids: &[PartitionId], p: PartitionId) -> Option<usize>
     ensures { result ≡ position (λ id. id == p) ids.now }
@@ -86,7 +99,7 @@ fn share_start(quotas: &[u32], row: usize) -> u32
 }
 
 impl<S: WordStore> TableMem for TablePool<S> {
-    ghost use Rattle.std.specs.Prelude.{◌-◌, ◌%◌, vec_len, vec_capacity, reverse};
+    ghost use Rattle.std.specs.Prelude.{◌%◌};
 
     ghost state = { λ m. record {
       memory = record {
@@ -123,6 +136,7 @@ impl<S: WordStore> TableMem for TablePool<S> {
             store: S::zeroed(alloc, 512 * (roots + shares))?,
             taken: marks(alloc, roots, shares)?,
             free: quotas_of(alloc, partitions)?,
+            nonzero: zeros(alloc, roots + shares)?,
             operations: Vec::new(alloc),
             made_before: 0,
         })
@@ -132,10 +146,60 @@ impl<S: WordStore> TableMem for TablePool<S> {
         self.store.word(512 * page as usize + index as usize)
     }
 
+    fn nonzero(&self, page: u32) -> u32 {
+        self.nonzero[page as usize]
+    }
+
     fn set_word(&mut self, page: u32, index: u32, word: u64) {
-        self.store
-            .set_word(512 * page as usize + index as usize, word);
+        let place = 512 * page as usize + index as usize;
+        let before = self.store.word(place);
+        self.store.set_word(place, word);
+        let count = self.nonzero[page as usize];
+        self.nonzero[page as usize] = recounted(count, before, word);
         self.operations.push_reserved(Op::Set { page, index, word });
+    }
+
+    fn set_words(&mut self, page: u32, first: u32, end: u32, word: u64, step: u64) {
+        let alloc = *self.operations.allocator();
+        let operations = replace(&mut self.operations, Vec::new(alloc));
+        let count = self.nonzero[page as usize];
+        let stretch = Stretch {
+            page,
+            first,
+            end,
+            word,
+            step,
+        };
+        let (operations, count) = write_words(&mut self.store, operations, count, stretch);
+        self.operations = operations;
+        self.nonzero[page as usize] = count;
+    }
+
+    fn replace_words(
+        &mut self,
+        p: PartitionId,
+        page: u32,
+        first: u32,
+        end: u32,
+        word: u64,
+        step: u64,
+        start: Page,
+    ) {
+        let alloc = *self.operations.allocator();
+        let operations = replace(&mut self.operations, Vec::new(alloc));
+        let count = self.nonzero[page as usize];
+        let with = Replacement {
+            who: p,
+            page,
+            first,
+            end,
+            word,
+            step,
+            start: start.number(),
+        };
+        let (operations, count) = replace_all(&mut self.store, operations, count, with);
+        self.operations = operations;
+        self.nonzero[page as usize] = count;
     }
 
     fn invalidate(&mut self, p: PartitionId, run: Run) {

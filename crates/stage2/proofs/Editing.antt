@@ -4,9 +4,11 @@ pub mod Trades
 pub mod ChunkKeeps
 pub mod Level3Words
 pub mod PlannedWords
+pub mod Stretches
 pub mod FourChunkEdits
 pub mod RootLinks
 pub mod ChunkByChunk
+pub mod FilledChunks
 pub mod Gigabyte
 pub mod GigabyteByGigabyte
 pub mod RowOfPartition

@@ -1,13 +1,14 @@
 -- What the clauses of an edit say, of the pool before it and the pool after it.
-use Rattle.std.specs.Prelude.{◌≡◌, ℕ, ◌+◌, ◌*◌, ◌/◌, ◌%◌, ◌^◌, ◌<◌, Bool, nat_le, nat_lt, true, false, ◌&&◌, ◌==◌, if◌then◌else◌, is_some, Option, Some, None, List, length}
+use Rattle.std.specs.Prelude.{◌≡◌, ◌≢◌, ℕ, ◌+◌, ◌-◌, ◌*◌, ◌/◌, ◌%◌, ◌^◌, ◌<◌, Bool, nat_le, nat_lt, true, false, not, ◌&&◌, ◌==◌, if◌then◌else◌, is_some, Option, Some, None, List, length}
 use Rattle.base.specs.Access.{View}
 use Rattle.base.specs.Counts.{count_below}
 use Rattle.base.specs.Manifest.{row_of}
 use Rattle.base.specs.Pages.{PageRun, covers}
-use Rattle.pool.specs.Pool.{Pool, pages_of, words_of, with_put, with_mark, used_by, quota_of}
+use Rattle.pool.specs.Pool.{Pool, pages_of, words_of, with_put, with_mark, after_replaces, used_by, quota_of}
 use Rattle.stage2.specs.declared.walked.Walked.{Walked}
 use Rattle.stage2.specs.declared.walked.Walked.TheVariants.{None as Unmapped}
-use Rattle.stage2.specs.Chunks.{edited, IsWordFor, Writes, answers_at, answers_in, answers_of, second_of, entry_in, IsOutcome, IsGrowing, Redoes_in}
+use Rattle.stage2.specs.Change.{block_step}
+use Rattle.stage2.specs.Chunks.{edited, IsEntryFor, IsWordFor, Writes, answers_at, answers_in, answers_of, second_of, entry_in, IsOutcome, IsGrowing, Redoes_in}
 use Rattle.stage2.specs.Gigabytes.{sum_below, chunk_operations, grows_at, Fits, FitsGigabyte, FitsRow, IsUnderway, EditsGigabyte, EditsRow}
 use Rattle.stage2.specs.History.{Made, broken, replaced}
 use Rattle.stage2.specs.Moments.{StaysInStep, Clears}
@@ -153,6 +154,12 @@ ChunkInStep layout row c j runs access old new =
     (λ n. (n / 512 == c) && disturbs runs (chunk_view layout row c j old) (chunk_after layout row c j runs access old) n)
     (λ n. walked n (chunk_after layout row c j runs access old n)) old new
 
+-- the level 2 words of chunks of a gigabyte are replaced by those of blocks, or by 0
+pub record ReplacesBlocks (who j g first end : ℕ) (answer : View) (old new : Pool) : Type 0 where
+  pub word : ℕ
+  pub block : IsEntryFor (512 * g + first) answer word
+  pub state : new ≡ after_replaces who j first (end - first) word (block_step answer) (512 * (512 * g + first)) old
+
 -- ---- the chunks of a gigabyte, whose level 2 table is j
 
 abbrev pub IsLinkedOrderly : Layout → ℕ → ℕ → ℕ → Pool → Type 0
@@ -188,6 +195,20 @@ ChunksInStep layout row g j runs access old new =
 abbrev pub FitsChunks : Layout → ℕ → ℕ → ℕ → List PageRun → View → Pool → Type 0
 FitsChunks layout row g j runs access pool = Fits layout row g j runs access (pages_of pool.memory)
 
+-- ---- how many words of a level 3 table are not 0
+
+-- how many pages of a chunk are among these, counted from its first
+unfoldable pub pages_among : (ℕ → Bool) → ℕ
+pages_among which = count_below which 512
+
+-- of how many of them the word is not 0
+unfoldable pub nonzero_among : (ℕ → ℕ) → (ℕ → Bool) → ℕ
+nonzero_among word which = count_below (λ i. which i && not (word i == 0)) 512
+
+-- the pages from one up to another
+abbrev pub is_between : ℕ → ℕ → ℕ → Bool
+is_between first end i = nat_le first i && nat_lt i end
+
 -- ---- the link of a level 2 table
 
 abbrev pub word_in : Pool → ℕ → ℕ → ℕ
@@ -196,6 +217,10 @@ word_in pool page index = words_of pool.memory.words page index
 -- all words of a page are 0
 abbrev pub IsEmpty : ℕ → Pool → Type 0
 IsEmpty page pool = (i : ℕ) → i < 512 → words_of pool.memory.words page i ≡ 0
+
+-- one of them is not
+abbrev pub HasWord : ℕ → Pool → Type 0
+HasWord page pool = (i : ℕ) × (i < 512) × (words_of pool.memory.words page i ≢ 0)
 
 -- the root's word becomes 0, and the table is given back
 abbrev pub Unlinks : ℕ → ℕ → ℕ → Pool → Pool → Type 0

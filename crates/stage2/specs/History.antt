@@ -1,16 +1,11 @@
 -- Which operations an edit makes (the order of break before make).
-use Rattle.std.specs.Prelude.{◌≡◌, ℕ, ◌+◌, ◌*◌, ◌%◌, ◌^◌, ◌<◌, ◌==◌, if◌then◌else◌, List, [], ◌∷◌, ◌++◌, Option, Some}
+use Rattle.std.specs.Prelude.{◌≡◌, ℕ, ◌+◌, ◌*◌, ◌%◌, ◌<◌, ◌==◌, if◌then◌else◌, List, [], ◌∷◌, ◌++◌, Option, Some}
 use Rattle.base.specs.Access.{View}
 use Rattle.pool.specs.declared.operation.Op.{Op}
 use Rattle.pool.specs.declared.operation.Op.TheVariants.{Set, Invalidate, Clear}
-use Rattle.pool.specs.Pool.{Pool, words_of}
+use Rattle.pool.specs.Pool.{Pool, words_of, counted}
 use Rattle.stage2.specs.Chunks.{IsWordFor}
 use Rattle.stage2.specs.Moments.{words_after}
-
--- how many were made, modulo 2^64, after these
-abbrev pub counted : List Op → ℕ → ℕ
-counted [] n = n
-counted (op ∷ ops) n = (counted ops n + 1) % 2 ^ 64
 
 -- between two states these operations were made, the latest of which stands first, and no others, and the words are theirs
 pub record Made (made : List Op) (old new : Pool) : Type 0 where

@@ -1,20 +1,22 @@
 //! The edit of one chunk: its level 2 word, and its level 3 table.
 
-ghost use Rattle.std.specs.Prelude.{◌≡◌, ℕ, ◌+◌, ◌%◌, ◌<◌, ◌≤◌, true, Some, None, is_some, if◌then◌else◌};
+ghost use Rattle.std.specs.Prelude.{◌≡◌, ℕ, ◌+◌, ◌*◌, ◌%◌, ◌<◌, ◌≤◌, true, false, Some, None, is_some, if◌then◌else◌};
 ghost use Rattle.base.specs.Pages.{are_normal};
 ghost use Rattle.base.specs.Manifest.{page_count, row_of};
 ghost use Rattle.pool.specs.Pool.{pages_of, taken_of};
 ghost use Rattle.stage2.specs.declared.walked.Slot.TheVariants.{Next};
+ghost use Rattle.stage2.specs.Change.{block_step};
+ghost use Rattle.stage2.specs.Slot.{Layout, slot};
 ghost use Rattle.stage2.specs.Walk.{next_page};
-ghost use Rattle.stage2.specs.Chunks.{block_answer, covers_chunk, IsEntryFor, IsSite};
+ghost use Rattle.stage2.specs.Chunks.{block_answer, IsEntryFor, IsSite};
 ghost use Rattle.stage2.specs.Parts.{part_count};
-ghost use Rattle.stage2.specs.Clauses.{Puts, Breaks, Replaces, chunk_slot, AnswersAll, HasFree, GrowsChunk, EditsChunk, EditsMixed, LeavesZero, SetsChunk, SetsInStep, MixesInStep, MapsInStep, ClearsPages, ChunkInStep};
+ghost use Rattle.stage2.specs.Clauses.{Puts, Breaks, Replaces, chunk_slot, AnswersAll, HasFree, GrowsChunk, ReplacesBlocks, EditsChunk, EditsMixed, LeavesZero, SetsChunk, SetsInStep, MixesInStep, MapsInStep, ClearsPages, ChunkInStep};
 
 use crate::edit::{give_page, put_word, take_page};
 use crate::layout::Layout;
 use crate::outcome::outcome;
 use crate::page_words::{empty_table, write_table};
-use crate::place::Chunk;
+use crate::place::{Chunk, Gigabyte, Span};
 use crate::read::{read_chunk, read_word};
 use crate::table_page::{Row, TablePage};
 use crate::unmap::invalidate_parts;
@@ -70,6 +72,45 @@ fn block_word(chunk: Chunk, answer: &Option<Access>) -> u64
         Some(access) => leaf_word(chunk.first(), *access, true),
         None => 0,
     }
+}
+
+/// What the level 2 word of each chunk whose pages are all reached so is more than that of the chunk
+/// before.
+fn block_step(answer: &Option<Access>) -> u64
+    ensures { result ≡ block_step answer.now }
+{
+    if answer.is_some() { 1 << 21 } else { 0 }
+}
+
+/// Makes chunks of a gigabyte that follow one another, and have no table, blocks, or invalid.
+pub(crate) fn set_blocks<M: TableMem>(
+    memory: &mut M,
+    p: PartitionId,
+    second: TablePage,
+    gigabyte: Gigabyte,
+    chunks: Span,
+    answer: &Option<Access>,
+)
+    requires page_in { second < page_count (M.state memory.old).memory.quotas }
+    requires taken { taken_of (M.state memory.old).memory.taken second ≡ true }
+    requires some { chunks.first < chunks.end }
+    requires most { chunks.end ≤ 512 }
+    requires room { 3 * chunks.end ≤ M.room memory.old + 3 * chunks.first }
+    ensures replaces { ReplacesBlocks p second gigabyte chunks.first chunks.end answer.now
+        (M.state memory.old) (M.state memory.new) }
+    ensures room { M.room memory.old + 3 * chunks.first ≤ M.room memory.new + 3 * chunks.end }
+{
+    let chunk = gigabyte.chunk(chunks.first);
+    let word = block_word(chunk, answer);
+    memory.replace_words(
+        p,
+        second.number(),
+        chunks.first,
+        chunks.end,
+        word,
+        block_step(answer),
+        chunk.first(),
+    );
 }
 
 /// Makes a chunk that has no table one block, or invalid.
@@ -199,6 +240,13 @@ fn hang_table<M: TableMem>(
     replace_entry(memory, p, second, chunk, table_word(layout.address(third)));
 }
 
+/// Whether a level 2 word is a table descriptor, or wrong.
+pub(crate) fn points_at_table(word: u64) -> bool
+    ensures { result ≡ false → (layout : Layout) → next_page (slot layout 2 word) ≡ None }
+{
+    word % 4 == 3
+}
+
 /// The table that a word points at.
 pub(crate) fn table_of(entry: &Slot) -> Option<TablePage>
     ensures { result ≡ next_page entry.now }
@@ -263,33 +311,5 @@ pub(crate) fn edit_chunk<M: TableMem>(
                 hang_table(memory, layout, p, row, second, chunk, &before, runs, access)
             }
         },
-    }
-}
-
-/// Edits the pages of a chunk that one of the runs has whole: the chunk is one block, or invalid.
-pub(crate) fn fill_chunk<M: TableMem>(
-    memory: &mut M,
-    layout: &Layout,
-    p: PartitionId,
-    row: Row,
-    second: TablePage,
-    chunk: Chunk,
-    runs: &[Run],
-    access: &Option<Access>,
-)
-    requires normal { are_normal runs.now ≡ true }
-    requires filled { covers_chunk chunk runs.now ≡ true }
-    requires site { IsSite layout.now row chunk second (pages_of (M.state memory.old).memory) }
-    requires row { row_of layout.now.ids p ≡ row }
-    requires room { 515 ≤ M.room memory.old }
-    ensures redoes { EditsChunk layout.now row chunk second runs.now access.now
-        (M.state memory.old) (M.state memory.new) }
-    ensures in_step { ChunkInStep layout.now row chunk second runs.now access.now
-        (M.state memory.old) (M.state memory.new) }
-    ensures room { M.room memory.old ≤ M.room memory.new + 515 }
-{
-    match table_of(&read_chunk(memory, layout, second, chunk)) {
-        Some(third) => drop_table(memory, layout, p, row, second, chunk, third, runs, access),
-        None => set_block(memory, layout, p, row, second, chunk, access),
     }
 }

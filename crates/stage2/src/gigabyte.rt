@@ -1,19 +1,21 @@
 //! The edit of one gigabyte: its level 2 table, and the chunks under it.
 
-ghost use Rattle.std.specs.Prelude.{◌≡◌, ◌≢◌, ℕ, ◌+◌, ◌*◌, ◌<◌, ◌≤◌, length, true, Some, None, is_some, IfSome, IfNone};
+ghost use Rattle.std.specs.Prelude.{◌≡◌, ℕ, ◌+◌, ◌*◌, ◌<◌, ◌≤◌, length, true, false, Some, None, is_some};
 ghost use Rattle.base.specs.Pages.{are_normal};
 ghost use Rattle.base.specs.Manifest.{page_count, row_of};
 ghost use Rattle.pool.specs.Pool.{pages_of, taken_of, row_in, InShare};
 ghost use Rattle.stage2.specs.Orderly.{IsCanonical};
+ghost use Rattle.stage2.specs.Slot.{Layout, slot};
+ghost use Rattle.stage2.specs.Walk.{next_page};
 ghost use Rattle.stage2.specs.Gigabytes.{gigabyte_operations, touches_run, touches_chunk, Touches};
-ghost use Rattle.stage2.specs.Clauses.{IsLinkedOrderly, IsSecond, FitsChunks, chunks_operations, EditsChunks, ChunksInStep, second_at, word_in, IsEmpty, Unlinks, UnlinksInStep, FitsInGigabyte, EditsInGigabyte, GigabyteInStep};
+ghost use Rattle.stage2.specs.Clauses.{IsLinkedOrderly, IsSecond, FitsChunks, chunks_operations, EditsChunks, ChunksInStep, second_at, word_in, IsEmpty, HasWord, Unlinks, UnlinksInStep, FitsInGigabyte, EditsInGigabyte, GigabyteInStep};
 
-use crate::chunk::{edit_chunk, fill_chunk, table_of};
+use crate::chunk::{edit_chunk, points_at_table, set_blocks, table_of};
 use crate::edit::{give_page, put_word, take_page};
 use crate::layout::Layout;
 use crate::part::chunk_runs;
-use crate::place::{Chunk, Gigabyte, end_chunk, first_chunk};
-use crate::read::{AT_ONCE, read_gigabyte, read_word};
+use crate::place::{Chunk, Gigabyte, Span, end_chunk, first_chunk};
+use crate::read::{read_gigabyte, read_word};
 use crate::span::{chunk_span, next_unfilled};
 use crate::table_page::{Row, TablePage};
 use base::{Access, PartitionId, Run};
@@ -32,6 +34,22 @@ pub(crate) fn touches(runs: &[Run], chunk: Chunk) -> bool
     ensures { result ≡ touches_chunk chunk runs.now }
 {
     runs.iter().any(|run| run_touches(*run, chunk))
+}
+
+/// Up to where chunks of a gigabyte, counted from its first, have no table.
+fn plain_until<M: TableMem>(memory: &M, second: TablePage, first: u32, end: u32) -> u32
+    requires page_in { second < page_count (M.state memory.now).memory.quotas }
+    requires most { end ≤ 512 }
+    ensures from { first ≤ result }
+    ensures most { first < result → result ≤ end }
+    ensures plain { (layout : Layout) (x : ℕ) → first ≤ x → x < result
+        → next_page (slot layout 2 (word_in (M.state memory.now) second x)) ≡ None }
+{
+    let mut index = first;
+    while index < end && !points_at_table(read_word(memory, second, index)) {
+        index += 1;
+    }
+    index
 }
 
 /// Edits the pages of runs in the chunks of a gigabyte, upward, whose level 2 table may not be
@@ -61,18 +79,25 @@ fn edit_chunks<M: TableMem>(
     ensures room { M.room memory.old ≤ M.room memory.new + chunks_operations runs.now gigabyte }
 {
     let span = chunk_span(runs, gigabyte);
-    let filling = *access;
+    let mut index = span.first;
     let mut unfilled = span.first;
-    for index in span.first..span.end {
-        let chunk = gigabyte.chunk(index);
-        if index < unfilled {
-            fill_chunk(memory, layout, p, row, second, chunk, runs, &filling);
+    while index < span.end {
+        let plain = plain_until(memory, second, index, unfilled.min(span.end));
+        if index < plain {
+            let chunks = Span {
+                first: index,
+                end: plain,
+            };
+            set_blocks(memory, p, second, gigabyte, chunks, access);
+            index = plain;
         } else {
+            let chunk = gigabyte.chunk(index);
             let part = chunk_runs(runs, chunk);
             if touches(part, chunk) {
                 edit_chunk(memory, layout, p, row, second, chunk, part, access);
             }
             unfilled = next_unfilled(runs, gigabyte, index, span.end);
+            index += 1;
         }
     }
 }
@@ -92,51 +117,13 @@ pub(crate) fn find_table<M: TableMem>(
     table_of(&read_gigabyte(memory, layout, row, gigabyte))
 }
 
-/// Whether 64 words of a table, from this one on, are 0.
-fn are_zeros<M: TableMem>(memory: &M, table: TablePage, first: u32) -> bool
-    requires table { table < page_count (M.state memory.now).memory.quotas }
-    requires most { first + 64 ≤ 512 }
-    ensures { result ≡ true → (x : ℕ) → first ≤ x → x < first + 64
-        → word_in (M.state memory.now) table x ≡ 0 }
-{
-    let mut are = true;
-    for index in first..first + AT_ONCE {
-        are &= read_word(memory, table, index) == 0;
-    }
-    are
-}
-
-/// Up to where the words of a table are 0, as far as many words at once tell it.
-fn zeros_until<M: TableMem>(memory: &M, table: TablePage) -> u32
+/// Whether all words of a table are 0, which their count tells.
+fn is_empty<M: TableMem>(memory: &M, table: TablePage) -> bool
     requires { table < page_count (M.state memory.now).memory.quotas }
-    ensures { (x : ℕ) → x < result → word_in (M.state memory.now) table x ≡ 0 }
+    ensures yes { result ≡ true → IsEmpty table (M.state memory.now) }
+    ensures no { result ≡ false → HasWord table (M.state memory.now) }
 {
-    let mut first = 0;
-    while first < 512 && are_zeros(memory, table, first) {
-        first += AT_ONCE;
-    }
-    first
-}
-
-/// The index of a word of a table that is not 0. The word of the first run's chunk is looked at before
-/// all others.
-fn first_word<M: TableMem>(memory: &M, table: TablePage, runs: &[Run]) -> Option<u32>
-    requires { table < page_count (M.state memory.now).memory.quotas }
-    ensures some { IfSome result (λ x. (x < 512) × (word_in (M.state memory.now) table x ≢ 0)) }
-    ensures none { IfNone result (IsEmpty table (M.state memory.now)) }
-{
-    if let Some(run) = runs.first() {
-        let index = first_chunk(*run).index();
-        if read_word(memory, table, index) != 0 {
-            return Some(index);
-        }
-    }
-    for index in zeros_until(memory, table)..512 {
-        if read_word(memory, table, index) != 0 {
-            return Some(index);
-        }
-    }
-    None
+    memory.nonzero(table.number()) == 0
 }
 
 /// Takes the link of an empty level 2 table away, and gives the table back.
@@ -189,9 +176,8 @@ fn edit_tabled<M: TableMem>(
     ensures room { M.room memory.old ≤ M.room memory.new + gigabyte_operations runs.now gigabyte }
 {
     edit_chunks(memory, layout, p, row, second, gigabyte, runs, access);
-    match first_word(memory, second, runs) {
-        Some(_) => {}
-        None => unlink(memory, p, row, gigabyte, second),
+    if is_empty(memory, second) {
+        unlink(memory, p, row, gigabyte, second);
     }
 }
 

@@ -1,13 +1,13 @@
 //! What the pages of a chunk answer after an edit: whether all the same.
 
-ghost use Rattle.std.specs.Prelude.{◌≡◌, ℕ, ◌<◌, true};
-ghost use Rattle.base.specs.Pages.{are_normal};
+ghost use Rattle.std.specs.Prelude.{◌≡◌, ℕ, ◌+◌, ◌*◌, ◌<◌, true, not};
+ghost use Rattle.base.specs.Pages.{are_normal, covers};
 ghost use Rattle.base.specs.Manifest.{page_count};
 ghost use Rattle.base.specs.Access as permissions;
 ghost use Rattle.base.specs.Need as needs;
 ghost use Rattle.stage2.specs.declared.walked.Slot.TheVariants.{Next};
 ghost use Rattle.stage2.specs.Chunks.{IsOutcome, covers_chunk};
-ghost use Rattle.stage2.specs.Clauses.{read_after};
+ghost use Rattle.stage2.specs.Clauses.{read_after, word_in, pages_among, nonzero_among};
 
 use crate::layout::Layout;
 use crate::page_words::stray_page;
@@ -15,6 +15,7 @@ use crate::part::{is_covered, runs_from};
 use crate::place::Chunk;
 use crate::read::read_page;
 use crate::table_page::TablePage;
+use crate::table_words::{Words, words_beside};
 use crate::walked::Slot;
 use base::{Access, MemoryKind, Page, Rights, Run};
 use pool::TableMem;
@@ -100,19 +101,50 @@ pub(crate) fn outcome<M: TableMem>(
     if is_filled(runs, chunk) {
         return Some(*access);
     }
-    if differs_at_an_end(memory, layout, entry, chunk, runs, access) {
-        return None;
-    }
     match entry {
         Slot::Next(third) => {
             outcome_in_table(memory, layout, entry, *third, chunk, runs, access)
         }
-        _ => compared(memory, layout, entry, chunk, runs, access),
+        _ => {
+            if differs_at_an_end(memory, layout, entry, chunk, runs, access) {
+                return None;
+            }
+            compared(memory, layout, entry, chunk, runs, access)
+        }
     }
 }
 
-/// The same, for a chunk that has a table: its pages in none of the runs are told by their words, as
-/// long as these are the ones for the runs' answer.
+/// Whether a page of the runs is reached after a map, and one beside them is not, since its word in the
+/// chunk's table is 0. It is told by the counts of the words beside the runs.
+fn is_partly_mapped<M: TableMem>(
+    memory: &M,
+    layout: &Layout,
+    entry: &Slot,
+    third: TablePage,
+    chunk: Chunk,
+    runs: &[Run],
+    access: &Option<Access>,
+    beside: Words,
+) -> bool
+    requires entry { entry.now ≡ Next third }
+    requires pages { beside.pages
+        + pages_among (λ i. covers runs.now (512 * chunk + i)) ≡ 512 }
+    requires nonzero { beside.nonzero ≡ nonzero_among (word_in (M.state memory.now) third)
+        (λ i. not (covers runs.now (512 * chunk + i))) }
+    ensures { let now = M.state memory.now in
+        let after = read_after layout.now runs.now access.now entry.now now in
+        result ≡ true → needs.is_mixed after chunk ≡ true }
+{
+    let (_memory, _layout, _entry, _third) = (memory, layout, entry, third);
+    let (_chunk, _runs) = (chunk, runs);
+    match access {
+        Some(_) => beside.pages < 512 && beside.nonzero < beside.pages,
+        None => false,
+    }
+}
+
+/// The same, for a chunk that has a table: how many of its words are not 0 tells most, and its pages in
+/// none of the runs are told by their words, as long as these are the ones for the runs' answer.
 fn outcome_in_table<M: TableMem>(
     memory: &M,
     layout: &Layout,
@@ -130,6 +162,15 @@ fn outcome_in_table<M: TableMem>(
         let after = read_after layout.now runs.now access.now entry.now now in
         IsOutcome chunk after result }
 {
+    let beside = words_beside(memory, third, chunk, runs);
+    if access.is_none() && beside.nonzero == 0 {
+        return Some(None);
+    }
+    if is_partly_mapped(memory, layout, entry, third, chunk, runs, access, beside)
+        || differs_at_an_end(memory, layout, entry, chunk, runs, access)
+    {
+        return None;
+    }
     let Some(page) = stray_page(memory, third, chunk, runs, access) else {
         return Some(*access);
     };

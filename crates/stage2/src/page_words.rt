@@ -9,7 +9,7 @@ ghost use Rattle.stage2.specs.Chunks.{planned, IsWordFor};
 ghost use Rattle.stage2.specs.History.{Filled};
 ghost use Rattle.stage2.specs.Clauses.{WritesPlan, one_page, some_pages, LeavesZero, OthersAnswer, word_in};
 
-use crate::edit::{put_word, word_of};
+use crate::edit::{put_word, put_words, step_of, word_of};
 use crate::part::{is_covered, runs_from, stretch_at};
 use crate::place::{Chunk, Span, page_index};
 use crate::read::{AT_ONCE, read_word};
@@ -59,13 +59,15 @@ fn write_pages<M: TableMem>(
         (M.state memory.old) (M.state memory.new) }
     ensures room { M.room memory.old + pages.first ≤ M.room memory.new + pages.end }
 {
-    for index in pages.first..pages.end {
-        write_page(memory, third, chunk.page(index), &answer);
+    if pages.first < pages.end {
+        let word = word_of(chunk.page(pages.first), &answer);
+        put_words(memory, third, pages, word, step_of(&answer));
     }
 }
 
 /// Where the pages of a chunk stand for which something is planned, counted from its first.
 fn planned_span(runs: &[Run], chunk: Chunk, others: &Option<Option<Access>>) -> Span
+    requires normal { are_normal runs.now ≡ true }
     ensures ordered { result.first ≤ result.end }
     ensures most { result.end ≤ 512 }
     ensures within { (access : View) (x : ℕ) → x < 512

@@ -1,75 +1,94 @@
 //! Where runs begin and end, in gigabytes, in the chunks of one and in the pages of one of these: an
 //! edit looks at no others.
 
-ghost use Rattle.std.specs.Prelude.{◌≡◌, ℕ, ◌+◌, ◌*◌, ◌/◌, ◌<◌, ◌≤◌, true};
+ghost use Rattle.std.specs.Prelude.{◌≡◌, ℕ, ◌+◌, ◌*◌, ◌/◌, ◌^◌, ◌<◌, ◌≤◌, true};
 ghost use Rattle.base.specs.Pages.{are_normal, covers};
 ghost use Rattle.stage2.specs.Chunks.{covers_chunk};
 ghost use Rattle.stage2.specs.Gigabytes.{touches_chunk};
+ghost use Rattle.stage2.specs.Parts.{end_from, lie_within};
 
 use crate::part::runs_between;
-use crate::place::{
-    Chunk, Gigabyte, Span, end_chunk, end_gigabyte, first_chunk, first_gigabyte, whole_chunks,
-};
+use crate::place::{Chunk, Gigabyte, Span, whole_chunks};
 use base::Run;
+
+/// The pages from the first of the first run to the last of the last one.
+fn bounds(runs: &[Run]) -> Span
+    requires { are_normal runs.now ≡ true }
+    ensures ordered { result.first ≤ result.end }
+    ensures most { result.end ≤ 2 ^ 27 }
+    ensures within { lie_within result.first result.end runs.now ≡ true }
+{
+    match runs.first() {
+        Some(first) => Span {
+            first: first.first().number(),
+            end: end_of_last(runs),
+        },
+        None => Span { first: 0, end: 0 },
+    }
+}
+
+/// The number of the page after the last of the runs; 0 where there is none.
+fn end_of_last(runs: &[Run]) -> u32
+    requires { are_normal runs.now ≡ true }
+    ensures same { result ≡ end_from 0 runs.now }
+    ensures most { result ≤ 2 ^ 27 }
+{
+    match runs.last() {
+        Some(last) => last.end(),
+        None => 0,
+    }
+}
 
 /// The gigabytes from the first that the runs touch to the last.
 pub(crate) fn gigabyte_span(runs: &[Run]) -> Span
+    requires normal { are_normal runs.now ≡ true }
     ensures ordered { result.first ≤ result.end }
     ensures most { result.end ≤ 512 }
     ensures within { (n : ℕ) → covers runs.now n ≡ true
         → (result.first ≤ n / 512 / 512) × (n / 512 / 512 < result.end) }
 {
-    let mut first = 512;
-    let mut end = 0;
-    for run in runs {
-        first = first.min(first_gigabyte(*run).number());
-        end = end.max(end_gigabyte(*run));
-    }
+    let pages = bounds(runs);
     Span {
-        first: first.min(end),
-        end,
+        first: pages.first / 512 / 512,
+        end: (pages.end + 262_143) / 512 / 512,
     }
 }
 
 /// The chunks of a gigabyte, counted from its first, from the first that the runs touch to the
 /// last.
 pub(crate) fn chunk_span(runs: &[Run], gigabyte: Gigabyte) -> Span
+    requires normal { are_normal runs.now ≡ true }
     ensures ordered { result.first ≤ result.end }
     ensures most { result.end ≤ 512 }
     ensures within { (x : ℕ) → x < 512 → touches_chunk (512 * gigabyte + x) runs.now ≡ true
         → (result.first ≤ x) × (x < result.end) }
     ensures in_range { gigabyte < 512 }
 {
+    let pages = bounds(runs);
     let chunks = gigabyte.chunks();
-    let mut first = 512;
-    let mut end = 0;
-    for run in runs {
-        first = first.min(first_chunk(*run).number().max(chunks.first) - chunks.first);
-        end = end.max(end_chunk(*run).clamp(chunks.first, chunks.end) - chunks.first);
-    }
+    let first = (pages.first / 512).max(chunks.first).min(chunks.end);
+    let end = ((pages.end + 511) / 512).max(chunks.first).min(chunks.end);
     Span {
-        first: first.min(end),
-        end,
+        first: first - chunks.first,
+        end: end - chunks.first,
     }
 }
 
 /// The pages of a chunk, counted from its first, from the first that the runs have to the last.
 pub(crate) fn page_span(runs: &[Run], chunk: Chunk) -> Span
+    requires normal { are_normal runs.now ≡ true }
     ensures ordered { result.first ≤ result.end }
     ensures most { result.end ≤ 512 }
     ensures within { (x : ℕ) → x < 512 → covers runs.now (512 * chunk + x) ≡ true
         → (result.first ≤ x) × (x < result.end) }
 {
+    let pages = bounds(runs);
     let start = chunk.first().number();
-    let mut first = 512;
-    let mut end = 0;
-    for run in runs {
-        first = first.min(run.first().number().max(start) - start);
-        end = end.max(run.end().clamp(start, chunk.end()) - start);
-    }
+    let first = pages.first.max(start).min(chunk.end());
+    let end = pages.end.max(start).min(chunk.end());
     Span {
-        first: first.min(end),
-        end,
+        first: first - start,
+        end: end - start,
     }
 }
 

@@ -1,9 +1,11 @@
 -- Maximal runs, which stand upward: how many there are, and how many chunks they touch.
-use Rattle.std.proofs.Common.{◌≡◌, ℕ, zero, suc, ◌+◌, ◌-◌, ◌/◌, ◌^◌, ◌<◌, ◌≤◌, true, ltb, List, [], ◌∷◌, get_or, length, take, drop, inl, inr, sum_by, refl, arith, ap, sym, ◌∙◌}
+use Rattle.std.proofs.Common.{◌≡◌, ℕ, zero, suc, ◌+◌, ◌-◌, ◌/◌, ◌^◌, ◌<◌, ◌≤◌, true, Bool, leb, ltb, ◌&&◌, List, [], ◌∷◌, get_or, length, take, drop, inl, inr, sum_by, refl, arith, ap, sym, ◌∙◌}
+use Rattle.std.specs.List.{list_any}
 use Rattle.std.specs.List.Sorted.{IsNonDecreasingBy}
-use Rattle.std.proofs.lemmas.Bool.{cases_eq, ltb-true, and_parts}
+use Rattle.std.proofs.lemmas.Bool.{cases_Bool, cases_eq, ltb-true, and_parts}
 use Rattle.std.proofs.lemmas.Bool.Decides.{nat_tests}
 use Rattle.std.proofs.lemmas.List.Sums.{sum_by_more}
+use Rattle.stage2.specs.Parts.{end_from, lie_within}
 use Rattle.base.specs.Pages.{PageRun, IsRun, chunks_in, rise_above, are_normal}
 
 abbrev pub end_of : PageRun → ℕ
@@ -68,18 +70,13 @@ normal-take (suc n) (r ∷ runs) e = rise-take (end_of r) n runs e
 
 -- ---- how many they are
 
--- where the last of the runs ends
-abbrev end_from : ℕ → List PageRun → ℕ
-end_from end [] = end
-end_from end (run ∷ runs) = end_from (end_of run) runs
-
 rise-next : (end : ℕ) (runs : List PageRun) (i : ℕ) (run : PageRun) → rise_above end runs ≡ true → i < length runs → run ≡ get_or runs i run
     → (end_from end (take i runs) < run.first) × (end_from end (take (suc i) runs) ≡ end_of run)
 rise-next end [] i run rises lt is = absurd (omega arith)
 rise-next end (r ∷ runs) zero run rises lt is = rw is ((rise-parts end r runs rises).0, refl)
 rise-next end (r ∷ runs) (suc i) run rises lt is = rise-next (end_of r) runs i run (rise-parts end r runs rises).1 (omega arith) is
 
-normal-next : (runs : List PageRun) (i : ℕ) (run : PageRun) → are_normal runs ≡ true → i < length runs → run ≡ get_or runs i run
+pub normal-next : (runs : List PageRun) (i : ℕ) (run : PageRun) → are_normal runs ≡ true → i < length runs → run ≡ get_or runs i run
     → (end_from 0 (take i runs) ≤ run.first) × (end_from 0 (take (suc i) runs) ≡ end_of run)
 normal-next [] i run normal lt is = absurd (omega arith)
 normal-next (r ∷ runs) zero run normal lt is = (omega arith, rw is refl)
@@ -116,3 +113,59 @@ counted-next runs i run normal lt is some h =
   where
     touched : (first count so next before end : ℕ) → 0 < count → before ≤ first → end ≡ first + count → next ≡ so + ((first + count - 1) / 512 + 1 - first / 512) → so ≤ before → next ≤ end
     touched first count so next before end some from to more le = omega arith
+
+-- ---- where they begin and end
+
+pub from-rise : (end : ℕ) (runs : List PageRun) → rise_above end runs ≡ true → end ≤ end_from end runs
+from-rise end [] rises = omega arith
+from-rise end (r ∷ runs) rises =
+    let parts = and_parts (ltb end r.first) (rise_above (end_of r) runs) rises in
+    let first = ltb-true _ _ parts.0 in
+    let rest = from-rise (end_of r) runs parts.1 in
+    omega (arith, first, rest)
+
+rise-within : (low end high : ℕ) (runs : List PageRun) → rise_above end runs ≡ true → low ≤ end → end_from end runs ≤ high → lie_within low high runs ≡ true
+rise-within low end high [] rises least most = refl
+rise-within low end high (r ∷ runs) rises least most =
+    let parts = rise-parts end r runs rises in
+    let above = parts.0 in
+    let behind = from-rise (end_of r) runs parts.1 in
+    let here : (leb low r.first && leb (end_of r) high) ≡ true = (let begins : low ≤ r.first = omega (arith, least, above) in let ends : end_of r ≤ high = omega (arith, behind, most) in grind (arith, nat_tests, begins, ends)) in
+    let rest = rise-within low (end_of r) high runs parts.1 (omega (arith, least, above)) most in
+    rw (here, rest) refl
+
+pub normal-within : (runs : List PageRun) (run : PageRun) (high : ℕ) → are_normal runs ≡ true → 0 < length runs → run ≡ get_or runs 0 run → end_from 0 runs ≤ high → lie_within run.first high runs ≡ true
+normal-within [] run high normal some is most = absurd (omega arith)
+normal-within (r ∷ runs) run high normal some is most =
+    let behind = from-rise (end_of r) runs normal in
+    let here : (leb run.first r.first && leb (end_of r) high) ≡ true = (let ends : end_of r ≤ high = omega (arith, behind, most) in rw is (grind (arith, nat_tests, ends))) in
+    let rest = rise-within run.first (end_of r) high runs normal (rw is (omega arith)) most in
+    rw (here, rest) refl
+
+-- the first begins before the last ends
+pub normal-first : (runs : List PageRun) (run : PageRun) → are_normal runs ≡ true → 0 < length runs → run ≡ get_or runs 0 run → run.first ≤ end_from 0 runs
+normal-first [] run normal some is = absurd (omega arith)
+normal-first (r ∷ runs) run normal some is =
+    let behind = from-rise (end_of r) runs normal in
+    rw is (omega (arith, behind))
+
+-- the last one's end
+last-end : (end : ℕ) (runs : List PageRun) (run : PageRun) → 0 < length runs → run ≡ get_or runs (length runs - 1) run → end_from end runs ≡ end_of run
+last-end end [] run some is = absurd (omega arith)
+last-end end (r ∷ []) run some is = rw is refl
+last-end end (r ∷ s ∷ runs) run some is =
+    let index : length (r ∷ s ∷ runs) - 1 ≡ suc (length (s ∷ runs) - 1) = omega arith in
+    last-end (end_of r) (s ∷ runs) run (omega arith) (is ∙ ap (λ k. get_or (r ∷ s ∷ runs) k run) index)
+
+pub end-last : (runs : List PageRun) (run : PageRun) → 0 < length runs → run ≡ get_or runs (length runs - 1) run → end_from 0 runs ≡ end_of run
+end-last runs run some is = last-end 0 runs run some is
+
+-- one of the runs, of which each lies within
+pub any-within : (p : PageRun → Bool) (low high : ℕ) (runs : List PageRun) → list_any p runs ≡ true → lie_within low high runs ≡ true → (r : PageRun) × (p r ≡ true) × (low ≤ r.first) × (end_of r ≤ high)
+any-within p low high [] some within = absurd (cc)
+any-within p low high (r ∷ runs) some within =
+    let parts = and_parts (leb low r.first && leb (end_of r) high) (lie_within low high runs) within in
+    elim (cases_Bool (p r)) [
+      | inl is ↦ (r, is, grind (arith, nat_tests, parts.0), grind (arith, nat_tests, parts.0))
+      | inr isnt ↦ any-within p low high runs (rw isnt at some) parts.1
+    ]

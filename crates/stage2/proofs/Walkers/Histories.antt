@@ -6,7 +6,8 @@ use Rattle.pool.specs.declared.operation.Op.{Op}
 use Rattle.pool.specs.declared.operation.Op.TheVariants.{Set, Invalidate, Clear}
 use Rattle.pool.specs.Pool.{Words, Pool, words_of, put, after_set}
 use Rattle.stage2.specs.Moments.{words_after}
-use Rattle.stage2.specs.History.{counted, Made, AreSets, Filled}
+use Rattle.pool.specs.Pool.{counted}
+use Rattle.stage2.specs.History.{Made, AreSets, Filled}
 
 after-append : (b a : List Op) (w : Words) → words_after (b ++ a) w ≡ words_after b (words_after a w)
 after-append [] a w = refl
@@ -35,7 +36,7 @@ made-more a b x y z so here = record {
   words = here.words ∙ ap (words_after b) so.words ∙ sym (after-append b a (words_of x.memory.words));
 }
 
-sets-wider : (k c i b : ℕ) (plan : ℕ → Option View) (ops : List Op) → i ≤ b → AreSets k c plan i ops → AreSets k c plan b ops
+pub sets-wider : (k c i b : ℕ) (plan : ℕ → Option View) (ops : List Op) → i ≤ b → AreSets k c plan i ops → AreSets k c plan b ops
 sets-wider k c i b plan [] le s = tt
 sets-wider k c i b plan (Set q x w ∷ ops) le s = let lt = s.1 in (s.0, omega arith, s.2, s.3)
 sets-wider k c i b plan (Invalidate p r ∷ ops) le s = absurd s

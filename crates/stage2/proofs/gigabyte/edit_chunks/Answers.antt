@@ -1,4 +1,4 @@
-use Rattle.std.proofs.Common.{◌≡◌, ℕ, ◌+◌, ◌-◌, ◌*◌, ◌≤◌, true, List, cond, inl, inr, sym, ap₂, subst, ◌∙◌, arith}
+use Rattle.std.proofs.Common.{◌≡◌, ℕ, zero, suc, ◌+◌, ◌-◌, ◌*◌, ◌<◌, ◌≤◌, min, true, None, List, cond, inl, inr, sym, ap₂, subst, ◌∙◌, arith}
 use Rattle.base.specs.Access.{View}
 use Rattle.stage2.specs.Walk.{walked}
 use Rattle.stage2.specs.Orderly.{answers, linked}
@@ -6,16 +6,22 @@ use Rattle.base.specs.Pages.{PageRun}
 use Rattle.stage2.specs.Chunks.{edited, answers_in, covers_chunk}
 use Rattle.stage2.proofs.Counting.Needs.{filled-touches}
 use Rattle.stage2.specs.Steps.{disturbed_below}
-use Rattle.pool.specs.Pool.{pages_of}
+use Rattle.pool.specs.Pool.{Pool, words_of, pages_of, after_replaces}
+use Rattle.stage2.specs.Change.{block_step}
+use Rattle.stage2.specs.Moments.{StaysInStep}
+use Rattle.stage2.specs.Slot.{slot}
+use Rattle.stage2.specs.Walk.{next_page}
 use Rattle.stage2.specs.Parts.{part_count, chunk_runs}
-use Rattle.stage2.specs.Gigabytes.{sum_below, touches_chunk, chunk_operations}
+use Rattle.stage2.specs.Gigabytes.{sum_below, touches_chunk, chunk_operations, IsUnderway}
 use Rattle.stage2.proofs.Walkers.ChunkSteps.{march-edit, march-skip, march-seated, march-free}
 use Rattle.stage2.proofs.Editing.ChunkByChunk.{sum_below-more, sum_below-up, underway-start, underway-skip, underway-edit, site, has-free, untouched}
+use Rattle.stage2.proofs.Editing.FilledChunks.{edited-many, stays-many}
+use Rattle.stage2.proofs.Editing.FourChunkEdits.{second-inside, second-taken}
 use Rattle.stage2.proofs.Runs.Spans.{AreUntouched, UnderwayAt, StaysAt, underway-gap, stays-gap, outside-chunks}
 use Rattle.stage2.proofs.Runs.OwnRuns.{chunk-covers, chunk-touches, chunk-count, chunk-growing, chunk-redoes, chunk-free, chunk-stays}
 use Rattle.stage2.proofs.Walkers.ZeroedTables.{stays-none}
 use Rattle.stage2.proofs.gigabyte.edit_chunks.Goals as goal
-use Rattle.stage2.proofs.gigabyte.edit_chunks.Goals.{then-index-unfilled, else-index-unfilled, then-touches, else-touches}
+use Rattle.stage2.proofs.gigabyte.edit_chunks.Goals.{then-touches, else-touches}
 
 -- the operations of a chunk that is touched
 cost : (c : ℕ) (runs part : List PageRun) → part ≡ chunk_runs c runs → touches_chunk c part ≡ true → chunk_operations runs c ≡ 515 + part_count c part
@@ -50,29 +56,102 @@ edit_chunk-requires-clause-room g c =
     enough : (r0 r one cost before next all : ℕ) → one ≡ cost → next ≡ one + before → next ≤ all → r0 ≤ r + before → all ≤ r0 → cost ≤ r
     enough r0 r one cost before next all e a b c d = omega arith
 
-pub fill_chunk-requires-clause-filled : goal.fill_chunk-requires-clause-filled
-fill_chunk-requires-clause-filled g c = rw c.chunk-chunk.ensures.same (c.loop-index.invariant.filled c.loop-index.index (omega arith) c.if-index-unfilled.true)
-
-pub fill_chunk-requires-clause-site : goal.fill_chunk-requires-clause-site
-fill_chunk-requires-clause-site g c =
-    rw c.chunk-chunk.ensures.same (site c.args.layout.now c.args.row c.args.gigabyte c.args.second c.args.runs.now c.args.access.now (pages_of (g.M.TableMem.state c.args.memory.now).memory) c.requires.partition c.chunk_span-span.ensures.in_range
-    c.loop-index.index (omega (arith, c.loop-index-test.true, c.chunk_span-span.ensures.most)) (pages_of (g.M.TableMem.state c.loop-index.memory).memory) c.loop-index.invariant.underway)
-
 -- what a chunk that is filled costs at least
 filled-cost : (runs : List PageRun) (c : ℕ) → covers_chunk c runs ≡ true → 515 ≤ chunk_operations runs c
 filled-cost runs c filled = let touched = filled-touches runs c filled in rw touched (omega arith)
 
-pub fill_chunk-requires-clause-room : goal.fill_chunk-requires-clause-room
-fill_chunk-requires-clause-room g c =
+-- and some of them
+filled-costs : (f : ℕ → ℕ) (i k : ℕ) → ((x : ℕ) → i ≤ x → x < i + k → 515 ≤ f x) → sum_below f i + 515 * k ≤ sum_below f (i + k)
+filled-costs f i zero least = let start : i + 0 ≡ i = omega arith in rw start (omega arith)
+filled-costs f i (suc k) least =
+    let rest = filled-costs f i k (λ x from to. least x from (omega (arith, to))) in
+    let more = sum_below-more f (i + k) in
+    let here = least (i + k) (omega arith) (omega arith) in
+    let next : i + suc k ≡ i + k + 1 = omega arith in
+    rw next (omega (arith, rest, more, here))
+
+pub plain_until-plain-requires-clause-page_in : goal.plain_until-plain-requires-clause-page_in
+plain_until-plain-requires-clause-page_in g c =
+    let mid = pages_of (g.M.TableMem.state c.loop-index.memory).memory in
+    let here = site c.args.layout.now c.args.row c.args.gigabyte c.args.second c.args.runs.now c.args.access.now (pages_of (g.M.TableMem.state c.args.memory.now).memory) c.requires.partition c.chunk_span-span.ensures.in_range
+    c.loop-index.index (omega (arith, c.loop-index-test.true, c.chunk_span-span.ensures.most)) mid c.loop-index.invariant.underway in
+    second-inside c.args.layout.now c.args.row (512 * c.args.gigabyte + c.loop-index.index) c.args.second mid here
+
+pub set_blocks-requires-clause-page_in : goal.set_blocks-requires-clause-page_in
+set_blocks-requires-clause-page_in g c =
+    let mid = pages_of (g.M.TableMem.state c.loop-index.memory).memory in
+    let here = site c.args.layout.now c.args.row c.args.gigabyte c.args.second c.args.runs.now c.args.access.now (pages_of (g.M.TableMem.state c.args.memory.now).memory) c.requires.partition c.chunk_span-span.ensures.in_range
+    c.loop-index.index (omega (arith, c.loop-index-test.true, c.chunk_span-span.ensures.most)) mid c.loop-index.invariant.underway in
+    second-inside c.args.layout.now c.args.row (512 * c.args.gigabyte + c.loop-index.index) c.args.second mid here
+
+pub set_blocks-requires-clause-taken : goal.set_blocks-requires-clause-taken
+set_blocks-requires-clause-taken g c =
+    let mid = pages_of (g.M.TableMem.state c.loop-index.memory).memory in
+    let here = site c.args.layout.now c.args.row c.args.gigabyte c.args.second c.args.runs.now c.args.access.now (pages_of (g.M.TableMem.state c.args.memory.now).memory) c.requires.partition c.chunk_span-span.ensures.in_range
+    c.loop-index.index (omega (arith, c.loop-index-test.true, c.chunk_span-span.ensures.most)) mid c.loop-index.invariant.underway in
+    second-taken c.args.layout.now c.args.row (512 * c.args.gigabyte + c.loop-index.index) c.args.second mid here
+
+pub set_blocks-requires-clause-room : goal.set_blocks-requires-clause-room
+set_blocks-requires-clause-room g c =
+    let below : c.plain_until-plain.result ≤ c.min.result = c.plain_until-plain.ensures.most c.if-index-plain.true in
+    let least : c.min.result ≡ min c.loop-index.unfilled c.chunk_span-span.result.end = c.min.ensures in
+    let most = c.chunk_span-span.ensures.most in
     let f : ℕ → ℕ = λ x. chunk_operations c.args.runs.now (512 * c.args.gigabyte + x) in
     let i = c.loop-index.index in
-    let more = sum_below-more f i in
-    let up = sum_below-up f (i + 1) 512 (omega (arith, c.loop-index-test.true, c.chunk_span-span.ensures.most)) in
-    let one = filled-cost c.args.runs.now (512 * c.args.gigabyte + i) (c.loop-index.invariant.filled i (omega arith) c.if-index-unfilled.true) in
-    enough (g.M.TableMem.room c.args.memory.now) (g.M.TableMem.room c.loop-index.memory) (f i) (sum_below f i) (sum_below f (i + 1)) (sum_below f 512) one more up c.loop-index.invariant.room c.requires.room
+    let end = c.plain_until-plain.result in
+    let k = end - i in
+    let last : i + k ≡ end = omega (arith, c.if-index-plain.true) in
+    let costs = filled-costs f i k (λ x from to. filled-cost c.args.runs.now (512 * c.args.gigabyte + x) (c.loop-index.invariant.filled x from (omega (arith, to, last, below, least)))) in
+    let up = sum_below-up f (i + k) 512 (omega (arith, last, below, least, most)) in
+    enough (g.M.TableMem.room c.args.memory.now) (g.M.TableMem.room c.loop-index.memory) (sum_below f i) (sum_below f (i + k)) (sum_below f 512) i end k costs up c.loop-index.invariant.room c.requires.room last
   where
-    enough : (r0 r one before next all : ℕ) → 515 ≤ one → next ≡ one + before → next ≤ all → r0 ≤ r + before → all ≤ r0 → 515 ≤ r
-    enough r0 r one before next all e a b c d = omega arith
+    enough : (r0 r before next all i end k : ℕ) → before + 515 * k ≤ next → next ≤ all → r0 ≤ r + before → all ≤ r0 → i + k ≡ end → 3 * end ≤ r + 3 * i
+    enough r0 r before next all i end k a b c d e = omega arith
+
+pub loop-index-preserved-then-index-plain : goal.loop-index-preserved-then-index-plain
+loop-index-preserved-then-index-plain g c =
+    let old = pages_of (g.M.TableMem.state c.args.memory.now).memory in
+    let s = g.M.TableMem.state c.loop-index.memory in
+    let mid = pages_of s.memory in
+    let layout = c.args.layout.now in
+    let row = c.args.row in
+    let gigabyte = c.args.gigabyte in
+    let runs = c.args.runs.now in
+    let access = c.args.access.now in
+    let below : c.plain_until-plain.result ≤ c.min.result = c.plain_until-plain.ensures.most c.if-index-plain.true in
+    let least : c.min.result ≡ min c.loop-index.unfilled c.chunk_span-span.result.end = c.min.ensures in
+    let most = c.chunk_span-span.ensures.most in
+    let f : ℕ → ℕ = λ x. chunk_operations c.args.runs.now (512 * c.args.gigabyte + x) in
+    let i = c.loop-index.index in
+    let end = c.plain_until-plain.result in
+    let k = end - i in
+    let last : i + k ≡ end = omega (arith, c.if-index-plain.true) in
+    let costs = filled-costs f i k (λ x from to. filled-cost c.args.runs.now (512 * c.args.gigabyte + x) (c.loop-index.invariant.filled x from (omega (arith, to, last, below, least)))) in
+    let up = sum_below-up f (i + k) 512 (omega (arith, last, below, least, most)) in
+    let lt : i < 512 = omega (arith, c.loop-index-test.true, most) in
+    let here = site layout row gigabyte c.args.second runs access old c.requires.partition c.chunk_span-span.ensures.in_range i lt mid c.loop-index.invariant.underway in
+    let inside = second-inside layout row (512 * gigabyte + i) c.args.second mid here in
+    let r = c.set_blocks.ensures.replaces in
+    let filled : (x : ℕ) → i ≤ x → x < end → covers_chunk (512 * gigabyte + x) runs ≡ true = λ x from to. c.loop-index.invariant.filled x from (omega (arith, to, below, least)) in
+    let none : (x : ℕ) → i ≤ x → x < end → next_page (slot layout 2 (words_of s.memory.words c.args.second x)) ≡ None = λ x from to. c.plain_until-plain.ensures.plain layout x from to in
+    let first : ℕ → View = answers layout (linked layout row gigabyte c.args.second old).words row in
+    let view : ℕ → View = edited runs access first in
+    let start = g.M.TableMem.state c.args.memory.now in
+    let many = edited-many layout row gigabyte c.args.second runs access old c.requires.partition c.chunk_span-span.ensures.in_range c.args.p c.requires.row (g.M.TableMem.state c.args.memory.now) i r.word s (g.met.M.TableMem.whole c.loop-index.memory) inside r.block end (omega (arith, below, least, most)) filled none c.loop-index.invariant.underway k (omega (arith, last)) in
+    record {
+      underway = subst (λ (t : Pool). IsUnderway layout row gigabyte c.args.second end view old (pages_of t.memory)) (sym r.state)
+          (subst (λ x. IsUnderway layout row gigabyte c.args.second x view old (pages_of (after_replaces c.args.p c.args.second i k r.word (block_step access) (512 * (512 * gigabyte + i)) s).memory)) last many);
+      in_step = λ seated free.
+          let stays = stays-many layout row gigabyte c.args.second runs access old c.requires.partition c.chunk_span-span.ensures.in_range c.args.p c.requires.row (g.M.TableMem.state c.args.memory.now) i r.word s (g.met.M.TableMem.whole c.loop-index.memory) inside r.block end (omega (arith, below, least, most)) filled none c.loop-index.invariant.underway k (omega (arith, last)) seated (c.loop-index.invariant.in_step seated free) in
+          subst (λ (t : Pool). StaysInStep layout row (disturbed_below gigabyte end runs first view) (λ n. walked n (view n)) start t) (sym r.state)
+          (subst (λ x. StaysInStep layout row (disturbed_below gigabyte x runs first view) (λ n. walked n (view n)) start (after_replaces c.args.p c.args.second i k r.word (block_step access) (512 * (512 * gigabyte + i)) s)) last stays);
+      filled = λ x from to. c.loop-index.invariant.filled x (omega (arith, from, c.if-index-plain.true)) to;
+      last = omega (arith, below, least);
+      room = rw (← last) (less (g.M.TableMem.room c.args.memory.now) (g.M.TableMem.room c.loop-index.memory) (g.M.TableMem.room c.set_blocks.new.memory) (sum_below f i) (sum_below f (i + k)) i end k costs c.loop-index.invariant.room c.set_blocks.ensures.room last);
+    }
+  where
+    less : (r0 r r2 before next i end k : ℕ) → before + 515 * k ≤ next → r0 ≤ r + before → r + 3 * i ≤ r2 + 3 * end → i + k ≡ end → r0 ≤ r2 + next
+    less r0 r r2 before next i end k a b c d = omega arith
 
 pub loop-index-preserved : goal.loop-index-preserved
 loop-index-preserved g c =
@@ -86,64 +165,45 @@ loop-index-preserved g c =
     let runs = c.args.runs.now in
     let here = c.chunk-chunk.ensures.same in
     let v : ℕ → View = answers_in c.args.layout.now c.args.row chunk c.args.second mid in
-    elim c.if-index-unfilled.branch [
-      | then-index-unfilled w ↦
-          let filled = c.loop-index.invariant.filled i (omega arith) w.if-index-unfilled.true in
-          rw (w.memory-is, w.unfilled-is) (record {
-            underway = underway-edit c.args.layout.now c.args.row c.args.gigabyte c.args.second c.args.runs.now c.args.access.now old c.requires.partition c.chunk_span-span.ensures.in_range
-                i (omega (arith, c.loop-index-test.true, c.chunk_span-span.ensures.most)) mid c.loop-index.invariant.underway (pages_of (g.M.TableMem.state w.fill_chunk.new.memory).memory) (rw here at w.fill_chunk.ensures.redoes);
-            in_step = λ seated free.
-                march-edit c.args.layout.now c.args.row c.args.gigabyte c.args.second c.args.runs.now c.args.access.now old c.requires.partition c.chunk_span-span.ensures.in_range
-                i (omega (arith, c.loop-index-test.true, c.chunk_span-span.ensures.most)) mid c.loop-index.invariant.underway (g.M.TableMem.state c.args.memory.now) (g.M.TableMem.state c.loop-index.memory) (g.M.TableMem.state w.fill_chunk.new.memory)
-                (filled-touches runs chunk filled) (c.loop-index.invariant.in_step seated free)
-                ((rw here at w.fill_chunk.ensures.in_step)
-                (march-seated c.args.layout.now c.args.row c.args.gigabyte c.args.second c.args.runs.now c.args.access.now old c.requires.partition c.chunk_span-span.ensures.in_range i (omega (arith, c.loop-index-test.true, c.chunk_span-span.ensures.most)) mid c.loop-index.invariant.underway seated)
-                (march-free c.args.layout.now c.args.row c.args.gigabyte c.args.second c.args.runs.now c.args.access.now old c.requires.partition c.chunk_span-span.ensures.in_range i (omega (arith, c.loop-index-test.true, c.chunk_span-span.ensures.most)) mid c.loop-index.invariant.underway free));
-            filled = λ x from to. c.loop-index.invariant.filled x (omega (arith, from)) to;
-            room = whole (g.M.TableMem.room c.args.memory.now) (g.M.TableMem.room c.loop-index.memory) (g.M.TableMem.room w.fill_chunk.new.memory) (f i) (sum_below f i) (sum_below f (i + 1)) (filled-cost runs chunk filled) more c.loop-index.invariant.room w.fill_chunk.ensures.room;
-          })
-      | else-index-unfilled w ↦
-          let part = w.chunk_runs-part.result.now in
-          let is = rw here at w.chunk_runs-part.ensures.same in
-          let touches = rw here at w.touches.ensures in
-          let covered = chunk-covers chunk runs part is in
-          rw (w.memory-is, w.unfilled-is) (elim w.if-touches.branch [
-            | then-touches t ↦ rw t.memory-is (record {
-              underway = underway-edit c.args.layout.now c.args.row c.args.gigabyte c.args.second c.args.runs.now c.args.access.now old c.requires.partition c.chunk_span-span.ensures.in_range
-                  i (omega (arith, c.loop-index-test.true, c.chunk_span-span.ensures.most)) mid c.loop-index.invariant.underway (pages_of (g.M.TableMem.state t.edit_chunk.new.memory).memory)
-                  (chunk-redoes c.args.layout.now c.args.row chunk runs part c.args.access.now covered c.args.second v mid (pages_of (g.M.TableMem.state t.edit_chunk.new.memory).memory) (rw here at t.edit_chunk.ensures.redoes));
-              in_step = λ seated free.
-                  march-edit c.args.layout.now c.args.row c.args.gigabyte c.args.second c.args.runs.now c.args.access.now old c.requires.partition c.chunk_span-span.ensures.in_range
-                  i (omega (arith, c.loop-index-test.true, c.chunk_span-span.ensures.most)) mid c.loop-index.invariant.underway (g.M.TableMem.state c.args.memory.now) (g.M.TableMem.state c.loop-index.memory) (g.M.TableMem.state t.edit_chunk.new.memory)
-                  (sym (chunk-touches chunk runs part is) ∙ sym touches ∙ t.if-touches.true) (c.loop-index.invariant.in_step seated free)
-                  (chunk-stays c.args.layout.now c.args.row chunk runs part c.args.access.now covered v (g.M.TableMem.state c.loop-index.memory) (g.M.TableMem.state t.edit_chunk.new.memory)
-                  ((rw here at t.edit_chunk.ensures.in_step)
-                  (march-seated c.args.layout.now c.args.row c.args.gigabyte c.args.second c.args.runs.now c.args.access.now old c.requires.partition c.chunk_span-span.ensures.in_range i (omega (arith, c.loop-index-test.true, c.chunk_span-span.ensures.most)) mid c.loop-index.invariant.underway seated)
-                  (chunk-free chunk runs part c.args.access.now covered v
-                  (march-free c.args.layout.now c.args.row c.args.gigabyte c.args.second c.args.runs.now c.args.access.now old c.requires.partition c.chunk_span-span.ensures.in_range i (omega (arith, c.loop-index-test.true, c.chunk_span-span.ensures.most)) mid c.loop-index.invariant.underway free))));
-              filled = λ x from to. w.next_unfilled-unfilled.ensures.filled x (omega (arith, from)) to;
-              room = less (g.M.TableMem.room c.args.memory.now) (g.M.TableMem.room c.loop-index.memory) (g.M.TableMem.room t.edit_chunk.new.memory) (f i) (515 + part_count chunk part) (sum_below f i) (sum_below f (i + 1))
-                  (cost chunk runs part is (sym touches ∙ t.if-touches.true)) more c.loop-index.invariant.room (rw here at t.edit_chunk.ensures.room);
-            })
-            | else-touches t ↦ rw t.memory-is (record {
-              underway = underway-skip c.args.layout.now c.args.row c.args.gigabyte c.args.second c.args.runs.now c.args.access.now old c.requires.partition c.chunk_span-span.ensures.in_range
-                  i (omega (arith, c.loop-index-test.true, c.chunk_span-span.ensures.most)) mid c.loop-index.invariant.underway
-                  (λ n small at. untouched chunk runs n (sym (chunk-touches chunk runs part is) ∙ sym touches ∙ t.if-touches.false) at);
-              in_step = λ seated free.
-                  march-skip c.args.layout.now c.args.row c.args.gigabyte c.args.second c.args.runs.now c.args.access.now old c.requires.partition c.chunk_span-span.ensures.in_range
-                  i (omega (arith, c.loop-index-test.true, c.chunk_span-span.ensures.most)) mid c.loop-index.invariant.underway (g.M.TableMem.state c.args.memory.now) (g.M.TableMem.state c.loop-index.memory)
-                  (sym (chunk-touches chunk runs part is) ∙ sym touches ∙ t.if-touches.false) (c.loop-index.invariant.in_step seated free);
-              filled = λ x from to. w.next_unfilled-unfilled.ensures.filled x (omega (arith, from)) to;
-              room = omega (arith, up, c.loop-index.invariant.room);
-            })
-          ])
-    ]
+    let part = c.chunk_runs-part.result.now in
+    let is = rw here at c.chunk_runs-part.ensures.same in
+    let touches = rw here at c.touches.ensures in
+    let covered = chunk-covers chunk runs part is in
+    (elim c.if-touches.branch [
+      | then-touches t ↦ rw t.memory-is (record {
+        underway = underway-edit c.args.layout.now c.args.row c.args.gigabyte c.args.second c.args.runs.now c.args.access.now old c.requires.partition c.chunk_span-span.ensures.in_range
+            i (omega (arith, c.loop-index-test.true, c.chunk_span-span.ensures.most)) mid c.loop-index.invariant.underway (pages_of (g.M.TableMem.state t.edit_chunk.new.memory).memory)
+            (chunk-redoes c.args.layout.now c.args.row chunk runs part c.args.access.now covered c.args.second v mid (pages_of (g.M.TableMem.state t.edit_chunk.new.memory).memory) (rw here at t.edit_chunk.ensures.redoes));
+        in_step = λ seated free.
+            march-edit c.args.layout.now c.args.row c.args.gigabyte c.args.second c.args.runs.now c.args.access.now old c.requires.partition c.chunk_span-span.ensures.in_range
+            i (omega (arith, c.loop-index-test.true, c.chunk_span-span.ensures.most)) mid c.loop-index.invariant.underway (g.M.TableMem.state c.args.memory.now) (g.M.TableMem.state c.loop-index.memory) (g.M.TableMem.state t.edit_chunk.new.memory)
+            (sym (chunk-touches chunk runs part is) ∙ sym touches ∙ t.if-touches.true) (c.loop-index.invariant.in_step seated free)
+            (chunk-stays c.args.layout.now c.args.row chunk runs part c.args.access.now covered v (g.M.TableMem.state c.loop-index.memory) (g.M.TableMem.state t.edit_chunk.new.memory)
+            ((rw here at t.edit_chunk.ensures.in_step)
+            (march-seated c.args.layout.now c.args.row c.args.gigabyte c.args.second c.args.runs.now c.args.access.now old c.requires.partition c.chunk_span-span.ensures.in_range i (omega (arith, c.loop-index-test.true, c.chunk_span-span.ensures.most)) mid c.loop-index.invariant.underway seated)
+            (chunk-free chunk runs part c.args.access.now covered v
+            (march-free c.args.layout.now c.args.row c.args.gigabyte c.args.second c.args.runs.now c.args.access.now old c.requires.partition c.chunk_span-span.ensures.in_range i (omega (arith, c.loop-index-test.true, c.chunk_span-span.ensures.most)) mid c.loop-index.invariant.underway free))));
+        filled = λ x from to. c.next_unfilled-unfilled.ensures.filled x (omega (arith, from)) to;
+        last = omega (arith, c.loop-index-test.true);
+        room = less (g.M.TableMem.room c.args.memory.now) (g.M.TableMem.room c.loop-index.memory) (g.M.TableMem.room t.edit_chunk.new.memory) (f i) (515 + part_count chunk part) (sum_below f i) (sum_below f (i + 1))
+            (cost chunk runs part is (sym touches ∙ t.if-touches.true)) more c.loop-index.invariant.room (rw here at t.edit_chunk.ensures.room);
+      })
+      | else-touches t ↦ rw t.memory-is (record {
+        underway = underway-skip c.args.layout.now c.args.row c.args.gigabyte c.args.second c.args.runs.now c.args.access.now old c.requires.partition c.chunk_span-span.ensures.in_range
+            i (omega (arith, c.loop-index-test.true, c.chunk_span-span.ensures.most)) mid c.loop-index.invariant.underway
+            (λ n small at. untouched chunk runs n (sym (chunk-touches chunk runs part is) ∙ sym touches ∙ t.if-touches.false) at);
+        in_step = λ seated free.
+            march-skip c.args.layout.now c.args.row c.args.gigabyte c.args.second c.args.runs.now c.args.access.now old c.requires.partition c.chunk_span-span.ensures.in_range
+            i (omega (arith, c.loop-index-test.true, c.chunk_span-span.ensures.most)) mid c.loop-index.invariant.underway (g.M.TableMem.state c.args.memory.now) (g.M.TableMem.state c.loop-index.memory)
+            (sym (chunk-touches chunk runs part is) ∙ sym touches ∙ t.if-touches.false) (c.loop-index.invariant.in_step seated free);
+        filled = λ x from to. c.next_unfilled-unfilled.ensures.filled x (omega (arith, from)) to;
+        last = omega (arith, c.loop-index-test.true);
+        room = omega (arith, up, c.loop-index.invariant.room);
+      })
+    ])
   where
     less : (r0 r r2 one cost before next : ℕ) → one ≡ cost → next ≡ one + before → r0 ≤ r + before → r ≤ r2 + cost → r0 ≤ r2 + next
     less r0 r r2 one cost before next e a b c = omega arith
-
-    whole : (r0 r r2 one before next : ℕ) → 515 ≤ one → next ≡ one + before → r0 ≤ r + before → r ≤ r2 + 515 → r0 ≤ r2 + next
-    whole r0 r r2 one before next e a b c = omega arith
 
 pub loop-index-init : goal.loop-index-init
 loop-index-init g c =
@@ -163,6 +223,7 @@ loop-index-init g c =
       underway = subst (UnderwayAt c.args.layout.now c.args.row c.args.gigabyte c.args.second c.args.runs.now c.args.access.now old old c.requires.partition c.chunk_span-span.ensures.in_range) e (underway-gap c.args.layout.now c.args.row c.args.gigabyte c.args.second c.args.runs.now c.args.access.now old old c.requires.partition c.chunk_span-span.ensures.in_range first 0 le none start);
       filled = λ x from to. absurd (omega (arith, from, to));
       in_step = λ seated free. stays-none c.args.layout.now c.args.row (disturbed_below c.args.gigabyte first c.args.runs.now v w) (λ n. walked n (w n)) state;
+      last = c.chunk_span-span.ensures.ordered;
       room = omega arith;
     }
 
@@ -173,7 +234,7 @@ returns-clause-underway g c =
     let i = c.loop-index.index in
     let most = c.chunk_span-span.ensures.most in
     let end = c.loop-index-test.false in
-    let last : i ≤ c.chunk_span-span.result.end = c.loop-index.auto.index-end c.chunk_span-span.ensures.ordered in
+    let last : i ≤ c.chunk_span-span.result.end = c.loop-index.invariant.last in
     let none : AreUntouched c.args.layout.now c.args.row c.args.gigabyte c.args.second c.args.runs.now c.args.access.now old new c.requires.partition c.chunk_span-span.ensures.in_range i (512 - i) =
     λ x from to. outside-chunks c.args.runs.now c.args.gigabyte c.chunk_span-span.result.first c.chunk_span-span.result.end x c.chunk_span-span.ensures.within (omega (arith, to, most, last)) (inr (omega (arith, from, end))) in
     let e : i + (512 - i) ≡ 512 = omega (arith, most, last) in
@@ -189,7 +250,7 @@ returns-clause-in_step g c = λ seated free.
     let i = c.loop-index.index in
     let most = c.chunk_span-span.ensures.most in
     let end = c.loop-index-test.false in
-    let last : i ≤ c.chunk_span-span.result.end = c.loop-index.auto.index-end c.chunk_span-span.ensures.ordered in
+    let last : i ≤ c.chunk_span-span.result.end = c.loop-index.invariant.last in
     let none : AreUntouched c.args.layout.now c.args.row c.args.gigabyte c.args.second c.args.runs.now c.args.access.now old new c.requires.partition c.chunk_span-span.ensures.in_range i (512 - i) =
     λ x from to. outside-chunks c.args.runs.now c.args.gigabyte c.chunk_span-span.result.first c.chunk_span-span.result.end x c.chunk_span-span.ensures.within (omega (arith, to, most, last)) (inr (omega (arith, from, end))) in
     let e : i + (512 - i) ≡ 512 = omega (arith, most, last) in
@@ -200,7 +261,7 @@ pub returns-clause-room : goal.returns-clause-room
 returns-clause-room g c =
     let f : ℕ → ℕ = λ x. chunk_operations c.args.runs.now (512 * c.args.gigabyte + x) in
     let most = c.chunk_span-span.ensures.most in
-    let last : c.loop-index.index ≤ c.chunk_span-span.result.end = c.loop-index.auto.index-end c.chunk_span-span.ensures.ordered in
+    let last : c.loop-index.index ≤ c.chunk_span-span.result.end = c.loop-index.invariant.last in
     let up = sum_below-up f c.loop-index.index 512 (omega (arith, most, last)) in
     all (g.M.TableMem.room c.args.memory.now) (g.M.TableMem.room c.loop-index.memory) (sum_below f c.loop-index.index) (sum_below f 512) c.loop-index.invariant.room up
   where

@@ -31,8 +31,8 @@ edit_chunks-requires-clause-free g c =
     let m = pages_of (g.M.TableMem.state c.args.memory.now).memory in
     fits-tabled c.args.layout.now c.args.row c.args.gigabyte c.args.second m c.requires.canonical c.requires.partition (touched-below c.args.runs.now c.args.gigabyte c.requires.touched) c.requires.table c.args.runs.now c.args.access.now c.requires.free
 
-pub first_word-requires : goal.first_word-requires
-first_word-requires g c =
+pub is_empty-requires : goal.is_empty-requires
+is_empty-requires g c =
     let m = pages_of (g.M.TableMem.state c.args.memory.now).memory in
     let inside : c.args.second < page_count m.quotas = share_inside m.quotas c.args.row c.args.second (c.requires.canonical.orderly.owned (Gigabyte c.args.row c.args.gigabyte) c.args.second (c.requires.partition, (touched-below c.args.runs.now c.args.gigabyte c.requires.touched)) c.requires.table) in
     subst (λ x. c.args.second < page_count x) (sym c.edit_chunks.ensures.underway.quotas) inside
@@ -56,8 +56,8 @@ unlink-requires-clause-taken g c =
     let u = c.edit_chunks.ensures.underway in
     u.orderly.taken (Gigabyte c.args.row c.args.gigabyte) c.args.second (c.requires.partition, (touched-below c.args.runs.now c.args.gigabyte c.requires.touched)) u.second
 
-pub returns-in-Some-clause-edits : goal.returns-in-Some-clause-edits
-returns-in-Some-clause-edits g c =
+pub returns-else-is_empty-clause-edits : goal.returns-else-is_empty-clause-edits
+returns-else-is_empty-clause-edits g c =
     let layout = c.args.layout.now in
     let row = c.args.row in
     let gigabyte = c.args.gigabyte in
@@ -66,11 +66,12 @@ returns-in-Some-clause-edits g c =
     let mid = pages_of (g.M.TableMem.state c.edit_chunks.new.memory).memory in
     let same = linked-same layout row gigabyte k m c.requires.canonical c.requires.partition (touched-below c.args.runs.now c.args.gigabyte c.requires.touched) c.requires.table in
     let u = subst (λ (x : Pages). IsUnderway layout row gigabyte k 512 (edited c.args.runs.now c.args.access.now (answers layout x.words row)) m mid) same c.edit_chunks.ensures.underway in
+    let word = c.is_empty.ensures.no c.if-is_empty.false in
     finish-kept layout row gigabyte k m c.requires.canonical c.requires.partition (touched-below c.args.runs.now c.args.gigabyte c.requires.touched) c.requires.table (edited c.args.runs.now c.args.access.now (answers layout m.words row)) mid u
-    c.in-Some.field-0 c.in-Some.ensures.some.0 c.in-Some.ensures.some.1
+    word.0 word.1 word.2
 
-pub returns-in-None-clause-edits : goal.returns-in-None-clause-edits
-returns-in-None-clause-edits g c =
+pub returns-then-is_empty-clause-edits : goal.returns-then-is_empty-clause-edits
+returns-then-is_empty-clause-edits g c =
     let layout = c.args.layout.now in
     let row = c.args.row in
     let gigabyte = c.args.gigabyte in
@@ -80,11 +81,11 @@ returns-in-None-clause-edits g c =
     let same = linked-same layout row gigabyte k m c.requires.canonical c.requires.partition (touched-below c.args.runs.now c.args.gigabyte c.requires.touched) c.requires.table in
     let u = subst (λ (x : Pages). IsUnderway layout row gigabyte k 512 (edited c.args.runs.now c.args.access.now (answers layout x.words row)) m mid) same c.edit_chunks.ensures.underway in
     finish-zero layout row gigabyte k m c.requires.canonical c.requires.partition (touched-below c.args.runs.now c.args.gigabyte c.requires.touched) c.requires.table (edited c.args.runs.now c.args.access.now (answers layout m.words row)) mid
-    (pages_of (g.M.TableMem.state c.unlink.new.memory).memory) u c.in-None.ensures.none c.unlink.ensures.pages
+    (pages_of (g.M.TableMem.state c.unlink.new.memory).memory) u (c.is_empty.ensures.yes c.if-is_empty.true) c.unlink.ensures.pages
 
 -- what the chunks' edit shows, where the level 2 table hangs
-pub returns-in-Some-clause-in_step : goal.returns-in-Some-clause-in_step
-returns-in-Some-clause-in_step g c = λ free.
+pub returns-else-is_empty-clause-in_step : goal.returns-else-is_empty-clause-in_step
+returns-else-is_empty-clause-in_step g c = λ free.
     let layout = c.args.layout.now in
     let row = c.args.row in
     let gigabyte = c.args.gigabyte in
@@ -97,8 +98,8 @@ returns-in-Some-clause-in_step g c = λ free.
     let same = linked-same layout row gigabyte k m c.requires.canonical c.requires.partition (touched-below c.args.runs.now c.args.gigabyte c.requires.touched) c.requires.table in
     stays-tabled layout row gigabyte k runs access m x y same c.edit_chunks.ensures.in_step free
 
-pub returns-in-None-clause-in_step : goal.returns-in-None-clause-in_step
-returns-in-None-clause-in_step g c = λ free.
+pub returns-then-is_empty-clause-in_step : goal.returns-then-is_empty-clause-in_step
+returns-then-is_empty-clause-in_step g c = λ free.
     let layout = c.args.layout.now in
     let row = c.args.row in
     let gigabyte = c.args.gigabyte in
@@ -113,6 +114,6 @@ returns-in-None-clause-in_step g c = λ free.
     let which : ℕ → Bool = λ n. eqb (n / 512 / 512) gigabyte && disturbed runs v (edited runs access v) n in
     let answer : ℕ → Walked = λ n. walked n (edited runs access v n) in
     let same = linked-same layout row gigabyte k m c.requires.canonical c.requires.partition (touched-below c.args.runs.now c.args.gigabyte c.requires.touched) c.requires.table in
-    let empty = zero-unmapped layout row gigabyte k (edited runs access (answers layout (linked layout row gigabyte k m).words row)) m (pages_of y.memory) c.requires.partition (touched-below c.args.runs.now c.args.gigabyte c.requires.touched) (seated-linked layout row gigabyte k m same) c.edit_chunks.ensures.underway c.in-None.ensures.none in
+    let empty = zero-unmapped layout row gigabyte k (edited runs access (answers layout (linked layout row gigabyte k m).words row)) m (pages_of y.memory) c.requires.partition (touched-below c.args.runs.now c.args.gigabyte c.requires.touched) (seated-linked layout row gigabyte k m same) c.edit_chunks.ensures.underway (c.is_empty.ensures.yes c.if-is_empty.true) in
     stays-after layout row which answer x y z (stays-tabled layout row gigabyte k runs access m x y same c.edit_chunks.ensures.in_step free)
     (c.unlink.ensures.in_step layout which answer empty.0 c.requires.partition c.requires.row empty.1)

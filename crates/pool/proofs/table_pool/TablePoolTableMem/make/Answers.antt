@@ -1,7 +1,8 @@
 use Rattle.std.proofs.Common.{◌≡◌, ◌+◌, ◌*◌, ◌∙◌, ap, arith, true, false, length, replicate, ◌++◌, sum}
-use Rattle.base.specs.Manifest.{quotas_of}
+use Rattle.base.specs.Manifest.{quotas_of, page_count}
 use Rattle.std.proofs.lemmas.List.{length-append, length-replicate}
 use Rattle.pool.proofs.Words.{words_of-zeros}
+use Rattle.pool.proofs.Nonzero.{counts_nonzero-new}
 use Rattle.pool.proofs.Kept.{roots-new, length-quotas_of, page_count-le, counts-new}
 use Rattle.pool.proofs.table_pool.TablePoolTableMem.make.Goals as goal
 
@@ -39,3 +40,11 @@ invariant_of-result-clause-free_counted g c =
     let marks : c.in_ok-marks.field-0.items ≡ replicate (length parts) true ++ replicate (sum (quotas_of parts)) false =
     c.in_ok-marks.ensures ∙ ap (λ n. replicate (length parts) true ++ replicate n false) shares in
     rw (quotas, again, marks, c.partitions-partitions.ensures.same) (counts-new c.args.manifest.now)
+
+pub invariant_of-result-clause-nonzero_counted : goal.invariant_of-result-clause-nonzero_counted
+invariant_of-result-clause-nonzero_counted g c =
+    let rows : length c.in_ok-quotas.quotas.items ≡ length c.partitions-partitions.result.now = ap length c.in_ok-quotas.ensures ∙ length-quotas_of _ in
+    let shares : c.total-shares.result ≡ sum c.in_ok-quotas.quotas.items = rw c.deref.ensures.value at c.total-shares.ensures in
+    let pages : length c.partitions-partitions.result.now + c.total-shares.result ≡ page_count c.in_ok-quotas.quotas.items = omega (arith, rows, shares) in
+    let zeros : c.in_ok-zeros.field-0.items ≡ replicate (page_count c.in_ok-quotas.quotas.items) 0 = c.in_ok-zeros.ensures ∙ ap (λ n. replicate n 0) pages in
+    rw (c.in_ok-zeroed.ensures, zeros, pages) (counts_nonzero-new c.in_ok-quotas.quotas.items)

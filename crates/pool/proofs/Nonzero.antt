@@ -1,0 +1,155 @@
+-- How many words of a page are not 0, after a write.
+use Rattle.std.proofs.Common.{◌≡◌, ◌≢◌, ℕ, ◌+◌, ◌*◌, ◌<◌, ◌≤◌, ◌==◌, not, arith, Bool, true, false, cond, List, length, replicate, slice_index, slice_set, refl, sym, ap, ◌∙◌, inl, inr}
+use Rattle.std.proofs.lemmas.Bool.{cases_eq, cases_Bool}
+use Rattle.std.proofs.lemmas.Bool.Decides.{nat_tests}
+use Rattle.std.proofs.lemmas.Grind.{common_steps}
+use Rattle.std.proofs.lemmas.List.{length-set, length-replicate, get_or-set_same, get_or-set_other}
+use Rattle.base.specs.Counts.{count_below}
+use Rattle.base.specs.Manifest.{page_count}
+use Rattle.pool.specs.Pool.{Words, words_of, put, nonzero_in, CountsNonzero}
+use Rattle.pool.proofs.Count.{count_below-same, count_below-one, count_below-some, count_below-none, count_below-le, count_below-full, count_below-witness}
+use Rattle.pool.proofs.Words.{put-same, put-other_index, put-other_page, words_of-set, words_of-zeros}
+
+-- a test that has another answer at one number
+count_below-at : (passes others : ℕ → Bool) (n x : ℕ) → x < n → ((k : ℕ) → k < n → k ≢ x → others k ≡ passes k)
+    → count_below others n + cond (passes x) 1 0 ≡ count_below passes n + cond (others x) 1 0
+count_below-at passes others n x inside same = elim (cases_Bool (passes x)) [
+  | inl was ↦ elim (cases_Bool (others x)) [
+    | inl is ↦
+        let all = count_below-same passes others n (λ k below. elim (cases_eq k x) [ inl here ↦ rw here (is ∙ sym was) | inr other ↦ same k below other ]) in
+        rw (was, is, all) refl
+    | inr isnt ↦
+        let one = count_below-one others passes n x inside isnt was (λ k below other. sym (same k below other)) in
+        rw (was, isnt) (omega (arith, one))
+  ]
+  | inr wasnt ↦ elim (cases_Bool (others x)) [
+    | inl is ↦
+        let one = count_below-one passes others n x inside wasnt is same in
+        rw (wasnt, is) (omega (arith, one))
+    | inr isnt ↦
+        let all = count_below-same passes others n (λ k below. elim (cases_eq k x) [ inl here ↦ rw here (isnt ∙ sym wasnt) | inr other ↦ same k below other ]) in
+        rw (wasnt, isnt, all) refl
+  ]
+]
+
+not-one : (b : Bool) → ◌≡◌ {A = ℕ} (cond (not b) 1 0) (cond b 0 1)
+not-one true = refl
+not-one false = refl
+
+-- a word of the page is written
+pub nonzero-put : (words : Words) (page index word : ℕ) → index < 512
+    → nonzero_in (put page index word words) page + cond (words page index == 0) 0 1 ≡ nonzero_in words page + cond (word == 0) 0 1
+unfolding nonzero_in
+nonzero-put words page index word below =
+    let at = count_below-at (λ i. not (words page i == 0)) (λ i. not (put page index word words page i == 0)) 512 index below
+    (λ k small other. ap (λ w. not (w == 0)) (put-other_index words page index word page k other)) in
+    let here : put page index word words page index ≡ word = put-same words page index word in
+    let new : ◌≡◌ {A = ℕ} (cond (not (put page index word words page index == 0)) 1 0) (cond (word == 0) 0 1) = rw here (not-one (word == 0)) in
+    let old = not-one (words page index == 0) in
+    rw (← old, ← new) at
+
+-- a page whose words are the same
+pub nonzero-same : (words others : Words) (page : ℕ) → ((i : ℕ) → others page i ≡ words page i) → nonzero_in others page ≡ nonzero_in words page
+unfolding nonzero_in
+nonzero-same words others page same =
+    count_below-same (λ i. not (words page i == 0)) (λ i. not (others page i == 0)) 512 (λ k below. ap (λ w. not (w == 0)) (same k))
+
+-- another page
+pub nonzero-other : (words : Words) (page index word q : ℕ) → q ≢ page → nonzero_in (put page index word words) q ≡ nonzero_in words q
+nonzero-other words page index word q other = nonzero-same words (put page index word words) q (λ i. put-other_page words page index word q i other)
+
+pub nonzero-le : (words : Words) (page : ℕ) → nonzero_in words page ≤ 512
+unfolding nonzero_in
+nonzero-le words page = count_below-le (λ i. not (words page i == 0)) 512
+
+-- a word that is not 0 is counted
+pub nonzero-some : (words : Words) (page index : ℕ) → index < 512 → words page index ≢ 0 → 1 ≤ nonzero_in words page
+unfolding nonzero_in
+nonzero-some words page index below is =
+    let test : not (words page index == 0) ≡ true = grind (arith, nat_tests, is) in
+    let some = count_below-some (λ i. not (words page i == 0)) 512 index below test in omega (arith, some)
+
+-- where none is counted, all are 0
+pub nonzero-zeros : (words : Words) (page index : ℕ) → nonzero_in words page ≡ 0 → index < 512 → words page index ≡ 0
+nonzero-zeros words page index none below = elim (cases_eq (words page index) 0) [
+  | inl is ↦ is
+  | inr differs ↦ let some = nonzero-some words page index below differs in absurd (omega (arith, some, none))
+]
+
+-- where all are counted, none is 0
+pub nonzero-full : (words : Words) (page index : ℕ) → nonzero_in words page ≡ 512 → index < 512 → words page index ≢ 0
+unfolding nonzero_in
+nonzero-full words page index full below is =
+    let passes = count_below-full (λ i. not (words page i == 0)) 512 index full below in
+    let test : (words page index == 0) ≡ true = grind (arith, nat_tests, is) in
+    let bad : not true ≡ true = ap not (sym test) ∙ passes in
+    absurd (cc)
+
+-- where one is counted, it is there
+pub nonzero-word : (words : Words) (page : ℕ) → 0 < nonzero_in words page → (index : ℕ) × (index < 512) × (words page index ≢ 0)
+unfolding nonzero_in
+nonzero-word words page some =
+    let found = count_below-witness (λ i. not (words page i == 0)) 512 some in
+    (found.0, found.1, grind (arith, nat_tests, found.2))
+
+-- the word at a place of the list
+pub word-read : (words : List ℕ) (page index word : ℕ) → index < 512 → word ≡ slice_index words (512 * page + index) → word ≡ words_of words page index
+unfolding words_of
+word-read words page index word below is = grind (arith, nat_tests, is)
+
+-- a page whose words are all 0 has none
+pub nonzero-none : (words : Words) (page : ℕ) → ((i : ℕ) → i < 512 → words page i ≡ 0) → nonzero_in words page ≡ 0
+unfolding nonzero_in
+nonzero-none words page zeros =
+    count_below-none (λ i. not (words page i == 0)) 512 (λ k below. let zero = zeros k below in rw zero refl)
+
+-- ---- the list of all counts
+
+pub counts_nonzero-new : (quotas : List ℕ) → CountsNonzero quotas (replicate (512 * page_count quotas) 0) (replicate (page_count quotas) 0)
+counts_nonzero-new quotas = record {
+  pages = length-replicate (page_count quotas) 0;
+  each = λ page below.
+      let none = nonzero-none (words_of (replicate (512 * page_count quotas) 0)) page (λ i small. words_of-zeros (512 * page_count quotas) page i) in
+      let zero : slice_index (replicate (page_count quotas) 0) page ≡ 0 = grind (arith, common_steps) in
+      zero ∙ sym none;
+}
+
+-- a word is written, and its page has another count, which is right
+pub counts_nonzero-set : (quotas words nonzero : List ℕ) (page index word n : ℕ) → CountsNonzero quotas words nonzero → length words ≡ 512 * page_count quotas
+    → page < page_count quotas → index < 512
+    → n + cond (words_of words page index == 0) 0 1 ≡ slice_index nonzero page + cond (word == 0) 0 1
+    → CountsNonzero quotas (slice_set words (512 * page + index) word) (slice_set nonzero page n)
+counts_nonzero-set quotas words nonzero page index word n counts whole inside below right = record {
+  pages = length-set nonzero page n ∙ counts.pages;
+  each = λ q small. elim (cases_eq q page) [
+    | inl same ↦
+        let was = counts.each page inside in
+        let now = nonzero-put (words_of words) page index word below in
+        let here = get_or-set_same nonzero page n 0 (let pages = counts.pages in omega (arith, pages, inside)) in
+        let count : n ≡ nonzero_in (put page index word (words_of words)) page = omega (arith, right, was, now) in
+        rw same (here ∙ count ∙ sym (ap (λ w. nonzero_in w page) written))
+    | inr differs ↦
+        let was = counts.each q small in
+        let now = nonzero-other (words_of words) page index word q differs in
+        get_or-set_other nonzero page q n 0 differs ∙ was ∙ sym now ∙ sym (ap (λ w. nonzero_in w q) written)
+  ];
+}
+  where
+    written : words_of (slice_set words (512 * page + index) word) ≡ put page index word (words_of words)
+    written = words_of-set words (page_count quotas) page index word whole inside below
+
+-- words of one page are written, and the count that it has then is right
+pub counts_nonzero-page : (quotas words new nonzero : List ℕ) (page count : ℕ) → CountsNonzero quotas words nonzero → page < page_count quotas
+    → ((q i : ℕ) → q ≢ page → words_of new q i ≡ words_of words q i) → count ≡ nonzero_in (words_of new) page
+    → CountsNonzero quotas new (slice_set nonzero page count)
+counts_nonzero-page quotas words new nonzero page count counts inside others right = record {
+  pages = length-set nonzero page count ∙ counts.pages;
+  each = λ q below. elim (cases_eq q page) [
+    | inl same ↦
+        let here = get_or-set_same nonzero page count 0 (let pages = counts.pages in omega (arith, pages, inside)) in
+        rw same (here ∙ right)
+    | inr differs ↦
+        get_or-set_other nonzero page q count 0 differs ∙ counts.each q below
+        ∙ sym (nonzero-same (words_of words) (words_of new) q (λ i. others q i differs))
+  ];
+}

@@ -1,0 +1,148 @@
+-- Words that are replaced one after another, and what else is kept.
+use Rattle.std.proofs.Common.{◌≡◌, ◌≢◌, ℕ, zero, suc, ◌+◌, ◌*◌, ◌%◌, ◌^◌, ◌<◌, ◌≤◌, ◌==◌, arith, Bool, true, false, List, [], ◌∷◌, ◌++◌, length, reverse, slice_set, refl, sym, ap, ◌∙◌, inl, inr, add-one}
+use Rattle.std.proofs.lemmas.Bool.{cases_Bool}
+use Rattle.std.proofs.lemmas.Bool.Decides.{nat_tests}
+use Rattle.std.proofs.lemmas.List.{length-set, reverse-append}
+use Rattle.base.specs.Pages.{PageRun}
+use Rattle.pool.specs.Pool.{Words, Pool, words_of, after_set, after_invalidate, after_break, after_make, after_replaces}
+use Rattle.pool.specs.Shown.{IsShown}
+use Rattle.pool.specs.declared.operation.Op.{Op}
+use Rattle.pool.specs.declared.operation.Op.TheVariants.{Set, Invalidate}
+use Rattle.pool.proofs.Words.{words_of-set_at, put-other_index, put-other_page}
+
+-- ---- what is shown
+
+-- a word that is 0 is not broken
+pub shown-whole : (store : List ℕ) (list : List Op) (p page index : ℕ) (run : PageRun) (pool : Pool) → words_of store page index ≡ 0 → IsShown store list pool → IsShown store list (after_break p page index run pool)
+shown-whole store list p page index run pool is shown =
+    let here : words_of pool.memory.words page index ≡ 0 = ap (λ w. words_of w page index) (sym shown.words) ∙ is in
+    let test : (words_of pool.memory.words page index == 0) ≡ true = grind (arith, nat_tests, here) in
+    rw test shown
+
+-- another one is
+pub shown-broken : (store new : List ℕ) (list more : List Op) (p page index : ℕ) (run : PageRun) (pool : Pool) → words_of store page index ≢ 0 → new ≡ slice_set store (512 * page + index) 0
+    → more ≡ (list ++ Set page index 0 ∷ []) ++ Invalidate p run ∷ [] → IsShown store list pool → IsShown new more (after_break p page index run pool)
+shown-broken store new list more p page index run pool isnt written pushed shown =
+    let here : words_of pool.memory.words page index ≢ 0 = λ is. isnt (ap (λ w. words_of w page index) shown.words ∙ is) in
+    let test : (words_of pool.memory.words page index == 0) ≡ false = grind (arith, nat_tests, here) in
+    rw test record {
+      words = written ∙ ap (λ w. slice_set w (512 * page + index) 0) shown.words;
+      operations = ap reverse pushed ∙ reverse-append (list ++ Set page index 0 ∷ []) (Invalidate p run ∷ []) ∙ ap (λ l. Invalidate p run ∷ l) (reverse-append list (Set page index 0 ∷ []) ∙ ap (λ l. Set page index 0 ∷ l) shown.operations);
+    }
+
+-- ---- what is kept
+
+-- the words of other pages, which pages are taken, and the count of operations
+pub record Keeps (page : ℕ) (a b : Pool) : Type 0 where
+  pub ids : b.memory.ids ≡ a.memory.ids
+  pub quotas : b.memory.quotas ≡ a.memory.quotas
+  pub taken : b.memory.taken ≡ a.memory.taken
+  pub whole : length b.memory.words ≡ length a.memory.words
+  pub others : (q i : ℕ) → q ≢ page → words_of b.memory.words q i ≡ words_of a.memory.words q i
+  pub made : (n : ℕ) → a.made ≡ (n + length a.operations) % 2 ^ 64 → b.made ≡ (n + length b.operations) % 2 ^ 64
+
+keeps-self : (page : ℕ) (a : Pool) → Keeps page a a
+keeps-self page a = record { ids = refl; quotas = refl; taken = refl; whole = refl; others = λ q i other. refl; made = λ n is. is }
+
+keeps-more : (page : ℕ) (a b c : Pool) → Keeps page a b → Keeps page b c → Keeps page a c
+keeps-more page a b c so here = record {
+  ids = here.ids ∙ so.ids;
+  quotas = here.quotas ∙ so.quotas;
+  taken = here.taken ∙ so.taken;
+  whole = here.whole ∙ so.whole;
+  others = λ q i other. here.others q i other ∙ so.others q i other;
+  made = λ n is. here.made n (so.made n is);
+}
+
+one-more : (n made count : ℕ) → made ≡ (n + count) % 2 ^ 64 → (made + 1) % 2 ^ 64 ≡ (n + suc count) % 2 ^ 64
+one-more n made count is = omega (arith, is)
+
+keeps-set : (page index word : ℕ) (a : Pool) → index < 512 → 512 * page + 512 ≤ length a.memory.words → Keeps page a (after_set page index word a)
+keeps-set page index word a below room = record {
+  ids = refl;
+  quotas = refl;
+  taken = refl;
+  whole = length-set a.memory.words (512 * page + index) word;
+  others = λ q i other. ap (λ (w : Words). w q i) (words_of-set_at a.memory.words page index word below (omega (arith, below, room))) ∙ put-other_page (words_of a.memory.words) page index word q i other;
+  made = λ n is. one-more n a.made (length a.operations) is;
+}
+
+keeps-invalidate : (page p : ℕ) (run : PageRun) (a : Pool) → Keeps page a (after_invalidate p run a)
+keeps-invalidate page p run a = record { ids = refl; quotas = refl; taken = refl; whole = refl; others = λ q i other. refl; made = λ n is. one-more n a.made (length a.operations) is }
+
+pub keeps-break : (p page index : ℕ) (run : PageRun) (a : Pool) → index < 512 → 512 * page + 512 ≤ length a.memory.words → Keeps page a (after_break p page index run a)
+keeps-break p page index run a below room = elim (cases_Bool (words_of a.memory.words page index == 0)) [
+  | inl is ↦ rw is (keeps-self page a)
+  | inr isnt ↦ rw isnt (keeps-more page a (after_set page index 0 a) (after_invalidate p run (after_set page index 0 a)) (keeps-set page index 0 a below room) (keeps-invalidate page p run (after_set page index 0 a)))
+]
+
+keeps-make : (page index word : ℕ) (a : Pool) → index < 512 → 512 * page + 512 ≤ length a.memory.words → Keeps page a (after_make page index word a)
+keeps-make page index word a below room = elim (cases_Bool (word == 0)) [
+  | inl is ↦ rw is (keeps-self page a)
+  | inr isnt ↦ rw isnt (keeps-set page index word a below room)
+]
+
+pub keeps-replaces : (p page first n word step start : ℕ) (a : Pool) → first + n ≤ 512 → 512 * page + 512 ≤ length a.memory.words → Keeps page a (after_replaces p page first n word step start a)
+unfolding after_replaces
+keeps-replaces p page first zero word step start a small room = keeps-self page a
+keeps-replaces p page first (suc n) word step start a small room =
+    let so = keeps-replaces p page first n word step start a (omega (arith, small)) room in
+    let b = after_replaces p page first n word step start a in
+    let run : PageRun = record { first = start + 512 * n; count = 512 } in
+    let long = so.whole in
+    let broken = keeps-break p page (first + n) run b (omega (arith, small)) (omega (arith, room, long)) in
+    let longer = broken.whole in
+    keeps-more page a b (after_make page (first + n) (word + step * n) (after_break p page (first + n) run b)) so
+    (keeps-more page b (after_break p page (first + n) run b) (after_make page (first + n) (word + step * n) (after_break p page (first + n) run b)) broken (keeps-make page (first + n) (word + step * n) (after_break p page (first + n) run b) (omega (arith, small)) (omega (arith, room, long, longer))))
+
+pool-of : List ℕ → List ℕ → List ℕ → List Bool → List Op → ℕ → Pool
+pool-of ids quotas words taken operations made =
+    record { memory = record { ids = ids; quotas = quotas; words = words; taken = taken }; operations = operations; made = made }
+
+-- two pools that agree in all
+pub pools-same : (a b : Pool) → a.memory.ids ≡ b.memory.ids → a.memory.quotas ≡ b.memory.quotas → a.memory.words ≡ b.memory.words → a.memory.taken ≡ b.memory.taken → a.operations ≡ b.operations → a.made ≡ b.made → a ≡ b
+unfolding pool-of
+pools-same a b ids quotas words taken operations made =
+    ap (λ (x : List ℕ). pool-of x a.memory.quotas a.memory.words a.memory.taken a.operations a.made) ids
+    ∙ ap (λ (x : List ℕ). pool-of b.memory.ids x a.memory.words a.memory.taken a.operations a.made) quotas
+    ∙ ap (λ (x : List ℕ). pool-of b.memory.ids b.memory.quotas x a.memory.taken a.operations a.made) words
+    ∙ ap (λ (x : List Bool). pool-of b.memory.ids b.memory.quotas b.memory.words x a.operations a.made) taken
+    ∙ ap (λ (x : List Op). pool-of b.memory.ids b.memory.quotas b.memory.words b.memory.taken x a.made) operations
+    ∙ ap (λ (x : ℕ). pool-of b.memory.ids b.memory.quotas b.memory.words b.memory.taken b.operations x) made
+
+-- none, and one more
+pub replaces-none : (p page first word step start : ℕ) (a : Pool) → after_replaces p page first 0 word step start a ≡ a
+unfolding after_replaces
+replaces-none p page first word step start a = refl
+
+pub replaces-more : (p page first n word step start index next from : ℕ) (a : Pool) → first + n ≡ index → word + step * n ≡ next → start + 512 * n ≡ from
+    → after_replaces p page first (n + 1) word step start a ≡ after_make page index next (after_break p page index (record { first = from; count = 512 }) (after_replaces p page first n word step start a))
+unfolding after_replaces
+replaces-more p page first n word step start index next from a is there at = rw (add-one, is, there, at) refl
+
+-- the words of the page that are not yet replaced stay
+break-beside : (p page index i : ℕ) (run : PageRun) (a : Pool) → index < 512 → 512 * page + 512 ≤ length a.memory.words → i ≢ index → words_of (after_break p page index run a).memory.words page i ≡ words_of a.memory.words page i
+break-beside p page index i run a below room other = elim (cases_Bool (words_of a.memory.words page index == 0)) [
+  | inl is ↦ rw is refl
+  | inr isnt ↦ rw isnt (ap (λ (w : Words). w page i) (words_of-set_at a.memory.words page index 0 below (omega (arith, below, room))) ∙ put-other_index (words_of a.memory.words) page index 0 page i other)
+]
+
+make-beside : (page index word i : ℕ) (a : Pool) → index < 512 → 512 * page + 512 ≤ length a.memory.words → i ≢ index → words_of (after_make page index word a).memory.words page i ≡ words_of a.memory.words page i
+make-beside page index word i a below room other = elim (cases_Bool (word == 0)) [
+  | inl is ↦ rw is refl
+  | inr isnt ↦ rw isnt (ap (λ (w : Words). w page i) (words_of-set_at a.memory.words page index word below (omega (arith, below, room))) ∙ put-other_index (words_of a.memory.words) page index word page i other)
+]
+
+pub replaces-beside : (p page first n word step start i : ℕ) (a : Pool) → first + n ≤ 512 → 512 * page + 512 ≤ length a.memory.words → first + n ≤ i → words_of (after_replaces p page first n word step start a).memory.words page i ≡ words_of a.memory.words page i
+unfolding after_replaces
+replaces-beside p page first zero word step start i a small room behind = refl
+replaces-beside p page first (suc n) word step start i a small room behind =
+    let so = keeps-replaces p page first n word step start a (omega (arith, small)) room in
+    let b = after_replaces p page first n word step start a in
+    let run : PageRun = record { first = start + 512 * n; count = 512 } in
+    let long = so.whole in
+    let broken = keeps-break p page (first + n) run b (omega (arith, small)) (omega (arith, room, long)) in
+    let longer = broken.whole in
+    make-beside page (first + n) (word + step * n) i (after_break p page (first + n) run b) (omega (arith, small)) (omega (arith, room, long, longer)) (λ is. absurd (omega (arith, behind, is)))
+    ∙ break-beside p page (first + n) i run b (omega (arith, small)) (omega (arith, room, long)) (λ is. absurd (omega (arith, behind, is)))
+    ∙ replaces-beside p page first n word step start i a (omega (arith, small)) room (omega (arith, behind))

@@ -1,0 +1,177 @@
+-- Words of a page that follow one another, and the operations that write them.
+use Rattle.std.proofs.Common.{◌≡◌, ◌≢◌, ℕ, zero, suc, ◌+◌, ◌*◌, ◌%◌, ◌^◌, ◌<◌, ◌≤◌, ◌==◌, arith, Bool, true, false, List, [], ◌∷◌, ◌++◌, length, reverse, slice_index, slice_set, true≢false, refl, sym, ap, ap₂, ◌∙◌, ◌⊎◌, inl, inr, add-one}
+use Rattle.std.proofs.lemmas.Bool.{cases_eq}
+use Rattle.std.proofs.lemmas.Bool.Decides.{nat_tests}
+use Rattle.std.proofs.lemmas.List.{length-set, length-append, length-reverse}
+use Rattle.base.specs.Manifest.{page_count}
+use Rattle.pool.specs.Pool.{Words, put, words_of, taken_of, nonzero_in, CountsNonzero, words_set, sets_of, counted}
+use Rattle.pool.specs.declared.operation.Op.{Op}
+use Rattle.pool.specs.declared.operation.Op.TheVariants.{Set}
+use Rattle.pool.proofs.Words.{words_of-set_at, put-same, put-other_index, put-other_page}
+use Rattle.pool.specs.Shown.{AllDiffer}
+use Rattle.pool.proofs.Nonzero.{word-read, nonzero-put, nonzero-zeros, nonzero-full, counts_nonzero-page}
+
+-- their number stays
+pub length-words_set : (words : List ℕ) (page first n word step : ℕ) → length (words_set words page first n word step) ≡ length words
+unfolding words_set
+length-words_set words page first zero word step = refl
+length-words_set words page first (suc n) word step =
+    length-set (words_set words page first n word step) (512 * page + (first + n)) (word + step * n) ∙ length-words_set words page first n word step
+
+-- none of them
+pub words_set-none : (words : List ℕ) (page first word step : ℕ) → words_set words page first 0 word step ≡ words
+unfolding words_set
+words_set-none words page first word step = refl
+
+pub sets_of-none : (words : List ℕ) (page first word step : ℕ) → sets_of words page first 0 word step ≡ []
+unfolding sets_of
+sets_of-none words page first word step = refl
+
+-- one word more
+pub words_set-next : (words : List ℕ) (page first n word step index next : ℕ) → first + n ≡ index → word + step * n ≡ next
+    → words_set words page first (n + 1) word step ≡ slice_set (words_set words page first n word step) (512 * page + index) next
+unfolding words_set
+words_set-next words page first n word step index next is there = rw (add-one, is, there) refl
+
+-- which is not there
+pub sets_of-write : (words : List ℕ) (page first n word step index next : ℕ) → first + n ≡ index → word + step * n ≡ next
+    → slice_index (words_set words page first n word step) (512 * page + index) ≢ next
+    → sets_of words page first (n + 1) word step ≡ Set page index next ∷ sets_of words page first n word step
+unfolding sets_of
+sets_of-write words page first n word step index next is there differs =
+    let test : (slice_index (words_set words page first n word step) (512 * page + index) == next) ≡ false = grind (arith, nat_tests, differs) in
+    rw (add-one, is, there, test) refl
+
+-- or which is there
+pub sets_of-pass : (words : List ℕ) (page first n word step index next : ℕ) → first + n ≡ index → word + step * n ≡ next
+    → slice_index (words_set words page first n word step) (512 * page + index) ≡ next
+    → sets_of words page first (n + 1) word step ≡ sets_of words page first n word step
+unfolding sets_of
+sets_of-pass words page first n word step index next is there same =
+    let test : (slice_index (words_set words page first n word step) (512 * page + index) == next) ≡ true = grind (arith, nat_tests, same) in
+    rw (add-one, is, there, test) refl
+
+-- how many operations were made after some more
+counted-length : (ops : List Op) (n : ℕ) → counted ops (n % 2 ^ 64) ≡ (n + length ops) % 2 ^ 64
+counted-length [] n = omega arith
+counted-length (op ∷ ops) n = let rest = counted-length ops n in rw rest (omega arith)
+
+pub counted-made : (sets old new : List Op) (n : ℕ) → reverse new ≡ sets ++ reverse old → (n + length new) % 2 ^ 64 ≡ counted sets ((n + length old) % 2 ^ 64)
+counted-made sets old new n made =
+    let long : length new ≡ length sets + length old =
+    sym (length-reverse new) ∙ ap length made ∙ length-append sets (reverse old) ∙ ap (λ x. length sets + x) (length-reverse old) in
+    let all = counted-length sets (n + length old) in
+    let sum : n + length new ≡ n + length old + length sets = omega (arith, long) in
+    rw sum (sym all)
+
+-- a word that is written where it stands
+pub set-same : (items : List ℕ) (place word : ℕ) → place < length items → slice_index items place ≡ word → slice_set items place word ≡ items
+set-same [] place word inside is = refl
+set-same (x ∷ items) zero word inside is = ap (λ y. y ∷ items) (sym is)
+set-same (x ∷ items) (suc place) word inside is = ap (λ rest. x ∷ rest) (set-same items place word (omega arith) is)
+
+-- the words of another page stay
+pub words_set-other : (words : List ℕ) (page first n word step q i : ℕ) → 512 * page + 512 ≤ length words → first + n ≤ 512 → q ≢ page
+    → words_of (words_set words page first n word step) q i ≡ words_of words q i
+unfolding words_set
+words_set-other words page first zero word step q i whole small other = refl
+words_set-other words page first (suc n) word step q i whole small other =
+    let long = length-words_set words page first n word step in
+    ap (λ (w : Words). w q i) (words_of-set_at (words_set words page first n word step) page (first + n) (word + step * n) (omega (arith, small)) (omega (arith, small, whole, long)))
+    ∙ put-other_page (words_of (words_set words page first n word step)) page (first + n) (word + step * n) q i other
+    ∙ words_set-other words page first n word step q i whole (omega (arith, small)) other
+
+-- so do those of the page that are not among them
+pub words_set-beside : (words : List ℕ) (page first n word step i : ℕ) → 512 * page + 512 ≤ length words → first + n ≤ 512 → (i < first) ⊎ (first + n ≤ i)
+    → words_of (words_set words page first n word step) page i ≡ words_of words page i
+unfolding words_set
+words_set-beside words page first zero word step i whole small beside = refl
+words_set-beside words page first (suc n) word step i whole small beside =
+    let long = length-words_set words page first n word step in
+    let other : i ≢ first + n = λ is. elim beside [ inl before ↦ absurd (omega (arith, before, is)) | inr behind ↦ absurd (omega (arith, behind, is)) ] in
+    ap (λ (w : Words). w page i) (words_of-set_at (words_set words page first n word step) page (first + n) (word + step * n) (omega (arith, small)) (omega (arith, small, whole, long)))
+    ∙ put-other_index (words_of (words_set words page first n word step)) page (first + n) (word + step * n) page i other
+    ∙ words_set-beside words page first n word step i whole (omega (arith, small)) (elim beside [ inl before ↦ inl before | inr behind ↦ inr (omega (arith, behind)) ])
+
+-- and those are what they are to be
+pub words_set-at : (words : List ℕ) (page first n word step x : ℕ) → 512 * page + 512 ≤ length words → first + n ≤ 512 → x < n
+    → words_of (words_set words page first n word step) page (first + x) ≡ word + step * x
+unfolding words_set
+words_set-at words page first zero word step x whole small lt = absurd (omega (arith, lt))
+words_set-at words page first (suc n) word step x whole small lt =
+    let long = length-words_set words page first n word step in
+    ap (λ (w : Words). w page (first + x)) (words_of-set_at (words_set words page first n word step) page (first + n) (word + step * n) (omega (arith, small)) (omega (arith, small, whole, long)))
+    ∙ (elim (cases_eq x n) [
+      | inl is ↦ rw is (put-same (words_of (words_set words page first n word step)) page (first + n) (word + step * n))
+      | inr other ↦
+          put-other_index (words_of (words_set words page first n word step)) page (first + n) (word + step * n) page (first + x) (λ is. other (omega (arith, is)))
+          ∙ words_set-at words page first n word step x whole (omega (arith, small)) (omega (arith, lt, other))
+    ])
+
+-- a free page holds zeros still
+pub free_zero-stretch : (words : List ℕ) (taken : List Bool) (page first n word step : ℕ) → 512 * page + 512 ≤ length words → first + n ≤ 512 → taken_of taken page ≡ true
+    → ((q i : ℕ) → taken_of taken q ≡ false → words_of words q i ≡ 0)
+    → (q i : ℕ) → taken_of taken q ≡ false → words_of (words_set words page first n word step) q i ≡ 0
+free_zero-stretch words taken page first n word step whole small held old q i free =
+    words_set-other words page first n word step q i whole small (λ is. true≢false (sym held ∙ ap (taken_of taken) (sym is) ∙ free)) ∙ old q i free
+
+-- what is counted of them
+pub counts_nonzero-stretch : (quotas words nonzero : List ℕ) (page first n word step count : ℕ) → CountsNonzero quotas words nonzero → length words ≡ 512 * page_count quotas
+    → page < page_count quotas → first + n ≤ 512 → count ≡ nonzero_in (words_of (words_set words page first n word step)) page
+    → CountsNonzero quotas (words_set words page first n word step) (slice_set nonzero page count)
+counts_nonzero-stretch quotas words nonzero page first n word step count counts whole inside small right =
+    counts_nonzero-page quotas words (words_set words page first n word step) nonzero page count counts inside (λ q i differs. words_set-other words page first n word step q i (omega (arith, whole, inside)) small differs) right
+
+-- ---- stretches in pages whose words are all 0, or none of which is
+
+-- how many are not 0 then
+pub nonzero-fresh : (words : List ℕ) (page first n word step : ℕ) → 512 * page + 512 ≤ length words → first + n ≤ 512 → nonzero_in (words_of words) page ≡ 0 → 0 < word → nonzero_in (words_of (words_set words page first n word step)) page ≡ n
+unfolding words_set
+nonzero-fresh words page first zero word step room small none some = none
+nonzero-fresh words page first (suc n) word step room small none some =
+    let set = words_set words page first n word step in
+    let long = length-words_set words page first n word step in
+    let next = word + step * n in
+    let rest = nonzero-fresh words page first n word step room (omega (arith, small)) none some in
+    let written = words_of-set_at set page (first + n) next (omega (arith, small)) (omega (arith, small, room, long)) in
+    let was : words_of set page (first + n) ≡ 0 = words_set-beside words page first n word step (first + n) room (omega (arith, small)) (inr (omega arith)) ∙ nonzero-zeros (words_of words) page (first + n) none (omega (arith, small)) in
+    let now = nonzero-put (words_of set) page (first + n) next (omega (arith, small)) in
+    let zero_test : (words_of set page (first + n) == 0) ≡ true = grind (arith, nat_tests, was) in
+    let some_test : (next == 0) ≡ false = (let above : 0 < next = omega (arith, some) in grind (arith, nat_tests, above)) in
+    let more = rw (zero_test, some_test) at now in
+    ap (λ w. nonzero_in w page) written ∙ omega (arith, more, rest)
+
+pub nonzero-cleared : (words : List ℕ) (page first n : ℕ) → 512 * page + 512 ≤ length words → first + n ≤ 512 → nonzero_in (words_of words) page ≡ 512 → nonzero_in (words_of (words_set words page first n 0 0)) page + n ≡ 512
+unfolding words_set
+nonzero-cleared words page first zero room small full = omega (arith, full)
+nonzero-cleared words page first (suc n) room small full =
+    let set = words_set words page first n 0 0 in
+    let long = length-words_set words page first n 0 0 in
+    let zero_next : 0 + 0 * n ≡ 0 = omega arith in
+    let rest = nonzero-cleared words page first n room (omega (arith, small)) full in
+    let written = words_of-set_at set page (first + n) 0 (omega (arith, small)) (omega (arith, small, room, long)) in
+    let was : words_of set page (first + n) ≢ 0 = λ is. nonzero-full (words_of words) page (first + n) full (omega (arith, small)) (sym (words_set-beside words page first n 0 0 (first + n) room (omega (arith, small)) (inr (omega arith))) ∙ is) in
+    let now = nonzero-put (words_of set) page (first + n) 0 (omega (arith, small)) in
+    let test : (words_of set page (first + n) == 0) ≡ false = grind (arith, nat_tests, was) in
+    let less = rw test at now in
+    let new : nonzero_in (words_of (slice_set set (512 * page + (first + n)) (0 + 0 * n))) page ≡ nonzero_in (put page (first + n) 0 (words_of set)) page =
+    ap (λ w. nonzero_in (words_of (slice_set set (512 * page + (first + n)) w)) page) zero_next ∙ ap (λ w. nonzero_in w page) written in
+    omega (arith, new, less, rest)
+
+-- none of them is there
+pub differ-fresh : (words : List ℕ) (page first n word step : ℕ) → first + n ≤ 512 → nonzero_in (words_of words) page ≡ 0 → 0 < word → AllDiffer words page first n word step
+differ-fresh words page first n word step small none some x lt is =
+    let was = nonzero-zeros (words_of words) page (first + x) none (omega (arith, small, lt)) in
+    absurd (omega (arith, was, is, some))
+
+pub differ-full : (words : List ℕ) (page first n word step : ℕ) → first + n ≤ 512 → nonzero_in (words_of words) page ≡ 512 → word ≡ 0 → step ≡ 0 → AllDiffer words page first n word step
+differ-full words page first n word step small full word_none step_none x lt is =
+    nonzero-full (words_of words) page (first + x) full (omega (arith, small, lt)) (is ∙ ap₂ (λ w s. w + s * x) word_none step_none ∙ omega arith)
+
+-- what is not there where a stretch begins is not there once the words before it are written
+pub differ-next : (words : List ℕ) (page first n m word step index next : ℕ) → 512 * page + 512 ≤ length words → first + m ≤ 512 → n < m → first + n ≡ index → word + step * n ≡ next → AllDiffer words page first m word step
+    → slice_index (words_set words page first n word step) (512 * page + index) ≢ next
+differ-next words page first n m word step index next room small lt at there differ is =
+    let read = word-read (words_set words page first n word step) page index (slice_index (words_set words page first n word step) (512 * page + index)) (omega (arith, at, small, lt)) refl in
+    let beside = words_set-beside words page first n word step index room (omega (arith, small, lt)) (inr (omega (arith, at))) in
+    differ n lt (ap (words_of words page) at ∙ sym beside ∙ sym read ∙ is ∙ sym there)

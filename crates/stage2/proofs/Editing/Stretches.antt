@@ -1,0 +1,177 @@
+-- Words of a table that follow one another and are written at once.
+use Rattle.std.proofs.Common.{◌≡◌, ℕ, zero, suc, ◌+◌, ◌-◌, ◌*◌, ◌^◌, ◌<◌, ◌≤◌, ◌==◌, Bool, true, false, List, length, slice_index, Some, None, refl, sym, ap, subst, ◌∙◌, arith, inl, inr}
+use Rattle.std.proofs.lemmas.Bool.{cases_eq, cases_lt}
+use Rattle.std.proofs.lemmas.Bool.Decides.{nat_tests}
+use Rattle.base.specs.Access.{Access, View}
+use Rattle.base.specs.Manifest.{page_count}
+use Rattle.base.specs.declared.access.Rights.{Rights}
+use Rattle.base.specs.declared.access.Rights.TheVariants.{Ro, Rw}
+use Rattle.base.specs.declared.access.MemoryKind.{MemoryKind}
+use Rattle.base.specs.declared.access.MemoryKind.TheVariants.{Normal, Device}
+use Rattle.words.specs.declared.word.Entry.TheVariants.{Leaf}
+use Rattle.words.specs.Words.{leaf_fields, leaf_word_of, entry_of, IsLeafWord}
+use Rattle.words.proofs.RoundTrip.{entry-zero, entry-page, word-leaf}
+use Rattle.pool.specs.Pool.{Pool, IsWhole, words_of, put, words_set, sets_of, after_sets}
+use Rattle.pool.proofs.Words.{words_of-set_at}
+use Rattle.pool.proofs.Stretches.{length-words_set, set-same, words_set-other, words_set-beside, words_set-at}
+use Rattle.stage2.specs.Change.{entry_for, step_for}
+use Rattle.stage2.specs.Chunks.{IsWordFor}
+use Rattle.stage2.specs.Clauses.{some_pages, WritesPlan}
+use Rattle.stage2.specs.History.{AreSets, Filled}
+use Rattle.stage2.specs.Moments.{words_after}
+use Rattle.stage2.proofs.Editing.PlannedWords.{some-in, some-before, some-after}
+use Rattle.stage2.proofs.Walkers.Histories.{sets-wider}
+
+-- ---- the words of pages that follow one another
+
+-- the word of a page further on
+leaf-further : (p x : ℕ) (a : Access) → leaf_word_of false p a + 4096 * x ≡ leaf_word_of false (p + x) a
+unfolding leaf_word_of
+leaf-further p x a = omega arith
+
+entry-further : (p x word : ℕ) (a : Access) → p + x < 2 ^ 27 → (leaf : IsLeafWord 3 word p a) → (b : Bool) → leaf.block ≡ b → entry_of 3 (word + 4096 * x) ≡ Leaf (p + x) a
+entry-further p x word a small leaf true is = let level : ◌≡◌ {A = ℕ} 3 2 = rw is at leaf.at_level in absurd (omega (arith, level))
+entry-further p x word a small leaf false is =
+    let spelled : word ≡ leaf_word_of false p a = rw is at leaf.spelled in
+    let there : word + 4096 * x ≡ leaf_word_of false (p + x) a = ap (λ w. w + 4096 * x) spelled ∙ leaf-further p x a in
+    ap (entry_of 3) there ∙ entry-page (p + x) a small leaf.legal
+
+pub word-further : (p x word : ℕ) (a : Access) → entry_of 3 word ≡ Leaf p a → p + x < 2 ^ 27 → IsWordFor (p + x) (Some a) (word + 4096 * x)
+word-further p x word a read small =
+    let leaf = word-leaf 3 word p a read in
+    record { entry = entry-further p x word a small leaf leaf.block refl; zero = λ none. absurd (cc) }
+
+-- the invalid word stays
+pub word-zero : (n x : ℕ) → IsWordFor n None (0 + 0 * x)
+word-zero n x = let zero : 0 + 0 * x ≡ 0 = omega arith in rw zero record { entry = entry-zero 3; zero = λ none. refl }
+
+-- such a word is small
+fields-small : (r : Rights) (x : Bool) (k : MemoryKind) → leaf_fields false (record { rights = r; exec = x; kind = k }) < 2 ^ 55
+unfolding leaf_fields
+fields-small Ro true Normal = omega arith
+fields-small Ro true Device = omega arith
+fields-small Ro false Normal = omega arith
+fields-small Ro false Device = omega arith
+fields-small Rw true Normal = omega arith
+fields-small Rw true Device = omega arith
+fields-small Rw false Normal = omega arith
+fields-small Rw false Device = omega arith
+
+leaf-small : (p : ℕ) (a : Access) → p < 2 ^ 27 → leaf_word_of false p a < 2 ^ 56
+unfolding leaf_word_of
+leaf-small p a small = let fields = fields-small a.rights a.exec a.kind in omega (arith, small, fields)
+
+word-small : (p word : ℕ) (a : Access) → p < 2 ^ 27 → (leaf : IsLeafWord 3 word p a) → (b : Bool) → leaf.block ≡ b → word < 2 ^ 56
+word-small p word a small leaf true is = let level : ◌≡◌ {A = ℕ} 3 2 = rw is at leaf.at_level in absurd (omega (arith, level))
+word-small p word a small leaf false is =
+    let spelled : word ≡ leaf_word_of false p a = rw is at leaf.spelled in
+    let most = leaf-small p a small in
+    omega (arith, spelled, most)
+
+-- so the words of a stretch are in range
+pub stretch-small : (p word n : ℕ) (answer : View) → p < 2 ^ 27 → n ≤ 512 → entry_of 3 word ≡ entry_for p answer → (answer ≡ None → word ≡ 0) → word + step_for answer * n < 2 ^ 64
+stretch-small p word n None small few read is_zero = let none = is_zero refl in omega (arith, none)
+stretch-small p word n (Some a) small few read is_zero =
+    let leaf = word-leaf 3 word p a read in
+    let most = word-small p word a small leaf leaf.block refl in
+    omega (arith, most, few)
+
+-- and each is its page's
+pub stretch-words : (c first n word : ℕ) (answer : View) → 512 * c + (first + n) ≤ 2 ^ 27 → entry_of 3 word ≡ entry_for (512 * c + first) answer → (answer ≡ None → word ≡ 0)
+    → (x : ℕ) → x < n → IsWordFor (512 * c + (first + x)) answer (word + step_for answer * x)
+stretch-words c first n word None small read is_zero x lt = let none = is_zero refl in rw none (word-zero (512 * c + (first + x)) x)
+stretch-words c first n word (Some a) small read is_zero x lt =
+    let there : 512 * c + first + x ≡ 512 * c + (first + x) = omega arith in
+    subst (λ p. IsWordFor p (Some a) (word + 4096 * x)) there (word-further (512 * c + first) x word a read (omega (arith, small, lt)))
+
+-- ---- the operations
+
+-- the writes give the words
+after-sets : (words : List ℕ) (k first n word step : ℕ) → 512 * k + 512 ≤ length words → first + n ≤ 512
+    → words_of (words_set words k first n word step) ≡ words_after (sets_of words k first n word step) (words_of words)
+unfolding words_set sets_of
+after-sets words k first zero word step whole small = refl
+after-sets words k first (suc n) word step whole small =
+    let set = words_set words k first n word step in
+    let place = 512 * k + (first + n) in
+    let next = word + step * n in
+    let long = length-words_set words k first n word step in
+    let inside : place < length set = omega (arith, small, whole, long) in
+    let rest = after-sets words k first n word step whole (omega (arith, small)) in
+    elim (cases_eq (slice_index set place) next) [
+      | inl same ↦
+          let test : (slice_index set place == next) ≡ true = grind (arith, nat_tests, same) in
+          rw test (ap words_of (set-same set place next inside same) ∙ rest)
+      | inr differs ↦
+          let test : (slice_index set place == next) ≡ false = grind (arith, nat_tests, differs) in
+          rw test (words_of-set_at set k (first + n) next (omega (arith, small)) inside ∙ ap (put k (first + n) next) rest)
+    ]
+
+-- each is planned
+sets-planned : (words : List ℕ) (k c first n word step end : ℕ) (answer : View) → first + n ≤ end → ((x : ℕ) → x < n → IsWordFor (512 * c + (first + x)) answer (word + step * x))
+    → AreSets k c (some_pages c first end answer) (first + n) (sets_of words k first n word step)
+unfolding sets_of
+sets-planned words k c first zero word step end answer within is = tt
+sets-planned words k c first (suc n) word step end answer within is =
+    let set = words_set words k first n word step in
+    let place = 512 * k + (first + n) in
+    let next = word + step * n in
+    let rest = sets-planned words k c first n word step end answer (omega (arith, within)) (λ x lt. is x (omega (arith, lt))) in
+    elim (cases_eq (slice_index set place) next) [
+      | inl same ↦
+          let test : (slice_index set place == next) ≡ true = grind (arith, nat_tests, same) in
+          rw test (sets-wider k c (first + n) (first + suc n) (some_pages c first end answer) (sets_of words k first n word step) (omega arith) rest)
+      | inr differs ↦
+          let test : (slice_index set place == next) ≡ false = grind (arith, nat_tests, differs) in
+          let planned : some_pages c first end answer (512 * c + (first + n)) ≡ Some answer = some-in c first end answer (first + n) (omega arith) (omega (arith, within)) in
+          rw test (refl, omega arith, (answer, planned, is n (omega arith)), rest)
+    ]
+
+-- ---- the whole stretch
+
+module _ (k c first end word step : ℕ) (answer : View) (s : Pool) (whole : IsWhole s.memory) (inside : k < page_count s.memory.quotas) (ordered : first ≤ end) (most : end ≤ 512)
+    (is : (x : ℕ) → x < end - first → IsWordFor (512 * c + (first + x)) answer (word + step * x)) where
+  room : 512 * k + 512 ≤ length s.memory.words
+  room = omega (arith, whole.words, inside)
+
+  small : first + (end - first) ≤ 512
+  small = omega (arith, ordered, most)
+
+  pub writes-stretch : WritesPlan k c (some_pages c first end answer) s (after_sets k first (end - first) word step s)
+  writes-stretch = record {
+    ids = refl;
+    quotas = refl;
+    taken = refl;
+    others = λ q i apart. words_set-other s.memory.words k first (end - first) word step q i room small apart;
+    here = λ i a below given. elim (cases_lt i first) [
+      | inl before ↦ let bad : None ≡ Some a = sym (some-before c first end answer i before) ∙ given in absurd (cc)
+      | inr from ↦ elim (cases_lt i end) [
+        | inl lt ↦
+            let same : Some answer ≡ Some a = sym (some-in c first end answer i from lt) ∙ given in
+            let index : first + (i - first) ≡ i = omega (arith, from) in
+            let within : i - first < end - first = omega (arith, from, lt) in
+            let word_at : words_of (words_set s.memory.words k first (end - first) word step) k i ≡ word + step * (i - first) =
+            ap (words_of (words_set s.memory.words k first (end - first) word step) k) (sym index) ∙ words_set-at s.memory.words k first (end - first) word step (i - first) room small within in
+            let right : IsWordFor (512 * c + i) answer (word + step * (i - first)) = subst (λ j. IsWordFor (512 * c + j) answer (word + step * (i - first))) index (is (i - first) within) in
+            let answers : answer ≡ a = cc in
+            rw (word_at, ← answers) right
+        | inr behind ↦ let bad : None ≡ Some a = sym (some-after c first end answer i behind) ∙ given in absurd (cc)
+      ]
+    ];
+    stays = λ i below none. elim (cases_lt i first) [
+      | inl before ↦ words_set-beside s.memory.words k first (end - first) word step i room small (inl before)
+      | inr from ↦ elim (cases_lt i end) [
+        | inl lt ↦ let bad : Some answer ≡ None = sym (some-in c first end answer i from lt) ∙ none in absurd (cc)
+        | inr behind ↦ words_set-beside s.memory.words k first (end - first) word step i room small (inr (omega (arith, behind, ordered)))
+      ]
+    ];
+  }
+
+  pub filled-stretch : Filled k c end (some_pages c first end answer) s (after_sets k first (end - first) word step s)
+  filled-stretch = record {
+    ops = sets_of s.memory.words k first (end - first) word step;
+    made = record { operations = refl; count = refl; words = after-sets s.memory.words k first (end - first) word step room small };
+    sets = let last : first + (end - first) ≡ end = omega (arith, ordered) in
+        subst (λ b. AreSets k c (some_pages c first end answer) b (sets_of s.memory.words k first (end - first) word step)) last
+        (sets-planned s.memory.words k c first (end - first) word step end answer (omega (arith, ordered)) is);
+  }
