@@ -12,8 +12,9 @@ use std::alloc::Global;
 /// the partitions' roots, in ascending order of identifier; after all roots come the partitions'
 /// shares in the same order, each as many pages as its partition's quota.
 ///
-/// A page of a share is free or taken, and a free page holds zeros alone. `set_word` changes one
-/// word, and nothing else changes any. Each `set_word`, `invalidate` and `clear` is recorded as an `Op`.
+/// A page of a share is free or taken, and a free page holds zeros alone. `set_word`, `set_words` and
+/// `replace_words` change words, and nothing else changes any. Each word that is written, each
+/// invalidation and each clear is recorded as an `Op`.
 pub trait TableMem {
     /// What the pages hold, which are taken, and what was done.
     ghost state: { Self → Pool };
