@@ -6,11 +6,7 @@ use Rattle.base.specs.Manifest.{page_count, row_of}
 use Rattle.base.specs.Pages.{PageRun}
 use Rattle.words.specs.declared.word.Entry.{Entry}
 use Rattle.words.specs.declared.word.Entry.TheVariants.{Invalid, Table, Leaf, Wrong}
-use Rattle.base.specs.declared.access.Rights.{Rights}
-use Rattle.base.specs.declared.access.Rights.TheVariants.{Ro, Rw}
-use Rattle.base.specs.declared.access.MemoryKind.{MemoryKind}
-use Rattle.base.specs.declared.access.MemoryKind.TheVariants.{Normal, Device}
-use Rattle.words.specs.Words.{leaf_fields, leaf_word_of, entry_of, IsLeafWord}
+use Rattle.words.specs.Words.{leaf_word_of, entry_of, IsLeafWord}
 use Rattle.words.proofs.RoundTrip.{entry-block, entry-zero, word-leaf, word-table, type-table}
 use Rattle.pool.specs.Pool.{Pages, Pool, IsWhole, words_of, pages_of, put, with_put, after_set, after_break, after_make, after_replaces}
 use Rattle.pool.specs.declared.operation.Op.TheVariants.{Set}
@@ -27,6 +23,7 @@ use Rattle.stage2.specs.Moments.{StaysInStep}
 use Rattle.stage2.specs.Orderly.{answers, linked}
 use Rattle.stage2.specs.Steps.{IsSeated, disturbed_below}
 use Rattle.stage2.proofs.Counting.Needs.{filled-touches, outcome-filled}
+use Rattle.stage2.proofs.Editing.LeafWords.{word-small}
 use Rattle.stage2.proofs.Editing.ChunkByChunk.{site, underway-edit}
 use Rattle.stage2.proofs.Editing.FourChunkEdits.{does-set}
 use Rattle.stage2.proofs.Tree.PutTwice.{with_put-there, with_put-twice}
@@ -113,33 +110,11 @@ block-entry c x word a small leaf true is =
     ap (entry_of 2) there ∙ entry-block (512 * (c + x)) a small leaf.legal (omega arith)
 
 -- so they are in range
-fields-small : (r : Rights) (x : Bool) (k : MemoryKind) → leaf_fields true (record { rights = r; exec = x; kind = k }) < 2 ^ 55
-unfolding leaf_fields
-fields-small Ro true Normal = omega arith
-fields-small Ro true Device = omega arith
-fields-small Ro false Normal = omega arith
-fields-small Ro false Device = omega arith
-fields-small Rw true Normal = omega arith
-fields-small Rw true Device = omega arith
-fields-small Rw false Normal = omega arith
-fields-small Rw false Device = omega arith
-
-leaf-small : (n : ℕ) (a : Access) → n < 2 ^ 27 → leaf_word_of true n a < 2 ^ 56
-unfolding leaf_word_of
-leaf-small n a small = let fields = fields-small a.rights a.exec a.kind in omega (arith, small, fields)
-
-word-small : (n word : ℕ) (a : Access) → n < 2 ^ 27 → (leaf : IsLeafWord 2 word n a) → (b : Bool) → leaf.block ≡ b → word < 2 ^ 56
-word-small n word a small leaf false is = let level : ◌≡◌ {A = ℕ} 2 3 = rw is at leaf.at_level in absurd (omega (arith, level))
-word-small n word a small leaf true is =
-    let spelled : word ≡ leaf_word_of true n a = rw is at leaf.spelled in
-    let most = leaf-small n a small in
-    omega (arith, spelled, most)
-
 pub blocks-small : (c word n : ℕ) (answer : View) → 512 * c < 2 ^ 27 → n ≤ 512 → IsEntryFor c answer word → word + block_step answer * n < 2 ^ 64
 blocks-small c word n None small few is = let none = is.zero refl in omega (arith, none)
 blocks-small c word n (Some a) small few is =
     let leaf = word-leaf 2 word (512 * c) a is.entry in
-    let most = word-small (512 * c) word a small leaf leaf.block refl in
+    let most = word-small 2 (512 * c) word a small leaf in
     omega (arith, most, few)
 
 pub block-further : (c x word : ℕ) (answer : View) → 512 * (c + x) < 2 ^ 27 → IsEntryFor c answer word → IsEntryFor (c + x) answer (word + block_step answer * x)

@@ -4,12 +4,8 @@ use Rattle.std.proofs.lemmas.Bool.{cases_eq, cases_lt}
 use Rattle.std.proofs.lemmas.Bool.Decides.{nat_tests}
 use Rattle.base.specs.Access.{Access, View}
 use Rattle.base.specs.Manifest.{page_count}
-use Rattle.base.specs.declared.access.Rights.{Rights}
-use Rattle.base.specs.declared.access.Rights.TheVariants.{Ro, Rw}
-use Rattle.base.specs.declared.access.MemoryKind.{MemoryKind}
-use Rattle.base.specs.declared.access.MemoryKind.TheVariants.{Normal, Device}
 use Rattle.words.specs.declared.word.Entry.TheVariants.{Leaf}
-use Rattle.words.specs.Words.{leaf_fields, leaf_word_of, entry_of, IsLeafWord}
+use Rattle.words.specs.Words.{leaf_word_of, entry_of, IsLeafWord}
 use Rattle.words.proofs.RoundTrip.{entry-zero, entry-page, word-leaf}
 use Rattle.pool.specs.Pool.{Pool, IsWhole, words_of, put, words_set, sets_of, after_sets}
 use Rattle.pool.proofs.Words.{words_of-set_at}
@@ -18,6 +14,7 @@ use Rattle.stage2.specs.Change.{entry_for, step_for}
 use Rattle.stage2.specs.Chunks.{IsWordFor}
 use Rattle.stage2.specs.Clauses.{some_pages, WritesPlan}
 use Rattle.stage2.specs.History.{AreSets, Filled}
+use Rattle.stage2.proofs.Editing.LeafWords.{word-small}
 use Rattle.stage2.specs.Moments.{words_after}
 use Rattle.stage2.proofs.Editing.PlannedWords.{some-in, some-before, some-after}
 use Rattle.stage2.proofs.Walkers.Histories.{sets-wider}
@@ -45,35 +42,12 @@ word-further p x word a read small =
 pub word-zero : (n x : ℕ) → IsWordFor n None (0 + 0 * x)
 word-zero n x = let zero : 0 + 0 * x ≡ 0 = omega arith in rw zero record { entry = entry-zero 3; zero = λ none. refl }
 
--- such a word is small
-fields-small : (r : Rights) (x : Bool) (k : MemoryKind) → leaf_fields false (record { rights = r; exec = x; kind = k }) < 2 ^ 55
-unfolding leaf_fields
-fields-small Ro true Normal = omega arith
-fields-small Ro true Device = omega arith
-fields-small Ro false Normal = omega arith
-fields-small Ro false Device = omega arith
-fields-small Rw true Normal = omega arith
-fields-small Rw true Device = omega arith
-fields-small Rw false Normal = omega arith
-fields-small Rw false Device = omega arith
-
-leaf-small : (p : ℕ) (a : Access) → p < 2 ^ 27 → leaf_word_of false p a < 2 ^ 56
-unfolding leaf_word_of
-leaf-small p a small = let fields = fields-small a.rights a.exec a.kind in omega (arith, small, fields)
-
-word-small : (p word : ℕ) (a : Access) → p < 2 ^ 27 → (leaf : IsLeafWord 3 word p a) → (b : Bool) → leaf.block ≡ b → word < 2 ^ 56
-word-small p word a small leaf true is = let level : ◌≡◌ {A = ℕ} 3 2 = rw is at leaf.at_level in absurd (omega (arith, level))
-word-small p word a small leaf false is =
-    let spelled : word ≡ leaf_word_of false p a = rw is at leaf.spelled in
-    let most = leaf-small p a small in
-    omega (arith, spelled, most)
-
--- so the words of a stretch are in range
+-- the words of a stretch are in range
 pub stretch-small : (p word n : ℕ) (answer : View) → p < 2 ^ 27 → n ≤ 512 → entry_of 3 word ≡ entry_for p answer → (answer ≡ None → word ≡ 0) → word + step_for answer * n < 2 ^ 64
 stretch-small p word n None small few read is_zero = let none = is_zero refl in omega (arith, none)
 stretch-small p word n (Some a) small few read is_zero =
     let leaf = word-leaf 3 word p a read in
-    let most = word-small p word a small leaf leaf.block refl in
+    let most = word-small 3 p word a small leaf in
     omega (arith, most, few)
 
 -- and each is its page's
