@@ -5,6 +5,7 @@ mod Kept
 pub mod Nonzero
 pub mod Stretches
 pub mod Replaced
+pub mod RunWords
 pub mod Applying
 mod Contents
 mod CellMemory

@@ -1,14 +1,16 @@
 -- Words that are replaced one after another, and what else is kept.
-use Rattle.std.proofs.Common.{◌≡◌, ◌≢◌, ℕ, zero, suc, ◌+◌, ◌*◌, ◌%◌, ◌^◌, ◌<◌, ◌≤◌, ◌==◌, arith, Bool, true, false, List, [], ◌∷◌, ◌++◌, length, reverse, slice_set, refl, sym, ap, ◌∙◌, inl, inr, add-one}
+use Rattle.std.proofs.Common.{◌≡◌, ◌≢◌, ℕ, zero, suc, ◌+◌, ◌*◌, ◌%◌, ◌^◌, ◌<◌, ◌≤◌, ◌==◌, arith, Bool, true, false, List, [], ◌∷◌, ◌++◌, length, reverse, slice_index, slice_set, refl, sym, ap, ◌∙◌, inl, inr, add-one}
 use Rattle.std.proofs.lemmas.Bool.{cases_Bool}
 use Rattle.std.proofs.lemmas.Bool.Decides.{nat_tests}
 use Rattle.std.proofs.lemmas.List.{length-set, reverse-append}
 use Rattle.base.specs.Pages.{PageRun}
-use Rattle.pool.specs.Pool.{Words, Pool, words_of, after_set, after_invalidate, after_break, after_make, after_replaces}
+use Rattle.pool.specs.Pool.{Words, Pool, words_of, nonzero_in, words_set, sets_of, after_set, after_sets, after_invalidate, after_break, after_make, after_replaces}
 use Rattle.pool.specs.Shown.{IsShown}
 use Rattle.pool.specs.declared.operation.Op.{Op}
 use Rattle.pool.specs.declared.operation.Op.TheVariants.{Set, Invalidate}
 use Rattle.pool.proofs.Words.{words_of-set_at, put-other_index, put-other_page}
+use Rattle.pool.proofs.Nonzero.{word-read, nonzero-zeros}
+use Rattle.pool.proofs.Stretches.{words_set-beside}
 
 -- ---- what is shown
 
@@ -41,10 +43,10 @@ pub record Keeps (page : ℕ) (a b : Pool) : Type 0 where
   pub others : (q i : ℕ) → q ≢ page → words_of b.memory.words q i ≡ words_of a.memory.words q i
   pub made : (n : ℕ) → a.made ≡ (n + length a.operations) % 2 ^ 64 → b.made ≡ (n + length b.operations) % 2 ^ 64
 
-keeps-self : (page : ℕ) (a : Pool) → Keeps page a a
+pub keeps-self : (page : ℕ) (a : Pool) → Keeps page a a
 keeps-self page a = record { ids = refl; quotas = refl; taken = refl; whole = refl; others = λ q i other. refl; made = λ n is. is }
 
-keeps-more : (page : ℕ) (a b c : Pool) → Keeps page a b → Keeps page b c → Keeps page a c
+pub keeps-more : (page : ℕ) (a b c : Pool) → Keeps page a b → Keeps page b c → Keeps page a c
 keeps-more page a b c so here = record {
   ids = here.ids ∙ so.ids;
   quotas = here.quotas ∙ so.quotas;
@@ -146,3 +148,30 @@ replaces-beside p page first (suc n) word step start i a small room behind =
     make-beside page (first + n) (word + step * n) i (after_break p page (first + n) run b) (omega (arith, small)) (omega (arith, room, long, longer)) (λ is. absurd (omega (arith, behind, is)))
     ∙ break-beside p page (first + n) i run b (omega (arith, small)) (omega (arith, room, long)) (λ is. absurd (omega (arith, behind, is)))
     ∙ replaces-beside p page first n word step start i a (omega (arith, small)) room (omega (arith, behind))
+
+-- ---- words that are replaced in a page whose words are all 0
+
+-- none is broken, and each is written
+after_sets-more : (page first n word step : ℕ) (a : Pool) → slice_index (words_set a.memory.words page first n word step) (512 * page + (first + n)) ≢ word + step * n
+    → after_sets page first (suc n) word step a ≡ after_set page (first + n) (word + step * n) (after_sets page first n word step a)
+unfolding words_set sets_of
+after_sets-more page first n word step a differs =
+    let test : (slice_index (words_set a.memory.words page first n word step) (512 * page + (first + n)) == word + step * n) ≡ false = grind (arith, nat_tests, differs) in
+    rw test refl
+
+pub replaces-fresh : (p page first n word step start : ℕ) (a : Pool) → first + n ≤ 512 → 512 * page + 512 ≤ length a.memory.words → nonzero_in (words_of a.memory.words) page ≡ 0 → 0 < word
+    → after_replaces p page first n word step start a ≡ after_sets page first n word step a
+unfolding after_replaces words_set sets_of
+replaces-fresh p page first zero word step start a small room none some = refl
+replaces-fresh p page first (suc n) word step start a small room none some =
+    let run : PageRun = record { first = start + 512 * n; count = 512 } in
+    let next = word + step * n in
+    let b = after_sets page first n word step a in
+    let rest = replaces-fresh p page first n word step start a (omega (arith, small)) room none some in
+    let was : words_of b.memory.words page (first + n) ≡ 0 = words_set-beside a.memory.words page first n word step (first + n) room (omega (arith, small)) (inr (omega arith)) ∙ nonzero-zeros (words_of a.memory.words) page (first + n) none (omega (arith, small)) in
+    let zero_test : (words_of b.memory.words page (first + n) == 0) ≡ true = grind (arith, nat_tests, was) in
+    let some_test : (next == 0) ≡ false = (let above : 0 < next = omega (arith, some) in grind (arith, nat_tests, above)) in
+    let read = word-read b.memory.words page (first + n) (slice_index b.memory.words (512 * page + (first + n))) (omega (arith, small)) refl in
+    let differs : slice_index b.memory.words (512 * page + (first + n)) ≢ next = λ is. absurd (let zero = sym is ∙ read ∙ was in omega (arith, zero, some)) in
+    ap (λ (q : Pool). after_make page (first + n) next (after_break p page (first + n) run q)) rest
+    ∙ (rw (zero_test, some_test) (sym (after_sets-more page first n word step a differs)))

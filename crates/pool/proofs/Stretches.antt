@@ -52,7 +52,7 @@ sets_of-pass words page first n word step index next is there same =
     rw (add-one, is, there, test) refl
 
 -- how many operations were made after some more
-counted-length : (ops : List Op) (n : ℕ) → counted ops (n % 2 ^ 64) ≡ (n + length ops) % 2 ^ 64
+pub counted-length : (ops : List Op) (n : ℕ) → counted ops (n % 2 ^ 64) ≡ (n + length ops) % 2 ^ 64
 counted-length [] n = omega arith
 counted-length (op ∷ ops) n = let rest = counted-length ops n in rw rest (omega arith)
 

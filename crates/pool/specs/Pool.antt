@@ -1,5 +1,5 @@
 -- What a table memory holds, and what its calls make of it.
-use Rattle.std.specs.Prelude.{◌≡◌, ℕ, zero, suc, ◌+◌, ◌-◌, ◌*◌, ◌%◌, ◌^◌, ◌<◌, ◌≤◌, Bool, true, false, not, ◌==◌, ◌&&◌, if◌then◌else◌, nat_lt, List, [], ◌∷◌, ◌++◌, length, sum, take, replicate, slice_index, slice_index_or, slice_set}
+use Rattle.std.specs.Prelude.{◌≡◌, ℕ, zero, suc, ◌+◌, ◌-◌, ◌*◌, ◌%◌, ◌^◌, ◌<◌, ◌≤◌, Bool, true, false, not, ◌==◌, ◌&&◌, if◌then◌else◌, nat_lt, min, List, [], ◌∷◌, ◌++◌, length, sum, take, replicate, slice_index, slice_index_or, slice_set}
 use Rattle.base.specs.Counts.{count_below}
 use Rattle.base.specs.Pages.{PageRun}
 use Rattle.base.specs.Manifest.{ManifestRows, ids_of, quotas_of, row_of, page_count}
@@ -171,6 +171,20 @@ after_sets page first n word step pool =
       operations = sets_of pool.memory.words page first n word step ++ pool.operations;
       made = counted (sets_of pool.memory.words page first n word step) pool.made;
     }
+
+-- which of the 512 words of a page stands for a page n, where the first stands for `start`: 512 where it is behind them all, and 0 where it is before
+abbrev pub index_from : ℕ → ℕ → ℕ
+index_from start n = min (n - start) 512
+
+-- the words for the pages of a run are written
+abbrev pub after_run : ℕ → ℕ → ℕ → ℕ → PageRun → Pool → Pool
+after_run page start word step run pool =
+    after_sets page (index_from start run.first) (index_from start (run.first + run.count) - index_from start run.first) (word + step * index_from start run.first) step pool
+
+-- and those of some runs, one after another
+unfoldable pub after_runs : ℕ → ℕ → ℕ → ℕ → List PageRun → Pool → Pool
+after_runs page start word step [] pool = pool
+after_runs page start word step (run ∷ runs) pool = after_runs page start word step runs (after_run page start word step run pool)
 
 abbrev pub after_invalidate : ℕ → PageRun → Pool → Pool
 after_invalidate p run pool = logged (Invalidate p run) pool.memory pool

@@ -8,6 +8,7 @@ mod list_pool;
 mod operation;
 mod raw_pool;
 mod replace;
+mod runs;
 mod stretch;
 mod table_mem;
 mod table_pool;

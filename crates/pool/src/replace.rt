@@ -5,7 +5,7 @@ ghost use Rattle.pool.specs.Pool.{Pool, words_of, nonzero_in, after_set, after_b
 ghost use Rattle.pool.specs.Shown.{IsShown};
 
 use crate::operation::Op;
-use crate::stretch::recounted;
+use crate::stretch::{Stretch, WORDS, recounted, write_all};
 use crate::word_store::WordStore;
 use base::{Page, PartitionId, Run};
 
@@ -93,9 +93,78 @@ fn make_word<S: WordStore>(
     recounted(count, 0, word)
 }
 
-/// Replaces words, and records each operation behind these. It answers them, and how many words of the
-/// page are not 0. The list is owned meanwhile, so that its length can stay in a register.
-pub(crate) fn replace_all<S: WordStore>(
+/// Replaces words of a page that has zeros alone by words none of which is 0, and records each operation
+/// behind these. It answers them, and how many words of the page are not 0.
+fn make_all<S: WordStore>(store: &mut S, operations: Vec<Op>, with: Replacement) -> (Vec<Op>, u32)
+    requires ordered { with.first ≤ with.end }
+    requires index_in { with.end ≤ 512 }
+    requires inside { 512 * with.page + 512 ≤ length (S.words store.old) }
+    requires in_range { with.word + with.step * (with.end - with.first) < 2 ^ 64 }
+    requires none { nonzero_in (words_of (S.words store.old)) with.page ≡ 0 }
+    requires some { 0 < with.word }
+    requires ready { vec_len operations + 3 * with.end
+        ≤ vec_capacity operations + 3 * with.first }
+    ensures shown { (pool : Pool) → IsShown (S.words store.old) operations.items pool
+        → IsShown (S.words store.new) result.0.items (after_replaces with.who with.page with.first
+        (with.end - with.first) with.word with.step with.start pool) }
+    ensures whole { length (S.words store.new) ≡ length (S.words store.old) }
+    ensures counted { result.1 ≡ nonzero_in (words_of (S.words store.new)) with.page }
+    ensures capacity { vec_capacity result.0 ≡ vec_capacity operations }
+    ensures len { vec_len result.0 + 3 * with.first ≤ vec_len operations + 3 * with.end }
+{
+    let stretch = Stretch {
+        page: with.page,
+        first: with.first,
+        end: with.end,
+        word: with.word,
+        step: with.step,
+    };
+    (write_all(store, operations, stretch), with.end - with.first)
+}
+
+/// Replaces words of a page that has no 0 by zeros, and records each operation behind these. It answers
+/// them, and how many words of the page are not 0.
+fn break_all<S: WordStore>(
+    store: &mut S,
+    mut operations: Vec<Op>,
+    with: Replacement,
+) -> (Vec<Op>, u32)
+    requires ordered { with.first ≤ with.end }
+    requires index_in { with.end ≤ 512 }
+    requires inside { 512 * with.page + 512 ≤ length (S.words store.old) }
+    requires pages_in { with.start + 512 * (with.end - with.first) ≤ 2 ^ 27 }
+    requires all { nonzero_in (words_of (S.words store.old)) with.page ≡ 512 }
+    requires zero { with.word ≡ 0 }
+    requires same { with.step ≡ 0 }
+    requires ready { vec_len operations + 3 * with.end
+        ≤ vec_capacity operations + 3 * with.first }
+    ensures shown { (pool : Pool) → IsShown (S.words store.old) operations.items pool
+        → IsShown (S.words store.new) result.0.items (after_replaces with.who with.page with.first
+        (with.end - with.first) with.word with.step with.start pool) }
+    ensures whole { length (S.words store.new) ≡ length (S.words store.old) }
+    ensures counted { result.1 ≡ nonzero_in (words_of (S.words store.new)) with.page }
+    ensures capacity { vec_capacity result.0 ≡ vec_capacity operations }
+    ensures len { vec_len result.0 + 3 * with.first ≤ vec_len operations + 3 * with.end }
+{
+    for index in with.first..with.end {
+        store.set_word(512 * with.page as usize + index as usize, 0);
+        operations.push_reserved(Op::Set {
+            page: with.page,
+            index,
+            word: 0,
+        });
+        let start = Page::new(with.start + PAGES * (index - with.first));
+        operations.push_reserved(Op::Invalidate {
+            who: with.who,
+            run: Run::new(start, PAGES),
+        });
+    }
+    (operations, WORDS - (with.end - with.first))
+}
+
+/// Replaces words, each by what stands there and by what is to, and records each operation behind these.
+/// It answers them, and how many words of the page are not 0.
+fn replace_others<S: WordStore>(
     store: &mut S,
     mut operations: Vec<Op>,
     mut count: u32,
@@ -133,4 +202,38 @@ pub(crate) fn replace_all<S: WordStore>(
         start += PAGES;
     }
     (operations, count)
+}
+
+/// Replaces words, and records each operation behind these. It answers them, and how many words of the
+/// page are not 0. The list is owned meanwhile, so that its length can stay in a register. Where all words
+/// of the page are 0, or none is, it is known which are broken.
+pub(crate) fn replace_all<S: WordStore>(
+    store: &mut S,
+    operations: Vec<Op>,
+    count: u32,
+    with: Replacement,
+) -> (Vec<Op>, u32)
+    requires ordered { with.first ≤ with.end }
+    requires index_in { with.end ≤ 512 }
+    requires inside { 512 * with.page + 512 ≤ length (S.words store.old) }
+    requires in_range { with.word + with.step * (with.end - with.first) < 2 ^ 64 }
+    requires pages_in { with.start + 512 * (with.end - with.first) ≤ 2 ^ 27 }
+    requires counted { count ≡ nonzero_in (words_of (S.words store.old)) with.page }
+    requires ready { vec_len operations + 3 * with.end
+        ≤ vec_capacity operations + 3 * with.first }
+    ensures shown { (pool : Pool) → IsShown (S.words store.old) operations.items pool
+        → IsShown (S.words store.new) result.0.items (after_replaces with.who with.page with.first
+        (with.end - with.first) with.word with.step with.start pool) }
+    ensures whole { length (S.words store.new) ≡ length (S.words store.old) }
+    ensures counted { result.1 ≡ nonzero_in (words_of (S.words store.new)) with.page }
+    ensures capacity { vec_capacity result.0 ≡ vec_capacity operations }
+    ensures len { vec_len result.0 + 3 * with.first ≤ vec_len operations + 3 * with.end }
+{
+    if count == 0 && with.word > 0 {
+        return make_all(store, operations, with);
+    }
+    if count == WORDS && with.word == 0 && with.step == 0 {
+        return break_all(store, operations, with);
+    }
+    replace_others(store, operations, count, with)
 }

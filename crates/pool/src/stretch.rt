@@ -8,7 +8,7 @@ use crate::operation::Op;
 use crate::word_store::WordStore;
 
 /// How many words a page has.
-const WORDS: u32 = 512;
+pub(crate) const WORDS: u32 = 512;
 
 /// Words of a page from one index up to another: the first is this word, and each other a step more
 /// than the one before.
@@ -22,6 +22,7 @@ pub(crate) struct Stretch {
 }
 
 /// How many words of a page are not 0, once one that was this is that.
+#[inline(always)]
 pub(crate) fn recounted(count: u32, before: u64, after: u64) -> u32
     requires counted { 1 ≤ count ⊎ (before ≡ 0) }
     requires most { count ≤ 512 }
@@ -31,7 +32,11 @@ pub(crate) fn recounted(count: u32, before: u64, after: u64) -> u32
 }
 
 /// Writes all of these words, none of which is there, and records each write behind these operations.
-fn write_all<S: WordStore>(store: &mut S, mut operations: Vec<Op>, stretch: Stretch) -> Vec<Op>
+pub(crate) fn write_all<S: WordStore>(
+    store: &mut S,
+    mut operations: Vec<Op>,
+    stretch: Stretch,
+) -> Vec<Op>
     requires ordered { stretch.first ≤ stretch.end }
     requires index_in { stretch.end ≤ 512 }
     requires inside { 512 * stretch.page + 512 ≤ length (S.words store.old) }
@@ -62,7 +67,8 @@ fn write_all<S: WordStore>(store: &mut S, mut operations: Vec<Op>, stretch: Stre
 
 /// Writes words that are not there, and records each write behind these operations. It answers these,
 /// and how many words of the page are not 0.
-fn write_others<S: WordStore>(
+#[inline(always)]
+pub(crate) fn write_others<S: WordStore>(
     store: &mut S,
     mut operations: Vec<Op>,
     mut count: u32,

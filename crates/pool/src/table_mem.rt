@@ -1,6 +1,7 @@
 ghost use Rattle.std.specs.Prelude.{◌≡◌, ℕ, ◌+◌, ◌-◌, ◌*◌, ◌^◌, ◌<◌, ◌≤◌, length, reverse, IfOk, OnOk, true, false};
 ghost use Rattle.base.specs.Manifest.{ManifestRows, page_count};
-ghost use Rattle.pool.specs.Pool.{Pool, IsWhole, InShareOf, IsLowestFreeOf, pages_of, words_of, taken_of, nonzero_in, new_pool, after_set, after_sets, after_replaces, after_invalidate, after_clear, after_take, after_give, emptied, free_of, image_of};
+ghost use Rattle.base.specs.Pages.{are_normal};
+ghost use Rattle.pool.specs.Pool.{Pool, IsWhole, InShareOf, IsLowestFreeOf, pages_of, words_of, taken_of, nonzero_in, new_pool, after_set, after_sets, after_runs, after_replaces, after_invalidate, after_clear, after_take, after_give, emptied, free_of, image_of};
 
 use crate::image::Image;
 use crate::operation::Op;
@@ -12,9 +13,9 @@ use std::alloc::Global;
 /// the partitions' roots, in ascending order of identifier; after all roots come the partitions'
 /// shares in the same order, each as many pages as its partition's quota.
 ///
-/// A page of a share is free or taken, and a free page holds zeros alone. `set_word`, `set_words` and
-/// `replace_words` change words, and nothing else changes any. Each word that is written, each
-/// invalidation and each clear is recorded as an `Op`.
+/// A page of a share is free or taken, and a free page holds zeros alone. `set_word`, `set_words`,
+/// `set_runs` and `replace_words` change words, and nothing else changes any. Each word that is written,
+/// each invalidation and each clear is recorded as an `Op`.
 pub trait TableMem {
     /// What the pages hold, which are taken, and what was done.
     ghost state: { Self → Pool };
@@ -60,6 +61,18 @@ pub trait TableMem {
         ensures state { state self.new
             ≡ after_sets page first (end - first) word step (state self.old) }
         ensures room { room self.old + first ≤ room self.new + end };
+
+    /// Writes the words of a root, or of a page that is taken, that stand for the pages of runs: its 512
+    /// words stand for the page `start` and those behind it. The word of the first is to be this, and that
+    /// of each other a step more than the one before. A word that is there is not written.
+    fn set_runs(&mut self, page: u32, start: Page, runs: &[Run], word: u64, step: u64)
+        requires page_in { page < page_count (state self.old).memory.quotas }
+        requires taken { taken_of (state self.old).memory.taken page ≡ true }
+        requires normal { are_normal runs.now ≡ true }
+        requires in_range { word + step * 512 < 2 ^ 64 }
+        requires ready { 512 ≤ room self.old }
+        ensures state { state self.new ≡ after_runs page start word step runs.now (state self.old) }
+        ensures room { room self.old ≤ room self.new + 512 };
 
     /// Replaces words of a root, or of a page that is taken, from one index up to another: the first by
     /// this word, and each other by one that is a step more than the one before. Each stands for 512

@@ -7,6 +7,7 @@ ghost use Rattle.pool.specs.Pool as shares;
 use crate::image::Image;
 use crate::operation::Op;
 use crate::replace::{Replacement, replace_all};
+use crate::runs::{RunWords, write_runs};
 use crate::stretch::{Stretch, recounted, write_words};
 use crate::table_mem::TableMem;
 use crate::word_store::WordStore;
@@ -171,6 +172,21 @@ impl<S: WordStore> TableMem for TablePool<S> {
             step,
         };
         let (operations, count) = write_words(&mut self.store, operations, count, stretch);
+        self.operations = operations;
+        self.nonzero[page as usize] = count;
+    }
+
+    fn set_runs(&mut self, page: u32, start: Page, runs: &[Run], word: u64, step: u64) {
+        let alloc = *self.operations.allocator();
+        let operations = replace(&mut self.operations, Vec::new(alloc));
+        let count = self.nonzero[page as usize];
+        let with = RunWords {
+            page,
+            start: start.number(),
+            word,
+            step,
+        };
+        let (operations, count) = write_runs(&mut self.store, operations, count, runs, with);
         self.operations = operations;
         self.nonzero[page as usize] = count;
     }

@@ -1,7 +1,7 @@
 use Rattle.std.proofs.Common.{◌≡◌, ◌+◌, ◌-◌, ◌*◌, ◌≤◌, length, vec_len, vec_capacity}
 use Rattle.pool.specs.Pool.{Pool, words_of, nonzero_in, after_replaces}
 use Rattle.pool.specs.Shown.{IsShown}
-use Rattle.pool.proofs.replace.replace_all.Given as goal
+use Rattle.pool.proofs.replace.replace_others.Given as goal
 
 -- the words before this index are replaced
 abbrev pub invariant-loop-index : goal.invariant-loop-index

@@ -3,7 +3,7 @@ use Rattle.base.specs.Pages.{PageRun}
 use Rattle.pool.specs.Pool.{Pool, after_replaces, after_break}
 use Rattle.pool.specs.Shown.{IsShown}
 use Rattle.pool.proofs.Replaced.{replaces-none, replaces-more}
-use Rattle.pool.proofs.replace.replace_all.Goals as goal
+use Rattle.pool.proofs.replace.replace_others.Goals as goal
 
 pub loop-index-init : goal.loop-index-init
 loop-index-init g c =

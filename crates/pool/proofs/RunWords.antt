@@ -1,0 +1,167 @@
+-- The words for the pages of runs, and what else is kept.
+use Rattle.std.proofs.Common.{◌≡◌, ◌≢◌, ℕ, ◌+◌, ◌-◌, ◌*◌, ◌%◌, ◌^◌, ◌<◌, ◌≤◌, arith, true, nat_lt, List, [], ◌∷◌, ◌++◌, length, get_or, drop, reverse, refl, sym, ap, ap₂, ◌∙◌}
+use Rattle.std.proofs.Math.Nat.{mul-le-mul_left}
+use Rattle.std.proofs.lemmas.Bool.{and_parts}
+use Rattle.std.proofs.lemmas.Bool.Decides.{nat_tests}
+use Rattle.std.proofs.lemmas.List.{length-append, at_drop_more, at_drop_all}
+use Rattle.base.specs.Pages.{PageRun, rise_above, are_normal}
+use Rattle.pool.specs.Pool.{Pool, words_of, words_set, sets_of, counted, after_sets, index_from, after_run, after_runs}
+use Rattle.pool.specs.Shown.{IsShown}
+use Rattle.pool.specs.declared.operation.Op.{Op}
+use Rattle.pool.proofs.Stretches.{length-words_set, words_set-other, counted-length}
+use Rattle.pool.proofs.Replaced.{Keeps, keeps-self, keeps-more}
+
+-- ---- none, and one run more
+
+pub after_runs-none : (page start word step : ℕ) (pool : Pool) → after_runs page start word step [] pool ≡ pool
+unfolding after_runs
+after_runs-none page start word step pool = refl
+
+pub after_runs-next : (page start word step : ℕ) (run : PageRun) (runs : List PageRun) (pool : Pool)
+    → after_runs page start word step (run ∷ runs) pool ≡ after_runs page start word step runs (after_run page start word step run pool)
+unfolding after_runs
+after_runs-next page start word step run runs pool = refl
+
+sets-none : (page first word step : ℕ) (pool : Pool) → after_sets page first 0 word step pool ≡ pool
+unfolding words_set sets_of
+sets-none page first word step pool = refl
+
+-- ---- what is kept
+
+pub run-ordered : (start : ℕ) (run : PageRun) → index_from start run.first ≤ index_from start (run.first + run.count)
+run-ordered start run = omega arith
+
+pub run-within : (start : ℕ) (run : PageRun) → index_from start run.first + (index_from start (run.first + run.count) - index_from start run.first) ≤ 512
+run-within start run = omega arith
+
+pub ids-after_runs : (page start word step : ℕ) (runs : List PageRun) (pool : Pool) → (after_runs page start word step runs pool).memory.ids ≡ pool.memory.ids
+unfolding after_runs
+ids-after_runs page start word step [] pool = refl
+ids-after_runs page start word step (run ∷ runs) pool = ids-after_runs page start word step runs (after_run page start word step run pool)
+
+pub quotas-after_runs : (page start word step : ℕ) (runs : List PageRun) (pool : Pool) → (after_runs page start word step runs pool).memory.quotas ≡ pool.memory.quotas
+unfolding after_runs
+quotas-after_runs page start word step [] pool = refl
+quotas-after_runs page start word step (run ∷ runs) pool = quotas-after_runs page start word step runs (after_run page start word step run pool)
+
+pub taken-after_runs : (page start word step : ℕ) (runs : List PageRun) (pool : Pool) → (after_runs page start word step runs pool).memory.taken ≡ pool.memory.taken
+unfolding after_runs
+taken-after_runs page start word step [] pool = refl
+taken-after_runs page start word step (run ∷ runs) pool = taken-after_runs page start word step runs (after_run page start word step run pool)
+
+pub length-after_runs : (page start word step : ℕ) (runs : List PageRun) (pool : Pool) → length (after_runs page start word step runs pool).memory.words ≡ length pool.memory.words
+unfolding after_runs
+length-after_runs page start word step [] pool = refl
+length-after_runs page start word step (run ∷ runs) pool =
+    length-after_runs page start word step runs (after_run page start word step run pool)
+    ∙ length-words_set pool.memory.words page (index_from start run.first) (index_from start (run.first + run.count) - index_from start run.first) (word + step * index_from start run.first) step
+
+pub keeps-sets : (page first n word step : ℕ) (a : Pool) → first + n ≤ 512 → 512 * page + 512 ≤ length a.memory.words → Keeps page a (after_sets page first n word step a)
+keeps-sets page first n word step a small room =
+    let sets = sets_of a.memory.words page first n word step in
+    record {
+      ids = refl;
+      quotas = refl;
+      taken = refl;
+      whole = length-words_set a.memory.words page first n word step;
+      others = λ q i other. words_set-other a.memory.words page first n word step q i room small other;
+      made = λ k is.
+          let long = length-append sets a.operations in
+          let sum : k + length a.operations + length sets ≡ k + length (sets ++ a.operations) = omega (arith, long) in
+          ap (counted sets) is ∙ counted-length sets (k + length a.operations) ∙ ap (λ x. x % 2 ^ 64) sum;
+    }
+
+pub keeps-runs : (page start word step : ℕ) (runs : List PageRun) (a : Pool) → 512 * page + 512 ≤ length a.memory.words → Keeps page a (after_runs page start word step runs a)
+unfolding after_runs
+keeps-runs page start word step [] a room = keeps-self page a
+keeps-runs page start word step (run ∷ runs) a room =
+    let b = after_run page start word step run a in
+    let here : Keeps page a b = keeps-sets page (index_from start run.first) (index_from start (run.first + run.count) - index_from start run.first) (word + step * index_from start run.first) step a (run-within start run) room in
+    let long = here.whole in
+    keeps-more page a b (after_runs page start word step runs b) here (keeps-runs page start word step runs b (omega (arith, long, room)))
+
+-- ---- which words they are
+
+-- the words from one index up to another
+pub words-in_range : (word step first end : ℕ) → word + step * 512 < 2 ^ 64 → first ≤ 512 → end ≤ 512 → word + step * first + step * (end - first) < 2 ^ 64
+words-in_range word step first end fits low high =
+    let most : step * (first + (end - first)) ≤ step * 512 = mul-le-mul_left step (omega (arith, low, high)) in
+    let sum : step * (first + (end - first)) ≡ step * first + step * (end - first) = omega arith in
+    omega (arith, fits, most, sum)
+
+-- the word of a page alone, by a difference that wraps
+pub page-index : (start number index : ℕ) → start < 2 ^ 27 → number < 2 ^ 27 → index ≡ (number + (2 ^ 32 - start)) % 2 ^ 32 → index < 512
+    → (index ≡ index_from start number) × (index + 1 ≡ index_from start (number + 1))
+page-index start number index below inside is small = (omega (arith, below, inside, is, small), omega (arith, below, inside, is, small))
+
+pub page-outside : (start number index : ℕ) → start < 2 ^ 27 → number < 2 ^ 27 → index ≡ (number + (2 ^ 32 - start)) % 2 ^ 32 → 512 ≤ index
+    → index_from start (number + 1) ≡ index_from start number
+page-outside start number index below inside is large = omega (arith, below, inside, is, large)
+
+-- how many of the 512 words stand for pages of runs
+abbrev pub words_in : ℕ → List PageRun → ℕ
+words_in start [] = 0
+words_in start (run ∷ runs) = (index_from start (run.first + run.count) - index_from start run.first) + words_in start runs
+
+words_in-rise : (start end : ℕ) (runs : List PageRun) → rise_above end runs ≡ true → index_from start end + words_in start runs ≤ 512
+words_in-rise start end [] up = omega arith
+words_in-rise start end (run ∷ runs) up =
+    let rest = words_in-rise start (run.first + run.count) runs (and_parts (nat_lt end run.first) (rise_above (run.first + run.count) runs) up).1 in
+    let above : end < run.first = (let test = (and_parts (nat_lt end run.first) (rise_above (run.first + run.count) runs) up).0 in grind (arith, nat_tests, test)) in
+    omega (arith, rest, above)
+
+-- each at most once
+pub words_in-normal : (start : ℕ) (runs : List PageRun) → are_normal runs ≡ true → words_in start runs ≤ 512
+words_in-normal start [] normal = omega arith
+words_in-normal start (run ∷ runs) normal =
+    let rest = words_in-rise start (run.first + run.count) runs normal in
+    omega (arith, rest)
+
+-- ---- what is shown
+
+pub shown-sets : (store new : List ℕ) (list more : List Op) (page first n word step : ℕ) (pool : Pool) → new ≡ words_set store page first n word step
+    → reverse more ≡ sets_of store page first n word step ++ reverse list → IsShown store list pool → IsShown new more (after_sets page first n word step pool)
+shown-sets store new list more page first n word step pool written made shown = record {
+  words = written ∙ ap (λ w. words_set w page first n word step) shown.words;
+  operations = made ∙ ap₂ (λ w l. sets_of w page first n word step ++ l) shown.words shown.operations;
+}
+
+pub shown-run : (store new : List ℕ) (list more : List Op) (page start word step first end from : ℕ) (run : PageRun) (pool : Pool)
+    → first ≡ index_from start run.first → end ≡ index_from start (run.first + run.count) → from ≡ first
+    → new ≡ words_set store page first (end - first) (word + step * from) step → reverse more ≡ sets_of store page first (end - first) (word + step * from) step ++ reverse list
+    → IsShown store list pool → IsShown new more (after_run page start word step run pool)
+shown-run store new list more page start word step first end from run pool at to same written made shown =
+    shown-sets store new list more page (index_from start run.first) (index_from start (run.first + run.count) - index_from start run.first) (word + step * index_from start run.first) step pool
+    (rw (same, at, to) at written) (rw (same, at, to) at made) shown
+
+-- what words of other pages show
+pub others-runs : (page start word step : ℕ) (runs : List PageRun) (store new : List ℕ) (list more : List Op) → 512 * page + 512 ≤ length store
+    → ((pool : Pool) → IsShown store list pool → IsShown new more (after_runs page start word step runs pool)) → (q i : ℕ) → q ≢ page → words_of new q i ≡ words_of store q i
+others-runs page start word step runs store new list more room shown q i other =
+    let before : Pool = record { memory = record { ids = []; quotas = []; words = store; taken = [] }; operations = reverse list; made = 0 } in
+    let after = shown before (record { words = refl; operations = refl }) in
+    ap (λ w. words_of w q i) after.words ∙ (keeps-runs page start word step runs before room).others q i other
+
+-- a run none of whose pages has a word among them
+pub after_run-outside : (page start word step : ℕ) (run : PageRun) (pool : Pool) → index_from start (run.first + run.count) ≡ index_from start run.first → after_run page start word step run pool ≡ pool
+after_run-outside page start word step run pool is =
+    let none : index_from start (run.first + run.count) - index_from start run.first ≡ 0 = omega (arith, is) in
+    ap (λ n. after_sets page (index_from start run.first) n (word + step * index_from start run.first) step pool) none
+    ∙ sets-none page (index_from start run.first) (word + step * index_from start run.first) step pool
+
+-- ---- the runs that are left
+
+pub after_runs-left : (page start word step i : ℕ) (runs : List PageRun) (run : PageRun) (pool : Pool) → i < length runs → run ≡ get_or runs i run
+    → after_runs page start word step (drop i runs) pool ≡ after_runs page start word step (drop (i + 1) runs) (after_run page start word step run pool)
+after_runs-left page start word step i runs run pool lt is =
+    at_drop_more (λ l. after_runs page start word step l pool) runs i run lt
+    ∙ ap (λ r. after_runs page start word step (r ∷ drop (i + 1) runs) pool) (sym is)
+    ∙ after_runs-next page start word step run (drop (i + 1) runs) pool
+
+pub after_runs-done : (page start word step i : ℕ) (runs : List PageRun) (pool : Pool) → length runs ≤ i → after_runs page start word step (drop i runs) pool ≡ pool
+after_runs-done page start word step i runs pool all = at_drop_all (λ l. after_runs page start word step l pool) runs i all ∙ after_runs-none page start word step pool
+
+pub words_in-left : (start i : ℕ) (runs : List PageRun) (run : PageRun) → i < length runs → run ≡ get_or runs i run
+    → words_in start (drop i runs) ≡ (index_from start (run.first + run.count) - index_from start run.first) + words_in start (drop (i + 1) runs)
+words_in-left start i runs run lt is =
+    at_drop_more (words_in start) runs i run lt ∙ ap (λ r. words_in start (r ∷ drop (i + 1) runs)) (sym is)

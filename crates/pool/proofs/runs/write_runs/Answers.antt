@@ -1,0 +1,44 @@
+use Rattle.std.proofs.Common.{length, vec_capacity, refl, sym, subst, ◌∙◌, arith}
+use Rattle.pool.specs.Pool.{Pool, after_run}
+use Rattle.pool.specs.Shown.{IsShown}
+use Rattle.pool.proofs.RunWords.{words_in-normal, words_in-left, after_runs-left, after_runs-done}
+use Rattle.pool.proofs.runs.write_runs.Goals as goal
+
+pub loop-run-init : goal.loop-run-init
+loop-run-init g c =
+    let few = words_in-normal c.args.with.start c.args.runs.now c.requires.normal in
+    record {
+      shown = λ pool shown. (pool, shown, refl);
+      whole = λ i. length (g.S.WordStore.words c.args.store.now);
+      counted = c.requires.counted;
+      capacity = λ i. vec_capacity c.args.operations;
+      len = omega (arith, few);
+    }
+
+pub loop-run-preserved : goal.loop-run-preserved
+loop-run-preserved g c =
+    let w = c.args.with in
+    let runs = c.args.runs.now in
+    let run = c.run-item.result in
+    let i = c.loop-run.run-index in
+    let before = c.loop-run.invariant in
+    let left = words_in-left w.start i runs run c.loop-run-test.true c.run-item.is in
+    record {
+      shown = λ pool shown.
+          let was = before.shown pool shown in (
+            after_run w.page w.start w.word w.step run was.0,
+            c.write_run.ensures.shown was.0 was.1,
+            sym (after_runs-left w.page w.start w.word w.step i runs run was.0 c.loop-run-test.true c.run-item.is) ∙ was.2,
+          );
+      whole = c.write_run.ensures.whole ∙ before.whole;
+      counted = c.write_run.ensures.counted;
+      capacity = c.write_run.ensures.capacity ∙ before.capacity;
+      len = omega (arith, before.len, c.write_run.ensures.len, left);
+    }
+
+pub returns-clause-shown : goal.returns-clause-shown
+returns-clause-shown g c = λ pool shown.
+    let w = c.args.with in
+    let was = c.loop-run.invariant.shown pool shown in
+    subst (λ (p : Pool). IsShown (g.S.WordStore.words c.loop-run.store) c.loop-run.operations.items p)
+    (sym (after_runs-done w.page w.start w.word w.step c.loop-run.run-index c.args.runs.now was.0 c.loop-run-test.false) ∙ was.2) was.1

@@ -1,0 +1,122 @@
+//! Words of a page that stand for the pages of runs.
+
+ghost use Rattle.std.specs.Prelude.{◌≡◌, ◌+◌, ◌*◌, ◌^◌, ◌<◌, ◌≤◌, length, true, vec_len, vec_capacity};
+ghost use Rattle.base.specs.Pages.{are_normal};
+ghost use Rattle.pool.specs.Pool.{Pool, words_of, nonzero_in, index_from, after_run, after_runs};
+ghost use Rattle.pool.specs.Shown.{IsShown};
+
+use crate::operation::Op;
+use crate::stretch::{Stretch, WORDS, write_others};
+use crate::word_store::WordStore;
+use base::Run;
+
+/// What the words of a page are to be: the first stands for the page `start` and is this word, and each
+/// other stands for a page more, and is a step more, than the one before.
+#[derive(Clone, Copy)]
+pub(crate) struct RunWords {
+    pub(crate) page: u32,
+    pub(crate) start: u32,
+    pub(crate) word: u64,
+    pub(crate) step: u64,
+}
+
+impl RunWords {
+    /// The words from one index up to another.
+    #[inline(always)]
+    fn stretch(self, first: u32, end: u32) -> Stretch
+        requires { self.word + self.step * first < 2 ^ 64 }
+        ensures { result ≡ record {
+          page = self.page;
+          first = first;
+          end = end;
+          word = self.word + self.step * first;
+          step = self.step;
+        } }
+    {
+        Stretch {
+            page: self.page,
+            first,
+            end,
+            word: self.word + self.step * u64::from(first),
+            step: self.step,
+        }
+    }
+}
+
+/// Which of 512 words stands for a page, where the first stands for `start`: 512 where it is behind them
+/// all, and 0 where it is before.
+#[inline(always)]
+fn index_from(start: u32, number: u32) -> u32
+    ensures { result ≡ index_from start number }
+{
+    number.saturating_sub(start).min(WORDS)
+}
+
+/// Writes the words for the pages of a run that are not there, and records each write behind these
+/// operations. It answers these, and how many words of the page are not 0. Runs of one page are many, and
+/// that their word is among the 512 is one comparison.
+#[inline(always)]
+fn write_run<S: WordStore>(
+    store: &mut S,
+    operations: Vec<Op>,
+    count: u32,
+    run: Run,
+    with: RunWords,
+) -> (Vec<Op>, u32)
+    requires inside { 512 * with.page + 512 ≤ length (S.words store.old) }
+    requires start_in { with.start < 2 ^ 27 }
+    requires in_range { with.word + with.step * 512 < 2 ^ 64 }
+    requires counted { count ≡ nonzero_in (words_of (S.words store.old)) with.page }
+    requires ready { vec_len operations + index_from with.start (run.first + run.count)
+        ≤ vec_capacity operations + index_from with.start run.first }
+    ensures shown { (pool : Pool) → IsShown (S.words store.old) operations.items pool
+        → IsShown (S.words store.new) result.0.items
+        (after_run with.page with.start with.word with.step run pool) }
+    ensures whole { length (S.words store.new) ≡ length (S.words store.old) }
+    ensures counted { result.1 ≡ nonzero_in (words_of (S.words store.new)) with.page }
+    ensures capacity { vec_capacity result.0 ≡ vec_capacity operations }
+    ensures len { vec_len result.0 + index_from with.start run.first
+        ≤ vec_len operations + index_from with.start (run.first + run.count) }
+{
+    if run.count() == 1 {
+        let index = run.first().number().wrapping_sub(with.start);
+        if index >= WORDS {
+            return (operations, count);
+        }
+        return write_others(store, operations, count, with.stretch(index, index + 1));
+    }
+    let first = index_from(with.start, run.first().number());
+    let end = index_from(with.start, run.end());
+    write_others(store, operations, count, with.stretch(first, end))
+}
+
+/// Writes the words for the pages of runs that are not there, and records each write behind these
+/// operations. It answers these, and how many words of the page are not 0. The list is owned meanwhile, so
+/// that its length can stay in a register.
+#[inline(always)]
+pub(crate) fn write_runs<S: WordStore>(
+    store: &mut S,
+    mut operations: Vec<Op>,
+    mut count: u32,
+    runs: &[Run],
+    with: RunWords,
+) -> (Vec<Op>, u32)
+    requires inside { 512 * with.page + 512 ≤ length (S.words store.old) }
+    requires start_in { with.start < 2 ^ 27 }
+    requires normal { are_normal runs.now ≡ true }
+    requires in_range { with.word + with.step * 512 < 2 ^ 64 }
+    requires counted { count ≡ nonzero_in (words_of (S.words store.old)) with.page }
+    requires ready { vec_len operations + 512 ≤ vec_capacity operations }
+    ensures shown { (pool : Pool) → IsShown (S.words store.old) operations.items pool
+        → IsShown (S.words store.new) result.0.items
+        (after_runs with.page with.start with.word with.step runs.now pool) }
+    ensures whole { length (S.words store.new) ≡ length (S.words store.old) }
+    ensures counted { result.1 ≡ nonzero_in (words_of (S.words store.new)) with.page }
+    ensures capacity { vec_capacity result.0 ≡ vec_capacity operations }
+    ensures len { vec_len result.0 ≤ vec_len operations + 512 }
+{
+    for run in runs {
+        (operations, count) = write_run(store, operations, count, *run, with);
+    }
+    (operations, count)
+}
