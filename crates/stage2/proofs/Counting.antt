@@ -1,3 +1,4 @@
 pub mod Needs
 pub mod Growth
+pub mod Bounds
 pub mod Nonzero

@@ -6,6 +6,7 @@ pub mod Level3Words
 pub mod PlannedWords
 pub mod LeafWords
 pub mod Stretches
+pub mod RunWords
 pub mod FourChunkEdits
 pub mod RootLinks
 pub mod ChunkByChunk

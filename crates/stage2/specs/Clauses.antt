@@ -27,10 +27,6 @@ Puts page index word old new = pages_of new.memory ≡ with_put page index word 
 abbrev pub WritesPlan : ℕ → ℕ → (ℕ → Option View) → Pool → Pool → Type 0
 WritesPlan k c plan old new = Writes k c plan (pages_of old.memory) (pages_of new.memory)
 
--- the word of one page
-abbrev pub one_page : ℕ → View → ℕ → Option View
-one_page page answer n = if n == page then Some answer else None
-
 -- the words of a chunk's pages from one up to another, counted from its first
 abbrev pub some_pages : ℕ → ℕ → ℕ → View → ℕ → Option View
 some_pages c first end answer n =

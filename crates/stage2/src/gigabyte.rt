@@ -15,8 +15,8 @@ use crate::edit::{give_page, put_word, take_page};
 use crate::layout::Layout;
 use crate::part::chunk_runs;
 use crate::place::{Chunk, Gigabyte, Span, end_chunk, first_chunk};
-use crate::read::{read_gigabyte, read_word};
-use crate::span::{chunk_span, next_unfilled};
+use crate::read::{AT_ONCE, read_gigabyte, read_word};
+use crate::span::{chunk_span, first_unfilled};
 use crate::table_page::{Row, TablePage};
 use base::{Access, PartitionId, Run};
 use pool::TableMem;
@@ -36,6 +36,37 @@ pub(crate) fn touches(runs: &[Run], chunk: Chunk) -> bool
     runs.iter().any(|run| run_touches(*run, chunk))
 }
 
+/// Whether none of 64 chunks of a gigabyte that follow one another, from this one on, has a table.
+fn are_plain<M: TableMem>(memory: &M, second: TablePage, first: u32) -> bool
+    requires page_in { second < page_count (M.state memory.now).memory.quotas }
+    requires most { first + 64 ≤ 512 }
+    ensures { result ≡ true → (layout : Layout) (x : ℕ) → first ≤ x → x < first + 64
+        → next_page (slot layout 2 (word_in (M.state memory.now) second x)) ≡ None }
+{
+    let mut are = true;
+    for index in first..first + AT_ONCE {
+        are &= !points_at_table(read_word(memory, second, index));
+    }
+    are
+}
+
+/// Up to where chunks of a gigabyte, counted from its first, have no table, as far as many words at
+/// once tell it.
+fn plain_at_once<M: TableMem>(memory: &M, second: TablePage, first: u32, end: u32) -> u32
+    requires page_in { second < page_count (M.state memory.now).memory.quotas }
+    requires most { end ≤ 512 }
+    ensures from { first ≤ result }
+    ensures most { first < result → result ≤ end }
+    ensures plain { (layout : Layout) (x : ℕ) → first ≤ x → x < result
+        → next_page (slot layout 2 (word_in (M.state memory.now) second x)) ≡ None }
+{
+    let mut index = first;
+    while index < end && end - index >= AT_ONCE && are_plain(memory, second, index) {
+        index += AT_ONCE;
+    }
+    index
+}
+
 /// Up to where chunks of a gigabyte, counted from its first, have no table.
 fn plain_until<M: TableMem>(memory: &M, second: TablePage, first: u32, end: u32) -> u32
     requires page_in { second < page_count (M.state memory.now).memory.quotas }
@@ -45,7 +76,7 @@ fn plain_until<M: TableMem>(memory: &M, second: TablePage, first: u32, end: u32)
     ensures plain { (layout : Layout) (x : ℕ) → first ≤ x → x < result
         → next_page (slot layout 2 (word_in (M.state memory.now) second x)) ≡ None }
 {
-    let mut index = first;
+    let mut index = plain_at_once(memory, second, first, end);
     while index < end && !points_at_table(read_word(memory, second, index)) {
         index += 1;
     }
@@ -80,7 +111,7 @@ fn edit_chunks<M: TableMem>(
 {
     let span = chunk_span(runs, gigabyte);
     let mut index = span.first;
-    let mut unfilled = span.first;
+    let mut unfilled = first_unfilled(runs, gigabyte, index, span.end);
     while index < span.end {
         let plain = plain_until(memory, second, index, unfilled.min(span.end));
         if index < plain {
@@ -96,8 +127,8 @@ fn edit_chunks<M: TableMem>(
             if touches(part, chunk) {
                 edit_chunk(memory, layout, p, row, second, chunk, part, access);
             }
-            unfilled = next_unfilled(runs, gigabyte, index, span.end);
             index += 1;
+            unfilled = first_unfilled(runs, gigabyte, index, span.end);
         }
     }
 }

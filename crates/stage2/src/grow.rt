@@ -20,7 +20,7 @@ use crate::part::{chunk_runs, gigabyte_runs};
 use crate::place::{Chunk, Gigabyte};
 use crate::read::read_chunk;
 use crate::row::touches;
-use crate::span::{chunk_span, gigabyte_span, next_unfilled};
+use crate::span::{chunk_span, first_unfilled, gigabyte_span};
 use crate::table_page::{Row, TablePage};
 use crate::walked::Slot;
 use base::{Access, Run};
@@ -140,7 +140,7 @@ fn grow_chunks<M: TableMem>(
         if takes(memory, layout, row, second, gigabyte, index, runs, access) {
             count += 1;
         }
-        index = next_unfilled(runs, gigabyte, index, span.end);
+        index = first_unfilled(runs, gigabyte, index + 1, span.end);
     }
     count
 }

@@ -74,12 +74,14 @@ fn page_after<M: TableMem>(
     }
 }
 
-/// Whether one of the runs has all pages of a chunk.
+/// Whether the first of the runs has all pages of a chunk. Of runs that have a page there, no other can.
 pub(crate) fn is_filled(runs: &[Run], chunk: Chunk) -> bool
-    ensures { result ≡ covers_chunk chunk runs.now }
+    ensures { result ≡ true → covers_chunk chunk runs.now ≡ true }
 {
-    runs.iter().any(|run| run.first().number() <= chunk.first().number()
-        && chunk.end() <= run.end())
+    match runs.first() {
+        Some(run) => { run.first().number() <= chunk.first().number() && chunk.end() <= run.end() }
+        None => false,
+    }
 }
 
 /// The one answer that all pages of a chunk have after the edit; none where they are not all alike.

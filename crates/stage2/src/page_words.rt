@@ -1,43 +1,23 @@
 //! The words of a chunk's pages, in its level 3 table.
 
-ghost use Rattle.std.specs.Prelude.{◌≡◌, ℕ, ◌+◌, ◌*◌, ◌/◌, ◌%◌, ◌<◌, ◌≤◌, true, [], Some, None, is_some, if◌then◌else◌, IfNone};
-ghost use Rattle.base.specs.Access.{View};
+ghost use Rattle.std.specs.Prelude.{◌≡◌, ℕ, ◌+◌, ◌*◌, ◌<◌, ◌≤◌, true, [], Some, None, if◌then◌else◌, IfNone};
 ghost use Rattle.base.specs.Pages.{are_normal};
 ghost use Rattle.base.specs.Manifest.{page_count};
 ghost use Rattle.pool.specs.Pool.{taken_of};
 ghost use Rattle.stage2.specs.Chunks.{planned, IsWordFor};
 ghost use Rattle.stage2.specs.History.{Filled};
-ghost use Rattle.stage2.specs.Clauses.{WritesPlan, one_page, some_pages, LeavesZero, OthersAnswer, word_in};
+ghost use Rattle.stage2.specs.Clauses.{WritesPlan, some_pages, LeavesZero, OthersAnswer, word_in};
 
-use crate::edit::{put_word, put_words, step_of, word_of};
+use crate::edit::{put_runs, put_words, step_of, word_of};
 use crate::part::{is_covered, runs_from, stretch_at};
-use crate::place::{Chunk, Span, page_index};
+use crate::place::{Chunk, Span};
 use crate::read::{AT_ONCE, read_word};
-use crate::span::page_span;
 use crate::table_page::TablePage;
 use base::{Access, Page, Run};
 use pool::TableMem;
 
 /// From so many runs in a chunk on, which are short then, its pages are looked at one by one.
 const MANY_RUNS: usize = 8;
-
-/// Writes the level 3 word of a page into a table, if it is not there.
-fn write_page<M: TableMem>(memory: &mut M, third: TablePage, page: Page, answer: &Option<Access>)
-    requires page_in { third < page_count (M.state memory.old).memory.quotas }
-    requires taken { taken_of (M.state memory.old).memory.taken third ≡ true }
-    requires room { 0 < M.room memory.old }
-    ensures writes { WritesPlan third (page / 512) (one_page page answer.now)
-        (M.state memory.old) (M.state memory.new) }
-    ensures filled { Filled third (page / 512) (page % 512 + 1) (one_page page answer.now)
-        (M.state memory.old) (M.state memory.new) }
-    ensures room { M.room memory.old ≤ M.room memory.new + 1 }
-{
-    let index = page_index(page);
-    let word = word_of(page, answer);
-    if read_word(memory, third, index) != word {
-        put_word(memory, third, index, word);
-    }
-}
 
 /// Writes the words for pages of a chunk that follow one another, counted from its first, into a
 /// table, where they are not there. The pages have one answer.
@@ -65,62 +45,64 @@ fn write_pages<M: TableMem>(
     }
 }
 
-/// Where the pages of a chunk stand for which something is planned, counted from its first.
-fn planned_span(runs: &[Run], chunk: Chunk, others: &Option<Option<Access>>) -> Span
-    requires normal { are_normal runs.now ≡ true }
-    ensures ordered { result.first ≤ result.end }
-    ensures most { result.end ≤ 512 }
-    ensures within { (access : View) (x : ℕ) → x < 512
-        → is_some (planned runs.now access others.now (512 * chunk + x)) ≡ true
-        → (result.first ≤ x) × (x < result.end) }
-{
-    match others {
-        Some(_) => Span { first: 0, end: 512 },
-        None => page_span(runs, chunk),
-    }
-}
-
-/// What is planned for pages that the runs have, or that they have not.
-fn plan_of(
-    is_covered: bool,
-    access: &Option<Access>,
-    others: &Option<Option<Access>>,
-) -> Option<Option<Access>>
-    ensures { result ≡ (if is_covered then Some access.now else others.now) }
-{
-    if is_covered { Some(*access) } else { *others }
-}
-
-/// The same as `write_table`, one page after another.
-fn write_each<M: TableMem>(
+/// Writes the words for the pages of the runs in a chunk into a table, where they are not there.
+fn write_runs<M: TableMem>(
     memory: &mut M,
     third: TablePage,
     chunk: Chunk,
     runs: &[Run],
     access: &Option<Access>,
-    others: &Option<Option<Access>>,
 )
     requires normal { are_normal runs.now ≡ true }
     requires page_in { third < page_count (M.state memory.old).memory.quotas }
     requires taken { taken_of (M.state memory.old).memory.taken third ≡ true }
     requires room { 512 ≤ M.room memory.old }
-    ensures writes { WritesPlan third chunk (planned runs.now access.now others.now)
+    ensures writes { WritesPlan third chunk (planned runs.now access.now None)
         (M.state memory.old) (M.state memory.new) }
-    ensures filled { Filled third chunk 512 (planned runs.now access.now others.now)
+    ensures filled { Filled third chunk 512 (planned runs.now access.now None)
         (M.state memory.old) (M.state memory.new) }
     ensures room { M.room memory.old ≤ M.room memory.new + 512 }
 {
-    let span = planned_span(runs, chunk, others);
-    let (inside, outside) = (*access, *others);
+    let word = word_of(chunk.first(), access);
+    put_runs(memory, third, chunk, runs, word, step_of(access));
+}
+
+/// What pages answer that the runs have, or that they have not.
+fn answer_of(is_covered: bool, access: &Option<Access>, other: &Option<Access>) -> Option<Access>
+    ensures { result ≡ (if is_covered then access.now else other.now) }
+{
+    if is_covered { *access } else { *other }
+}
+
+/// Writes the words for all pages of a chunk, upward, into a table, where they are not there: pages of
+/// the runs get one answer, and the others another one.
+fn fill_table<M: TableMem>(
+    memory: &mut M,
+    third: TablePage,
+    chunk: Chunk,
+    runs: &[Run],
+    access: &Option<Access>,
+    other: &Option<Access>,
+)
+    requires normal { are_normal runs.now ≡ true }
+    requires page_in { third < page_count (M.state memory.old).memory.quotas }
+    requires taken { taken_of (M.state memory.old).memory.taken third ≡ true }
+    requires room { 512 ≤ M.room memory.old }
+    ensures writes { WritesPlan third chunk (planned runs.now access.now (Some other.now))
+        (M.state memory.old) (M.state memory.new) }
+    ensures filled { Filled third chunk 512 (planned runs.now access.now (Some other.now))
+        (M.state memory.old) (M.state memory.new) }
+    ensures room { M.room memory.old ≤ M.room memory.new + 512 }
+{
     let mut rest = runs;
-    for index in span.first..span.end {
-        let page = chunk.page(index);
-        rest = runs_from(rest, page);
-        if is_covered(rest, page) {
-            write_page(memory, third, page, &inside);
-        } else if let Some(answer) = &outside {
-            write_page(memory, third, page, answer);
-        }
+    let mut first = 0;
+    while first < 512 {
+        rest = runs_from(rest, chunk.page(first));
+        let part = stretch_at(rest, chunk, first, 512);
+        let end = part.end;
+        let answer = answer_of(part.is_covered, access, other);
+        write_pages(memory, third, chunk, Span { first, end }, answer);
+        first = end;
     }
 }
 
@@ -144,22 +126,9 @@ pub(crate) fn write_table<M: TableMem>(
         (M.state memory.old) (M.state memory.new) }
     ensures room { M.room memory.old ≤ M.room memory.new + 512 }
 {
-    if runs.len() >= MANY_RUNS {
-        write_each(memory, third, chunk, runs, access, others);
-        return;
-    }
-    let span = planned_span(runs, chunk, others);
-    let mut rest = runs;
-    let mut first = span.first;
-    while first < span.end {
-        rest = runs_from(rest, chunk.page(first));
-        let part = stretch_at(rest, chunk, first, span.end);
-        let end = part.end;
-        match plan_of(part.is_covered, access, others) {
-            Some(answer) => write_pages(memory, third, chunk, Span { first, end }, answer),
-            None => {}
-        }
-        first = end;
+    match others {
+        Some(other) => fill_table(memory, third, chunk, runs, access, other),
+        None => write_runs(memory, third, chunk, runs, access),
     }
 }
 

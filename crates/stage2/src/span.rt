@@ -3,7 +3,9 @@
 
 ghost use Rattle.std.specs.Prelude.{◌≡◌, ℕ, ◌+◌, ◌*◌, ◌/◌, ◌^◌, ◌<◌, ◌≤◌, true};
 ghost use Rattle.base.specs.Pages.{are_normal, covers};
-ghost use Rattle.stage2.specs.Chunks.{covers_chunk};
+ghost use Rattle.base.specs.Access.{View};
+ghost use Rattle.base.specs.Need.{grow};
+ghost use Rattle.stage2.specs.Chunks.{covers_chunk, edited};
 ghost use Rattle.stage2.specs.Gigabytes.{touches_chunk};
 ghost use Rattle.stage2.specs.Parts.{end_from, lie_within};
 
@@ -37,6 +39,19 @@ fn end_of_last(runs: &[Run]) -> u32
         Some(last) => last.end(),
         None => 0,
     }
+}
+
+/// How many table pages an edit of the pages of these runs takes at most: one for each chunk and each
+/// gigabyte from the first that they touch to the last. It reads no table.
+pub fn most_growth(runs: &[Run]) -> u32
+    requires normal { are_normal runs.now ≡ true }
+    ensures { (before : ℕ → View) (access : View)
+        → grow before (edited runs.now access before) ≤ result }
+{
+    let pages = bounds(runs);
+    let gigabytes = (pages.end + 262_143) / 512 / 512 - pages.first / 512 / 512;
+    let chunks = (pages.end + 511) / 512 - pages.first / 512;
+    gigabytes + chunks
 }
 
 /// The gigabytes from the first that the runs touch to the last.
@@ -74,40 +89,23 @@ pub(crate) fn chunk_span(runs: &[Run], gigabyte: Gigabyte) -> Span
     }
 }
 
-/// The pages of a chunk, counted from its first, from the first that the runs have to the last.
-pub(crate) fn page_span(runs: &[Run], chunk: Chunk) -> Span
-    requires normal { are_normal runs.now ≡ true }
-    ensures ordered { result.first ≤ result.end }
-    ensures most { result.end ≤ 512 }
-    ensures within { (x : ℕ) → x < 512 → covers runs.now (512 * chunk + x) ≡ true
-        → (result.first ≤ x) × (x < result.end) }
-{
-    let pages = bounds(runs);
-    let start = chunk.first().number();
-    let first = pages.first.max(start).min(chunk.end());
-    let end = pages.end.max(start).min(chunk.end());
-    Span {
-        first: first - start,
-        end: end - start,
-    }
-}
-
-/// The first chunk of a gigabyte behind this one, counted from its first, that is not known to be
+/// The first chunk of a gigabyte from this one on, counted from its first, that is not known to be
 /// filled by the run that goes on there. Chunks from the last one's end on are not asked for.
-pub(crate) fn next_unfilled(runs: &[Run], gigabyte: Gigabyte, index: u32, end: u32) -> u32
+pub(crate) fn first_unfilled(runs: &[Run], gigabyte: Gigabyte, index: u32, end: u32) -> u32
     requires normal { are_normal runs.now ≡ true }
-    requires index { index < 512 }
-    ensures after { index < result }
+    requires index { index ≤ 512 }
+    requires end { end ≤ 512 }
+    ensures from { index ≤ result }
     ensures most { result ≤ 512 }
-    ensures filled { (x : ℕ) → index < x → x < result
+    ensures filled { (x : ℕ) → index ≤ x → x < result
         → covers_chunk (512 * gigabyte + x) runs.now ≡ true }
 {
-    if end <= index + 1 {
-        return index + 1;
+    if end <= index {
+        return index;
     }
-    let next = gigabyte.chunk(index).end();
+    let next = gigabyte.chunk(index).first().number();
     match runs_between(runs, next, next + 1).first() {
         Some(run) => whole_chunks(run.end().min(gigabyte.end())) - gigabyte.chunks().first,
-        None => index + 1,
+        None => index,
     }
 }

@@ -18,7 +18,7 @@ pub(crate) struct Words {
     pub(crate) nonzero: u32,
 }
 
-/// How many words of a table, from one index up to another, are not 0.
+/// How many words of a table, from one index up to another, are not 0. One word is read without a loop.
 fn nonzero_between<M: TableMem>(memory: &M, third: TablePage, indexes: Span) -> u32
     requires page_in { third < page_count (M.state memory.now).memory.quotas }
     requires ordered { indexes.first ≤ indexes.end }
@@ -26,6 +26,9 @@ fn nonzero_between<M: TableMem>(memory: &M, third: TablePage, indexes: Span) -> 
     ensures { result ≡ nonzero_among (word_in (M.state memory.now) third)
         (is_between indexes.first indexes.end) }
 {
+    if indexes.end == indexes.first + 1 {
+        return u32::from(read_word(memory, third, indexes.first) != 0);
+    }
     let mut count = 0;
     for index in indexes.first..indexes.end {
         count += u32::from(read_word(memory, third, index) != 0);

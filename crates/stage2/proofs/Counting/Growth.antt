@@ -129,8 +129,12 @@ grows-nothing runs access v c none =
     let same : is_mixed (edited runs access v) c ≡ is_mixed v c = mixed-same v (edited runs access v) c (λ i small. let f = none (512 * c + i) (omega (arith, small)) in rw f refl) in
     rw same (and-not (is_mixed v c))
 
+pub reaches-nothing : (runs : List PageRun) (access : View) (v : ℕ → View) (g : ℕ) → ((n : ℕ) → n / 512 / 512 ≡ g → covers runs n ≡ false) → (is_reached (edited runs access v) g && not (is_reached v g)) ≡ false
+reaches-nothing runs access v g none =
+    let same : is_reached (edited runs access v) g ≡ is_reached v g = reached-same v (edited runs access v) g (λ i small. let f = none (262144 * g + i) (omega (arith, small)) in rw f refl) in
+    ap (λ b. b && not (is_reached v g)) same ∙ and-not (is_reached v g)
+
 pub growth-nothing : (runs : List PageRun) (access : View) (v : ℕ → View) (g : ℕ) → ((n : ℕ) → n / 512 / 512 ≡ g → covers runs n ≡ false) → gigabyte_growth v (edited runs access v) g ≡ 0
 growth-nothing runs access v g none =
-    let same : is_reached (edited runs access v) g ≡ is_reached v g = reached-same v (edited runs access v) g (λ i small. let f = none (262144 * g + i) (omega (arith, small)) in rw f refl) in
     let chunks : count_below (λ x. grows_at v (edited runs access v) (512 * g + x)) 512 ≡ 0 = count_below-none (λ x. grows_at v (edited runs access v) (512 * g + x)) 512 (λ x lt. grows-nothing runs access v (512 * g + x) (λ n at. none n (omega (arith, lt, at)))) in
-    ap₂ (λ a b. cond a 1 0 + b) (ap (λ b. b && not (is_reached v g)) same ∙ and-not (is_reached v g)) chunks
+    ap₂ (λ a b. cond a 1 0 + b) (reaches-nothing runs access v g none) chunks

@@ -1,39 +1,12 @@
 -- The words of one level 3 table, one after another.
-use Rattle.std.proofs.Common.{◌≡◌, ◌≢◌, ℕ, ◌+◌, ◌*◌, ◌/◌, ◌%◌, ◌<◌, ◌≤◌, Bool, true, false, cond, eqb, ltb, List, [], is_some, Option, Some, None, refl, arith, ap, sym, ◌∙◌, inl, inr}
-use Rattle.std.proofs.lemmas.Bool.{cases_Bool, eqb-true}
+use Rattle.std.proofs.Common.{◌≡◌, ℕ, ◌+◌, ◌*◌, ◌<◌, ◌≤◌, Bool, true, false, cond, ltb, List, [], is_some, Option, Some, None, refl, arith, sym, ◌∙◌, inl, inr}
+use Rattle.std.proofs.lemmas.Bool.{cases_Bool}
 use Rattle.std.proofs.lemmas.Bool.Decides.{nat_tests}
 use Rattle.base.specs.Access.{View}
 use Rattle.words.proofs.RoundTrip.{entry-zero}
-use Rattle.pool.specs.Pool.{Pages, put, with_put}
+use Rattle.pool.specs.Pool.{Pages}
 use Rattle.base.specs.Pages.{PageRun, covers}
 use Rattle.stage2.specs.Chunks.{planned, Writes, IsWordFor, below}
-use Rattle.stage2.proofs.Tree.WalkFrame.{put-other, put-same}
-
--- one page's word
-abbrev pub only : ℕ → View → ℕ → Option View
-only page answer n = cond (eqb n page) (Some answer) None
-
-only-at : (page n : ℕ) (answer x : View) → only page answer n ≡ Some x → (n ≡ page) × (answer ≡ x)
-only-at page n answer x e = elim (cases_Bool (eqb n page)) [
-  | inl t ↦ let same : Some answer ≡ Some x = rw t at e in (eqb-true _ _ t, cc)
-  | inr f ↦ let none : None ≡ Some x = rw f at e in absurd (cc)
-]
-
--- the word is written
-pub writes-put : (k page word : ℕ) (answer : View) (m new : Pages) → IsWordFor page answer word → new ≡ with_put k (page % 512) word m → Writes k (page / 512) (only page answer) m new
-writes-put k page word answer m new is e = record {
-  ids = ap (λ (x : Pages). x.ids) e;
-  quotas = ap (λ (x : Pages). x.quotas) e;
-  taken = ap (λ (x : Pages). x.taken) e;
-  others = λ q i apart. ap (λ (x : Pages). x.words q i) e ∙ put-other m.words k (page % 512) word q i (λ same _. apart same);
-  here = λ i x small given.
-      let f = only-at page (512 * (page / 512) + i) answer x given in
-      let index : i ≡ page % 512 = omega (arith, f.0) in
-      let read : new.words k i ≡ word = ap (λ (x : Pages). x.words k i) e ∙ ap (put k (page % 512) word m.words k) index ∙ put-same m.words k (page % 512) word in
-      rw (read, f.0, ← f.1) is;
-  stays = λ i small none.
-      ap (λ (x : Pages). x.words k i) e ∙ put-other m.words k (page % 512) word k i (λ _ index. let at : 512 * (page / 512) + i ≡ page = omega (arith, index) in let some : only page answer (512 * (page / 512) + i) ≡ Some answer = rw at (grind (arith, nat_tests)) in absurd (cc));
-}
 
 before-at : (plan : ℕ → Option View) (m n : ℕ) (x : View) → below m plan n ≡ Some x → (n < m) × (plan n ≡ Some x)
 before-at plan m n x e = elim (cases_Bool (ltb n m)) [
@@ -96,21 +69,6 @@ writes-over k c i j plan part a b e le before same after so next = record {
       | inl t ↦ let lt : x < j = grind (arith, nat_tests, t) in sym (same x from lt) ∙ sym (below-in plan (512 * c + j) (512 * c + x) (omega (arith, lt))) ∙ none
       | inr t ↦ after x (grind (arith, nat_tests, t))
     ]
-
-only-other : (page n : ℕ) (answer : View) → n ≢ page → only page answer n ≡ None
-only-other page n answer apart = let no : eqb n page ≡ false = grind (arith, nat_tests, apart) in rw no refl
-
-only-same : (page : ℕ) (answer : View) → only page answer page ≡ Some answer
-only-same page answer = let yes : eqb page page ≡ true = grind (arith, nat_tests) in rw yes refl
-
--- one page more, whose word is written
-pub writes-step : (k c i : ℕ) (plan : ℕ → Option View) (answer : View) (a b e : Pages) → plan (512 * c + i) ≡ Some answer
-    → Writes k c (below (512 * c + i) plan) a b → Writes k c (only (512 * c + i) answer) b e → Writes k c (below (512 * c + (i + 1)) plan) a e
-writes-step k c i plan answer a b e some so next = writes-over k c i (i + 1) plan (only (512 * c + i) answer) a b e (omega arith)
-    (λ x lt. only-other (512 * c + i) (512 * c + x) answer (λ is. omega (arith, is, lt)))
-    (λ x from lt. let is : x ≡ i = omega (arith, from, lt) in rw is (some ∙ sym (only-same (512 * c + i) answer)))
-    (λ x from. only-other (512 * c + i) (512 * c + x) answer (λ is. omega (arith, is, from)))
-    so next
 
 -- pages from the i-th up to the j-th, for which nothing is planned
 pub writes-pass : (k c i j : ℕ) (plan : ℕ → Option View) (a b : Pages) → i ≤ j → ((x : ℕ) → i ≤ x → x < j → plan (512 * c + x) ≡ None)

@@ -60,7 +60,7 @@ covered-between (r ∷ runs) n =
 -- ---- the first of runs
 
 -- runs that begin above a page don't have it
-before-all : (end : ℕ) (runs : List PageRun) (n : ℕ) → rise_above end runs ≡ true → n ≤ end → covers runs n ≡ false
+pub before-all : (end : ℕ) (runs : List PageRun) (n : ℕ) → rise_above end runs ≡ true → n ≤ end → covers runs n ≡ false
 before-all end [] n rises le = refl
 before-all end (r ∷ runs) n rises le =
     let both = and_parts (ltb end r.first) (rise_above (end_of r) runs) rises in

@@ -1,6 +1,5 @@
 -- Operations, one after another.
-use Rattle.std.proofs.Common.{◌≡◌, ℕ, ◌+◌, ◌*◌, ◌%◌, ◌^◌, ◌≤◌, cond, eqb, None, inl, inr, List, [], ◌∷◌, ◌++◌, refl, ap, sym, ◌∙◌, arith, append_assoc, Option, Some}
-use Rattle.std.proofs.lemmas.Bool.{cases_Bool, eqb-true}
+use Rattle.std.proofs.Common.{◌≡◌, ℕ, ◌+◌, ◌*◌, ◌%◌, ◌^◌, ◌≤◌, List, [], ◌∷◌, ◌++◌, refl, ap, sym, ◌∙◌, arith, append_assoc, Option, Some}
 use Rattle.base.specs.Access.{View}
 use Rattle.pool.specs.declared.operation.Op.{Op}
 use Rattle.pool.specs.declared.operation.Op.TheVariants.{Set, Invalidate, Clear}
@@ -64,19 +63,6 @@ filled-over k c i j plan part a b e le over so next = record {
   made = made-more so.ops next.ops a b e so.made next.made;
   sets = sets-over k c i j plan part next.ops so.ops le over next.sets so.sets;
 }
-
--- one page more
-pub filled-step : (k c i : ℕ) (plan : ℕ → Option View) (answer : View) (a b e : Pool) → plan (512 * c + i) ≡ Some answer → Filled k c i plan a b → Filled k c (i + 1) (λ n. cond (eqb n (512 * c + i)) (Some answer) None) b e → Filled k c (i + 1) plan a e
-filled-step k c i plan answer a b e some so next = filled-over k c i (i + 1) plan (λ n. cond (eqb n (512 * c + i)) (Some answer) None) a b e (omega arith) this so next
-  where
-    this : (x : ℕ) (v : View) → cond (eqb (512 * c + x) (512 * c + i)) (Some answer) None ≡ Some v → (i ≤ x) × (plan (512 * c + x) ≡ Some v)
-    this x v given = elim (cases_Bool (eqb (512 * c + x) (512 * c + i))) [
-      | inl t ↦
-          let here : 512 * c + x ≡ 512 * c + i = eqb-true _ _ t in
-          let same : Some answer ≡ Some v = rw t at given in
-          (omega (arith, here), ap plan here ∙ some ∙ same)
-      | inr f ↦ let none : None ≡ Some v = rw f at given in absurd (cc)
-    ]
 
 pub filled-wider : (k c i b : ℕ) (plan : ℕ → Option View) (a e : Pool) → i ≤ b → Filled k c i plan a e → Filled k c b plan a e
 filled-wider k c i b plan a e le h = record { ops = h.ops; made = h.made; sets = sets-wider k c i b plan h.ops le h.sets }

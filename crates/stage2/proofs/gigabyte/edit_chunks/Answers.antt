@@ -183,7 +183,7 @@ loop-index-preserved g c =
             (march-seated c.args.layout.now c.args.row c.args.gigabyte c.args.second c.args.runs.now c.args.access.now old c.requires.partition c.chunk_span-span.ensures.in_range i (omega (arith, c.loop-index-test.true, c.chunk_span-span.ensures.most)) mid c.loop-index.invariant.underway seated)
             (chunk-free chunk runs part c.args.access.now covered v
             (march-free c.args.layout.now c.args.row c.args.gigabyte c.args.second c.args.runs.now c.args.access.now old c.requires.partition c.chunk_span-span.ensures.in_range i (omega (arith, c.loop-index-test.true, c.chunk_span-span.ensures.most)) mid c.loop-index.invariant.underway free))));
-        filled = λ x from to. c.next_unfilled-unfilled.ensures.filled x (omega (arith, from)) to;
+        filled = c.first_unfilled-unfilled-else-index-plain.ensures.filled;
         last = omega (arith, c.loop-index-test.true);
         room = less (g.M.TableMem.room c.args.memory.now) (g.M.TableMem.room c.loop-index.memory) (g.M.TableMem.room t.edit_chunk.new.memory) (f i) (515 + part_count chunk part) (sum_below f i) (sum_below f (i + 1))
             (cost chunk runs part is (sym touches ∙ t.if-touches.true)) more c.loop-index.invariant.room (rw here at t.edit_chunk.ensures.room);
@@ -196,7 +196,7 @@ loop-index-preserved g c =
             march-skip c.args.layout.now c.args.row c.args.gigabyte c.args.second c.args.runs.now c.args.access.now old c.requires.partition c.chunk_span-span.ensures.in_range
             i (omega (arith, c.loop-index-test.true, c.chunk_span-span.ensures.most)) mid c.loop-index.invariant.underway (g.M.TableMem.state c.args.memory.now) (g.M.TableMem.state c.loop-index.memory)
             (sym (chunk-touches chunk runs part is) ∙ sym touches ∙ t.if-touches.false) (c.loop-index.invariant.in_step seated free);
-        filled = λ x from to. c.next_unfilled-unfilled.ensures.filled x (omega (arith, from)) to;
+        filled = c.first_unfilled-unfilled-else-index-plain.ensures.filled;
         last = omega (arith, c.loop-index-test.true);
         room = omega (arith, up, c.loop-index.invariant.room);
       })
@@ -221,7 +221,7 @@ loop-index-init g c =
     let le : 0 + first ≤ 512 = omega (arith, most, ordered) in
     record {
       underway = subst (UnderwayAt c.args.layout.now c.args.row c.args.gigabyte c.args.second c.args.runs.now c.args.access.now old old c.requires.partition c.chunk_span-span.ensures.in_range) e (underway-gap c.args.layout.now c.args.row c.args.gigabyte c.args.second c.args.runs.now c.args.access.now old old c.requires.partition c.chunk_span-span.ensures.in_range first 0 le none start);
-      filled = λ x from to. absurd (omega (arith, from, to));
+      filled = c.first_unfilled-unfilled.ensures.filled;
       in_step = λ seated free. stays-none c.args.layout.now c.args.row (disturbed_below c.args.gigabyte first c.args.runs.now v w) (λ n. walked n (w n)) state;
       last = c.chunk_span-span.ensures.ordered;
       room = omega arith;

@@ -47,17 +47,17 @@ loop-index-preserved g c =
     let v = answers_of c.args.layout.now (pages_of (g.M.TableMem.state c.args.memory.now).memory).words c.args.row.now in
     let f : ℕ → Bool = λ x. grows_at v (edited c.args.runs.now c.args.access.now v) (512 * c.args.gigabyte + x) in
     let i = c.loop-index.index in
-    let next = c.next_unfilled-index.result in
-    let after = c.next_unfilled-index.ensures.after in
+    let next = c.first_unfilled-index.result in
+    let after = c.first_unfilled-index.ensures.from in
     let more = count_below-more f i in
     let gap : count_below f next ≡ count_below f (i + 1) = count_below-tail f (i + 1) next (omega (arith, after))
-    (λ x from small. filled-grows c.args.runs.now c.args.access.now v (512 * c.args.gigabyte + x) (c.next_unfilled-index.ensures.filled x (omega (arith, from)) small)) in
+    (λ x from small. filled-grows c.args.runs.now c.args.access.now v (512 * c.args.gigabyte + x) (c.first_unfilled-index.ensures.filled x (omega (arith, from)) small)) in
     let is : c.loop-index.count ≡ count_below f i = c.loop-index.invariant.counted in
     elim c.if-takes.branch [
       | then-takes w ↦ let one : f i ≡ true = sym c.takes.ensures ∙ w.if-takes.true in
-          record { counted = w.count-is ∙ up c.loop-index.count (count_below f i) (count_below f (i + 1)) (f i) one is more ∙ sym gap; most = c.next_unfilled-index.ensures.most }
+          record { counted = w.count-is ∙ up c.loop-index.count (count_below f i) (count_below f (i + 1)) (f i) one is more ∙ sym gap; most = c.first_unfilled-index.ensures.most }
       | else-takes w ↦ let none : f i ≡ false = sym c.takes.ensures ∙ w.if-takes.false in
-          record { counted = w.count-is ∙ stay c.loop-index.count (count_below f i) (count_below f (i + 1)) (f i) none is more ∙ sym gap; most = c.next_unfilled-index.ensures.most }
+          record { counted = w.count-is ∙ stay c.loop-index.count (count_below f i) (count_below f (i + 1)) (f i) none is more ∙ sym gap; most = c.first_unfilled-index.ensures.most }
     ]
   where
     up : (count below next : ℕ) (b : Bool) → b ≡ true → count ≡ below → next ≡ cond b 1 0 + below → count + 1 ≡ next

@@ -46,5 +46,5 @@ returns-then-is_filled g c =
     let chunk = 512 * c.args.gigabyte + c.args.index in
     let here = c.chunk-chunk.ensures.same in
     let before : ℕ → View = answers_of c.args.layout.now m.words c.args.row.now in
-    let filled = outcome-filled part access before chunk (sym (rw here at c.is_filled.ensures) ∙ c.if-is_filled.true) in
+    let filled = outcome-filled part access before chunk ((rw here at c.is_filled.ensures) c.if-is_filled.true) in
     ap (λ b. b && not (is_mixed before chunk)) (filled.mixed ∙ chunk-mixed chunk runs part access (chunk-covers chunk runs part (rw here at c.chunk_runs-part.ensures.same)) before)
