@@ -15,7 +15,7 @@ use crate::state::State;
 use base::{OutOfMemory, PartitionId};
 use manifest::Manifest;
 use pool::TableMem;
-use stage2::Tables;
+use stage2::{Tables, most_growth};
 use wire::Reply;
 
 /// Whether the tables of an edit by partition `p` fit its quota: the tables that it has, and those that
@@ -35,6 +35,7 @@ pub(crate) fn fits<M: TableMem + Drop>(
     }
 }
 
+/// Whether one edit fits. Mostly a bound of what it takes tells that, for which no table is read.
 fn edit_fits<M: TableMem + Drop>(
     manifest: &Manifest,
     tables: &Tables<M>,
@@ -44,9 +45,12 @@ fn edit_fits<M: TableMem + Drop>(
     requires orderly { IsOrderly p edit.now }
     ensures { result ≡ fits_in manifest.now tables.now (Some edit.now) }
 {
-    let used = tables.used(p);
-    let grown = tables.grow(p, &edit.runs, edit.to);
-    u64::from(used) + u64::from(grown) <= u64::from(manifest.quota(p))
+    let used = u64::from(tables.used(p));
+    let quota = u64::from(manifest.quota(p));
+    if used + u64::from(most_growth(&edit.runs)) <= quota {
+        return true;
+    }
+    used + u64::from(tables.grow(p, &edit.runs, edit.to)) <= quota
 }
 
 /// Makes the change of a call of partition `p`, whose edit fits. It first takes the memory that is still
