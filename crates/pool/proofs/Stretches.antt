@@ -1,5 +1,5 @@
 -- Words of a page that follow one another, and the operations that write them.
-use Rattle.std.proofs.Common.{◌≡◌, ◌≢◌, ℕ, zero, suc, ◌+◌, ◌*◌, ◌%◌, ◌^◌, ◌<◌, ◌≤◌, ◌==◌, arith, Bool, true, false, List, [], ◌∷◌, ◌++◌, length, reverse, slice_index, slice_set, true≢false, refl, sym, ap, ap₂, ◌∙◌, ◌⊎◌, inl, inr, add-one}
+use Rattle.std.proofs.Common.{◌≡◌, ◌≢◌, ℕ, zero, suc, ◌+◌, ◌*◌, ◌%◌, ◌^◌, ◌<◌, ◌≤◌, ◌==◌, not, arith, Bool, true, false, List, [], ◌∷◌, ◌++◌, length, reverse, slice_index, slice_set, true≢false, refl, sym, ap, ap₂, ◌∙◌, ◌⊎◌, inl, inr, add-one}
 use Rattle.std.proofs.lemmas.Bool.{cases_eq}
 use Rattle.std.proofs.lemmas.Bool.Decides.{nat_tests}
 use Rattle.std.proofs.lemmas.List.{length-set, length-append, length-reverse}
@@ -9,6 +9,7 @@ use Rattle.pool.specs.declared.operation.Op.{Op}
 use Rattle.pool.specs.declared.operation.Op.TheVariants.{Set}
 use Rattle.pool.proofs.Words.{words_of-set_at, put-same, put-other_index, put-other_page}
 use Rattle.pool.specs.Shown.{AllDiffer}
+use Rattle.pool.proofs.Count.{count_below-none}
 use Rattle.pool.proofs.Nonzero.{word-read, nonzero-put, nonzero-zeros, nonzero-full, counts_nonzero-page}
 
 -- their number stays
@@ -175,3 +176,13 @@ differ-next words page first n m word step index next room small lt at there dif
     let read = word-read (words_set words page first n word step) page index (slice_index (words_set words page first n word step) (512 * page + index)) (omega (arith, at, small, lt)) refl in
     let beside = words_set-beside words page first n word step index room (omega (arith, small, lt)) (inr (omega (arith, at))) in
     differ n lt (ap (words_of words page) at ∙ sym beside ∙ sym read ∙ is ∙ sym there)
+
+-- a page whose words are all made 0
+pub nonzero-wiped : (words : List ℕ) (page first n word step : ℕ) → 512 * page + 512 ≤ length words → first + n ≤ 512 → n ≡ 512 → word ≡ 0 → step ≡ 0 → nonzero_in (words_of (words_set words page first n word step)) page ≡ 0
+unfolding nonzero_in
+nonzero-wiped words page first n word step room small all word_none step_none =
+    count_below-none (λ i. not (words_of (words_set words page first n word step) page i == 0)) 512 (λ i lt.
+    let start : first + i ≡ i = omega (arith, small, all) in
+    let at = words_set-at words page first n word step i room small (omega (arith, lt, all)) in
+    let is : words_of (words_set words page first n word step) page i ≡ 0 = ap (words_of (words_set words page first n word step) page) (sym start) ∙ at ∙ ap₂ (λ w t. w + t * i) word_none step_none ∙ omega arith in
+    rw is refl)

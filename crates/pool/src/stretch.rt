@@ -107,6 +107,37 @@ pub(crate) fn write_others<S: WordStore>(
     (operations, count)
 }
 
+/// Writes 0 where another word is there, and records each write behind these operations.
+fn clear_words<S: WordStore>(store: &mut S, mut operations: Vec<Op>, stretch: Stretch) -> Vec<Op>
+    requires ordered { stretch.first ≤ stretch.end }
+    requires index_in { stretch.end ≤ 512 }
+    requires inside { 512 * stretch.page + 512 ≤ length (S.words store.old) }
+    requires zero { stretch.word ≡ 0 }
+    requires same { stretch.step ≡ 0 }
+    requires ready { vec_len operations + stretch.end
+        ≤ vec_capacity operations + stretch.first }
+    ensures words { S.words store.new ≡ words_set (S.words store.old) stretch.page stretch.first
+        (stretch.end - stretch.first) stretch.word stretch.step }
+    ensures made { reverse result.items ≡ sets_of (S.words store.old) stretch.page stretch.first
+        (stretch.end - stretch.first) stretch.word stretch.step ++ reverse operations.items }
+    ensures capacity { vec_capacity result ≡ vec_capacity operations }
+    ensures len { vec_len result + stretch.first ≤ vec_len operations + stretch.end }
+{
+    let page = stretch.page;
+    for index in stretch.first..stretch.end {
+        let place = 512 * page as usize + index as usize;
+        if store.word(place) != 0 {
+            store.set_word(place, 0);
+            operations.push_reserved(Op::Set {
+                page,
+                index,
+                word: 0,
+            });
+        }
+    }
+    operations
+}
+
 /// Writes words that are not there, and records each write behind these operations. It answers these,
 /// and how many words of the page are not 0. The list is owned meanwhile, so that its length can stay
 /// in a register. Where all words of the page are 0, or none is, it is known which are not there.
@@ -137,6 +168,9 @@ pub(crate) fn write_words<S: WordStore>(
     }
     if count == WORDS && stretch.word == 0 && stretch.step == 0 {
         return (write_all(store, operations, stretch), WORDS - written);
+    }
+    if written == WORDS && stretch.word == 0 && stretch.step == 0 {
+        return (clear_words(store, operations, stretch), 0);
     }
     write_others(store, operations, count, stretch)
 }
