@@ -1,10 +1,10 @@
 -- Pages that are alike are free alike, and a page of each segment tells of all.
-use Rattle.std.proofs.Common.{◌≡◌, ℕ, zero, suc, ◌+◌, ◌-◌, ◌<◌, ◌≤◌, Bool, true, false, ◌&&◌, not, cond, drop, List, ◌∷◌, Option, Some, None, refl, sym, ap, ap₂, ◌∙◌, arith}
+use Rattle.std.proofs.Common.{◌≡◌, ℕ, zero, suc, ◌+◌, ◌-◌, ◌<◌, ◌≤◌, Bool, true, false, ◌&&◌, not, cond, List, ◌∷◌, Option, Some, None, refl, sym, ap, ◌∙◌, arith}
 use Rattle.std.specs.Option.{option_map_or}
 use Rattle.base.specs.Access.{Access, View, is_rw, is_normal, is_same_bool, is_reached_with}
 use Rattle.base.specs.Ledger.{is_idle}
 use Rattle.base.specs.Buffers.{Pair, in_pair, is_buffer, pair_of}
-use Rattle.base.specs.State.{State, is_free, free_home, home_of, is_free_with, each_page, each_page_in, common_home}
+use Rattle.base.specs.State.{State, is_free, free_home, home_of, is_free_with, each_page, each_page_in}
 use Rattle.base.specs.Pages.{PageRun}
 use Rattle.rules.specs.Calls.Buffers.{may_be_buffer}
 use Rattle.rules.specs.Run.{IsReached}
@@ -93,7 +93,20 @@ module _ (f : ℕ → Bool) (homes : ℕ → View) (test : View → Bool) (by : 
   pub segment-fails : n < end → test here ≡ false → all ≡ false
   segment-fails lt fails = sym so_far ∙ each_page-fails f end n lt (one ∙ fails)
 
--- ---- the first range of a send
+-- ---- the ranges of a send
+
+-- where it holds of a run's pages before this one, those from it on decide
+pub each_page-known : (f : ℕ → Bool) (run : PageRun) (start end : ℕ) → end ≡ run.first + run.count → run.first ≤ start → start ≤ run.first + run.count → ((n : ℕ) → run.first ≤ n → n < start → f n ≡ true)
+    → each_page f start (end - start) ≡ each_page f run.first run.count
+each_page-known f run start end last behind inside holds =
+    let left : end - run.first ≡ run.count = omega arith in
+    let e : run.first + (start - run.first) ≡ start = omega arith in
+    let past = each_page-past f end (start - run.first) run.first (omega arith) (λ n from to. holds n from (omega (arith, to))) in
+    sym (sym (ap (each_page f run.first) left) ∙ past ∙ ap (λ i. each_page f i (end - i)) e)
+
+-- the next range and those behind it decide
+pub next-range : (f : ℕ → Bool) (ranges rest : List PageRun) (run : PageRun) (here all : Bool) → ranges ≡ run ∷ rest → here ≡ each_page f run.first run.count → each_page_in f ranges ≡ all → (here && each_page_in f rest) ≡ all
+next-range f ranges rest run here all are is so_far = ap (λ b. b && each_page_in f rest) is ∙ sym (ap (each_page_in f) are) ∙ so_far
 
 same_bool : (a : Bool) → is_same_bool a a ≡ true
 same_bool true = refl
@@ -103,17 +116,7 @@ same_bool false = refl
 with-itself : (home : Access) → is_reached_with home (Some home) ≡ true
 with-itself home = rw (same_bool (is_rw home.rights), same_bool home.exec, same_bool (is_normal home.kind)) refl
 
--- the pages behind the first segment decide, and the ranges behind the first
-pub common-home : (s : State) (p : ℕ) (ranges rest : List PageRun) (run : PageRun) (home : Access) (page until : ℕ) (first others : Bool) → ranges ≡ run ∷ rest → page ≡ run.first → Some home ≡ free_home s p page → IsAlikeUntil (free_home s p) page (run.first + run.count) until
-    → first ≡ each_page (is_free_with s p home) until (run.first + run.count - until) → others ≡ each_page_in (is_free_with s p home) (drop 1 ranges)
-    → cond (first && others) (Some home) None ≡ common_home s p ranges
-unfolding common_home
-common-home s p ranges rest run home page until first others are at here alike is behind =
-    let f = is_free_with s p home in
-    let left : run.first + run.count - run.first ≡ run.count = omega arith in
-    let all : each_page f run.first (run.first + run.count - run.first) ≡ each_page f run.first run.count = ap (each_page f run.first) left in
-    let decided = segment-holds f (free_home s p) (is_reached_with home) (free_with-by s p home) (run.first + run.count) run.first page (each_page f run.first run.count) (Some home) at here all until alike (with-itself home) in
-    let found : free_home s p run.first ≡ Some home = ap (free_home s p) (sym at) ∙ sym here in
-    let tail : drop 1 ranges ≡ rest = ap (drop 1) are in
-    let whole : (first && others) ≡ each_page_in f (run ∷ rest) = ap₂ (◌&&◌) (is ∙ decided) (behind ∙ ap (each_page_in f) tail) in
-    rw (are, found, whole) refl
+-- pages alike to one with this home are free with it
+pub known-free : (s : State) (p : ℕ) (home : Access) (page limit until : ℕ) → Some home ≡ free_home s p page → IsAlikeUntil (free_home s p) page limit until → (n : ℕ) → page ≤ n → n < until → is_free_with s p home n ≡ true
+known-free s p home page limit until here alike n from to =
+    free_with-by s p home n ∙ ap (is_reached_with home) (alike.alike n from to ∙ sym here) ∙ with-itself home

@@ -1,6 +1,0 @@
-use Rattle.std.proofs.Common.{◌≡◌, drop}
-use Rattle.base.specs.State as spec
-use Rattle.spm.proofs.state.State.are_others_free_with.Given as goal
-
-abbrev pub invariant-loop-run : goal.invariant-loop-run
-invariant-loop-run l = spec.each_page_in (spec.is_free_with l.self l.p l.home) l.run-iterator ≡ spec.each_page_in (spec.is_free_with l.self l.p l.home) (drop 1 l.desc.ranges)
