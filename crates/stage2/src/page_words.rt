@@ -172,10 +172,12 @@ fn are_words<M: TableMem>(
     ensures { result ≡ true → (x : ℕ) → first ≤ x → x < first + 64
         → IsWordFor (512 * chunk + x) answer.now (word_in (M.state memory.now) third x) }
 {
-    let expected = *answer;
+    let step = step_of(answer);
+    let mut word = word_of(chunk.page(first), answer);
     let mut are = true;
     for index in first..first + AT_ONCE {
-        are &= read_word(memory, third, index) == word_of(chunk.page(index), &expected);
+        are &= read_word(memory, third, index) == word;
+        word += step;
     }
     are
 }
