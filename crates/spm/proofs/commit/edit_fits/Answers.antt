@@ -1,8 +1,7 @@
-use Rattle.std.proofs.Common.{◌≡◌, ℕ, ◌+◌, ◌≤◌, leb, true, List, sym, ap, refl, ◌∙◌, arith}
+use Rattle.std.proofs.Common.{◌≡◌, ℕ, ◌+◌, ◌≤◌, leb, true, sym, ap, refl, ◌∙◌, arith}
 use Rattle.std.proofs.lemmas.Bool.Decides.{nat_tests}
 use Rattle.base.specs.Access.{View}
 use Rattle.base.specs.Need.{need, grow, reaching}
-use Rattle.base.specs.Pages.{PageRun}
 use Rattle.manifest.specs.Valid.{quota_of}
 use Rattle.rules.specs.Rule.{Edit}
 use Rattle.stage2.specs.Tables.{view_of}
