@@ -6,13 +6,15 @@ ghost use Rattle.std.specs.Prelude.{◌≡◌, true, ℕ, ◌≤◌, length, IfO
 use crate::page::Run;
 use crate::status::OutOfMemory;
 use std::alloc::Global;
+use std::mem::replace;
 
 #[cfg(test)]
 mod tests;
 
-/// The maximal runs of the pages that the runs cover, in ascending order. Where memory runs out,
-/// nothing has changed.
-pub fn normal(alloc: Global, runs: &[Run]) -> Result<Vec<Run>, OutOfMemory>
+/// The maximal runs of the pages that the runs cover, in ascending order. Runs that are maximal already
+/// are copied into the memory of the spare list, which is empty then. Where memory runs out, the spare
+/// list alone has changed.
+pub fn normal(alloc: Global, spare: &mut Vec<Run>, runs: &[Run]) -> Result<Vec<Run>, OutOfMemory>
     requires disjoint { are_disjoint runs.now ≡ true }
     ensures normal { IfOk result (λ normal. are_normal normal.items ≡ true) }
     ensures same { IfOk result (λ normal. (n : ℕ) → covers normal.items n ≡ covers runs.now n) }
@@ -20,7 +22,8 @@ pub fn normal(alloc: Global, runs: &[Run]) -> Result<Vec<Run>, OutOfMemory>
     ensures sum { IfOk result (λ normal. pages_in normal.items ≡ pages_in runs.now) }
 {
     if are_normal(runs) {
-        return copied(alloc, runs);
+        let list = replace(spare, Vec::new(alloc));
+        return copied(list, runs);
     }
     let ascending = ascending(alloc, runs)?;
     joined(alloc, &ascending)
@@ -43,11 +46,12 @@ fn are_normal(runs: &[Run]) -> bool
     true
 }
 
-/// The same runs.
-fn copied(alloc: Global, runs: &[Run]) -> Result<Vec<Run>, OutOfMemory>
+/// The same runs, in the memory of a list.
+fn copied(list: Vec<Run>, runs: &[Run]) -> Result<Vec<Run>, OutOfMemory>
     ensures { IfOk result (λ copy. copy.items ≡ runs.now) }
 {
-    let mut copy = Vec::with_capacity(alloc, runs.len())?;
+    let mut copy = list;
+    copy.clear();
     copy.extend_from_slice(runs)?;
     Ok(copy)
 }

@@ -20,10 +20,17 @@ pub(crate) mod version;
 use crate::call::Call;
 use crate::change::{Change, Stop};
 use crate::state::State;
+use base::Run;
 use wire::Request;
 
-/// Tests what a partition asks for, and says what it changes. It changes nothing itself.
-pub(crate) fn check(state: &State, call: &Call, request: Request) -> Result<Change, Stop>
+/// Tests what a partition asks for, and says what it changes. It changes nothing itself. The runs of an
+/// edit may stand in the memory of the spare list.
+pub(crate) fn check(
+    state: &State,
+    call: &Call,
+    request: Request,
+    spare: &mut Vec<Run>,
+) -> Result<Change, Stop>
     requires { IsReached state.now }
     ensures granted { IfOk result (λ change. IsGranted state.now call.now.caller
         (rule_of state.now call.now request) (takes_memory request) change) }
@@ -37,9 +44,11 @@ pub(crate) fn check(state: &State, call: &Call, request: Request) -> Result<Chan
         Request::RxtxMap { tx, rx, pages } => buffers::map(state, call, tx, rx, pages),
         Request::RxtxUnmap(word) => buffers::unmap(state, call, word),
         Request::IdGet => Ok(id_get::id_get(call)),
-        Request::Send(kind, transfer) => send::send(state, call, kind, transfer),
-        Request::Retrieve(transfer) => retrieve::retrieve(state, call, transfer),
-        Request::Relinquish => relinquish::relinquish(state, call),
-        Request::Reclaim { handle, flags } => reclaim::reclaim(state, call, handle, flags),
+        Request::Send(kind, transfer) => send::send(state, call, kind, transfer, spare),
+        Request::Retrieve(transfer) => retrieve::retrieve(state, call, transfer, spare),
+        Request::Relinquish => relinquish::relinquish(state, call, spare),
+        Request::Reclaim { handle, flags } => {
+            reclaim::reclaim(state, call, handle, flags, spare)
+        }
     }
 }

@@ -12,7 +12,7 @@ ghost use Rattle.spm.specs.Machine.{AreEditedBy, ShowsEdit, fits_in};
 use crate::calls::{buffers, reclaim, relinquish, retrieve, send, version};
 use crate::change::{Change, Edit, Update};
 use crate::state::State;
-use base::{OutOfMemory, PartitionId};
+use base::{OutOfMemory, PartitionId, Run};
 use manifest::Manifest;
 use pool::TableMem;
 use stage2::{Tables, most_growth};
@@ -58,6 +58,7 @@ fn edit_fits<M: TableMem + Drop>(
 pub(crate) fn commit<M: TableMem + Drop>(
     state: &mut State,
     tables: &mut Tables<M>,
+    spare: &mut Vec<Run>,
     p: PartitionId,
     change: Change,
 ) -> Result<Reply, OutOfMemory>
@@ -83,16 +84,17 @@ pub(crate) fn commit<M: TableMem + Drop>(
         reply,
     } = change;
     match edit {
-        Some(edit) => edit_and_apply(state, tables, p, edit, update)?,
+        Some(edit) => edit_and_apply(state, tables, spare, p, edit, update)?,
         None => apply(state, p, update)?,
     }
     Ok(reply)
 }
 
-/// Edits the tables, and changes the state.
+/// Edits the tables, and changes the state. The memory of the edit's runs is spare then.
 fn edit_and_apply<M: TableMem + Drop>(
     state: &mut State,
     tables: &mut Tables<M>,
+    spare: &mut Vec<Run>,
     p: PartitionId,
     edit: Edit,
     update: Update,
@@ -113,6 +115,7 @@ fn edit_and_apply<M: TableMem + Drop>(
     tables.ready(edit.who, &edit.runs, edit.to)?;
     apply(state, p, update)?;
     edit_tables(tables, &edit);
+    *spare = edit.runs;
     Ok(())
 }
 

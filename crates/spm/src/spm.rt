@@ -18,7 +18,7 @@ use crate::calls::check;
 use crate::change::{Change, Stop};
 use crate::commit::{commit, fits};
 use crate::state::State;
-use base::{Access, OutOfMemory, Page, PartitionId, Status, Version};
+use base::{Access, OutOfMemory, Page, PartitionId, Run, Status, Version};
 use ledger::Ledger;
 use mailbox::Pair;
 use manifest::Manifest;
@@ -37,6 +37,8 @@ mod tests;
 pub struct Spm<M: TableMem + Drop> {
     state: State,
     tables: Tables<M>,
+    /// The memory of the last edit's runs, for those of the next one.
+    spare: Vec<Run>,
 }
 
 impl<M: TableMem + Drop> Model for Spm<M> {
@@ -59,7 +61,11 @@ impl<M: TableMem + Drop> Spm<M> {
     {
         let tables = Tables::boot(alloc, &manifest)?;
         let state = State::new(alloc, manifest)?;
-        Ok(Spm { state, tables })
+        Ok(Spm {
+            state,
+            tables,
+            spare: Vec::new(alloc),
+        })
     }
 
     /// What a partition reaches of a page, by a walk of its translation tables.
@@ -216,7 +222,7 @@ impl<M: TableMem + Drop> Spm<M> {
         ensures agrees { WalksAgree self.new.state self.new.pool }
         ensures reached { rules.IsReached self.new.state }
     {
-        match check(&self.state, call, request) {
+        match check(&self.state, call, request, &mut self.spare) {
             Ok(change) => self.make(call, change),
             Err(Stop::Refused(status)) => Ok(Reply::error(status)),
             Err(Stop::NoMemory(error)) => Err(error),
@@ -242,7 +248,13 @@ impl<M: TableMem + Drop> Spm<M> {
     {
         let p = call.partition();
         if fits(self.state.manifest(), &self.tables, p, &change.edit) {
-            commit(&mut self.state, &mut self.tables, p, change)
+            commit(
+                &mut self.state,
+                &mut self.tables,
+                &mut self.spare,
+                p,
+                change,
+            )
         } else {
             Ok(Reply::error(Status::NoMemory))
         }

@@ -9,7 +9,7 @@ ghost use Rattle.spm.specs.Granted.{AreSameEdits, AreOrderly};
 
 use crate::change::Edit;
 use crate::state::State;
-use base::{Access, Handle, OutOfMemory, PartitionId, normal};
+use base::{Access, Handle, OutOfMemory, PartitionId, Run, normal};
 use ledger::Live;
 use std::alloc::Global;
 
@@ -40,6 +40,7 @@ fn is_received_by(transaction: &Live, p: PartitionId) -> bool
 /// cleared.
 pub(crate) fn receiver_edit(
     alloc: Global,
+    spare: &mut Vec<Run>,
     p: PartitionId,
     transaction: &Live,
     to: Option<Access>,
@@ -50,7 +51,7 @@ pub(crate) fn receiver_edit(
         (Some (record { who = p; runs = transaction.now.ranges; to = to; clears = clears }))) }
     ensures orderly { IfOk result (AreOrderly p) }
 {
-    let runs = normal(alloc, &transaction.ranges)?;
+    let runs = normal(alloc, spare, &transaction.ranges)?;
     Ok(Some(Edit {
         who: p,
         runs,

@@ -14,7 +14,7 @@ use crate::call::Call;
 use crate::calls::clearing::may_clear_returned;
 use crate::change::{Change, Edit, Stop, Update};
 use crate::state::State;
-use base::{Handle, Kind, OutOfMemory, PartitionId, Status, normal};
+use base::{Handle, Kind, OutOfMemory, PartitionId, Run, Status, normal};
 use descr::{are_clear_flags, orders_clear};
 use ledger::Live;
 use std::alloc::Global;
@@ -30,6 +30,7 @@ pub(crate) fn reclaim(
     call: &Call,
     handle: Handle,
     flags: u32,
+    spare: &mut Vec<Run>,
 ) -> Result<Change, Stop>
     requires { IsReached state.now }
     ensures granted { IfOk result (λ change. IsGranted state.now call.now.caller
@@ -39,7 +40,13 @@ pub(crate) fn reclaim(
 {
     let p = call.partition();
     match check(state, p, handle, flags) {
-        Ok(transaction) => match returned_by(state.alloc, p, transaction, orders_clear(flags)) {
+        Ok(transaction) => match returned_by(
+            state.alloc,
+            spare,
+            p,
+            transaction,
+            orders_clear(flags),
+        ) {
             Ok(edit) => Ok(Change {
                 edit,
                 update: Update::Close(handle),
@@ -95,6 +102,7 @@ fn is_given_back(transaction: &Live) -> bool
 /// What the sender reaches again: all of what it lent or gave away, and nothing more of a share.
 fn returned_by(
     alloc: Global,
+    spare: &mut Vec<Run>,
     p: PartitionId,
     transaction: &Live,
     clears: bool,
@@ -107,7 +115,7 @@ fn returned_by(
     match transaction.kind {
         Kind::Share => Ok(None),
         Kind::Lend | Kind::Donate => {
-            let runs = normal(alloc, &transaction.ranges)?;
+            let runs = normal(alloc, spare, &transaction.ranges)?;
             Ok(Some(Edit {
                 who: p,
                 runs,

@@ -13,7 +13,7 @@ use crate::calls::clearing::may_clear_lent;
 use crate::calls::receiver::{received_with, receiver_edit};
 use crate::change::{Change, Stop, Update};
 use crate::state::State;
-use base::{Handle, PartitionId, Status};
+use base::{Handle, PartitionId, Run, Status};
 use descr::read_relinquish;
 use ledger::Live;
 use wire::Reply;
@@ -27,7 +27,7 @@ struct Given<'a> {
 
 /// The caller gives up what it has retrieved of the transaction that its descriptor in TX names, and
 /// reaches its pages no more.
-pub(crate) fn relinquish(state: &State, call: &Call) -> Result<Change, Stop>
+pub(crate) fn relinquish(state: &State, call: &Call, spare: &mut Vec<Run>) -> Result<Change, Stop>
     requires { IsReached state.now }
     ensures granted { IfOk result (λ change. IsGranted state.now call.now.caller
         (rules.relinquish_rule state.now call.now) true change) }
@@ -38,7 +38,7 @@ pub(crate) fn relinquish(state: &State, call: &Call) -> Result<Change, Stop>
     match check(state, call) {
         Ok(given) => {
             let transaction = given.transaction;
-            match receiver_edit(state.alloc, p, transaction, None, given.clears) {
+            match receiver_edit(state.alloc, spare, p, transaction, None, given.clears) {
                 Ok(edit) => Ok(Change {
                     edit,
                     update: Update::Relinquish(transaction.handle),

@@ -16,7 +16,7 @@ use crate::state::State;
 use base::limits::PAGE_SIZE;
 use base::{
     Access, DataAccess, Handle, InstructionAccess, Kind, OutOfMemory, PartitionId, Permissions,
-    Rights, Status, Version,
+    Rights, Run, Status, Version,
 };
 use descr::{Endpoint, RetrieveDesc, read_retrieve};
 use descw::{ResponseFields, write_response};
@@ -34,7 +34,12 @@ struct Named<'a> {
 
 /// The caller retrieves the transaction that its descriptor in TX names. It reaches the pages with what
 /// it is granted, and RX says so. A donation is complete then.
-pub(crate) fn retrieve(state: &State, call: &Call, transfer: Transfer) -> Result<Change, Stop>
+pub(crate) fn retrieve(
+    state: &State,
+    call: &Call,
+    transfer: Transfer,
+    spare: &mut Vec<Run>,
+) -> Result<Change, Stop>
     requires { IsReached state.now }
     ensures granted { IfOk result (λ change. IsGranted state.now call.now.caller
         (rules.retrieve_rule state.now call.now transfer) true change) }
@@ -42,10 +47,12 @@ pub(crate) fn retrieve(state: &State, call: &Call, transfer: Transfer) -> Result
         (rules.retrieve_rule state.now call.now transfer) true stop) }
 {
     match check(state, call, transfer) {
-        Ok((transaction, access)) => match change(state, call, transfer, transaction, access) {
-            Ok(change) => Ok(change),
-            Err(error) => Err(Stop::NoMemory(error)),
-        },
+        Ok((transaction, access)) => {
+            match change(state, call, transfer, transaction, access, spare) {
+                Ok(change) => Ok(change),
+                Err(error) => Err(Stop::NoMemory(error)),
+            }
+        }
         Err(status) => Err(Stop::Refused(status)),
     }
 }
@@ -307,6 +314,7 @@ fn change(
     transfer: Transfer,
     transaction: &Live,
     access: Access,
+    spare: &mut Vec<Run>,
 ) -> Result<Change, OutOfMemory>
     requires reached { IsReached state.now }
     requires retrieved { IsRetrieved state.now call.now transfer transaction.now access }
@@ -316,7 +324,7 @@ fn change(
     let p = call.partition();
     let version = state.row(p).version;
     let reply = respond(state.alloc, version, p, transaction, access)?;
-    let edit = receiver_edit(state.alloc, p, transaction, Some(access), false)?;
+    let edit = receiver_edit(state.alloc, spare, p, transaction, Some(access), false)?;
     Ok(Change {
         edit,
         update: Update::Retrieve(transaction.handle, access),

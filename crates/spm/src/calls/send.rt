@@ -45,6 +45,7 @@ pub(crate) fn send(
     call: &Call,
     kind: Kind,
     transfer: Transfer,
+    spare: &mut Vec<Run>,
 ) -> Result<Change, Stop>
     requires { IsReached state.now }
     ensures granted { IfOk result (λ change. IsGranted state.now call.now.caller
@@ -53,7 +54,7 @@ pub(crate) fn send(
         (rules.send_rule state.now call.now kind transfer) true stop) }
 {
     match check(state, call, kind, transfer) {
-        Ok(checked) => match change(state, call, kind, transfer, &checked) {
+        Ok(checked) => match change(state, call, kind, transfer, &checked, spare) {
             Ok(change) => Ok(change),
             Err(error) => Err(Stop::NoMemory(error)),
         },
@@ -246,6 +247,7 @@ fn change(
     kind: Kind,
     transfer: Transfer,
     checked: &Checked<'_>,
+    spare: &mut Vec<Run>,
 ) -> Result<Change, OutOfMemory>
     requires reached { IsReached state.now }
     requires checked { IsChecked state.now call.now kind transfer
@@ -258,6 +260,7 @@ fn change(
     let handle = transaction.handle;
     let edit = sender_edit(
         state.alloc,
+        spare,
         kind,
         p,
         &transaction.ranges,
@@ -321,6 +324,7 @@ fn receivers_of(
 /// What the sender reaches no more: all of what it lends or gives away, and nothing of a share.
 fn sender_edit(
     alloc: Global,
+    spare: &mut Vec<Run>,
     kind: Kind,
     p: PartitionId,
     ranges: &[Run],
@@ -335,7 +339,7 @@ fn sender_edit(
     match kind {
         Kind::Share => Ok(None),
         Kind::Lend | Kind::Donate => {
-            let runs = normal(alloc, ranges)?;
+            let runs = normal(alloc, spare, ranges)?;
             Ok(Some(Edit {
                 who: p,
                 runs,

@@ -21,20 +21,23 @@ returns-in-Err-Refused-clause-state g c =
     let call = c.args.call.now in
     let r = c.args.request in
     let known = ap (λ (m : Machine). is_partition m.state.manifest call.caller) c.self.view_is ∙ c.requires.known in
-    ap (λ (m : Machine). m.state) (sym c.self.view_is) ∙ sym (refused_step s call r known c.requires.request_decoded c.in-Err-Refused.status (rw c.in-Err-Refused.field-0-is at c.in-Err-Refused.ensures.stopped)) ∙ ap (λ (m : Machine). step m.state call) c.self.view_is
+    sym (refused_step s call r known c.requires.request_decoded c.in-Err-Refused.status (rw c.in-Err-Refused.field-0-is at c.in-Err-Refused.ensures.stopped)) ∙ ap (λ (m : Machine). step m.state call) c.self.view_is
 
 pub returns-in-Err-Refused-clause-clears : goal.returns-in-Err-Refused-clause-clears
 returns-in-Err-Refused-clause-clears g c =
     let s = c.self.inside.state in
     let call = c.args.call.now in
     let known = ap (λ (m : Machine). is_partition m.state.manifest call.caller) c.self.view_is ∙ c.requires.known in
+    let machine : Machine = record { state = s; pool = c.self.inside.tables.pool } in
     let refuses = refused_is s call c.args.request known c.requires.request_decoded c.in-Err-Refused.status (rw c.in-Err-Refused.field-0-is at c.in-Err-Refused.ensures.stopped) in
-    refused_clears c.args.self.now.state call c.args.self.now c.in-Err-Refused.status (ap (λ (m : Machine). refusal m.state call) (sym c.self.view_is) ∙ refuses) c.requires.begun
+    refused_clears c.args.self.now.state call machine c.in-Err-Refused.status (ap (λ (m : Machine). refusal m.state call) (sym c.self.view_is) ∙ refuses)
+    (ap (λ (m : Machine). m.pool.operations) c.self.view_is ∙ c.requires.begun)
 
 pub returns-in-Err-Refused-clause-moments : goal.returns-in-Err-Refused-clause-moments
 returns-in-Err-Refused-clause-moments g c =
     let now = c.args.self.now in
-    same-shown now now (subst (λ (m : Machine). WalksAgree m.state m.pool) c.self.view_is c.self.invariant.agrees) c.requires.begun refl
+    let machine : Machine = record { state = c.self.inside.state; pool = c.self.inside.tables.pool } in
+    same-shown now machine (subst (λ (m : Machine). WalksAgree m.state m.pool) c.self.view_is c.self.invariant.agrees) c.requires.begun c.self.view_is
 
 pub returns-in-Err-NoMemory-clause-memory_after_the_tests : goal.returns-in-Err-NoMemory-clause-memory_after_the_tests
 returns-in-Err-NoMemory-clause-memory_after_the_tests g c =
@@ -48,4 +51,5 @@ returns-in-Err-NoMemory-clause-memory_after_the_tests g c =
 pub returns-in-Err-NoMemory-clause-moments : goal.returns-in-Err-NoMemory-clause-moments
 returns-in-Err-NoMemory-clause-moments g c =
     let now = c.args.self.now in
-    same-shown now now (subst (λ (m : Machine). WalksAgree m.state m.pool) c.self.view_is c.self.invariant.agrees) c.requires.begun refl
+    let machine : Machine = record { state = c.self.inside.state; pool = c.self.inside.tables.pool } in
+    same-shown now machine (subst (λ (m : Machine). WalksAgree m.state m.pool) c.self.view_is c.self.invariant.agrees) c.requires.begun c.self.view_is
