@@ -13,7 +13,7 @@ use Rattle.stage2.specs.Gigabytes.{sum_below, chunk_operations, grows_at, Fits, 
 use Rattle.stage2.specs.History.{Made, broken, replaced}
 use Rattle.stage2.specs.Moments.{StaysInStep, Clears}
 use Rattle.stage2.specs.Orderly.{IsOrderly, answers, linked}
-use Rattle.stage2.specs.Slot.{Layout, Slot, slot}
+use Rattle.stage2.specs.Slot.{Layout, Slot, Next, slot}
 use Rattle.stage2.specs.Steps.{IsSeated, AreFree, disturbs, disturbed, disturbed_below}
 use Rattle.stage2.specs.Walk.{Gigabyte, table_at, walk, walked, IsForest}
 
@@ -90,6 +90,21 @@ abbrev pub LeavesZero : ℕ → ℕ → List PageRun → View → Pool → Type 
 LeavesZero k c runs answer pool =
     answer ≡ None → (i : ℕ) → i < 512 → covers runs (512 * c + i) ≡ false
     → words_of pool.memory.words k i ≡ 0
+
+-- a page of the chunk that the table does not map has the word 0 there
+abbrev pub IsClean : Layout → ℕ → ℕ → Pool → Type 0
+IsClean layout c k pool =
+    (n : ℕ) → n / 512 ≡ c → answers_at layout (words_of pool.memory.words) (Next k) n ≡ None
+    → words_of pool.memory.words k (n % 512) ≡ 0
+
+-- the runs have a page of the chunk, and do not have another one
+pub record IsPartlyCovered (c : ℕ) (runs : List PageRun) : Type 0 where
+  pub within : ℕ
+  pub beside : ℕ
+  pub within_there : within / 512 ≡ c
+  pub beside_there : beside / 512 ≡ c
+  pub within_covered : covers runs within ≡ true
+  pub beside_free : covers runs beside ≡ false
 
 -- the words for pages in none of the runs are those of pages with this answer
 abbrev pub OthersAnswer : ℕ → ℕ → List PageRun → View → Pool → Type 0

@@ -258,7 +258,7 @@ pub(crate) fn table_of(entry: &Slot) -> Option<TablePage>
 }
 
 /// What all pages of a chunk answer that has no table.
-fn block_of(entry: &Slot) -> Option<Access>
+pub(crate) fn block_of(entry: &Slot) -> Option<Access>
     ensures { result ≡ block_answer entry.now }
 {
     match entry {

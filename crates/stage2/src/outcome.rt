@@ -1,14 +1,16 @@
 //! What the pages of a chunk answer after an edit: whether all the same.
 
-ghost use Rattle.std.specs.Prelude.{◌≡◌, ℕ, ◌+◌, ◌*◌, ◌<◌, true, not};
+ghost use Rattle.std.specs.Prelude.{◌≡◌, ℕ, ◌+◌, ◌*◌, ◌<◌, true, None, not};
 ghost use Rattle.base.specs.Pages.{are_normal, covers};
 ghost use Rattle.base.specs.Manifest.{page_count};
 ghost use Rattle.base.specs.Access as permissions;
 ghost use Rattle.base.specs.Need as needs;
 ghost use Rattle.stage2.specs.declared.walked.Slot.TheVariants.{Next};
 ghost use Rattle.stage2.specs.Chunks.{IsOutcome, covers_chunk};
-ghost use Rattle.stage2.specs.Clauses.{read_after, word_in, pages_among, nonzero_among};
+ghost use Rattle.stage2.specs.Clauses.{IsClean, IsPartlyCovered, read_after, word_in, pages_among, nonzero_among};
+ghost use Rattle.stage2.specs.Walk.{next_page};
 
+use crate::chunk::{block_of, table_of};
 use crate::layout::Layout;
 use crate::page_words::stray_page;
 use crate::part::{is_covered, runs_from};
@@ -96,6 +98,8 @@ pub(crate) fn outcome<M: TableMem>(
     requires normal { are_normal runs.now ≡ true }
     requires pages { layout.now.pages ≡ page_count (M.state memory.now).memory.quotas }
     requires table { (k : ℕ) → entry.now ≡ Next k → k < layout.now.pages }
+    requires clean { (k : ℕ) → entry.now ≡ Next k
+        → IsClean layout.now chunk k (M.state memory.now) }
     ensures { let now = M.state memory.now in
         let after = read_after layout.now runs.now access.now entry.now now in
         IsOutcome chunk after result }
@@ -103,21 +107,52 @@ pub(crate) fn outcome<M: TableMem>(
     if is_filled(runs, chunk) {
         return Some(*access);
     }
-    match entry {
-        Slot::Next(third) => {
-            outcome_in_table(memory, layout, entry, *third, chunk, runs, access)
-        }
-        _ => {
-            if differs_at_an_end(memory, layout, entry, chunk, runs, access) {
-                return None;
-            }
-            compared(memory, layout, entry, chunk, runs, access)
-        }
+    match table_of(entry) {
+        Some(third) => outcome_in_table(memory, layout, entry, third, chunk, runs, access),
+        None => outcome_in_block(memory, layout, entry, chunk, runs, access),
     }
 }
 
-/// Whether a page of the runs is reached after a map, and one beside them is not, since its word in the
-/// chunk's table is 0. It is told by the counts of the words beside the runs.
+/// Whether the first of the runs has some pages of a chunk, and not all of them. No other run has the
+/// page beside it.
+fn is_partly_covered(runs: &[Run], chunk: Chunk) -> bool
+    requires { are_normal runs.now ≡ true }
+    ensures { result ≡ true → IsPartlyCovered chunk runs.now }
+{
+    match runs.first() {
+        Some(run) => {
+            let (first, end) = (run.first().number(), run.end());
+            let (start, stop) = (chunk.first().number(), chunk.end());
+            (first < stop) & (start < end) & ((start < first) | (end < stop))
+        }
+        None => false,
+    }
+}
+
+/// The one answer of a chunk that has no table: that of its pages before the edit tells most.
+fn outcome_in_block<M: TableMem>(
+    memory: &M,
+    layout: &Layout,
+    entry: &Slot,
+    chunk: Chunk,
+    runs: &[Run],
+    access: &Option<Access>,
+) -> Option<Option<Access>>
+    requires normal { are_normal runs.now ≡ true }
+    requires pages { layout.now.pages ≡ page_count (M.state memory.now).memory.quotas }
+    requires none { next_page entry.now ≡ None }
+    ensures { let now = M.state memory.now in
+        let after = read_after layout.now runs.now access.now entry.now now in
+        IsOutcome chunk after result }
+{
+    if is_partly_covered(runs, chunk) && !is_alike(&block_of(entry), access) {
+        return None;
+    }
+    compared(memory, layout, entry, chunk, runs, access)
+}
+
+/// Whether a page of the runs is reached after the edit and one beside them is not, or the other way. It
+/// is told by the counts of the words beside the runs: one is 0 where its page is not reached.
 fn is_partly_mapped<M: TableMem>(
     memory: &M,
     layout: &Layout,
@@ -133,6 +168,7 @@ fn is_partly_mapped<M: TableMem>(
         + pages_among (λ i. covers runs.now (512 * chunk + i)) ≡ 512 }
     requires nonzero { beside.nonzero ≡ nonzero_among (word_in (M.state memory.now) third)
         (λ i. not (covers runs.now (512 * chunk + i))) }
+    requires clean { IsClean layout.now chunk third (M.state memory.now) }
     ensures { let now = M.state memory.now in
         let after = read_after layout.now runs.now access.now entry.now now in
         result ≡ true → needs.is_mixed after chunk ≡ true }
@@ -141,12 +177,12 @@ fn is_partly_mapped<M: TableMem>(
     let (_chunk, _runs) = (chunk, runs);
     match access {
         Some(_) => beside.pages < 512 && beside.nonzero < beside.pages,
-        None => false,
+        None => beside.pages < 512 && beside.nonzero > 0,
     }
 }
 
-/// The same, for a chunk that has a table: how many of its words are not 0 tells most, and its pages in
-/// none of the runs are told by their words, as long as these are the ones for the runs' answer.
+/// The one answer of a chunk that has a table: how many of its words are not 0 tells most, and its pages
+/// in none of the runs are told by their words, as long as these are the ones for the runs' answer.
 fn outcome_in_table<M: TableMem>(
     memory: &M,
     layout: &Layout,
@@ -160,6 +196,7 @@ fn outcome_in_table<M: TableMem>(
     requires pages { layout.now.pages ≡ page_count (M.state memory.now).memory.quotas }
     requires entry { entry.now ≡ Next third }
     requires table { third < layout.now.pages }
+    requires clean { IsClean layout.now chunk third (M.state memory.now) }
     ensures { let now = M.state memory.now in
         let after = read_after layout.now runs.now access.now entry.now now in
         IsOutcome chunk after result }

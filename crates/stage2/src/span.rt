@@ -1,5 +1,4 @@
-//! Where runs begin and end, in gigabytes, in the chunks of one and in the pages of one of these: an
-//! edit looks at no others.
+//! Where runs begin and end, in gigabytes and in the chunks of one: an edit looks at no others.
 
 ghost use Rattle.std.specs.Prelude.{◌≡◌, ℕ, ◌+◌, ◌*◌, ◌/◌, ◌^◌, ◌<◌, ◌≤◌, true};
 ghost use Rattle.base.specs.Pages.{are_normal, covers};

@@ -250,3 +250,11 @@ zero-beside word which fewer =
 pub page-among : (which : ℕ → Bool) → 0 < pages_among which → (i : ℕ) × (i < 512) × (which i ≡ true)
 unfolding pages_among
 page-among which some = count_below-witness which 512 some
+
+-- a page among some whose word is not 0
+pub nonzero-among : (word : ℕ → ℕ) (which : ℕ → Bool) → 0 < nonzero_among word which → (i : ℕ) × (i < 512) × (which i ≡ true) × (word i ≡ 0 → ⊥)
+unfolding nonzero_among
+nonzero-among word which some =
+    let found = count_below-witness (λ i. which i && not (word i == 0)) 512 some in
+    let both = and_parts (which found.0) (not (word found.0 == 0)) found.2 in
+    (found.0, found.1, both.0, λ zero. grind (arith, nat_tests, zero, both.1))

@@ -226,19 +226,31 @@ module _ (layout : Layout) (row c j : ℕ) (m : Pages) (h : IsSite layout row c 
   empty-slot (Next x) e = absurd (cc)
   empty-slot Bad e = absurd (cc)
 
+  -- the word of a page of the chunk's table that is not reached is 0
+  unreached-zero : (k n : ℕ) → entry ≡ Next k → n / 512 ≡ c → answers layout old row n ≡ None → m.words k (n % 512) ≡ 0
+  unreached-zero k n is_table chunk none =
+      let below : c < 262144 = h.chunk in
+      let i = n % 512 in
+      let small : i < 512 = omega arith in
+      let here : table_at layout old (Chunk row (n / 512)) ≡ Some k = ap (λ x. table_at layout old (Chunk row x)) chunk ∙ third-at k is_table in
+      let was : walk layout old row n ≡ at_3 (slot layout 3 (old k i)) = walk-chunk layout old row n k h.partition here in
+      let tidy : IsTidy n (walk layout old row n) = h.orderly.tidy row n h.partition (omega (arith, chunk, below)) in
+      let unmapped : walk layout old row n ≡ Unmapped = tidy-answer n (walk layout old row n) tidy ∙ ap (walked n) none in
+      sym (third-seen k i (third-at k is_table)) ∙ h.orderly.clean (Chunk row c) k i in_chunk (third-at k is_table) small (empty-slot (slot layout 3 (old k i)) (sym was ∙ unmapped))
+
+  pub clean-words : (read : Slot) (k : ℕ) → read ≡ entry → read ≡ Next k → (n : ℕ) → n / 512 ≡ c → answers_at layout m.words (Next k) n ≡ None → m.words k (n % 512) ≡ 0
+  clean-words read k is next n chunk none =
+      let is_table : entry ≡ Next k = sym is ∙ next in
+      unreached-zero k n is_table chunk (answers-entry n chunk ∙ ap (λ (s : Slot). answers_at layout m.words s n) is_table ∙ none)
+
   -- where the chunk's pages are to answer nothing, the words of those that are in no run are 0
   pub left-zero : (runs : List PageRun) (access : View) (k : ℕ) → entry ≡ Next k → IsOutcome c (edited runs access (answers layout old row)) (Some None) → (i : ℕ) → i < 512 → covers runs (512 * c + i) ≡ false → m.words k i ≡ 0
   left-zero runs access k is_table outcome i small out =
       let n = 512 * c + i in
-      let below : c < 262144 = h.chunk in
       let chunk : n / 512 ≡ c = omega (arith, small) in
       let index : n % 512 ≡ i = omega (arith, small) in
       let none : answers layout old row n ≡ None = rw out at (outcome.same None refl n chunk) in
-      let here : table_at layout old (Chunk row (n / 512)) ≡ Some k = ap (λ x. table_at layout old (Chunk row x)) chunk ∙ third-at k is_table in
-      let was : walk layout old row n ≡ at_3 (slot layout 3 (old k i)) = walk-chunk layout old row n k h.partition here ∙ ap (λ x. at_3 (slot layout 3 (old k x))) index in
-      let tidy : IsTidy n (walk layout old row n) = h.orderly.tidy row n h.partition (omega (arith, small, below)) in
-      let unmapped : walk layout old row n ≡ Unmapped = tidy-answer n (walk layout old row n) tidy ∙ ap (walked n) none in
-      sym (third-seen k i (third-at k is_table)) ∙ h.orderly.clean (Chunk row c) k i in_chunk (third-at k is_table) small (empty-slot (slot layout 3 (old k i)) (sym was ∙ unmapped))
+      ap (m.words k) (sym index) ∙ unreached-zero k n is_table chunk none
 
   -- and they stay so where the chunk's own word is written
   pub left-kept : (k word : ℕ) (new : Pages) → entry ≡ Next k → new ≡ with_put j (c % 512) word m → (i : ℕ) → m.words k i ≡ 0 → new.words k i ≡ 0

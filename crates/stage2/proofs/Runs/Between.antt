@@ -1,11 +1,12 @@
 -- The runs with pages from one up to another are found by two halvings, as runs stand upward.
-use Rattle.std.proofs.Common.{◌≡◌, ℕ, zero, suc, ◌+◌, ◌<◌, ◌≤◌, true, false, not, ◌&&◌, ◌||◌, Bool, cond, eqb, leb, ltb, List, [], ◌∷◌, get_or, length, take, drop, refl, arith, ap, sym, ◌∙◌, inl, inr}
+use Rattle.std.proofs.Common.{◌≡◌, ℕ, zero, suc, ◌+◌, ◌-◌, ◌*◌, ◌/◌, ◌<◌, ◌≤◌, ◌⊎◌, true, false, not, ◌&&◌, ◌||◌, Bool, cond, eqb, leb, ltb, List, [], ◌∷◌, get_or, length, take, drop, refl, arith, ap, sym, ◌∙◌, inl, inr}
 use Rattle.std.specs.List.Sorted.{IsPartitionPoint}
 use Rattle.std.proofs.lemmas.List.{get_or-drop, length-drop}
 use Rattle.std.proofs.lemmas.Bool.{cases_Bool, ltb-true, and_parts}
 use Rattle.std.proofs.lemmas.Bool.Decides.{nat_tests}
 use Rattle.std.specs.List.{list_any}
 use Rattle.base.specs.Pages.{PageRun, in_run, covers, rise_above, are_normal}
+use Rattle.stage2.specs.Clauses.{IsPartlyCovered}
 use Rattle.stage2.specs.Parts.{runs_between}
 use Rattle.stage2.proofs.Runs.Normal.{end_of, first_of}
 
@@ -103,3 +104,36 @@ between-first first end (r ∷ runs) run some is = elim (cases_Bool (ltb first (
       let rest = between-first first end runs run (rw out at some) (rw out at is) in
       record { reaches = rest.reaches; begins = rest.begins; one_of = λ p holds. or_right (p r) (list_any p runs) (rest.one_of p holds) }
 ]
+
+-- runs don't have the page where the first of them ends, since they are maximal
+pub first-ends : (runs : List PageRun) (run : PageRun) → are_normal runs ≡ true → 0 < length runs → run ≡ get_or runs 0 run → covers runs (end_of run) ≡ false
+first-ends [] run normal some is = absurd (omega arith)
+first-ends (r ∷ runs) run normal some is =
+    let rest : covers runs (end_of run) ≡ false = before-all (end_of r) runs (end_of run) normal (rw is (omega arith)) in
+    rw rest (rw is (outside r.first r.count))
+  where
+    outside : (first count : ℕ) → ((leb first (first + count) && ltb (first + count) (first + count)) || false) ≡ false
+    outside first count = grind (arith, nat_tests)
+
+-- a run that is the first, and has some pages of a chunk, but does not begin and end where the chunk does
+pub partly : (runs : List PageRun) (run : PageRun) (chunk : ℕ) → are_normal runs ≡ true → 0 < length runs → run ≡ get_or runs 0 run → 0 < run.count
+    → run.first < 512 * chunk + 512 → 512 * chunk < end_of run → (512 * chunk < run.first) ⊎ (end_of run < 512 * chunk + 512) → IsPartlyCovered chunk runs
+partly runs run chunk normal some is more begins ends (inl late) = record {
+  within = run.first;
+  beside = run.first - 1;
+  within_there = omega (arith, late, begins);
+  beside_there = omega (arith, late, begins);
+  within_covered = first-tells runs run run.first normal some is (omega (arith, more)) ∙ grind (arith, nat_tests);
+  beside_free = before-first runs run (run.first - 1) normal some is (omega (arith, late));
+}
+partly runs run chunk normal some is more begins ends (inr early) = record {
+  within = end_of run - 1;
+  beside = end_of run;
+  within_there = omega (arith, early, ends);
+  beside_there = omega (arith, early, ends);
+  within_covered = first-tells runs run (end_of run - 1) normal some is (omega (arith, more)) ∙ last run.first run.count more;
+  beside_free = first-ends runs run normal some is;
+}
+  where
+    last : (first count : ℕ) → 0 < count → leb first (first + count - 1) ≡ true
+    last first count more = grind (arith, nat_tests, more)

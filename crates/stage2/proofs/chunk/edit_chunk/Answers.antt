@@ -7,13 +7,18 @@ use Rattle.stage2.proofs.Walkers.ZeroedTables.{stays-cleared}
 use Rattle.stage2.proofs.Walkers.Disturbed.{stays-whole, stays-covered, unmixed-after, unmixed-before}
 use Rattle.pool.specs.Pool.{Memory, pages_of}
 use Rattle.stage2.specs.Chunks.{edited, answers_in, block_answer, IsOutcome, Redoes_in}
-use Rattle.stage2.proofs.Editing.FourChunkEdits.{second-inside, outcome-read, left-zero, unhung, growing, before-block, is-next}
+use Rattle.stage2.proofs.Editing.FourChunkEdits.{second-inside, clean-words, outcome-read, left-zero, unhung, growing, before-block, is-next}
 use Rattle.stage2.proofs.chunk.edit_chunk.Goals as goal
 
 pub read_chunk-entry-requires-clause-table : goal.read_chunk-entry-requires-clause-table
 read_chunk-entry-requires-clause-table g c =
     let inside = second-inside c.args.layout.now c.args.row c.args.chunk c.args.second (pages_of (g.M.TableMem.state c.args.memory.now).memory) c.requires.site in
     subst (λ x. c.args.second < x) (sym c.requires.site.orderly.pages) inside
+
+pub outcome-requires-clause-clean : goal.outcome-requires-clause-clean
+outcome-requires-clause-clean g c = λ k next n there none.
+    let m = pages_of (g.M.TableMem.state c.args.memory.now).memory in
+    clean-words c.args.layout.now c.args.row c.args.chunk c.args.second m c.requires.site c.read_chunk-entry.result k c.read_chunk-entry.ensures.same next n there none
 
 pub drop_table-requires-clause-left : goal.drop_table-requires-clause-left
 drop_table-requires-clause-left g c = λ none.
