@@ -1,11 +1,11 @@
 -- What a run leaves, by how its lines ended.
-use Rattle.std.proofs.Common.{◌≡◌, ◌≢◌, ℕ, ◌≤◌, List, [], ◌++◌, Option, Some, None, Result, Ok, Err, length, refl, sym, ap, ◌∙◌, subst, append_assoc, append-nil}
+use Rattle.std.proofs.Common.{◌≡◌, ◌≢◌, ℕ, ◌≤◌, Bool, List, [], ◌++◌, Option, Some, None, Result, Ok, Err, length, refl, sym, ap, ◌∙◌, subst, append_assoc, append-nil}
 use Rattle.std.specs.Io.KnownBytes.{Appends}
 use Rattle.std.proofs.KnownBytes.{Appends-nil, Appends-trans, Keeps-refl}
 use Rattle.ffaspm.specs.declared.fault.RunFault.{RunFault}
 use Rattle.ffaspm.specs.declared.fault.RunFault.TheVariants.{Line, TooLong, Memory, Read, Write}
 use Rattle.ffaspm.specs.Output.{AppendsBeginning}
-use Rattle.ffaspm.specs.Left.{IsScriptOf, Left, Waits, WaitsWith, WaitsWithBeginning, WroteText, WroteBeginning, most_bytes}
+use Rattle.ffaspm.specs.Left.{IsScriptOf, Left, TellsOfReader, Waits, WaitsWith, WaitsWithBeginning, WroteText, WroteBeginning, most_bytes}
 use Rattle.ffaspm.specs.Script.{World, Writes, lines_in}
 use Rattle.ffaspm.proofs.Runs.{some_text}
 
@@ -79,3 +79,12 @@ ended_in_memory known s script result e = subst (Left known known s script) (sym
 
 pub ended_in_write : (old new : Option (List ℕ)) (s : World) (script : List ℕ) (result : Result (Unit {0}) RunFault) → result ≡ Err Write → WroteBeginning old new s (lines_in script) → Left old new s script result
 ended_in_write old new s script result e began = subst (Left old new s script) (sym e) began
+
+-- the lines of a script that was read say nothing of the reader
+pub told : (old new : Option (List ℕ)) (waiting : List ℕ) (s : World) (lines : List (List ℕ)) (r : Result (Unit {0}) RunFault) (failed after : Bool) → Waits old new waiting s lines r → after ≡ failed → TellsOfReader failed after r
+told old new waiting s lines (Ok done) failed after waits same = same
+told old new waiting s lines (Err (Line n)) failed after waits same = same
+told old new waiting s lines (Err Memory) failed after waits same = same
+told old new waiting s lines (Err Write) failed after waits same = same
+told old new waiting s lines (Err Read) failed after waits same = absurd waits
+told old new waiting s lines (Err TooLong) failed after waits same = absurd waits

@@ -1,6 +1,6 @@
 use Rattle.std.proofs.Common.{rules, ◌≢◌, Err}
 use Rattle.ffaspm.specs.declared.fault.RunFault.TheVariants.{Write}
-use Rattle.ffaspm.proofs.Outcomes.{finished, unfinished, unread, ended_in_memory, ended_in_write}
+use Rattle.ffaspm.proofs.Outcomes.{finished, unfinished, unread, told, ended_in_memory, ended_in_write}
 use Rattle.ffaspm.proofs.script.run_script.Goals as goal
 
 pub returns-in_err-script-clause-left : goal.returns-in_err-script-clause-left
@@ -24,3 +24,6 @@ returns-clause-left g c =
     let write : c.run_lines-outcome.result ≢ Err Write = search rules in
     let waits = rw (c.in_ok-world.ensures, c.deref.ensures.value) at c.run_lines-outcome.ensures.waits in
     (c.in_ok-script.script.items, c.in_ok-script.ensures.whole, finished _ _ _ _ _ _ _ c.in_ok-script.ensures.short write waits c.in_ok-finish.ensures.written)
+
+pub returns-clause-reader : goal.returns-clause-reader
+returns-clause-reader g c = told _ _ _ _ _ c.run_lines-outcome.result _ _ c.run_lines-outcome.ensures.waits c.in_ok-script.ensures.failed
