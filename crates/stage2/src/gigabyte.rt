@@ -111,8 +111,8 @@ fn edit_chunks<M: TableMem>(
 {
     let span = chunk_span(runs, gigabyte);
     let mut index = span.first;
-    let mut unfilled = first_unfilled(runs, gigabyte, index, span.end);
     while index < span.end {
+        let unfilled = first_unfilled(runs, gigabyte, index, span.end);
         let plain = plain_until(memory, second, index, unfilled.min(span.end));
         if index < plain {
             let chunks = Span {
@@ -128,7 +128,6 @@ fn edit_chunks<M: TableMem>(
                 edit_chunk(memory, layout, p, row, second, chunk, part, access);
             }
             index += 1;
-            unfilled = first_unfilled(runs, gigabyte, index, span.end);
         }
     }
 }

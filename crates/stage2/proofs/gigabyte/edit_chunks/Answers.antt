@@ -94,14 +94,14 @@ set_blocks-requires-clause-taken g c =
 pub set_blocks-requires-clause-room : goal.set_blocks-requires-clause-room
 set_blocks-requires-clause-room g c =
     let below : c.plain_until-plain.result ≤ c.min.result = c.plain_until-plain.ensures.most c.if-index-plain.true in
-    let least : c.min.result ≡ min c.loop-index.unfilled c.chunk_span-span.result.end = c.min.ensures in
+    let least : c.min.result ≡ min c.first_unfilled-unfilled.result c.chunk_span-span.result.end = c.min.ensures in
     let most = c.chunk_span-span.ensures.most in
     let f : ℕ → ℕ = λ x. chunk_operations c.args.runs.now (512 * c.args.gigabyte + x) in
     let i = c.loop-index.index in
     let end = c.plain_until-plain.result in
     let k = end - i in
     let last : i + k ≡ end = omega (arith, c.if-index-plain.true) in
-    let costs = filled-costs f i k (λ x from to. filled-cost c.args.runs.now (512 * c.args.gigabyte + x) (c.loop-index.invariant.filled x from (omega (arith, to, last, below, least)))) in
+    let costs = filled-costs f i k (λ x from to. filled-cost c.args.runs.now (512 * c.args.gigabyte + x) (c.first_unfilled-unfilled.ensures.filled x from (omega (arith, to, last, below, least)))) in
     let up = sum_below-up f (i + k) 512 (omega (arith, last, below, least, most)) in
     enough (g.M.TableMem.room c.args.memory.now) (g.M.TableMem.room c.loop-index.memory) (sum_below f i) (sum_below f (i + k)) (sum_below f 512) i end k costs up c.loop-index.invariant.room c.requires.room last
   where
@@ -119,20 +119,20 @@ loop-index-preserved-then-index-plain g c =
     let runs = c.args.runs.now in
     let access = c.args.access.now in
     let below : c.plain_until-plain.result ≤ c.min.result = c.plain_until-plain.ensures.most c.if-index-plain.true in
-    let least : c.min.result ≡ min c.loop-index.unfilled c.chunk_span-span.result.end = c.min.ensures in
+    let least : c.min.result ≡ min c.first_unfilled-unfilled.result c.chunk_span-span.result.end = c.min.ensures in
     let most = c.chunk_span-span.ensures.most in
     let f : ℕ → ℕ = λ x. chunk_operations c.args.runs.now (512 * c.args.gigabyte + x) in
     let i = c.loop-index.index in
     let end = c.plain_until-plain.result in
     let k = end - i in
     let last : i + k ≡ end = omega (arith, c.if-index-plain.true) in
-    let costs = filled-costs f i k (λ x from to. filled-cost c.args.runs.now (512 * c.args.gigabyte + x) (c.loop-index.invariant.filled x from (omega (arith, to, last, below, least)))) in
+    let costs = filled-costs f i k (λ x from to. filled-cost c.args.runs.now (512 * c.args.gigabyte + x) (c.first_unfilled-unfilled.ensures.filled x from (omega (arith, to, last, below, least)))) in
     let up = sum_below-up f (i + k) 512 (omega (arith, last, below, least, most)) in
     let lt : i < 512 = omega (arith, c.loop-index-test.true, most) in
     let here = site layout row gigabyte c.args.second runs access old c.requires.partition c.chunk_span-span.ensures.in_range i lt mid c.loop-index.invariant.underway in
     let inside = second-inside layout row (512 * gigabyte + i) c.args.second mid here in
     let r = c.set_blocks.ensures.replaces in
-    let filled : (x : ℕ) → i ≤ x → x < end → covers_chunk (512 * gigabyte + x) runs ≡ true = λ x from to. c.loop-index.invariant.filled x from (omega (arith, to, below, least)) in
+    let filled : (x : ℕ) → i ≤ x → x < end → covers_chunk (512 * gigabyte + x) runs ≡ true = λ x from to. c.first_unfilled-unfilled.ensures.filled x from (omega (arith, to, below, least)) in
     let none : (x : ℕ) → i ≤ x → x < end → next_page (slot layout 2 (words_of s.memory.words c.args.second x)) ≡ None = λ x from to. c.plain_until-plain.ensures.plain layout x from to in
     let first : ℕ → View = answers layout (linked layout row gigabyte c.args.second old).words row in
     let view : ℕ → View = edited runs access first in
@@ -145,7 +145,6 @@ loop-index-preserved-then-index-plain g c =
           let stays = stays-many layout row gigabyte c.args.second runs access old c.requires.partition c.chunk_span-span.ensures.in_range c.args.p c.requires.row (g.M.TableMem.state c.args.memory.now) i r.word s (g.met.M.TableMem.whole c.loop-index.memory) inside r.block end (omega (arith, below, least, most)) filled none c.loop-index.invariant.underway k (omega (arith, last)) seated (c.loop-index.invariant.in_step seated free) in
           subst (λ (t : Pool). StaysInStep layout row (disturbed_below gigabyte end runs first view) (λ n. walked n (view n)) start t) (sym r.state)
           (subst (λ x. StaysInStep layout row (disturbed_below gigabyte x runs first view) (λ n. walked n (view n)) start (after_replaces c.args.p c.args.second i k r.word (block_step access) (512 * (512 * gigabyte + i)) s)) last stays);
-      filled = λ x from to. c.loop-index.invariant.filled x (omega (arith, from, c.if-index-plain.true)) to;
       last = omega (arith, below, least);
       room = rw (← last) (less (g.M.TableMem.room c.args.memory.now) (g.M.TableMem.room c.loop-index.memory) (g.M.TableMem.room c.set_blocks.new.memory) (sum_below f i) (sum_below f (i + k)) i end k costs c.loop-index.invariant.room c.set_blocks.ensures.room last);
     }
@@ -183,7 +182,6 @@ loop-index-preserved g c =
             (march-seated c.args.layout.now c.args.row c.args.gigabyte c.args.second c.args.runs.now c.args.access.now old c.requires.partition c.chunk_span-span.ensures.in_range i (omega (arith, c.loop-index-test.true, c.chunk_span-span.ensures.most)) mid c.loop-index.invariant.underway seated)
             (chunk-free chunk runs part c.args.access.now covered v
             (march-free c.args.layout.now c.args.row c.args.gigabyte c.args.second c.args.runs.now c.args.access.now old c.requires.partition c.chunk_span-span.ensures.in_range i (omega (arith, c.loop-index-test.true, c.chunk_span-span.ensures.most)) mid c.loop-index.invariant.underway free))));
-        filled = c.first_unfilled-unfilled-else-index-plain.ensures.filled;
         last = omega (arith, c.loop-index-test.true);
         room = less (g.M.TableMem.room c.args.memory.now) (g.M.TableMem.room c.loop-index.memory) (g.M.TableMem.room t.edit_chunk.new.memory) (f i) (515 + part_count chunk part) (sum_below f i) (sum_below f (i + 1))
             (cost chunk runs part is (sym touches ∙ t.if-touches.true)) more c.loop-index.invariant.room (rw here at t.edit_chunk.ensures.room);
@@ -196,7 +194,6 @@ loop-index-preserved g c =
             march-skip c.args.layout.now c.args.row c.args.gigabyte c.args.second c.args.runs.now c.args.access.now old c.requires.partition c.chunk_span-span.ensures.in_range
             i (omega (arith, c.loop-index-test.true, c.chunk_span-span.ensures.most)) mid c.loop-index.invariant.underway (g.M.TableMem.state c.args.memory.now) (g.M.TableMem.state c.loop-index.memory)
             (sym (chunk-touches chunk runs part is) ∙ sym touches ∙ t.if-touches.false) (c.loop-index.invariant.in_step seated free);
-        filled = c.first_unfilled-unfilled-else-index-plain.ensures.filled;
         last = omega (arith, c.loop-index-test.true);
         room = omega (arith, up, c.loop-index.invariant.room);
       })
@@ -221,7 +218,6 @@ loop-index-init g c =
     let le : 0 + first ≤ 512 = omega (arith, most, ordered) in
     record {
       underway = subst (UnderwayAt c.args.layout.now c.args.row c.args.gigabyte c.args.second c.args.runs.now c.args.access.now old old c.requires.partition c.chunk_span-span.ensures.in_range) e (underway-gap c.args.layout.now c.args.row c.args.gigabyte c.args.second c.args.runs.now c.args.access.now old old c.requires.partition c.chunk_span-span.ensures.in_range first 0 le none start);
-      filled = c.first_unfilled-unfilled.ensures.filled;
       in_step = λ seated free. stays-none c.args.layout.now c.args.row (disturbed_below c.args.gigabyte first c.args.runs.now v w) (λ n. walked n (w n)) state;
       last = c.chunk_span-span.ensures.ordered;
       room = omega arith;
