@@ -52,7 +52,10 @@ fn copied(list: Vec<Run>, runs: &[Run]) -> Result<Vec<Run>, OutOfMemory>
 {
     let mut copy = list;
     copy.clear();
-    copy.extend_from_slice(runs)?;
+    match runs {
+        [run] => copy.push(*run)?,
+        _ => copy.extend_from_slice(runs)?,
+    }
     Ok(copy)
 }
 

@@ -18,6 +18,14 @@ pub(crate) fn are_disjoint(ranges: &Ranges<'_>) -> bool
     if ascend(ranges) {
         return true;
     }
+    follow_when_sorted(ranges)
+}
+
+/// The same, told by a sorted copy: 4 KB of stack, which other calls are not to take.
+#[inline(never)]
+fn follow_when_sorted(ranges: &Ranges<'_>) -> bool
+    ensures { result ≡ are_disjoint ranges.now }
+{
     let sorted = sorted(ranges);
     follow_each_other(&sorted)
 }

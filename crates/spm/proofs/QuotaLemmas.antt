@@ -53,7 +53,7 @@ grow_alike v w x y old new =
 
 -- ---- rows and quotas
 
-quota_at : (rows : List PartitionRow) (p : ℕ) → pool.quota_of (quotas_of rows) (row_of (ids_of rows) p) ≡ option_map_or (λ (row : PartitionRow). row.quota) (find (λ row. eqb row.id p) rows) 0
+pub quota_at : (rows : List PartitionRow) (p : ℕ) → pool.quota_of (quotas_of rows) (row_of (ids_of rows) p) ≡ option_map_or (λ (row : PartitionRow). row.quota) (find (λ row. eqb row.id p) rows) 0
 quota_at [] p = refl
 quota_at (row ∷ rows) p =
     elim (eqb row.id p) as (λ b. get_or (row.quota ∷ quotas_of rows) (cond (not b) (1 + row_of (ids_of rows) p) 0) 0 ≡ option_map_or (λ (r : PartitionRow). r.quota) (cond b (Some row) (find (λ r. eqb r.id p) rows)) 0) [

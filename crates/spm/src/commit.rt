@@ -26,6 +26,7 @@ pub(crate) fn fits<M: TableMem + Drop>(
     p: PartitionId,
     edit: &Option<Edit>,
 ) -> bool
+    requires layout { tables.now.layout ≡ layout_of manifest.now }
     requires orderly { AreOrderly p edit.now }
     ensures { result ≡ fits_in manifest.now tables.now edit.now }
 {
@@ -35,21 +36,23 @@ pub(crate) fn fits<M: TableMem + Drop>(
     }
 }
 
-/// Whether one edit fits. Mostly a bound of what it takes tells that, for which no table is read.
+/// Whether one edit fits. Mostly a bound of what it takes tells that, for which no table is read, and no
+/// quota.
 fn edit_fits<M: TableMem + Drop>(
     manifest: &Manifest,
     tables: &Tables<M>,
     p: PartitionId,
     edit: &Edit,
 ) -> bool
+    requires layout { tables.now.layout ≡ layout_of manifest.now }
     requires orderly { IsOrderly p edit.now }
     ensures { result ≡ fits_in manifest.now tables.now (Some edit.now) }
 {
-    let used = u64::from(tables.used(p));
-    let quota = u64::from(manifest.quota(p));
-    if used + u64::from(most_growth(&edit.runs)) <= quota {
+    if most_growth(&edit.runs) <= tables.free(p) {
         return true;
     }
+    let used = u64::from(tables.used(p));
+    let quota = u64::from(manifest.quota(p));
     used + u64::from(tables.grow(p, &edit.runs, edit.to)) <= quota
 }
 
@@ -171,6 +174,7 @@ fn clear_runs<M: TableMem + Drop>(tables: &mut Tables<M>, edit: &Edit)
 }
 
 /// Changes the state. Opening, retrieving and ending a transaction take memory.
+#[inline(always)]
 fn apply(state: &mut State, p: PartitionId, update: Update) -> Result<(), OutOfMemory>
     requires { CanUpdate state.old p update }
     ensures ok { OnOk result (state.new ≡ updated state.old p update) }

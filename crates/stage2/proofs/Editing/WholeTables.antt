@@ -244,6 +244,32 @@ free-found layout m p quota is =
     numbers : (quota all used : ℕ) → quota ≡ all → all - used ≤ quota
     numbers quota all used a = omega arith
 
+-- what a partition's tables may still take, and what they take, is its quota
+pub free-and-need : (t : TablesView) (p : ℕ) → IsCanonical t.layout (pages_of t.pool.memory) → free_of (pages_of t.pool.memory) p + need (view_of t p) ≡ quota_of t.layout.quotas (row_of t.layout.ids p)
+free-and-need t p h =
+    let m = pages_of t.pool.memory in
+    let row = row_of t.layout.ids p in
+    let ids : row_of m.ids p ≡ row = ap (λ (ids : List ℕ). row_of ids p) (sym h.orderly.ids) in
+    let free : free_of m p ≡ quota_of m.quotas row - used_by m row = ap (λ r. quota_of m.quotas r - used_by m r) ids in
+    let quota : quota_of m.quotas row ≡ quota_of t.layout.quotas row = ap (λ (q : List ℕ). quota_of q row) (sym h.orderly.quotas) in
+    let most = used_by-le m row in
+    elim (cases_Bool (ltb row (length t.layout.ids))) [
+      | inl rooted ↦
+          let used : used_by m row ≡ need (view_of t p) = used-need t.layout m row h (ltb-true _ _ rooted) in
+          numbers (free_of m p) (quota_of m.quotas row) (used_by m row) (need (view_of t p)) (quota_of t.layout.quotas row) free most used quota
+      | inr none ↦
+          let past : length m.quotas ≤ row = outside row (length t.layout.ids) (length m.quotas) none h.orderly.rows in
+          let zero : quota_of m.quotas row ≡ 0 = quota_of-none m.quotas row past in
+          let needs = rootless-need t p none in
+          numbers (free_of m p) (quota_of m.quotas row) (used_by m row) (need (view_of t p)) (quota_of t.layout.quotas row) free most (omega (arith, most, zero, needs)) quota
+    ]
+  where
+    numbers : (free all used needs quota : ℕ) → free ≡ all - used → used ≤ all → used ≡ needs → all ≡ quota → free + needs ≡ quota
+    numbers free all used needs quota a b c d = omega arith
+
+    outside : (row ids quotas : ℕ) → ltb row ids ≡ false → ids ≡ quotas → quotas ≤ row
+    outside row ids quotas e f = grind (arith, nat_tests, e, f)
+
 -- ---- what an edit asks
 
 pub fits-row : (t : TablesView) (p row : ℕ) (runs : List PageRun) (access : View) → IsRow t.layout.ids p row → Fits p runs access t → FitsRow t.layout row runs access (pages_of t.pool.memory)

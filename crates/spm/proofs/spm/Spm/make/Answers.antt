@@ -3,6 +3,7 @@ use Rattle.base.specs.declared.status.Status.TheVariants.{NoMemory}
 use Rattle.base.specs.Manifest.{ManifestRows}
 use Rattle.rules.specs.Run.{step}
 use Rattle.spm.specs.Granted.{updated}
+use Rattle.stage2.specs.Slot.{layout_of}
 use Rattle.spm.specs.Machine.{Machine, WalksAgree, ShowsCall, fits_in}
 use Rattle.spm.proofs.ConsistencyLemmas.{commit_kept}
 use Rattle.spm.proofs.MadeLemmas.{IsMade, IsUnfit, made, unfit}
@@ -11,6 +12,9 @@ use Rattle.spm.proofs.ClearingLemmas.{rows_of_partitions}
 use Rattle.spm.proofs.ClearedLemmas.{refused_clears, clears_on_ok}
 use Rattle.spm.proofs.spm.Spm.make.Given.{Over}
 use Rattle.spm.proofs.spm.Spm.make.Goals as goal
+
+pub fits-requires-clause-layout : goal.fits-requires-clause-layout
+fits-requires-clause-layout g c = c.self.invariant.layout_of_manifest ∙ ap layout_of (sym c.manifest.ensures)
 
 change_made : (g : Over) (c : goal.After-commit g) → IsMade c.args.self.now c.self.inside.state c.args.call.now c.args.change
 change_made g c =
