@@ -8,6 +8,7 @@ use crate::operation::Op;
 use crate::stretch::{Stretch, WORDS, recounted, write_all};
 use crate::word_store::WordStore;
 use base::{Page, PartitionId, Run};
+use std::mem::replace;
 
 /// How many pages a word stands for.
 const PAGES: u32 = 512;
@@ -207,7 +208,7 @@ fn replace_others<S: WordStore>(
 /// Replaces words, and records each operation behind these. It answers them, and how many words of the
 /// page are not 0. The list is owned meanwhile, so that its length can stay in a register. Where all words
 /// of the page are 0, or none is, it is known which are broken.
-pub(crate) fn replace_all<S: WordStore>(
+fn replace_all<S: WordStore>(
     store: &mut S,
     operations: Vec<Op>,
     count: u32,
@@ -236,4 +237,72 @@ pub(crate) fn replace_all<S: WordStore>(
         return break_all(store, operations, with);
     }
     replace_others(store, operations, count, with)
+}
+
+/// Replaces one word, and records the operations behind these. It answers how many words of the page are
+/// not 0.
+fn replace_one<S: WordStore>(
+    store: &mut S,
+    operations: &mut Vec<Op>,
+    count: u32,
+    with: Replacement,
+) -> u32
+    requires one { with.end ≡ with.first + 1 }
+    requires index_in { with.end ≤ 512 }
+    requires inside { 512 * with.page + 512 ≤ length (S.words store.old) }
+    requires pages_in { with.start + 512 ≤ 2 ^ 27 }
+    requires counted { count ≡ nonzero_in (words_of (S.words store.old)) with.page }
+    requires ready { vec_len operations.old + 3 ≤ vec_capacity operations.old }
+    ensures shown { (pool : Pool) → IsShown (S.words store.old) operations.old.items pool
+        → IsShown (S.words store.new) operations.new.items (after_replaces with.who with.page
+        with.first 1 with.word with.step with.start pool) }
+    ensures whole { length (S.words store.new) ≡ length (S.words store.old) }
+    ensures counted { result ≡ nonzero_in (words_of (S.words store.new)) with.page }
+    ensures capacity { vec_capacity operations.new ≡ vec_capacity operations.old }
+    ensures len { vec_len operations.new ≤ vec_len operations.old + 3 }
+{
+    let Replacement {
+        who,
+        page,
+        first,
+        ..
+    } = with;
+    let run = Run::new(Page::new(with.start), PAGES);
+    let count = break_word(store, operations, count, who, page, first, run);
+    make_word(store, operations, count, page, first, with.word)
+}
+
+/// Replaces words, and records each operation behind these. It answers how many words of the page are
+/// not 0. For one word alone the list stays where it is.
+pub(crate) fn replace_words<S: WordStore>(
+    store: &mut S,
+    operations: &mut Vec<Op>,
+    count: u32,
+    with: Replacement,
+) -> u32
+    requires ordered { with.first ≤ with.end }
+    requires index_in { with.end ≤ 512 }
+    requires inside { 512 * with.page + 512 ≤ length (S.words store.old) }
+    requires in_range { with.word + with.step * (with.end - with.first) < 2 ^ 64 }
+    requires pages_in { with.start + 512 * (with.end - with.first) ≤ 2 ^ 27 }
+    requires counted { count ≡ nonzero_in (words_of (S.words store.old)) with.page }
+    requires ready { vec_len operations.old + 3 * with.end
+        ≤ vec_capacity operations.old + 3 * with.first }
+    ensures shown { (pool : Pool) → IsShown (S.words store.old) operations.old.items pool
+        → IsShown (S.words store.new) operations.new.items (after_replaces with.who with.page
+        with.first (with.end - with.first) with.word with.step with.start pool) }
+    ensures whole { length (S.words store.new) ≡ length (S.words store.old) }
+    ensures counted { result ≡ nonzero_in (words_of (S.words store.new)) with.page }
+    ensures capacity { vec_capacity operations.new ≡ vec_capacity operations.old }
+    ensures len { vec_len operations.new + 3 * with.first
+        ≤ vec_len operations.old + 3 * with.end }
+{
+    if with.end == with.first + 1 {
+        return replace_one(store, operations, count, with);
+    }
+    let alloc = *operations.allocator();
+    let list = replace(operations, Vec::new(alloc));
+    let (list, count) = replace_all(store, list, count, with);
+    *operations = list;
+    count
 }

@@ -6,7 +6,7 @@ ghost use Rattle.pool.specs.Pool as shares;
 
 use crate::image::Image;
 use crate::operation::Op;
-use crate::replace::{Replacement, replace_all};
+use crate::replace::{Replacement, replace_words};
 use crate::runs::{RunWords, write_runs};
 use crate::stretch::{Stretch, recounted, write_words};
 use crate::table_mem::TableMem;
@@ -201,8 +201,6 @@ impl<S: WordStore> TableMem for TablePool<S> {
         step: u64,
         start: Page,
     ) {
-        let alloc = *self.operations.allocator();
-        let operations = replace(&mut self.operations, Vec::new(alloc));
         let count = self.nonzero[page as usize];
         let with = Replacement {
             who: p,
@@ -213,8 +211,7 @@ impl<S: WordStore> TableMem for TablePool<S> {
             step,
             start: start.number(),
         };
-        let (operations, count) = replace_all(&mut self.store, operations, count, with);
-        self.operations = operations;
+        let count = replace_words(&mut self.store, &mut self.operations, count, with);
         self.nonzero[page as usize] = count;
     }
 
