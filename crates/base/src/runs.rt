@@ -1,7 +1,7 @@
 ghost use Rattle.base.specs.Pages.{are_disjoint, are_normal, covers};
 ghost use Rattle.base.specs.Descriptors.Send.{pages_in};
 ghost use Rattle.std.specs.List.Sorted.{IsNonDecreasingBy, IsPermutation};
-ghost use Rattle.std.specs.Prelude.{◌≡◌, true, ℕ, ◌≤◌, length, IfOk};
+ghost use Rattle.std.specs.Prelude.{◌≡◌, ◌∷◌, [], true, ℕ, ◌≤◌, length, IfOk};
 
 use crate::page::Run;
 use crate::status::OutOfMemory;
@@ -14,7 +14,32 @@ mod tests;
 /// The maximal runs of the pages that the runs cover, in ascending order. Runs that are maximal already
 /// are copied into the memory of the spare list, which is empty then. Where memory runs out, the spare
 /// list alone has changed.
+#[inline(always)]
 pub fn normal(alloc: Global, spare: &mut Vec<Run>, runs: &[Run]) -> Result<Vec<Run>, OutOfMemory>
+    requires disjoint { are_disjoint runs.now ≡ true }
+    ensures normal { IfOk result (λ normal. are_normal normal.items ≡ true) }
+    ensures same { IfOk result (λ normal. (n : ℕ) → covers normal.items n ≡ covers runs.now n) }
+    ensures fewer { IfOk result (λ normal. length normal.items ≤ length runs.now) }
+    ensures sum { IfOk result (λ normal. pages_in normal.items ≡ pages_in runs.now) }
+{
+    match runs {
+        [run] => one(replace(spare, Vec::new(alloc)), *run),
+        _ => normal_of_many(alloc, spare, runs),
+    }
+}
+
+/// A run alone, in the memory of a list.
+fn one(list: Vec<Run>, run: Run) -> Result<Vec<Run>, OutOfMemory>
+    ensures { IfOk result (λ one. one.items ≡ run ∷ []) }
+{
+    let mut one = list;
+    one.clear();
+    one.push(run)?;
+    Ok(one)
+}
+
+/// The maximal runs, in the general case.
+fn normal_of_many(alloc: Global, spare: &mut Vec<Run>, runs: &[Run]) -> Result<Vec<Run>, OutOfMemory>
     requires disjoint { are_disjoint runs.now ≡ true }
     ensures normal { IfOk result (λ normal. are_normal normal.items ≡ true) }
     ensures same { IfOk result (λ normal. (n : ℕ) → covers normal.items n ≡ covers runs.now n) }
@@ -52,10 +77,7 @@ fn copied(list: Vec<Run>, runs: &[Run]) -> Result<Vec<Run>, OutOfMemory>
 {
     let mut copy = list;
     copy.clear();
-    match runs {
-        [run] => copy.push(*run)?,
-        _ => copy.extend_from_slice(runs)?,
-    }
+    copy.extend_from_slice(runs)?;
     Ok(copy)
 }
 

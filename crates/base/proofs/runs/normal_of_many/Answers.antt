@@ -4,7 +4,7 @@ use Rattle.std.proofs.lemmas.List.Sorted.{length_permutation, list_any-IsPermuta
 use Rattle.base.specs.Pages.{PageRun, in_run, covers}
 use Rattle.base.specs.Descriptors.Send.{pages_in}
 use Rattle.base.proofs.Joining.{are_disjoint-IsPermutation}
-use Rattle.base.proofs.runs.normal.Goals as goal
+use Rattle.base.proofs.runs.normal_of_many.Goals as goal
 
 pub joined-requires-clause-disjoint : goal.joined-requires-clause-disjoint
 joined-requires-clause-disjoint c =
