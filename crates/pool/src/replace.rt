@@ -1,8 +1,9 @@
 //! Words that are replaced, one after another: what stands there is broken first.
 
-ghost use Rattle.std.specs.Prelude.{◌≡◌, ◌≢◌, ◌+◌, ◌-◌, ◌*◌, ◌^◌, ◌<◌, ◌≤◌, length, vec_len, vec_capacity};
+ghost use Rattle.std.specs.Prelude.{◌≡◌, ◌≢◌, ◌+◌, ◌-◌, ◌*◌, ◌^◌, ◌<◌, ◌≤◌, ◌++◌, ◌∷◌, [], length, vec_len, vec_capacity};
 ghost use Rattle.pool.specs.Pool.{Pool, words_of, nonzero_in, after_set, after_break, after_make, after_replaces};
 ghost use Rattle.pool.specs.Shown.{IsShown};
+ghost use Rattle.pool.specs.declared.operation.Op.TheVariants.{Invalidate};
 
 use crate::operation::Op;
 use crate::stretch::{Stretch, WORDS, recounted, write_all};
@@ -24,6 +25,18 @@ pub(crate) struct Replacement {
     pub(crate) word: u64,
     pub(crate) step: u64,
     pub(crate) start: u32,
+}
+
+/// Records an invalidation. It is made here, apart from the writes, so that none of its bytes is filled
+/// with what one of them left.
+#[inline(always)]
+fn push_invalidate(operations: &mut Vec<Op>, who: PartitionId, run: Run)
+    requires { vec_len operations.old < vec_capacity operations.old }
+    ensures items { operations.new.items ≡ operations.old.items ++ Invalidate who run ∷ [] }
+    ensures capacity { vec_capacity operations.new ≡ vec_capacity operations.old }
+    ensures len { vec_len operations.new ≡ vec_len operations.old + 1 }
+{
+    operations.push_reserved(Op::Invalidate { who, run });
 }
 
 /// Makes a word 0 that is not, and invalidates what it stands for. It answers how many words of the page
@@ -60,7 +73,7 @@ fn break_word<S: WordStore>(
         index,
         word: 0,
     });
-    operations.push_reserved(Op::Invalidate { who, run });
+    push_invalidate(operations, who, run);
     recounted(count, before, 0)
 }
 
@@ -155,10 +168,7 @@ fn break_all<S: WordStore>(
             word: 0,
         });
         let start = Page::new(with.start + PAGES * (index - with.first));
-        operations.push_reserved(Op::Invalidate {
-            who: with.who,
-            run: Run::new(start, PAGES),
-        });
+        push_invalidate(&mut operations, with.who, Run::new(start, PAGES));
     }
     (operations, WORDS - (with.end - with.first))
 }

@@ -44,17 +44,17 @@ loop-index-preserved g c =
     (sym (words_set-beside start w.page w.first n 0 0 i c.requires.inside small (inr (omega (arith, index)))) ∙ ap (λ l. words_of l w.page i) (sym before.words) ∙ is) in
     let run : c.new.result ≡ record { first = w.start + 512 * n; count = 512 } = c.new.ensures ∙ ap (λ (f : ℕ). record { first = f; count = 512 }) c.new-start.ensures in
     let broken : (pool : Pool) → IsShown start c.args.operations.items pool
-    → IsShown (g.S.WordStore.words c.set_word.new.self) c.push_reserved-in-loop-index.new.self.items (after_break w.who w.page i (record { first = w.start + 512 * n; count = 512 }) (after_replaces w.who w.page w.first n w.word w.step w.start pool)) =
+    → IsShown (g.S.WordStore.words c.set_word.new.self) c.push_invalidate.new.operations.items (after_break w.who w.page i (record { first = w.start + 512 * n; count = 512 }) (after_replaces w.who w.page w.first n w.word w.step w.start pool)) =
     λ pool shown.
     let mid = after_replaces w.who w.page w.first n w.word w.step w.start pool in
-    subst (λ (r : PageRun). IsShown (g.S.WordStore.words c.set_word.new.self) c.push_reserved-in-loop-index.new.self.items (after_break w.who w.page i r mid)) run
-    (shown-broken words (g.S.WordStore.words c.set_word.new.self) c.loop-index.operations.items c.push_reserved-in-loop-index.new.self.items w.who w.page i c.new.result mid isnt c.set_word.ensures
-    (c.push_reserved-in-loop-index.ensures.items ∙ ap (λ l. l ++ Invalidate w.who c.new.result ∷ []) c.push_reserved.ensures.items) (before.shown pool shown)) in
+    subst (λ (r : PageRun). IsShown (g.S.WordStore.words c.set_word.new.self) c.push_invalidate.new.operations.items (after_break w.who w.page i r mid)) run
+    (shown-broken words (g.S.WordStore.words c.set_word.new.self) c.loop-index.operations.items c.push_invalidate.new.operations.items w.who w.page i c.new.result mid isnt c.set_word.ensures
+    (c.push_invalidate.ensures.items ∙ ap (λ l. l ++ Invalidate w.who c.new.result ∷ []) c.push_reserved.ensures.items) (before.shown pool shown)) in
     rw more record {
       shown = λ pool shown. rw (replaces-more w.who w.page w.first n w.word w.step w.start i 0 (w.start + 512 * n) pool index next refl) (broken pool shown);
       words = c.set_word.ensures ∙ ap (λ items. slice_set items (512 * w.page + i) 0) before.words ∙ sym (words_set-next start w.page w.first n 0 0 i 0 index zero);
-      capacity = c.push_reserved-in-loop-index.ensures.capacity ∙ c.push_reserved.ensures.capacity ∙ before.capacity;
-      len = omega (arith, before.len, c.push_reserved.ensures.len, c.push_reserved-in-loop-index.ensures.len);
+      capacity = c.push_invalidate.ensures.capacity ∙ c.push_reserved.ensures.capacity ∙ before.capacity;
+      len = omega (arith, before.len, c.push_reserved.ensures.len, c.push_invalidate.ensures.len);
     }
 
 pub returns-clause-shown : goal.returns-clause-shown

@@ -33,8 +33,8 @@ pub returns-clause-shown : goal.returns-clause-shown
 returns-clause-shown g c = λ pool shown.
     let words = g.S.WordStore.words c.args.store.now in
     let read = word-read words c.args.page c.args.index c.word-before.result c.requires.index_in c.word-before.ensures in
-    shown-broken words (g.S.WordStore.words c.set_word.new.self) c.args.operations.now.items c.push_reserved-2.new.self.items c.args.who c.args.page c.args.index c.args.run pool (λ is. c.if-before-eq0.false (read ∙ is)) c.set_word.ensures
-    (c.push_reserved-2.ensures.items ∙ ap (λ l. l ++ Invalidate c.args.who c.args.run ∷ []) c.push_reserved.ensures.items) shown
+    shown-broken words (g.S.WordStore.words c.set_word.new.self) c.args.operations.now.items c.push_invalidate.new.operations.items c.args.who c.args.page c.args.index c.args.run pool (λ is. c.if-before-eq0.false (read ∙ is)) c.set_word.ensures
+    (c.push_invalidate.ensures.items ∙ ap (λ l. l ++ Invalidate c.args.who c.args.run ∷ []) c.push_reserved.ensures.items) shown
 
 pub returns-clause-zero : goal.returns-clause-zero
 returns-clause-zero g c =
