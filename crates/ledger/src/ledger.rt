@@ -3,6 +3,7 @@ ghost use Rattle.std.specs.Option.{option_map, option_map_or, option_and_then};
 ghost use Rattle.base.specs.Manifest.{granted_in};
 ghost use Rattle.base.specs.Pages.{covers};
 ghost use Rattle.base.specs.Ledger as rules;
+ghost use Rattle.base.specs.declared.transaction.Kind.TheVariants.{Donate};
 ghost use Rattle.spans.specs.Spans.{room_for};
 ghost use Rattle.ledger.specs.Ledger as spec;
 ghost use Rattle.ledger.specs.Changes as changes;
@@ -236,10 +237,10 @@ impl Ledger {
         self.set_retrieval(p, handle, None);
     }
 
-    /// The receiver has retrieved the transaction of a handle, with this access: a donation is
-    /// completed and ends. This takes no memory.
+    /// The receiver has retrieved the transaction of a handle, with this access: a donation, for which
+    /// there is room, is completed and ends. This takes no memory.
     pub fn retrieve(&mut self, p: PartitionId, handle: Handle, access: Access)
-        requires { (t : _) → spec.found self.old.live handle ≡ Some t
+        requires { (t : _) → spec.found self.old.live handle ≡ Some t → t.kind ≡ Donate
             → spec.IsReady (length t.ranges) self.old.room }
         ensures manifest { self.new.manifest ≡ self.old.manifest }
         ensures donations { self.new.donations ≡ changes.donations_after p access

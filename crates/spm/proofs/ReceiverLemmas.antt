@@ -176,7 +176,3 @@ completed_state (Ok x) s p handle access first ready last boxes after partitions
     ap (λ (m : ManifestRows). record { manifest = m; donations = last.donations; live = last.live; mailboxes = after; partitions = partitions }) (manifest ∙ same.manifest)
     ∙ retrieved_state start p handle access last.live last.donations after can_start given kept ok
     ∙ ap (λ (u : State). after_retrieval u p handle access) is
-
-pub not_none : (o : Option Live) → o ≡ None → is_some o ≡ true → ⊥
-not_none None e h = absurd cc
-not_none (Some t) e h = absurd cc
