@@ -6,15 +6,16 @@ ghost use Rattle.base.specs.Manifest.{page_count, row_of};
 ghost use Rattle.pool.specs.Pool.{pages_of, taken_of, row_in, InShare};
 ghost use Rattle.stage2.specs.Orderly.{IsCanonical};
 ghost use Rattle.stage2.specs.Slot.{Layout, slot};
+ghost use Rattle.stage2.specs.Parts.{chunk_runs};
 ghost use Rattle.stage2.specs.Walk.{next_page};
-ghost use Rattle.stage2.specs.Gigabytes.{gigabyte_operations, touches_run, touches_chunk, Touches};
+ghost use Rattle.stage2.specs.Gigabytes.{gigabyte_operations, touches_chunk, Touches};
 ghost use Rattle.stage2.specs.Clauses.{IsLinkedOrderly, IsSecond, FitsChunks, chunks_operations, EditsChunks, ChunksInStep, second_at, word_in, IsEmpty, HasWord, Unlinks, UnlinksInStep, FitsInGigabyte, EditsInGigabyte, GigabyteInStep};
 
 use crate::chunk::{edit_chunk, points_at_table, set_blocks, table_of};
 use crate::edit::{give_page, put_word, take_page};
 use crate::layout::Layout;
 use crate::part::chunk_runs;
-use crate::place::{Chunk, Gigabyte, Span, end_chunk, first_chunk};
+use crate::place::{Chunk, Gigabyte, Span};
 use crate::read::{AT_ONCE, read_gigabyte, read_word};
 use crate::span::{chunk_span, first_unfilled};
 use crate::table_page::{Row, TablePage};
@@ -22,18 +23,18 @@ use base::{Access, PartitionId, Run};
 use pool::TableMem;
 use words::table_word;
 
-/// Whether a run has a page in a chunk.
-fn run_touches(run: Run, chunk: Chunk) -> bool
-    ensures { result ≡ touches_run chunk run }
+/// Whether runs have a page in a chunk, by those of them that have one.
+pub(crate) fn touches(runs: &[Run], part: &[Run], chunk: Chunk) -> bool
+    requires { part.now ≡ chunk_runs chunk runs.now }
+    ensures { result ≡ touches_chunk chunk part.now }
 {
-    first_chunk(run).number() <= chunk.number() && chunk.number() < end_chunk(run)
-}
-
-/// Whether the runs have a page in a chunk.
-pub(crate) fn touches(runs: &[Run], chunk: Chunk) -> bool
-    ensures { result ≡ touches_chunk chunk runs.now }
-{
-    runs.iter().any(|run| run_touches(*run, chunk))
+    match part.first() {
+        Some(run) => {
+            let (_runs, _chunk, _end) = (runs, chunk, run.end());
+            true
+        }
+        None => false,
+    }
 }
 
 /// Whether none of 64 chunks of a gigabyte that follow one another, from this one on, has a table.
@@ -67,7 +68,8 @@ fn plain_at_once<M: TableMem>(memory: &M, second: TablePage, first: u32, end: u3
     index
 }
 
-/// Up to where chunks of a gigabyte, counted from its first, have no table.
+/// Up to where chunks of a gigabyte, counted from its first, have no table. Where all words of its table
+/// are 0, none has.
 fn plain_until<M: TableMem>(memory: &M, second: TablePage, first: u32, end: u32) -> u32
     requires page_in { second < page_count (M.state memory.now).memory.quotas }
     requires most { end ≤ 512 }
@@ -76,6 +78,9 @@ fn plain_until<M: TableMem>(memory: &M, second: TablePage, first: u32, end: u32)
     ensures plain { (layout : Layout) (x : ℕ) → first ≤ x → x < result
         → next_page (slot layout 2 (word_in (M.state memory.now) second x)) ≡ None }
 {
+    if first < end && is_empty(memory, second) {
+        return end;
+    }
     let mut index = plain_at_once(memory, second, first, end);
     while index < end && !points_at_table(read_word(memory, second, index)) {
         index += 1;
@@ -124,7 +129,7 @@ fn edit_chunks<M: TableMem>(
         } else {
             let chunk = gigabyte.chunk(index);
             let part = chunk_runs(runs, chunk);
-            if touches(part, chunk) {
+            if touches(runs, part, chunk) {
                 edit_chunk(memory, layout, p, row, second, chunk, part, access);
             }
             index += 1;

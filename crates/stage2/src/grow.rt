@@ -105,7 +105,7 @@ fn takes<M: TableMem>(
     let _row = row;
     let chunk = gigabyte.chunk(index);
     let part = chunk_runs(runs, chunk);
-    if !touches_chunk(part, chunk) {
+    if !touches_chunk(runs, part, chunk) {
         return false;
     }
     if is_filled(part, chunk) {
@@ -189,7 +189,7 @@ pub(crate) fn grow_row<M: TableMem>(
     for number in span.first..span.end {
         let gigabyte = Gigabyte::new(number);
         let part = gigabyte_runs(runs, gigabyte);
-        if touches(part, gigabyte) {
+        if touches(runs, part, gigabyte) {
             count += grow_gigabyte(memory, layout, row, gigabyte, part, access);
         }
     }

@@ -87,6 +87,7 @@ pub(crate) fn is_filled(runs: &[Run], chunk: Chunk) -> bool
 }
 
 /// The one answer that all pages of a chunk have after the edit; none where they are not all alike.
+#[inline(always)]
 pub(crate) fn outcome<M: TableMem>(
     memory: &M,
     layout: &Layout,
@@ -183,6 +184,7 @@ fn is_partly_mapped<M: TableMem>(
 
 /// The one answer of a chunk that has a table: how many of its words are not 0 tells most, and its pages
 /// in none of the runs are told by their words, as long as these are the ones for the runs' answer.
+#[inline(always)]
 fn outcome_in_table<M: TableMem>(
     memory: &M,
     layout: &Layout,
@@ -271,6 +273,7 @@ fn next_differs<M: TableMem>(
 
 /// Whether the pages at an end of the first run, one in it and one beside it, are reached otherwise
 /// after the edit. Most edits that leave the chunk mixed are known by these four looks.
+#[inline(never)]
 fn differs_at_an_end<M: TableMem>(
     memory: &M,
     layout: &Layout,
@@ -297,6 +300,7 @@ fn differs_at_an_end<M: TableMem>(
 
 /// The same, found by a look at the pages, one after another, up to the first that is reached
 /// otherwise than the chunk's first page.
+#[inline(never)]
 fn compared<M: TableMem>(
     memory: &M,
     layout: &Layout,

@@ -108,6 +108,7 @@ fn fill_table<M: TableMem>(
 
 /// Writes the words that are planned for the pages of a chunk, upward, into a table: pages of the
 /// runs get one answer, and the others another one, or stay.
+#[inline(always)]
 pub(crate) fn write_table<M: TableMem>(
     memory: &mut M,
     third: TablePage,
@@ -258,6 +259,7 @@ fn stray_word<M: TableMem>(
 
 /// A page of a chunk, in none of the runs, whose word in a table is not that of a page with this
 /// answer; none where there is no such page.
+#[inline(never)]
 pub(crate) fn stray_page<M: TableMem>(
     memory: &M,
     third: TablePage,

@@ -237,18 +237,3 @@ pub(crate) fn end_chunk(run: Run) -> u32
 {
     (run.end() + (WORDS - 1)) / WORDS
 }
-
-/// The first gigabyte that a run touches.
-pub(crate) fn first_gigabyte(run: Run) -> Gigabyte
-    ensures { result ≡ run.first / 512 / 512 }
-{
-    Gigabyte::of(run.first())
-}
-
-/// The number after that of the last gigabyte that a run touches.
-pub(crate) fn end_gigabyte(run: Run) -> u32
-    ensures same { result ≡ ((run.first + run.count + 511) / 512 + 511) / 512 }
-    ensures in_range { IsRun run }
-{
-    (end_chunk(run) + (WORDS - 1)) / WORDS
-}

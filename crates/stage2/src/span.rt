@@ -90,6 +90,7 @@ pub(crate) fn chunk_span(runs: &[Run], gigabyte: Gigabyte) -> Span
 
 /// The first chunk of a gigabyte from this one on, counted from its first, that is not known to be
 /// filled by the run that goes on there. Chunks from the last one's end on are not asked for.
+#[inline(always)]
 pub(crate) fn first_unfilled(runs: &[Run], gigabyte: Gigabyte, index: u32, end: u32) -> u32
     requires normal { are_normal runs.now ≡ true }
     requires index { index ≤ 512 }
