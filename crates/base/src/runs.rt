@@ -1,7 +1,7 @@
 ghost use Rattle.base.specs.Pages.{are_disjoint, are_normal, covers};
 ghost use Rattle.base.specs.Descriptors.Send.{pages_in};
 ghost use Rattle.std.specs.List.Sorted.{IsNonDecreasingBy, IsPermutation};
-ghost use Rattle.std.specs.Prelude.{◌≡◌, ◌∷◌, [], true, ℕ, ◌≤◌, length, IfOk};
+ghost use Rattle.std.specs.Prelude.{◌≡◌, ◌∷◌, [], true, ℕ, ◌≤◌, ◌<◌, length, vec_capacity, IfOk};
 
 use crate::page::Run;
 use crate::status::OutOfMemory;
@@ -22,24 +22,32 @@ pub fn normal(alloc: Global, spare: &mut Vec<Run>, runs: &[Run]) -> Result<Vec<R
     ensures fewer { IfOk result (λ normal. length normal.items ≤ length runs.now) }
     ensures sum { IfOk result (λ normal. pages_in normal.items ≡ pages_in runs.now) }
 {
-    match runs {
-        [run] => one(replace(spare, Vec::new(alloc)), *run),
-        _ => normal_of_many(alloc, spare, runs),
+    if let [run] = runs {
+        if spare.capacity() > 0 {
+            return Ok(one(replace(spare, Vec::new(alloc)), *run));
+        }
     }
+    normal_of_many(alloc, spare, runs)
 }
 
-/// A run alone, in the memory of a list.
-fn one(list: Vec<Run>, run: Run) -> Result<Vec<Run>, OutOfMemory>
-    ensures { IfOk result (λ one. one.items ≡ run ∷ []) }
+/// A run alone, in the memory of a list that has some.
+#[inline(always)]
+fn one(list: Vec<Run>, run: Run) -> Vec<Run>
+    requires { 0 < vec_capacity list }
+    ensures { result.items ≡ run ∷ [] }
 {
     let mut one = list;
     one.clear();
-    one.push(run)?;
-    Ok(one)
+    one.push_reserved(run);
+    one
 }
 
 /// The maximal runs, in the general case.
-fn normal_of_many(alloc: Global, spare: &mut Vec<Run>, runs: &[Run]) -> Result<Vec<Run>, OutOfMemory>
+fn normal_of_many(
+    alloc: Global,
+    spare: &mut Vec<Run>,
+    runs: &[Run],
+) -> Result<Vec<Run>, OutOfMemory>
     requires disjoint { are_disjoint runs.now ≡ true }
     ensures normal { IfOk result (λ normal. are_normal normal.items ≡ true) }
     ensures same { IfOk result (λ normal. (n : ℕ) → covers normal.items n ≡ covers runs.now n) }

@@ -38,6 +38,7 @@ fn is_received_by(transaction: &Live, p: PartitionId) -> bool
 
 /// The receiver reaches all pages of the transaction with this access, or none of them, and they may be
 /// cleared.
+#[inline(always)]
 pub(crate) fn receiver_edit(
     alloc: Global,
     spare: &mut Vec<Run>,

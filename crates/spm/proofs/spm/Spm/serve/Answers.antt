@@ -1,4 +1,4 @@
-use Rattle.std.proofs.Common.{refl, sym, ap, subst, ◌∙◌}
+use Rattle.std.proofs.Common.{sym, ap, subst, ◌∙◌}
 use Rattle.base.specs.Manifest.{is_partition}
 use Rattle.rules.specs.Run.{answer, step, refusal}
 use Rattle.spm.specs.Machine.{Machine, WalksAgree, MayNeedMemory}
