@@ -1,5 +1,6 @@
 -- Live transactions and completed donations as data (FF-A 1.1, "Memory management").
-use Rattle.std.specs.Prelude.{ℕ, ◌==◌, List, [], ◌∷◌, if◌then◌else◌}
+use Rattle.std.specs.Prelude.{ℕ, ◌==◌, ◌<◌, nat_lt, List, [], ◌∷◌, if◌then◌else◌}
+use Rattle.std.specs.List.{AllByRecursion}
 use Rattle.base.specs.declared.access.Rights.{Rights}
 use Rattle.base.specs.declared.transaction.Kind.{Kind}
 use Rattle.base.specs.Pages.{PageRun}
@@ -27,6 +28,16 @@ pub record Donation : Type 0 where
   pub giver : ℕ
   pub taker : ℕ
   pub access : Access
+
+-- they stand in ascending order of their handles
+abbrev pub AreAscending : List Live → Type 0
+AreAscending [] = Unit {0}
+AreAscending (t ∷ ts) = AllByRecursion (λ u. t.handle < u.handle) ts × AreAscending ts
+
+-- these with one more, behind those of lower handles
+abbrev pub with_live : Live → List Live → List Live
+with_live t [] = t ∷ []
+with_live t (u ∷ us) = if nat_lt t.handle u.handle then t ∷ u ∷ us else u ∷ with_live t us
 
 -- these without the transaction of a handle
 abbrev pub without : ℕ → List Live → List Live

@@ -1,6 +1,6 @@
 -- The intervals agree with the lists after each change.
 use Rattle.std.proofs.Common.{◌≡◌, ℕ, true, cond, List, [], ◌∷◌, ◌++◌, Some, None, length, get_or, sym, ap, subst, ◌∙◌}
-use Rattle.std.specs.List.{remove}
+use Rattle.std.specs.List.{AllByRecursion, remove}
 use Rattle.std.proofs.Math.ListN.{set}
 use Rattle.std.proofs.lemmas.Option.{slice_get-get_or}
 use Rattle.base.specs.Access.{View}
@@ -8,19 +8,20 @@ use Rattle.base.specs.Transactions.{Live, Donation}
 use Rattle.base.specs.Pages.{PageRun, covers}
 use Rattle.base.specs.Ledger.{live_at}
 use Rattle.spans.specs.Spans.{Span, value_at}
-use Rattle.ledger.specs.Ledger.{found}
-use Rattle.ledger.specs.Changes.{with_retrieval, with_retrieval_of, without}
+use Rattle.base.proofs.Ascending.{all_with}
+use Rattle.ledger.specs.Ledger.{found, NamesItsSender}
+use Rattle.ledger.specs.Changes.{with_live, with_retrieval, with_retrieval_of, without}
 use Rattle.ledger.specs.Intervals.{AreAllSeparate, AreHandles, IsPlaced, IsKept}
-use Rattle.ledger.proofs.Transactions.{AreHandles-open, AreAllSeparate-open, AreHandles-close, AreAllSeparate-without, AreHandles-retrieval, AreAllSeparate-retrieval}
+use Rattle.ledger.proofs.Transactions.{AreHandles-open, AreAllSeparate-open, AreHandles-close, AreAllSeparate-without, AreHandles-retrieval, AreAllSeparate-retrieval, AllByRecursion-without, named-retrieval}
 use Rattle.ledger.proofs.Donations.{IsPlaced-more}
 use Rattle.ledger.proofs.Places.{IsPlace}
 
 -- ---- one more transaction
 
 pub IsKept-open : (ds : List Donation) (live known next : List Live) (given shared new : List Span) (t : Live) (runs : List PageRun) (h : ℕ) → IsKept ds live given shared → live ≡ known
-    → runs ≡ t.ranges → h ≡ t.handle → found known t.handle ≡ None → ((n : ℕ) → covers t.ranges n ≡ true → live_at known n ≡ None)
-    → ((n : ℕ) → value_at new n ≡ cond (covers runs n) (Some h) (value_at shared n)) → next ≡ live ++ t ∷ [] → IsKept ds next given new
-IsKept-open ds live known next given shared new t runs h kept same runs_are h_is unknown none at items =
+    → runs ≡ t.ranges → h ≡ t.handle → found known t.handle ≡ None → NamesItsSender t → ((n : ℕ) → covers t.ranges n ≡ true → live_at known n ≡ None)
+    → ((n : ℕ) → value_at new n ≡ cond (covers runs n) (Some h) (value_at shared n)) → next ≡ with_live t live → IsKept ds next given new
+IsKept-open ds live known next given shared new t runs h kept same runs_are h_is unknown its none at items =
     let unknown_now : found live t.handle ≡ None = subst (λ (l : List Live). found l t.handle ≡ None) (sym same) unknown in
     let none_now : (n : ℕ) → covers t.ranges n ≡ true → live_at live n ≡ None = subst (λ (l : List Live). (n : ℕ) → covers t.ranges n ≡ true → live_at l n ≡ None) (sym same) none in
     let put : (n : ℕ) → value_at new n ≡ cond (covers t.ranges n) (Some t.handle) (value_at shared n) =
@@ -29,6 +30,7 @@ IsKept-open ds live known next given shared new t runs h kept same runs_are h_is
       places = kept.places;
       handles = subst (λ (l : List Live). AreHandles l new) (sym items) (AreHandles-open live t shared new kept.handles none_now put);
       separate = subst AreAllSeparate (sym items) (AreAllSeparate-open live t kept.separate none_now unknown_now);
+      named = subst (AllByRecursion NamesItsSender) (sym items) (all_with NamesItsSender t live kept.named its);
     }
 
 -- ---- one less
@@ -46,6 +48,7 @@ IsKept-close ds live next given shared new h i t runs kept place is runs_are at 
       places = kept.places;
       handles = subst (λ (l : List Live). AreHandles l new) (sym without_it) (AreHandles-close live h t shared new kept.separate is kept.handles cut);
       separate = subst AreAllSeparate (sym without_it) (AreAllSeparate-without live h kept.separate);
+      named = subst (AllByRecursion NamesItsSender) (sym without_it) (AllByRecursion-without NamesItsSender live h kept.named);
     }
 
 -- ---- one changed
@@ -58,6 +61,7 @@ IsKept-retrieval ds live next given shared h p view kept items = record {
   places = kept.places;
   handles = subst (λ (l : List Live). AreHandles l shared) (sym items) (AreHandles-retrieval live h p view shared kept.handles);
   separate = subst AreAllSeparate (sym items) (AreAllSeparate-retrieval live h p view kept.separate);
+  named = subst (AllByRecursion NamesItsSender) (sym items) (named-retrieval live h p view kept.named);
 }
 
 -- ---- one more donation
@@ -71,4 +75,5 @@ IsKept-complete ds next live given shared new e runs k kept place runs_are at it
       places = subst (λ (l : List Donation). IsPlaced l new) (sym items) (IsPlaced-more ds e given new kept.places put);
       handles = kept.handles;
       separate = kept.separate;
+      named = kept.named;
     }

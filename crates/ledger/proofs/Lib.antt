@@ -2,6 +2,7 @@ mod Receivers
 mod Several
 mod Transactions
 mod Donations
+mod Halving
 mod Places
 mod Kept
 mod Regions

@@ -1,15 +1,17 @@
 -- Live transactions that come and go.
-use Rattle.std.proofs.Common.{◌≡◌, ℕ, Bool, true, false, cond, eqb, List, [], ◌∷◌, ◌++◌, Option, Some, None, refl, sym, ap, subst, ◌∙◌, eq-eqb}
+use Rattle.std.proofs.Common.{◌≡◌, ℕ, ◌<◌, Bool, true, false, cond, eqb, ltb, List, [], ◌∷◌, Option, Some, None, refl, sym, ap, subst, ◌∙◌, arith}
 use Rattle.std.specs.List.{AllByRecursion}
-use Rattle.std.specs.Option.{option_map, option_or}
-use Rattle.std.proofs.lemmas.List.Folds.{find-append}
+use Rattle.std.specs.Option.{option_map}
+use Rattle.std.proofs.lemmas.Bool.{ltb-true}
+use Rattle.std.proofs.lemmas.Bool.Decides.{nat_tests}
 use Rattle.base.specs.Access.{View}
-use Rattle.base.specs.Transactions.{Live}
+use Rattle.base.specs.Transactions.{Live, AreAscending}
 use Rattle.base.specs.Pages.{covers}
 use Rattle.base.specs.Ledger.{live_at}
 use Rattle.spans.specs.Spans.{Span, value_at}
-use Rattle.ledger.specs.Ledger.{found}
-use Rattle.ledger.specs.Changes.{with_retrieval, with_retrieval_of, without}
+use Rattle.ledger.specs.Ledger.{found, NamesItsSender}
+use Rattle.base.proofs.Ascending.{all_with, all_above, find-new, find-other}
+use Rattle.ledger.specs.Changes.{with_live, with_retrieval, with_retrieval_of, without}
 use Rattle.ledger.specs.Intervals.{AreSeparate, AreAllSeparate, AreHandles}
 
 abbrev handle_at : List Live → ℕ → Option ℕ
@@ -35,40 +37,51 @@ none_under u (t ∷ us) n all is = rw (all.0.pages n is) (none_under u us n all.
 
 -- ---- one more
 
-opened : (b : Bool) (t : Live) (o : Option Live) (v : Option ℕ) → v ≡ option_map (λ (u : Live). u.handle) o → (b ≡ true → o ≡ None)
-    → cond b (Some t.handle) v ≡ option_map (λ (u : Live). u.handle) (option_or o (cond b (Some t) None))
-opened true t None v e none = refl
-opened true t (Some u) v e none = let not = none refl in absurd cc
-opened false t None v e none = e
-opened false t (Some u) v e none = e
-
 pub AreHandles-open : (live : List Live) (t : Live) (old new : List Span) → AreHandles live old → ((n : ℕ) → covers t.ranges n ≡ true → live_at live n ≡ None)
-    → ((n : ℕ) → value_at new n ≡ cond (covers t.ranges n) (Some t.handle) (value_at old n)) → AreHandles (live ++ t ∷ []) new
+    → ((n : ℕ) → value_at new n ≡ cond (covers t.ranges n) (Some t.handle) (value_at old n)) → AreHandles (with_live t live) new
 AreHandles-open live t old new are none at = λ n.
-    at n ∙ opened (covers t.ranges n) t (live_at live n) (value_at old n) (are n) (none n)
-    ∙ ap (option_map (λ (u : Live). u.handle)) (sym (find-append (λ (u : Live). covers u.ranges n) live (t ∷ [])))
+    at n ∙ elim (covers t.ranges n) as (λ b. covers t.ranges n ≡ b → cond b (Some t.handle) (value_at old n) ≡ handle_at (with_live t live) n) [
+      | true ↦ λ c. ap (option_map (λ (u : Live). u.handle)) (sym (find-new (λ u. covers u.ranges n) t live c (none n c)))
+      | false ↦ λ c. are n ∙ ap (option_map (λ (u : Live). u.handle)) (sym (find-other (λ u. covers u.ranges n) t live c))
+    ] refl
 
 outside : (b c : Bool) (u : Live) (o : Option Live) → b ≡ true → (c ≡ true → cond b (Some u) o ≡ None) → c ≡ false
 outside b true u o is none = let not = (first_not b u o (none refl)).0 in absurd cc
 outside b false u o is none = refl
 
-separate : (u t : Live) (us : List Live) → ((n : ℕ) → covers t.ranges n ≡ true → live_at (u ∷ us) n ≡ None) → found (u ∷ us) t.handle ≡ None → AreSeparate u t
-separate u t us none new = record {
-  pages = λ n is. outside (covers u.ranges n) (covers t.ranges n) u (live_at us n) is (none n);
-  handles = λ same. let here = eq-eqb u.handle t.handle same in let not = (first_not (eqb u.handle t.handle) u (found us t.handle) new).0 in absurd cc;
-}
+behind : (u t : Live) (us : List Live) → ((n : ℕ) → covers t.ranges n ≡ true → live_at (u ∷ us) n ≡ None) → u.handle < t.handle → AreSeparate u t
+behind u t us none lower = record { pages = λ n is. outside (covers u.ranges n) (covers t.ranges n) u (live_at us n) is (none n); handles = lower }
 
-AllByRecursion-more : (P : Live → Type 0) (live : List Live) (t : Live) → AllByRecursion P live → P t → AllByRecursion P (live ++ t ∷ [])
-AllByRecursion-more P [] t all p = (p, tt)
-AllByRecursion-more P (u ∷ us) t all p = (all.0, AllByRecursion-more P us t all.1 p)
+before_each : (t : Live) (us : List Live) → AllByRecursion (λ u. t.handle < u.handle) us → ((n : ℕ) → covers t.ranges n ≡ true → live_at us n ≡ None) → AllByRecursion (AreSeparate t) us
+before_each t [] lower none = tt
+before_each t (u ∷ us) lower none = (
+  record { pages = λ n is. (first_not (covers u.ranges n) u (live_at us n) (none n is)).0; handles = lower.0 },
+  before_each t us lower.1 (λ n is. (first_not (covers u.ranges n) u (live_at us n) (none n is)).1),
+)
+
+handles_of : (u : Live) (us : List Live) → AllByRecursion (AreSeparate u) us → AllByRecursion (λ v. u.handle < v.handle) us
+handles_of u [] all = tt
+handles_of u (v ∷ vs) all = (all.0.handles, handles_of u vs all.1)
+
+pub ascending : (live : List Live) → AreAllSeparate live → AreAscending live
+ascending [] all = tt
+ascending (u ∷ us) all = (handles_of u us all.0, ascending us all.1)
+
+above : (a b : ℕ) → ltb a b ≡ false → eqb b a ≡ false → b < a
+above a b past other = grind (arith, nat_tests, past, other)
 
 pub AreAllSeparate-open : (live : List Live) (t : Live) → AreAllSeparate live → ((n : ℕ) → covers t.ranges n ≡ true → live_at live n ≡ None) → found live t.handle ≡ None
-    → AreAllSeparate (live ++ t ∷ [])
+    → AreAllSeparate (with_live t live)
 AreAllSeparate-open [] t all none new = (tt, tt)
-AreAllSeparate-open (u ∷ us) t all none new = (
-  AllByRecursion-more (AreSeparate u) us t all.0 (separate u t us none new),
-  AreAllSeparate-open us t all.1 (λ n is. (first_not (covers u.ranges n) u (live_at us n) (none n is)).1) (first_not (eqb u.handle t.handle) u (found us t.handle) new).1,
-)
+AreAllSeparate-open (u ∷ us) t all none new =
+    let fresh = first_not (eqb u.handle t.handle) u (found us t.handle) new in
+    elim (ltb t.handle u.handle) as (λ b. ltb t.handle u.handle ≡ b → AreAllSeparate (cond b (t ∷ u ∷ us) (u ∷ with_live t us))) [
+      | true ↦ λ e. let lt = ltb-true _ _ e in (before_each t (u ∷ us) (lt, all_above t u us lt (handles_of u us all.0)) none, all)
+      | false ↦ λ e. (
+        all_with (AreSeparate u) t us all.0 (behind u t us none (above t.handle u.handle e fresh.0)),
+        AreAllSeparate-open us t all.1 (λ n is. (first_not (covers u.ranges n) u (live_at us n) (none n is)).1) fresh.1,
+      )
+    ] refl
 
 -- ---- one less
 
@@ -103,7 +116,7 @@ AreHandles-close live h t old new all is are at = λ n.
     at n ∙ ap (cond (covers t.ranges n) None) (are n) ∙ sym (closed (covers t.ranges n) (live_at live n))
     ∙ ap (option_map (λ (u : Live). u.handle)) (sym (live_at-without live h n t all is))
 
-AllByRecursion-without : (P : Live → Type 0) (live : List Live) (h : ℕ) → AllByRecursion P live → AllByRecursion P (without h live)
+pub AllByRecursion-without : (P : Live → Type 0) (live : List Live) (h : ℕ) → AllByRecursion P live → AllByRecursion P (without h live)
 AllByRecursion-without P [] h all = tt
 AllByRecursion-without P (u ∷ us) h all =
     elim (eqb u.handle h) as (λ b. AllByRecursion P (cond b us (u ∷ without h us))) [
@@ -143,6 +156,14 @@ AllByRecursion-retrieval t (u ∷ us) h p view all =
     elim (eqb u.handle h) as (λ b. AllByRecursion (AreSeparate t) (cond b (with_retrieval p view u ∷ us) (u ∷ with_retrieval_of h p view us))) [
       | true ↦ (record { pages = all.0.pages; handles = all.0.handles }, all.1)
       | false ↦ (all.0, AllByRecursion-retrieval t us h p view all.1)
+    ]
+
+pub named-retrieval : (live : List Live) (h p : ℕ) (view : View) → AllByRecursion NamesItsSender live → AllByRecursion NamesItsSender (with_retrieval_of h p view live)
+named-retrieval [] h p view all = tt
+named-retrieval (u ∷ us) h p view all =
+    elim (eqb u.handle h) as (λ b. AllByRecursion NamesItsSender (cond b (with_retrieval p view u ∷ us) (u ∷ with_retrieval_of h p view us))) [
+      | true ↦ (all.0, all.1)
+      | false ↦ (all.0, named-retrieval us h p view all.1)
     ]
 
 other_way : (u : Live) (us : List Live) (p : ℕ) (view : View) → AllByRecursion (AreSeparate u) us → AllByRecursion (AreSeparate (with_retrieval p view u)) us

@@ -4,7 +4,7 @@ use Rattle.base.specs.declared.transaction.Kind.{Kind}
 use Rattle.base.specs.declared.transaction.Kind.TheVariants.{Share, Lend, Donate}
 use Rattle.base.specs.Access.{Access}
 use Rattle.base.specs.Transactions.{Live, Donation}
-pub use Rattle.base.specs.Transactions.{without, with_retrieved, with_retrieval, with_retrieval_of, completed}
+pub use Rattle.base.specs.Transactions.{with_live, without, with_retrieved, with_retrieval, with_retrieval_of, completed}
 
 -- the donations that a retrieval of the transaction completes
 abbrev pub completed_by : ℕ → Access → Live → Kind → List Donation

@@ -10,7 +10,7 @@ ghost use Rattle.ledger.specs.Changes as changes;
 
 use crate::donation::Donation;
 use crate::intervals::{cut_all, put_all};
-use crate::live::{self, Live, place_of, set_retrieved};
+use crate::live::{self, Live, place_of, put_in, set_retrieved};
 use base::{Access, Handle, Kind, OutOfMemory, Page, PartitionId};
 use manifest::{Manifest, Region};
 use spans::Spans;
@@ -28,8 +28,9 @@ pub(crate) struct Listed<'a> {
     pub(crate) end: u32,
 }
 
-/// The manifest, the completed donations in order, and the live transactions. No two live transactions
-/// share a page or a handle. A page is looked up by halving.
+/// The manifest, the completed donations in order, and the live transactions, in ascending order of
+/// their handles. No two of these share a page or a handle, and each handle has its sender in its high
+/// half. A page, a handle and a sender's transactions are looked up by halving.
 #[derive(Drop)]
 pub struct Ledger {
     manifest: Manifest,
@@ -91,7 +92,7 @@ impl Ledger {
         &self.donations
     }
 
-    /// The live transactions, in the order of their sends.
+    /// The live transactions, in ascending order of their handles.
     pub fn live(&self) -> &[Live]
         ensures { result.now ≡ self.now.live }
     {
@@ -176,18 +177,19 @@ impl Ledger {
     pub fn open(&mut self, transaction: Live)
         requires ready { spec.IsReady (length transaction.ranges) self.old.room }
         requires new { spec.found self.old.live transaction.handle ≡ None }
+        requires named { spec.NamesItsSender transaction }
         requires apart { (n : ℕ) → covers transaction.ranges n ≡ true
             → rules.live_at self.old.live n ≡ None }
         ensures manifest { self.new.manifest ≡ self.old.manifest }
         ensures donations { self.new.donations ≡ self.old.donations }
-        ensures live { self.new.live ≡ self.old.live ++ transaction ∷ [] }
+        ensures live { self.new.live ≡ changes.with_live transaction self.old.live }
     {
         put_all(
             &mut self.shared,
             &transaction.ranges,
             transaction.handle.bits(),
         );
-        self.live.push_reserved(transaction);
+        put_in(&mut self.live, transaction);
     }
 
     /// Sets what a receiver has retrieved of the transaction of a handle.

@@ -1,7 +1,9 @@
-ghost use Rattle.std.specs.Prelude.{◌≡◌, ◌==◌, length, position, filter};
+ghost use Rattle.std.specs.Prelude.{◌≡◌, ◌==◌, ◌<◌, None, length, position, filter, vec_len, vec_capacity};
+ghost use Rattle.std.specs.List.{AllByRecursion};
 ghost use Rattle.std.specs.Option.{option_map};
+ghost use Rattle.base.specs.Transactions.{AreAscending};
 ghost use Rattle.ledger.specs.Changes as changes;
-ghost use Rattle.ledger.specs.Ledger.{found};
+ghost use Rattle.ledger.specs.Ledger.{found, IsPoint, NamesItsSender};
 
 use base::{Access, Handle, Kind, PartitionId, Rights, Run};
 use std::marker::Model;
@@ -99,25 +101,94 @@ fn set_receiver(receivers: &mut [Receiver], p: PartitionId, retrieved: Option<Ac
     }
 }
 
-/// The place of the transaction with this handle.
-pub(crate) fn place_of(live: &[Live], handle: Handle) -> Option<usize>
+/// Up to this number of transactions one is looked for one after another, which takes less than halving.
+const FEW: usize = 8;
+
+/// How many of them have lower handles: they stand before the others.
+pub(crate) fn point_of(live: &[Live], handle: Handle) -> usize
+    requires { AreAscending live.now }
+    ensures { IsPoint handle live.now result }
+{
+    live.partition_point(|transaction| transaction.handle.bits() < handle.bits())
+}
+
+/// The place of the transaction with this handle, found by halving.
+fn halved(live: &[Live], handle: Handle) -> Option<usize>
+    requires { AreAscending live.now }
     ensures { result ≡ position (λ t. t.handle == handle) live.now }
 {
+    let point = point_of(live, handle);
+    match live.get(point) {
+        Some(transaction) => {
+            if transaction.handle == handle {
+                Some(point)
+            } else {
+                None
+            }
+        }
+        None => None,
+    }
+}
+
+/// The place of the transaction with this handle.
+pub(crate) fn place_of(live: &[Live], handle: Handle) -> Option<usize>
+    requires { AreAscending live.now }
+    ensures { result ≡ position (λ t. t.handle == handle) live.now }
+{
+    if live.len() > FEW {
+        return halved(live, handle);
+    }
     live.iter()
         .position(|transaction| transaction.handle == handle)
 }
 
 /// The transaction with this handle.
 pub(crate) fn find(live: &[Live], handle: Handle) -> Option<&Live>
+    requires { AreAscending live.now }
     ensures { option_map (λ t. t.now) result ≡ found live.now handle }
 {
+    if live.len() > FEW {
+        let place = halved(live, handle)?;
+        return Some(&live[place]);
+    }
     live.iter().find(|transaction| transaction.handle == handle)
+}
+
+/// Puts a transaction with a new handle among them, for which there is room.
+pub(crate) fn put_in(live: &mut Vec<Live>, transaction: Live)
+    requires ascending { AreAscending live.old.items }
+    requires new { found live.old.items transaction.handle ≡ None }
+    requires ready { vec_len live.old < vec_capacity live.old }
+    ensures { live.new.items ≡ changes.with_live transaction live.old.items }
+{
+    let point = point_of(live, transaction.handle);
+    if point == live.len() {
+        live.push_reserved(transaction);
+    } else {
+        let _ = live.insert(point, transaction);
+    }
+}
+
+/// How many of them a partition has sent, found by halving: their handles are those of its sends.
+fn halved_of(live: &[Live], p: PartitionId) -> usize
+    requires ascending { AreAscending live.now }
+    requires named { AllByRecursion NamesItsSender live.now }
+    ensures { result ≡ length (filter (λ t. t.sender == p) live.now) }
+{
+    let first = Handle::new(p, 0);
+    let next = Handle::from_bits(first.bits() + 0x1_0000_0000);
+    point_of(live, next) - point_of(live, first)
 }
 
 /// How many of them a partition has sent.
 pub(crate) fn live_of(live: &[Live], p: PartitionId) -> usize
+    requires ascending { AreAscending live.now }
+    requires named { AllByRecursion NamesItsSender live.now }
     ensures { result ≡ length (filter (λ t. t.sender == p) live.now) }
 {
+    if live.len() > FEW {
+        return halved_of(live, p);
+    }
     live.iter()
         .filter(|transaction| transaction.sender == p)
         .count()

@@ -48,10 +48,11 @@ fn transaction(
     })
 }
 
-/// Opens a transaction where none is live.
+/// Opens a transaction with a handle of its sender's, where none is live.
 fn open(ledger: &mut Ledger, transaction: Live) -> Result<(), OutOfMemory> {
     ledger.ready(transaction.ranges.len())?;
-    if ledger.live().is_empty() {
+    let named = transaction.handle.high() == u32::from(transaction.sender.number());
+    if named && ledger.live().is_empty() {
         ledger.open(transaction);
     }
     Ok(())

@@ -1,14 +1,13 @@
 -- A live transaction ends: the others stay, and none covers its pages any more.
-use Rattle.std.proofs.Common.{◌≡◌, ◌≢◌, ℕ, Bool, true, false, ◌&&◌, cond, eqb, List, [], ◌∷◌, Option, Some, None, is_some, refl, sym, ap, ◌∙◌, find}
+use Rattle.std.proofs.Common.{◌≡◌, ℕ, ◌<◌, Bool, true, false, ◌&&◌, cond, eqb, List, [], ◌∷◌, Option, Some, None, is_some, refl, ap, ◌∙◌, find, arith}
 use Rattle.std.specs.List.{AllByRecursion}
 use Rattle.std.specs.Option.{option_and_then}
 use Rattle.std.proofs.lemmas.Bool.{eqb-true}
 use Rattle.base.specs.Pages.{covers}
-use Rattle.base.specs.Transactions.{Live, without}
+use Rattle.base.specs.Transactions.{Live, AreAscending, without}
 use Rattle.base.specs.Ledger.{live_at}
 use Rattle.base.proofs.Booleans.{both}
 use Rattle.rules.specs.Laws.OneOwner.{AreApart, AreAllApart}
-use Rattle.rules.specs.Laws.Handles.{HaveOtherHandles}
 
 pub some_is : (t u : Live) → Some t ≡ Some u → t ≡ u
 some_is t u e = cc
@@ -32,7 +31,7 @@ found_is f (u ∷ us) t e =
     ] refl e
 
 -- handles differ, so it is the first of its handle
-pub found_first : (ts : List Live) (h : ℕ) (g : Live → Bool) (t : Live) → HaveOtherHandles ts → find (λ u. eqb u.handle h && g u) ts ≡ Some t → find (λ u. eqb u.handle h) ts ≡ Some t
+pub found_first : (ts : List Live) (h : ℕ) (g : Live → Bool) (t : Live) → AreAscending ts → find (λ u. eqb u.handle h && g u) ts ≡ Some t → find (λ u. eqb u.handle h) ts ≡ Some t
 found_first [] h g t others e = absurd cc
 found_first (u ∷ us) h g t others e =
     elim (eqb u.handle h) as (λ b. eqb u.handle h ≡ b → cond (b && g u) (Some u) (find (λ v. eqb v.handle h && g v) us) ≡ Some t → cond b (Some u) (find (λ v. eqb v.handle h) us) ≡ Some t) [
@@ -40,21 +39,23 @@ found_first (u ∷ us) h g t others e =
         | true ↦ λ m. m
         | false ↦ λ m.
             let same : t.handle ≡ h = eqb-true _ _ (both (eqb t.handle h) (g t) (found_is (λ v. eqb v.handle h && g v) us t m)).0 in
-            absurd (found_in (λ v. u.handle ≢ v.handle) (λ v. eqb v.handle h && g v) us t m others.0 (eqb-true _ _ is ∙ sym same))
+            let lower = found_in (λ v. u.handle < v.handle) (λ v. eqb v.handle h && g v) us t m others.0 in
+            let here = eqb-true _ _ is in
+            absurd (omega (arith, lower, here, same))
       ] k
       | false ↦ λ is k. found_first us h g t others.1 k
     ] refl e
 
-none_other : (ts : List Live) (h : ℕ) (g : Live → Bool) (u : Live) → AllByRecursion (λ v. u.handle ≢ v.handle) ts → u.handle ≡ h → find (λ v. eqb v.handle h && g v) ts ≡ None
+none_other : (ts : List Live) (h : ℕ) (g : Live → Bool) (u : Live) → AllByRecursion (λ v. u.handle < v.handle) ts → u.handle ≡ h → find (λ v. eqb v.handle h && g v) ts ≡ None
 none_other [] h g u others is = refl
 none_other (v ∷ vs) h g u others is =
     elim (eqb v.handle h) as (λ b. eqb v.handle h ≡ b → cond (b && g v) (Some v) (find (λ w. eqb w.handle h && g w) vs) ≡ None) [
-      | true ↦ λ e. absurd (others.0 (is ∙ sym (eqb-true _ _ e)))
+      | true ↦ λ e. let lower = others.0 in let same = eqb-true _ _ e in absurd (omega (arith, lower, is, same))
       | false ↦ λ e. none_other vs h g u others.1 is
     ] refl
 
 -- so the one with the handle decides
-pub found_of : (ts : List Live) (h : ℕ) (g : Live → Bool) → HaveOtherHandles ts → find (λ u. eqb u.handle h && g u) ts ≡ option_and_then (λ u. cond (g u) (Some u) None) (find (λ u. eqb u.handle h) ts)
+pub found_of : (ts : List Live) (h : ℕ) (g : Live → Bool) → AreAscending ts → find (λ u. eqb u.handle h && g u) ts ≡ option_and_then (λ u. cond (g u) (Some u) None) (find (λ u. eqb u.handle h) ts)
 found_of [] h g others = refl
 found_of (u ∷ us) h g others =
     elim (eqb u.handle h) as (λ b. eqb u.handle h ≡ b → cond (b && g u) (Some u) (find (λ v. eqb v.handle h && g v) us) ≡ option_and_then (λ v. cond (g v) (Some v) None) (cond b (Some u) (find (λ v. eqb v.handle h) us))) [
@@ -83,12 +84,12 @@ apart_without h (t ∷ ts) a =
       | false ↦ (all_without (AreApart t) h ts a.0, apart_without h ts a.1)
     ]
 
-pub handles_without : (h : ℕ) (ts : List Live) → HaveOtherHandles ts → HaveOtherHandles (without h ts)
+pub handles_without : (h : ℕ) (ts : List Live) → AreAscending ts → AreAscending (without h ts)
 handles_without h [] a = tt
 handles_without h (t ∷ ts) a =
-    elim (eqb t.handle h) as (λ b. HaveOtherHandles (cond b ts (t ∷ without h ts))) [
+    elim (eqb t.handle h) as (λ b. AreAscending (cond b ts (t ∷ without h ts))) [
       | true ↦ a.1
-      | false ↦ (all_without (λ u. t.handle ≢ u.handle) h ts a.0, handles_without h ts a.1)
+      | false ↦ (all_without (λ u. t.handle < u.handle) h ts a.0, handles_without h ts a.1)
     ]
 
 -- ---- which of them covers a page

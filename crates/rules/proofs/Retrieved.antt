@@ -1,14 +1,13 @@
 -- What a receiver has retrieved of a live transaction changes: all else of the transactions stays.
-use Rattle.std.proofs.Common.{◌≡◌, ◌≢◌, ℕ, Bool, true, false, ◌||◌, cond, eqb, List, [], ◌∷◌, Option, Some, is_some, refl, sym, ap, ◌∙◌, find}
+use Rattle.std.proofs.Common.{◌≡◌, ℕ, ◌<◌, Bool, true, false, ◌||◌, cond, eqb, List, [], ◌∷◌, Option, Some, is_some, refl, sym, ap, ◌∙◌, find}
 use Rattle.std.specs.List.{AllByRecursion, list_any}
 use Rattle.std.specs.Option.{option_and_then}
 use Rattle.std.proofs.lemmas.Bool.{eqb-true, eq-eqb}
 use Rattle.base.specs.Access.{View}
 use Rattle.base.specs.Ledger.{live_at, retrieved}
 use Rattle.base.specs.Pages.{covers}
-use Rattle.base.specs.Transactions.{Receiver, Live, with_retrieved, with_retrieval, with_retrieval_of}
+use Rattle.base.specs.Transactions.{Receiver, Live, AreAscending, with_retrieved, with_retrieval, with_retrieval_of}
 use Rattle.rules.specs.Laws.OneOwner.{AreApart, AreAllApart}
-use Rattle.rules.specs.Laws.Handles.{HaveOtherHandles}
 use Rattle.rules.proofs.Ended.{found_in, not_covered, some_is}
 use Rattle.rules.proofs.FreePages.{eqb_sym}
 
@@ -58,12 +57,12 @@ apart_set h p view (t ∷ ts) a =
       | false ↦ (all_set (AreApart t) h p view ts a.0 (λ u e x. x), apart_set h p view ts a.1)
     ]
 
-pub handles_set : (h p : ℕ) (view : View) (ts : List Live) → HaveOtherHandles ts → HaveOtherHandles (with_retrieval_of h p view ts)
+pub handles_set : (h p : ℕ) (view : View) (ts : List Live) → AreAscending ts → AreAscending (with_retrieval_of h p view ts)
 handles_set h p view [] a = tt
 handles_set h p view (t ∷ ts) a =
-    elim (eqb t.handle h) as (λ b. HaveOtherHandles (cond b (with_retrieval p view t ∷ ts) (t ∷ with_retrieval_of h p view ts))) [
+    elim (eqb t.handle h) as (λ b. AreAscending (cond b (with_retrieval p view t ∷ ts) (t ∷ with_retrieval_of h p view ts))) [
       | true ↦ (a.0, a.1)
-      | false ↦ (all_set (λ u. t.handle ≢ u.handle) h p view ts a.0 (λ u e x. x), handles_set h p view ts a.1)
+      | false ↦ (all_set (λ u. t.handle < u.handle) h p view ts a.0 (λ u e x. x), handles_set h p view ts a.1)
     ]
 
 -- ---- which of them covers a page

@@ -1,14 +1,15 @@
 -- What each partition reaches before and after a change of the state.
-use Rattle.std.proofs.Common.{◌≡◌, ℕ, Bool, true, false, ◌&&◌, cond, eqb, List, [], ◌∷◌, ◌++◌, map, Option, Some, None, is_some, refl, sym, ap, ◌∙◌, find}
+use Rattle.std.proofs.Common.{◌≡◌, ℕ, Bool, true, false, ◌&&◌, cond, eqb, List, [], ◌∷◌, map, Option, Some, None, is_some, refl, sym, ap, ◌∙◌, find}
 use Rattle.std.specs.Option.{option_and_then, option_map_or}
 use Rattle.base.specs.declared.transaction.Kind.{Kind}
 use Rattle.base.specs.declared.transaction.Kind.TheVariants.{Share, Lend, Donate}
 use Rattle.base.specs.Pages.{PageRun, covers}
 use Rattle.base.specs.Access.{Access, View}
-use Rattle.base.specs.Transactions.{Receiver, Live}
+use Rattle.base.specs.Transactions.{Receiver, Live, with_live}
 use Rattle.base.specs.Ledger.{live_at, retrieved, kept, view_under, settled_view}
 use Rattle.base.specs.State.{State, sees, home_of}
 use Rattle.base.specs.Descriptors.Send.{Send, Endpoint}
+use Rattle.base.proofs.Ascending.{find-new, find-other}
 use Rattle.rules.specs.Rule.{with_edit}
 use Rattle.rules.specs.Calls.Send.{receiver, opened, with_transaction, sender_edit}
 use Rattle.rules.proofs.FreePages.{HasFreeHome, settled_is, eqb_sym}
@@ -25,27 +26,15 @@ seen_alike s t same q n = rw (same.manifest, same.donations, same.live) refl
 
 -- ---- one more transaction
 
-pub live_at-push : (ts : List Live) (t : Live) (n : ℕ) → live_at (ts ++ t ∷ []) n ≡ option_map_or Some (live_at ts n) (cond (covers t.ranges n) (Some t) None)
-live_at-push [] t n = refl
-live_at-push (u ∷ ts) t n =
-    elim (covers u.ranges n) as (λ b. cond b (Some u) (live_at (ts ++ t ∷ []) n) ≡ option_map_or Some (cond b (Some u) (live_at ts n)) (cond (covers t.ranges n) (Some t) None)) [
-      | true ↦ refl
-      | false ↦ live_at-push ts t n
-    ]
+none_is : (o : Option Live) → is_some o ≡ false → o ≡ None
+none_is None e = refl
+none_is (Some u) e = absurd cc
 
-none_or : (o d : Option Live) → is_some o ≡ false → option_map_or Some o d ≡ d
-none_or None d e = refl
-none_or (Some u) d e = absurd cc
+pub live_at-new : (ts : List Live) (t : Live) (n : ℕ) → covers t.ranges n ≡ true → is_some (live_at ts n) ≡ false → live_at (with_live t ts) n ≡ Some t
+live_at-new ts t n c idle = find-new (λ u. covers u.ranges n) t ts c (none_is (live_at ts n) idle)
 
-or_none : (o : Option Live) → option_map_or Some o None ≡ o
-or_none None = refl
-or_none (Some u) = refl
-
-pub live_at-new : (ts : List Live) (t : Live) (n : ℕ) → covers t.ranges n ≡ true → is_some (live_at ts n) ≡ false → live_at (ts ++ t ∷ []) n ≡ Some t
-live_at-new ts t n c idle = live_at-push ts t n ∙ rw c (none_or (live_at ts n) (Some t) idle)
-
-pub live_at-other : (ts : List Live) (t : Live) (n : ℕ) → covers t.ranges n ≡ false → live_at (ts ++ t ∷ []) n ≡ live_at ts n
-live_at-other ts t n c = live_at-push ts t n ∙ rw c (or_none (live_at ts n))
+pub live_at-other : (ts : List Live) (t : Live) (n : ℕ) → covers t.ranges n ≡ false → live_at (with_live t ts) n ≡ live_at ts n
+live_at-other ts t n c = find-other (λ u. covers u.ranges n) t ts c
 
 -- of receivers that have retrieved nothing
 pub none_retrieved : (f : Endpoint → Receiver) → ((e : Endpoint) → (f e).retrieved ≡ None) → (es : List Endpoint) (q : ℕ) → retrieved (map f es) q ≡ None

@@ -46,6 +46,7 @@ can_open s c kind transfer desc home sends reached checked =
     record {
       room = room;
       new = new_handle s c.caller reached room;
+      named = omega (arith, room);
       apart = λ n is. none _ (common_at s c.caller desc.ranges home checked.common n is).free.idle;
     }
 

@@ -38,12 +38,12 @@ use Rattle.std.proofs.lemmas.Bool.{eqb-true}
 
 -- the receivers of the transaction with the handle decide
 pub received_where : (s : State) (p handle : ℕ) (o : Option Live) → IsReached s → found s.live handle ≡ o → received_with s p handle ≡ option_and_then (λ u. cond (is_received_by p u) (Some u) None) o
-received_where s p handle o reached is = found_of s.live handle (is_received_by p) (handles_used_once s reached).distinct ∙ ap (λ (x : Option Live). option_and_then (λ (u : Live). cond (is_received_by p u) (Some u) None) x) is
+received_where s p handle o reached is = found_of s.live handle (is_received_by p) (handles_used_once s reached).ascending ∙ ap (λ (x : Option Live). option_and_then (λ (u : Live). cond (is_received_by p u) (Some u) None) x) is
 
 module _ (s : State) (p handle : ℕ) (t : Live) (reached : IsReached s) (received : received_with s p handle ≡ Some t) where
   -- it is the one with the handle
   pub its_handle : found s.live handle ≡ Some t
-  its_handle = found_first s.live handle (is_received_by p) t (handles_used_once s reached).distinct received
+  its_handle = found_first s.live handle (is_received_by p) t (handles_used_once s reached).ascending received
 
   -- no two of its ranges share a page
   pub its_ranges : are_disjoint t.ranges ≡ true

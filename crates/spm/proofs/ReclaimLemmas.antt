@@ -19,7 +19,7 @@ its_sender s p handle t found = eqb-true _ _ (both (eqb t.handle handle) (eqb t.
 
 -- the sender of the transaction with the handle decides
 pub sent_where : (s : State) (p handle : ℕ) (o : Option Live) → IsReached s → found s.live handle ≡ o → sent_with s p handle ≡ option_and_then (λ u. cond (eqb u.sender p) (Some u) None) o
-sent_where s p handle o reached is = found_of s.live handle (λ u. eqb u.sender p) (handles_used_once s reached).distinct ∙ ap (λ (x : Option Live). option_and_then (λ (u : Live). cond (eqb u.sender p) (Some u) None) x) is
+sent_where s p handle o reached is = found_of s.live handle (λ u. eqb u.sender p) (handles_used_once s reached).ascending ∙ ap (λ (x : Option Live). option_and_then (λ (u : Live). cond (eqb u.sender p) (Some u) None) x) is
 
 -- no two of its ranges share a page
 pub its_ranges : (s : State) (p handle : ℕ) (t : Live) → IsReached s → sent_with s p handle ≡ Some t → are_disjoint t.ranges ≡ true

@@ -8,7 +8,7 @@ use Rattle.base.specs.Refusals.{first_refusal, NoneRefuses}
 use Rattle.base.specs.Transactions.{Live}
 use Rattle.base.specs.Ledger.{live_at}
 use Rattle.base.specs.State.{State, sends_of}
-use Rattle.ledger.specs.Ledger.{found}
+use Rattle.ledger.specs.Ledger.{found, NamesItsSender}
 use Rattle.wire.specs.declared.request.Request.{Request}
 use Rattle.base.specs.Manifest.{is_partition}
 use Rattle.wire.specs.Requests.{request_of}
@@ -51,6 +51,7 @@ updated s p (Relinquish handle) = with_retrieval_by s p handle None
 pub record CanOpen (s : State) (t : Live) : Type 0 where
   pub room : sends_of s.partitions t.sender < 2 ^ 32 - 1
   pub new : found s.live t.handle ≡ None
+  pub named : NamesItsSender t
   pub apart : (n : ℕ) → covers t.ranges n ≡ true → live_at s.live n ≡ None
 
 -- the transaction of the handle is live, and its receiver has a pair and does not hold RX

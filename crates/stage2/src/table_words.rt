@@ -59,7 +59,7 @@ fn words_of_run<M: TableMem>(memory: &M, third: TablePage, chunk: Chunk, run: Ru
     }
 }
 
-/// The pages of the runs in a chunk.
+/// The pages of the runs in a chunk. One run is looked at without a loop.
 fn words_of_runs<M: TableMem>(memory: &M, third: TablePage, chunk: Chunk, runs: &[Run]) -> Words
     requires page_in { third < page_count (M.state memory.now).memory.quotas }
     requires normal { are_normal runs.now ≡ true }
@@ -67,6 +67,9 @@ fn words_of_runs<M: TableMem>(memory: &M, third: TablePage, chunk: Chunk, runs: 
     ensures nonzero { result.nonzero ≡ nonzero_among (word_in (M.state memory.now) third)
         (λ i. covers runs.now (512 * chunk + i)) }
 {
+    if let [run] = runs {
+        return words_of_run(memory, third, chunk, *run);
+    }
     let mut words = Words {
         pages: 0,
         nonzero: 0,

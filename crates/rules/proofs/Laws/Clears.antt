@@ -92,7 +92,7 @@ relinquished s c r k =
     let handle = (given_up c).handle in
     let clears = (given_up c).clears in
     let u = k.transaction in
-    let first = found_first s.live handle (is_received_by p) u (handles_used_once s r).distinct k.found in
+    let first = found_first s.live handle (is_received_by p) u (handles_used_once s r).ascending k.found in
     let none : AreClearedUnreached s (Some (given_back_by p clears u)) = λ ordered q n here other.
     under s p handle r u first k.receiver q n here ∙ lent_alone u (home_of s n) p q (ordered_alone clears p u k.clears ordered) k.receiver (not_eqb p q (λ e. other (sym e))) in
     subst (λ (o : Option Live). AreClearedUnreached s (option_map (given_back_by p clears) o)) (sym k.found) none

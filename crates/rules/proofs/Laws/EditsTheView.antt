@@ -77,7 +77,7 @@ module _ (s : State) (p handle : ℕ) (r : IsReached s) (k : ReclaimPasses s p h
   t = k.transaction
 
   first : find (λ u. eqb u.handle handle) s.live ≡ Some t
-  first = found_first s.live handle (λ u. eqb u.sender p) t (handles_used_once s r).distinct k.found
+  first = found_first s.live handle (λ u. eqb u.sender p) t (handles_used_once s r).ascending k.found
 
   page : (n : ℕ) → covers t.ranges n ≡ true → IsSentPage s t n
   page = found_in (AreSentPages s) (λ u. eqb u.handle handle && eqb u.sender p) s.live t k.found (transactions_kept s r).pages
@@ -176,7 +176,7 @@ relinquish s c r k q n =
     let p = c.caller in
     let handle = (given_up c).handle in
     let clears = (given_up c).clears in
-    let first_one = found_first s.live handle (is_received_by p) k.transaction (handles_used_once s r).distinct k.found in
+    let first_one = found_first s.live handle (is_received_by p) k.transaction (handles_used_once s r).ascending k.found in
     set_view s p handle r k.transaction first_one k.receiver None clears q n ∙ ap (λ (o : Option Live). with_edit (option_map (given_back_by p clears) o) (sees s) q n) (sym k.found)
 
 relinquished : (s : State) (c : CallWords) → RelinquishPasses s c → AreNotReached s (relinquish_rule s c).edit

@@ -1,5 +1,5 @@
 -- The law that no handle is used twice.
-use Rattle.std.proofs.Common.{◌≡◌, ◌≢◌, ℕ, ◌+◌, ◌-◌, ◌^◌, ◌<◌, ◌≤◌, Bool, true, false, ◌&&◌, ◌||◌, cond, eqb, ltb, List, [], ◌∷◌, ◌++◌, length, map, Option, Some, None, is_some, filter, refl, sym, ap, ◌∙◌, arith}
+use Rattle.std.proofs.Common.{◌≡◌, ◌≢◌, ℕ, ◌+◌, ◌-◌, ◌^◌, ◌<◌, ◌≤◌, Bool, true, false, ◌&&◌, ◌||◌, cond, eqb, ltb, List, [], ◌∷◌, length, map, Option, Some, None, is_some, filter, refl, sym, ap, ◌∙◌, arith}
 use Rattle.std.specs.List.{AllByRecursion, list_any}
 use Rattle.std.specs.Option.{option_map, option_map_or}
 use Rattle.std.proofs.lemmas.Bool.{eqb-true, ltb-true, eq-eqb}
@@ -25,8 +25,9 @@ use Rattle.rules.proofs.Calls.Send.{SendPasses, send_passes, next_is}
 use Rattle.rules.proofs.Calls.Retrieve.{RetrievePasses, retrieve_passes, retrieve_cases}
 use Rattle.rules.proofs.Ended.{all_without, handles_without}
 use Rattle.rules.proofs.Retrieved.{all_set, handles_set}
-use Rattle.rules.proofs.Reached.{all_push, Keeps, all_reached}
-use Rattle.rules.specs.Laws.Handles.{IsCounted, HaveOtherHandles, AreHandlesUsedOnce}
+use Rattle.base.proofs.Ascending.{all_with, AreAscending-with}
+use Rattle.rules.proofs.Reached.{Keeps, all_reached}
+use Rattle.rules.specs.Laws.Handles.{IsCounted, AreHandlesUsedOnce}
 use Rattle.base.proofs.Booleans.{both}
 
 -- ---- the change of a partition's state
@@ -92,10 +93,6 @@ other_handles : (s : State) (p : ℕ) (new : Live) → new.handle ≡ next_handl
 other_handles s p new is small room [] h = tt
 other_handles s p new is small room (t ∷ ts) h = (λ same. other_handle s p t h.0 (small t.sender) room (same ∙ is), other_handles s p new is small room ts h.1)
 
-distinct_push : (ts : List Live) (new : Live) → HaveOtherHandles ts → AllByRecursion (λ t. t.handle ≢ new.handle) ts → HaveOtherHandles (ts ++ new ∷ [])
-distinct_push [] new h o = (tt, tt)
-distinct_push (t ∷ ts) new h o = (all_push (λ u. t.handle ≢ u.handle) ts new h.0 o.0, distinct_push ts new h.1 o.1)
-
 small_after : (b : Bool) (n m : ℕ) → n < 2 ^ 32 → (b ≡ true → n ≡ m) → m + 1 < 2 ^ 32 → n + cond b 1 0 < 2 ^ 32
 small_after true n m small same room = let e = same refl in omega arith
 small_after false n m small same room = omega arith
@@ -115,8 +112,8 @@ opened_kept s p k v home known has h =
     record {
       rows = λ q. ap (λ (o : Option PartitionState). is_some o) (state_after p counting (λ r. refl) s.partitions q) ∙ has_after (eqb q p) counting (state_of s.partitions q) ∙ h.rows q;
       counts = λ q. rw (sends_after p s.partitions q) (small_after (eqb q p && is_some (state_of s.partitions q)) (sends_of s.partitions q) (sends_of s.partitions p) (h.counts q) (λ e. let is : q ≡ p = eqb-true q p (both (eqb q p) (is_some (state_of s.partitions q)) e).0 in ap (λ (x : ℕ). sends_of s.partitions x) is) room);
-      counted = all_push (IsCounted (with_transaction s t)) s.live t (counted_still s (with_transaction s t) more s.live h.counted) (omega arith, omega arith);
-      distinct = distinct_push s.live t h.distinct (other_handles s p t refl h.counts room s.live h.counted);
+      counted = all_with (IsCounted (with_transaction s t)) t s.live (counted_still s (with_transaction s t) more s.live h.counted) (omega arith, omega arith);
+      ascending = AreAscending-with t s.live h.ascending (other_handles s p t refl h.counts room s.live h.counted);
     }
 
 send : (s : State) (c : CallWords) (k : Kind) (t : Transfer) → is_partition s.manifest c.caller ≡ true → SendPasses s c k t → AreHandlesUsedOnce s → AreHandlesUsedOnce (send_rule s c k t).next
@@ -131,7 +128,7 @@ named_kept s p word h =
       rows = λ q. ap (λ (o : Option PartitionState). is_some o) (state_after p (naming word) (λ r. refl) s.partitions q) ∙ has_after (eqb q p) (naming word) (state_of s.partitions q) ∙ h.rows q;
       counts = λ q. rw (same q) (h.counts q);
       counted = counted_still s (with_version s p word) (λ q. rw (same q) (omega arith)) s.live h.counted;
-      distinct = h.distinct;
+      ascending = h.ascending;
     }
 
 ended_kept : (s : State) (handle : ℕ) → AreHandlesUsedOnce s → AreHandlesUsedOnce (ended s handle)
@@ -141,7 +138,7 @@ ended_kept s handle h =
       rows = h.rows;
       counts = h.counts;
       counted = all_without (IsCounted s) handle s.live h.counted;
-      distinct = handles_without handle s.live h.distinct;
+      ascending = handles_without handle s.live h.ascending;
     }
 
 set_kept : (s : State) (p handle : ℕ) (view : View) → AreHandlesUsedOnce s → AreHandlesUsedOnce (with_retrieval_by s p handle view)
@@ -151,7 +148,7 @@ set_kept s p handle view h =
       rows = h.rows;
       counts = h.counts;
       counted = all_set (IsCounted s) handle p view s.live h.counted (λ t e x. x);
-      distinct = handles_set handle p view s.live h.distinct;
+      ascending = handles_set handle p view s.live h.ascending;
     }
 
 given_kept : (s : State) (p : ℕ) (t : Live) (access : Access) → AreHandlesUsedOnce s → AreHandlesUsedOnce (with_donation s p t access)
@@ -161,12 +158,12 @@ given_kept s p t access h =
       rows = h.rows;
       counts = h.counts;
       counted = all_without (IsCounted s) t.handle s.live h.counted;
-      distinct = handles_without t.handle s.live h.distinct;
+      ascending = handles_without t.handle s.live h.ascending;
     }
 
 filled_kept : (s : State) (p : ℕ) → AreHandlesUsedOnce s → AreHandlesUsedOnce (with_rx_filled s p)
 unfolding with_rx_filled
-filled_kept s p h = record { rows = h.rows; counts = h.counts; counted = h.counted; distinct = h.distinct }
+filled_kept s p h = record { rows = h.rows; counts = h.counts; counted = h.counted; ascending = h.ascending }
 
 retrieve : (s : State) (c : CallWords) (x : Transfer) → RetrievePasses s c x → AreHandlesUsedOnce s → AreHandlesUsedOnce (retrieve_rule s c x).next
 retrieve s c x k h =
@@ -178,9 +175,9 @@ keeps : Keeps AreHandlesUsedOnce
 unfolding with_pair with_rx_released
 keeps s c (Version word) r is k h = named_kept s c.caller word h
 keeps s c (Features identifier) r is k h = h
-keeps s c RxRelease r is k h = record { rows = h.rows; counts = h.counts; counted = h.counted; distinct = h.distinct }
-keeps s c (RxtxMap tx rx count) r is k h = record { rows = h.rows; counts = h.counts; counted = h.counted; distinct = h.distinct }
-keeps s c (RxtxUnmap word) r is k h = record { rows = h.rows; counts = h.counts; counted = h.counted; distinct = h.distinct }
+keeps s c RxRelease r is k h = record { rows = h.rows; counts = h.counts; counted = h.counted; ascending = h.ascending }
+keeps s c (RxtxMap tx rx count) r is k h = record { rows = h.rows; counts = h.counts; counted = h.counted; ascending = h.ascending }
+keeps s c (RxtxUnmap word) r is k h = record { rows = h.rows; counts = h.counts; counted = h.counted; ascending = h.ascending }
 keeps s c IdGet r is k h = h
 keeps s c (Send kind t) r is k h = send s c kind t k.known (send_passes s c kind t k.passed) h
 keeps s c (Retrieve x) r is k h = retrieve s c x (retrieve_passes s c x k.passed) h
@@ -196,4 +193,4 @@ first_counts [] p = refl
 first_counts (row ∷ rows) p = elim (eqb row.id p) as (λ b. option_map_or (λ (r : PartitionState). r.sends) (cond b (Some (first_state row)) (state_of (map first_state rows) p)) 0 ≡ 0) [ true ↦ refl | false ↦ first_counts rows p ]
 
 pub handles_used_once : (s : State) → IsReached s → AreHandlesUsedOnce s
-handles_used_once = all_reached AreHandlesUsedOnce (λ m valid. record { rows = first_rows m.partitions; counts = λ p. rw (first_counts m.partitions p) (omega arith); counted = tt; distinct = tt }) keeps
+handles_used_once = all_reached AreHandlesUsedOnce (λ m valid. record { rows = first_rows m.partitions; counts = λ p. rw (first_counts m.partitions p) (omega arith); counted = tt; ascending = tt }) keeps

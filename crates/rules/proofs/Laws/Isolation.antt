@@ -20,7 +20,8 @@ use Rattle.base.specs.Descriptors.Retrieve.{is_retrieve, retrieve_of}
 use Rattle.base.specs.Manifest.{PartitionRow, is_partition}
 use Rattle.base.specs.Pages.{PageRun, covers}
 use Rattle.base.specs.Refusals.{Test, first_refusal}
-use Rattle.base.specs.Transactions.{Live, without, with_retrieval, with_retrieval_of}
+use Rattle.base.specs.Transactions.{Live, AreAscending, with_live, without, with_retrieval, with_retrieval_of}
+use Rattle.base.proofs.Ascending.{filter-one}
 use Rattle.base.specs.Ledger.{live_at, view}
 use Rattle.base.specs.State.{State, PartitionState, state_of, with_partition, owner_of, owns, home_of, is_free, free_home, is_free_with, common_home, each_page, each_page_in, sees}
 use Rattle.wire.specs.declared.request.Request.{Request}
@@ -134,14 +135,6 @@ mailboxes_other p q pair ne (b ∷ boxes) =
         | false ↦ mailboxes_other p q pair ne boxes
       ]
     ] refl
-
-transactions_push : (p : ℕ) (ts : List Live) (t : Live) → transactions_of p (ts ++ t ∷ []) ≡ transactions_of p ts ++ transactions_of p (t ∷ [])
-transactions_push p [] t = refl
-transactions_push p (u ∷ ts) t =
-    elim (names p u) as (λ b. cond b (u ∷ transactions_of p (ts ++ t ∷ [])) (transactions_of p (ts ++ t ∷ [])) ≡ cond b (u ∷ transactions_of p ts) (transactions_of p ts) ++ transactions_of p (t ∷ [])) [
-      | true ↦ ap (λ us. u ∷ us) (transactions_push p ts t)
-      | false ↦ transactions_push p ts t
-    ]
 
 -- ---- the transaction that a partition has sent with a handle
 
@@ -461,13 +454,14 @@ module _ (p : ℕ) (s t : State) (same : AreAlikeTo p s t) (sends_s : AllByRecur
       }
 
   -- but for what is reached, which the edit decides
-  opened_alike : (k : Kind) (v : descriptor.Send) (home : Access) → ((n : ℕ) → sees (with_transaction s (opened s p k v home)) p n ≡ sees (with_transaction t (opened t p k v home)) p n)
+  opened_alike : (k : Kind) (v : descriptor.Send) (home : Access) → AreAscending s.live → AreAscending t.live → ((n : ℕ) → sees (with_transaction s (opened s p k v home)) p n ≡ sees (with_transaction t (opened t p k v home)) p n)
       → AreAlikeTo p (with_transaction s (opened s p k v home)) (with_transaction t (opened t p k v home))
   unfolding with_transaction
-  opened_alike k v home seen =
+  opened_alike k v home rise_s rise_t seen =
       let us = opened s p k v home in
       let ut = opened t p k v home in
-      let kept = transactions_push p s.live us ∙ ap (λ ts. ts ++ transactions_of p (us ∷ [])) same.transactions ∙ ap (λ (u : Live). transactions_of p t.live ++ transactions_of p (u ∷ [])) (same_opened k v home) ∙ sym (transactions_push p t.live ut) in
+      let mine : (u : State) → names p (opened u p k v home) ≡ true = λ u. rw (eq-eqb p p refl) refl in
+      let kept = filter-one (names p) us s.live rise_s (mine s) ∙ ap (with_live us) same.transactions ∙ ap (λ (u : Live). with_live u (transactions_of p t.live)) (same_opened k v home) ∙ sym (filter-one (names p) ut t.live rise_t (mine t)) in
       parts_alike p s t same (same_state_after counting (λ r. refl)) same.buffers kept seen
 
 -- ---- a call of the partition
@@ -563,7 +557,7 @@ module _ (s t : State) (c : CallWords) (same : AreAlikeTo c.caller s t) (rs : Is
       let edits : (send_rule s c k x).edit ≡ (send_rule t c k x).edit = ap (λ (w : descriptor.Send). sender_edit k p w.ranges w.clears) (same_sent x) in
       let seen : (n : ℕ) → sees (with_transaction s (opened s p k v a.home)) p n ≡ sees (with_transaction t (opened t p k v a.home)) p n = λ n.
       ap (λ (u : State). sees u p n) at_s ∙ edit_s n ∙ edit_same (send_rule s c k x).edit (sees s) (sees t) p n (same.views n) ∙ ap (λ (e : Option Edit). with_edit e (sees t) p n) edits ∙ sym (edit_t n) ∙ ap (λ (u : State). sees u p n) (sym at_t) in
-      subst (λ (u : State). AreAlikeTo p (send_rule s c k x).next u) at_t (subst (λ (u : State). AreAlikeTo p u (with_transaction t (opened t p k v a.home))) at_s (opened_alike p s t same sends_s sends_t boxes_s boxes_t k v a.home seen))
+      subst (λ (u : State). AreAlikeTo p (send_rule s c k x).next u) at_t (subst (λ (u : State). AreAlikeTo p u (with_transaction t (opened t p k v a.home))) at_s (opened_alike p s t same sends_s sends_t boxes_s boxes_t k v a.home (handles_used_once s rs).ascending (handles_used_once t rt).ascending seen))
 
   send_alike : (k : Kind) (x : Transfer)
       → (first_refusal (send_tests s c k x) ≡ None → fits s (send_rule s c k x).edit ≡ true → (n : ℕ) → sees (send_rule s c k x).next c.caller n ≡ with_edit (send_rule s c k x).edit (sees s) c.caller n)
@@ -587,7 +581,7 @@ module _ (s t : State) (c : CallWords) (same : AreAlikeTo c.caller s t) (rs : Is
   mine_without : (u : State) (h : ℕ) → IsReached u → ReclaimPasses u c.caller h → transactions_of c.caller (without h u.live) ≡ without h (transactions_of c.caller u.live)
   mine_without u h ru k =
       let mine : names c.caller k.transaction ≡ true = rw (eq-eqb _ _ k.sender) refl in
-      without_mine c.caller h u.live k.transaction (found_first u.live h (λ v. eqb v.sender c.caller) k.transaction (handles_used_once u ru).distinct k.found) mine
+      without_mine c.caller h u.live k.transaction (found_first u.live h (λ v. eqb v.sender c.caller) k.transaction (handles_used_once u ru).ascending k.found) mine
 
   reclaim_alike : (h flags : ℕ)
       → (first_refusal (reclaim_tests s c.caller h flags) ≡ None → fits s (reclaim_rule s c h flags).edit ≡ true → (n : ℕ) → sees (ended s h) c.caller n ≡ with_edit (reclaim_rule s c h flags).edit (sees s) c.caller n)
@@ -639,8 +633,8 @@ module _ (s t : State) (c : CallWords) (same : AreAlikeTo c.caller s t) (rs : Is
             let f : first_refusal (relinquish_tests t c) ≡ None = ap first_refusal (sym tests) ∙ e in
             let ks = relinquish_passes s c e in
             let kt = relinquish_passes t c f in
-            let at_s = found_first s.live h (is_received_by p) ks.transaction (handles_used_once s rs).distinct ks.found in
-            let at_t = found_first t.live h (is_received_by p) kt.transaction (handles_used_once t rt).distinct kt.found in
+            let at_s = found_first s.live h (is_received_by p) ks.transaction (handles_used_once s rs).ascending ks.found in
+            let at_t = found_first t.live h (is_received_by p) kt.transaction (handles_used_once t rt).ascending kt.found in
             let seen : (n : ℕ) → sees (with_retrieval_by s p h None) p n ≡ sees (with_retrieval_by t p h None) p n = λ n.
             edit_s e g n ∙ edit_same (relinquish_rule s c).edit (sees s) (sees t) p n (same.views n) ∙ ap (λ (x : Option Edit). with_edit x (sees t) p n) edits ∙ sym (edit_t f (sym fit ∙ g) n) in
             set_alike p s t same sends_s sends_t boxes_s boxes_t h None (set_in_both h None ks.transaction kt.transaction at_s at_t ks.receiver kt.receiver) seen;

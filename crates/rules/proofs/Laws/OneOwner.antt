@@ -1,12 +1,12 @@
 -- The law that each page of a live transaction is its sender's, and no other transaction's.
-use Rattle.std.proofs.Common.{◌≡◌, ℕ, Bool, true, false, List, [], ◌∷◌, ◌++◌, Option, Some, None, is_some, cond, eqb, refl, sym, ap, ◌∙◌, subst, find}
+use Rattle.std.proofs.Common.{◌≡◌, ℕ, Bool, true, false, List, [], ◌∷◌, Option, Some, None, is_some, cond, eqb, ltb, refl, sym, ap, ◌∙◌, subst, find}
 use Rattle.std.specs.List.{AllByRecursion}
 use Rattle.std.specs.Option.{option_map}
 use Rattle.base.specs.declared.transaction.Kind.{Kind}
 use Rattle.base.specs.Pages.{covers}
 use Rattle.base.specs.Access.{Access, View}
 use Rattle.base.specs.Manifest.{RegionRow, region_at}
-use Rattle.base.specs.Transactions.{Live, without}
+use Rattle.base.specs.Transactions.{Live, with_live, without}
 use Rattle.base.specs.Ledger.{live_at}
 use Rattle.base.specs.State.{State, owner_of}
 use Rattle.base.specs.Descriptors.Send as descriptor
@@ -24,16 +24,25 @@ use Rattle.rules.specs.Run.{IsReached}
 use Rattle.rules.specs.Laws.OneOwner.{IsOwnSend, AreApart, AreAllApart, IsOwnedOnce}
 use Rattle.rules.proofs.Calls.Send.{SendPasses, send_passes, next_is}
 use Rattle.rules.proofs.Calls.Retrieve.{RetrievePasses, retrieve_passes, retrieve_cases}
-use Rattle.rules.proofs.Ended.{found_in, found_first, all_without, apart_without, both_all}
+use Rattle.rules.proofs.Ended.{found_in, found_first, all_without, apart_without, both_all, not_covered}
 use Rattle.rules.proofs.Laws.Handles.{handles_used_once}
 use Rattle.rules.proofs.Given.{given_owner, others_apart}
 use Rattle.rules.proofs.Retrieved.{all_set, apart_set}
 use Rattle.rules.proofs.FreePages.{HasFreeHome, owner_from_test, common_at}
-use Rattle.rules.proofs.Reached.{all_push, Keeps, all_reached}
+use Rattle.base.proofs.Ascending.{all_with}
+use Rattle.rules.proofs.Reached.{Keeps, all_reached}
 
-apart_push : (ts : List Live) (t : Live) → AreAllApart ts → AllByRecursion (λ u. AreApart u t) ts → AreAllApart (ts ++ t ∷ [])
-apart_push [] t h p = (tt, tt)
-apart_push (u ∷ ts) t h p = (all_push (AreApart u) ts t h.0 p.0, apart_push ts t h.1 p.1)
+apart_from_each : (t : Live) (ts : List Live) → AllByRecursion (λ u. AreApart u t) ts → AllByRecursion (AreApart t) ts
+apart_from_each t [] p = tt
+apart_from_each t (u ∷ us) p = (λ n c. not_covered u t n p.0 c, apart_from_each t us p.1)
+
+apart_with : (ts : List Live) (t : Live) → AreAllApart ts → AllByRecursion (λ u. AreApart u t) ts → AreAllApart (with_live t ts)
+apart_with [] t h p = (tt, tt)
+apart_with (u ∷ ts) t h p =
+    elim (ltb t.handle u.handle) as (λ b. AreAllApart (cond b (t ∷ u ∷ ts) (u ∷ with_live t ts))) [
+      | true ↦ (apart_from_each t (u ∷ ts) p, h)
+      | false ↦ (all_with (AreApart u) t ts h.0 p.0, apart_with ts t h.1 p.1)
+    ]
 
 -- where a transaction has no page of those that are live, it is apart from each
 apart_from_all : (ts : List Live) (t : Live) → ((n : ℕ) → covers t.ranges n ≡ true → is_some (live_at ts n) ≡ false) → AllByRecursion (λ u. AreApart u t) ts
@@ -49,8 +58,8 @@ opened_kept s p k v home free o =
     let t = opened s p k v home in
     record {
       owners = o.owners;
-      senders = all_push (IsOwnSend s) s.live t o.senders (λ n c. owner_from_test (owner_of s n) p (free n c).free.owned);
-      apart = apart_push s.live t o.apart (apart_from_all s.live t (λ n c. (free n c).free.idle));
+      senders = all_with (IsOwnSend s) t s.live o.senders (λ n c. owner_from_test (owner_of s n) p (free n c).free.owned);
+      apart = apart_with s.live t o.apart (apart_from_all s.live t (λ n c. (free n c).free.idle));
     }
 
 send : (s : State) (c : CallWords) (k : Kind) (t : Transfer) → SendPasses s c k t → IsOwnedOnce s → IsOwnedOnce (send_rule s c k t).next
@@ -81,7 +90,7 @@ set_kept s p handle view o =
 pub first_is : (s : State) (c : CallWords) (x : Transfer) → IsReached s → (k : RetrievePasses s c x) → find (λ u. eqb u.handle k.transaction.handle) s.live ≡ Some k.transaction
 first_is s c x r k =
     let handle = (asked s c x).handle in
-    subst (λ (h : ℕ). find (λ u. eqb u.handle h) s.live ≡ Some k.transaction) (sym k.handle) (found_first s.live handle (is_received_by c.caller) k.transaction (handles_used_once s r).distinct k.found)
+    subst (λ (h : ℕ). find (λ u. eqb u.handle h) s.live ≡ Some k.transaction) (sym k.handle) (found_first s.live handle (is_received_by c.caller) k.transaction (handles_used_once s r).ascending k.found)
 
 given_kept : (s : State) (p : ℕ) (t : Live) (access : Access) → find (λ u. eqb u.handle t.handle) s.live ≡ Some t → IsOwnedOnce s → IsOwnedOnce (with_donation s p t access)
 unfolding with_donation

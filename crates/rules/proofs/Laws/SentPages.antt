@@ -35,7 +35,8 @@ use Rattle.rules.proofs.Ended.{found_in, found_first, all_without, both_all, som
 use Rattle.rules.proofs.FreePages.{HasFreeHome, common_at, is_not}
 use Rattle.rules.proofs.Laws.Handles.{handles_used_once}
 use Rattle.rules.proofs.Laws.OneOwner.{owned_once, first_is}
-use Rattle.rules.proofs.Reached.{all_push, Keeps, all_reached}
+use Rattle.base.proofs.Ascending.{all_with}
+use Rattle.rules.proofs.Reached.{Keeps, all_reached}
 use Rattle.rules.proofs.Retrieved.{all_set, receivers_set, retrieved_set}
 use Rattle.rules.proofs.ViewLemmas.{none_retrieved}
 
@@ -80,11 +81,11 @@ unfolding with_transaction
 opened_kept s p k v home free apart others limits h =
     let t = opened s p k v home in
     record {
-      pages = all_push (AreSentPages s) s.live t h.pages (λ n c. sent_page s p k v home n (free n c));
-      apart = all_push (λ u. are_disjoint u.ranges ≡ true) s.live t h.apart apart;
-      limits = all_push IsWithinLimits s.live t h.limits limits;
-      others = all_push IsSentToOthers s.live t h.others others;
-      not_taken = all_push IsNotTaken s.live t h.not_taken (λ e q. none_retrieved (receiver k home) (λ x. refl) v.receivers q);
+      pages = all_with (AreSentPages s) t s.live h.pages (λ n c. sent_page s p k v home n (free n c));
+      apart = all_with (λ u. are_disjoint u.ranges ≡ true) t s.live h.apart apart;
+      limits = all_with IsWithinLimits t s.live h.limits limits;
+      others = all_with IsSentToOthers t s.live h.others others;
+      not_taken = all_with IsNotTaken t s.live h.not_taken (λ e q. none_retrieved (receiver k home) (λ x. refl) v.receivers q);
     }
 
 send : (s : State) (c : CallWords) (k : Kind) (t : Transfer) → SendPasses s c k t → AreTransactionsKept s → AreTransactionsKept (send_rule s c k t).next
@@ -125,7 +126,7 @@ relinquish s c r k h =
     let p = c.caller in
     let t = k.transaction in
     let handle = (given_up c).handle in
-    let first = found_first s.live handle (is_received_by p) t (handles_used_once s r).distinct k.found in
+    let first = found_first s.live handle (is_received_by p) t (handles_used_once s r).ascending k.found in
     let free = found_in IsNotTaken (λ u. eqb u.handle handle) s.live t first h.not_taken in
     set_kept s p handle None t first (λ e q. retrieved_set t.receivers p q None k.receiver ∙ none_either (eqb q p) (retrieved t.receivers q) (free e q)) h
 

@@ -1,5 +1,5 @@
 -- FFA_MEM_DONATE, FFA_MEM_LEND and FFA_MEM_SHARE (FF-A 1.1, "Memory management interfaces").
-use Rattle.std.specs.Prelude.{ℕ, ◌+◌, ◌-◌, ◌^◌, Bool, true, false, ◌&&◌, ◌||◌, ◌==◌, not, nat_lt, List, [], ◌∷◌, ◌++◌, length, map, filter, Option, Some, None, is_some, if◌then◌else◌}
+use Rattle.std.specs.Prelude.{ℕ, ◌+◌, ◌-◌, ◌^◌, Bool, true, false, ◌&&◌, ◌||◌, ◌==◌, not, nat_lt, List, [], ◌∷◌, length, map, filter, Option, Some, None, is_some, if◌then◌else◌}
 use Rattle.std.specs.List.{list_all}
 use Rattle.std.specs.Option.{option_map_or}
 use Rattle.base.specs.declared.access.Rights.{Rights}
@@ -10,7 +10,7 @@ use Rattle.base.specs.declared.status.Status.TheVariants.{InvalidParameters, NoM
 use Rattle.base.specs.Pages.{PageRun}
 use Rattle.base.specs.Access.{Access, View}
 use Rattle.base.specs.Manifest.{is_partition}
-use Rattle.base.specs.Transactions.{Receiver, Live}
+use Rattle.base.specs.Transactions.{Receiver, Live, with_live}
 use Rattle.base.specs.Descriptors.Permissions.{no_permissions, read_only, read_write, not_specified, normal_write_back}
 use Rattle.base.specs.Descriptors.Send.{Send, Endpoint, is_send, send_of}
 use Rattle.base.specs.Handles.{handle_of, low_half, high_half}
@@ -142,7 +142,7 @@ counting state = record state { sends = state.sends + 1 }
 unfoldable pub with_transaction : State → Live → State
 with_transaction s t =
     record s {
-      live = s.live ++ t ∷ [];
+      live = with_live t s.live;
       partitions = with_partition t.sender counting s.partitions;
     }
 

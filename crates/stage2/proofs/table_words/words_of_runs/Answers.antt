@@ -16,7 +16,7 @@ overflow_add-words g c =
     let before = c.loop-run.invariant.pages in
     let so = pages_among-le (λ i. covers (take c.loop-run.run-index c.args.runs.now) (512 * c.args.chunk + i)) in
     let pages = c.words_of_run-here.ensures.pages in
-    let here = pages_among-le (λ i. in_run c.run-item.result (512 * c.args.chunk + i)) in
+    let here = pages_among-le (λ i. in_run c.run-item-in-loop-run.result (512 * c.args.chunk + i)) in
     omega (arith, before, so, pages, here)
 
 pub overflow_add-words-in-loop-run : goal.overflow_add-words-in-loop-run
@@ -25,7 +25,7 @@ overflow_add-words-in-loop-run g c =
     let before = c.loop-run.invariant.nonzero in
     let so = nonzero_among-le word (λ i. covers (take c.loop-run.run-index c.args.runs.now) (512 * c.args.chunk + i)) in
     let nonzero = c.words_of_run-here.ensures.nonzero in
-    let here = nonzero_among-le word (λ i. in_run c.run-item.result (512 * c.args.chunk + i)) in
+    let here = nonzero_among-le word (λ i. in_run c.run-item-in-loop-run.result (512 * c.args.chunk + i)) in
     omega (arith, before, so, nonzero, here)
 
 pub loop-run-preserved : goal.loop-run-preserved
@@ -33,11 +33,11 @@ loop-run-preserved g c =
     let word = word_in (g.M.TableMem.state c.args.memory.now) c.args.third in
     let runs = c.args.runs.now in
     let i = c.loop-run.run-index in
-    let run = c.run-item.result in
+    let run = c.run-item-in-loop-run.result in
     let first : ℕ → Bool = λ x. covers (take i runs) (512 * c.args.chunk + x) in
     let one : ℕ → Bool = λ x. in_run run (512 * c.args.chunk + x) in
-    let more : (x : ℕ) → x < 512 → covers (take (i + 1) runs) (512 * c.args.chunk + x) ≡ (first x || one x) = λ x lt. covers-take runs i run (512 * c.args.chunk + x) c.loop-run-test.true c.run-item.is in
-    let apart : (x : ℕ) → x < 512 → (first x && one x) ≡ false = λ x lt. first-apart runs i run (512 * c.args.chunk + x) c.requires.normal c.loop-run-test.true c.run-item.is in
+    let more : (x : ℕ) → x < 512 → covers (take (i + 1) runs) (512 * c.args.chunk + x) ≡ (first x || one x) = λ x lt. covers-take runs i run (512 * c.args.chunk + x) c.loop-run-test.true c.run-item-in-loop-run.is in
+    let apart : (x : ℕ) → x < 512 → (first x && one x) ≡ false = λ x lt. first-apart runs i run (512 * c.args.chunk + x) c.requires.normal c.loop-run-test.true c.run-item-in-loop-run.is in
     record {
       pages = ap₂ (λ a b. a + b) c.loop-run.invariant.pages c.words_of_run-here.ensures.pages
           ∙ sym (pages_among-same (λ x. first x || one x) (λ x. covers (take (i + 1) runs) (512 * c.args.chunk + x)) more ∙ pages_among-either first one apart);

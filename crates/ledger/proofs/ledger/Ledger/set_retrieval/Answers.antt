@@ -1,9 +1,14 @@
-use Rattle.std.proofs.Common.{sym, ap, ◌∙◌}
+use Rattle.std.proofs.Common.{sym, ap, subst, ◌∙◌}
+use Rattle.base.specs.Transactions.{AreAscending}
 use Rattle.ledger.specs.Ledger.{LedgerView}
 use Rattle.ledger.specs.Changes.{with_retrieval_of}
 use Rattle.ledger.proofs.Places.{IsPlace-in, HasNone-in}
 use Rattle.ledger.proofs.Kept.{changed_at, IsKept-retrieval}
+use Rattle.ledger.proofs.Transactions.{ascending}
 use Rattle.ledger.proofs.ledger.Ledger.set_retrieval.Goals as goal
+
+pub place_of-requires : goal.place_of-requires
+place_of-requires c = subst AreAscending (sym c.deref.ensures.value) (ascending c.self.inside.live.items c.self.invariant.separate)
 
 pub invariant_of-self : goal.invariant_of-self
 invariant_of-self c =

@@ -1,11 +1,15 @@
-use Rattle.std.proofs.Common.{◌≡◌, List, Some, length, sym, ap, ◌∙◌, arith}
+use Rattle.std.proofs.Common.{◌≡◌, List, Some, length, sym, ap, subst, ◌∙◌, arith}
 use Rattle.base.specs.Pages.{PageRun}
-use Rattle.base.specs.Transactions.{Live}
+use Rattle.base.specs.Transactions.{Live, AreAscending}
 use Rattle.ledger.specs.Ledger.{LedgerView, found}
 use Rattle.ledger.specs.Changes.{without}
 use Rattle.ledger.proofs.Places.{IsPlace-in, HasNone-in}
 use Rattle.ledger.proofs.Kept.{found_at, IsKept-close}
+use Rattle.ledger.proofs.Transactions.{ascending}
 use Rattle.ledger.proofs.ledger.Ledger.take.Goals as goal
+
+pub place_of-requires : goal.place_of-requires
+place_of-requires c = subst AreAscending (sym c.deref.ensures.value) (ascending c.self.inside.live.items c.self.invariant.separate)
 
 pub returns-in_err-place-clause-value : goal.returns-in_err-place-clause-value
 returns-in_err-place-clause-value c =
