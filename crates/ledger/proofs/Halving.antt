@@ -1,5 +1,5 @@
 -- Live transactions that stand in ascending order of their handles are found by halving.
-use Rattle.std.proofs.Common.{◌≡◌, ◌≢◌, ℕ, zero, suc, ◌+◌, ◌*◌, ◌/◌, ◌^◌, ◌<◌, ◌≤◌, true, false, cond, eqb, ltb, List, [], ◌∷◌, ◌++◌, Some, None, length, get_or, filter, refl, sym, ap, ◌∙◌, arith, eq-eqb}
+use Rattle.std.proofs.Common.{◌≡◌, ◌≢◌, ℕ, zero, suc, ◌+◌, ◌*◌, ◌/◌, ◌^◌, ◌<◌, ◌≤◌, true, false, cond, eqb, ltb, List, [], ◌∷◌, ◌++◌, Some, None, length, get_or, filter, refl, sym, subst, ap, ◌∙◌, arith, eq-eqb}
 use Rattle.std.specs.List.{AllByRecursion, insert, position, position_from}
 use Rattle.std.specs.List.Sorted.{IsNonDecreasingBy, IsPartitionPoint}
 use Rattle.std.proofs.lemmas.Bool.{ltb-true}
@@ -43,6 +43,10 @@ point-halved h live i most parted = record {
   lower = λ k d lt. ltb-true _ _ (parted.0 k d (omega arith) lt);
   others = λ k d from below. at_least _ _ (parted.1 k d from below);
 }
+
+-- among transactions that were named otherwise
+pub point-named : (h k : ℕ) (live now : List Live) (i : ℕ) → h ≡ k → now ≡ live → IsPoint h now i → IsPoint k live i
+point-named h k live now i e l at = subst (λ j. IsPoint j live i) e (subst (λ n. IsPoint h n i) l at)
 
 -- ---- the place of a handle
 
@@ -132,3 +136,9 @@ counted p (u ∷ us) (suc i) (suc j) a b all =
     let least = (high_part _ _ all.0).0 in
     let rest = counted p us i j (next_one u us _ i a) (next_one u us _ j b) all.1 in
     rw (lower_is_other u.sender p (omega (arith, below, least))) (omega (arith, rest))
+
+-- the same from handles that the code made: the sender's first, and the first of the sender behind
+pub sent-between : (p first next : ℕ) (live : List Live) (i j : ℕ) → first ≡ p * 2 ^ 32 → next ≡ first + 2 ^ 32 → IsPoint first live i → IsPoint next live j → AllByRecursion NamesItsSender live → j ≡ i + length (filter (λ t. eqb t.sender p) live)
+sent-between p first next live i j low high a b all =
+    let last : next ≡ p * 2 ^ 32 + 2 ^ 32 = omega (arith, low, high) in
+    counted p live i j (subst (λ h. IsPoint h live i) low a) (subst (λ h. IsPoint h live j) last b) all

@@ -1,8 +1,7 @@
-use Rattle.std.proofs.Common.{◌≡◌, length, sym, subst, ap, ◌∙◌}
+use Rattle.std.proofs.Common.{◌≡◌, length, sym, ap, ◌∙◌}
 use Rattle.base.specs.Transactions.{Live}
 use Rattle.base.proofs.Ascending.{with-insert}
-use Rattle.ledger.specs.Ledger.{IsPoint}
-use Rattle.ledger.proofs.Halving.{insert-last, others_of}
+use Rattle.ledger.proofs.Halving.{point-named, insert-last, others_of}
 use Rattle.ledger.proofs.live.put_in.Goals as goal
 
 pub returns-then-point-len : goal.returns-then-point-len
@@ -10,8 +9,7 @@ returns-then-point-len c =
     let t = c.args.transaction in
     let old = c.args.live.now.items in
     let i = c.point_of-point.result in
-    let there : IsPoint t.handle c.deref.result.now i = subst (λ h. IsPoint h c.deref.result.now i) (ap (λ (u : Live). u.handle) c.transaction.view_is) c.point_of-point.ensures in
-    let at : IsPoint t.handle old i = subst (λ l. IsPoint t.handle l i) c.deref.ensures.value there in
+    let at = point-named _ t.handle old _ i (ap (λ (u : Live). u.handle) c.transaction.view_is) c.deref.ensures.value c.point_of-point.ensures in
     let last : i ≡ length old = c.if-point-len.true ∙ c.len.ensures ∙ sym c.deref.ensures.len ∙ ap length c.deref.ensures.value in
     c.push_reserved.ensures.items ∙ sym (insert-last old i t last) ∙ with-insert t old i at.most at.lower at.others (others_of old t.handle c.requires.new)
 
@@ -20,7 +18,6 @@ returns-else-point-len c =
     let t = c.args.transaction in
     let old = c.args.live.now.items in
     let i = c.point_of-point.result in
-    let there : IsPoint t.handle c.deref.result.now i = subst (λ h. IsPoint h c.deref.result.now i) (ap (λ (u : Live). u.handle) c.transaction.view_is) c.point_of-point.ensures in
-    let at : IsPoint t.handle old i = subst (λ l. IsPoint t.handle l i) c.deref.ensures.value there in
+    let at = point-named _ t.handle old _ i (ap (λ (u : Live). u.handle) c.transaction.view_is) c.deref.ensures.value c.point_of-point.ensures in
     let ok = c.insert.ensures.succeeds c.requires.ready in
     rw ok at c.insert.ensures.items ∙ with-insert t old i at.most at.lower at.others (others_of old t.handle c.requires.new)
