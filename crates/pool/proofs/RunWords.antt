@@ -1,14 +1,15 @@
 -- The words for the pages of runs, and what else is kept.
-use Rattle.std.proofs.Common.{◌≡◌, ◌≢◌, ℕ, ◌+◌, ◌-◌, ◌*◌, ◌%◌, ◌^◌, ◌<◌, ◌≤◌, arith, true, nat_lt, List, [], ◌∷◌, ◌++◌, length, get_or, drop, reverse, refl, sym, ap, ap₂, ◌∙◌}
+use Rattle.std.proofs.Common.{◌≡◌, ◌≢◌, ℕ, ◌+◌, ◌-◌, ◌*◌, ◌%◌, ◌^◌, ◌<◌, ◌≤◌, arith, true, nat_lt, List, [], ◌∷◌, ◌++◌, length, get_or, drop, reverse, slice_index, slice_set, refl, sym, subst, ap, ap₂, ◌∙◌}
 use Rattle.std.proofs.Math.Nat.{mul-le-mul_left}
 use Rattle.std.proofs.lemmas.Bool.{and_parts}
 use Rattle.std.proofs.lemmas.Bool.Decides.{nat_tests}
-use Rattle.std.proofs.lemmas.List.{length-append, at_drop_more, at_drop_all}
+use Rattle.std.proofs.lemmas.List.{length-append, reverse-append, at_drop_more, at_drop_all}
 use Rattle.base.specs.Pages.{PageRun, rise_above, are_normal}
 use Rattle.pool.specs.Pool.{Pool, words_of, words_set, sets_of, counted, after_sets, index_from, after_run, after_runs}
 use Rattle.pool.specs.Shown.{IsShown}
 use Rattle.pool.specs.declared.operation.Op.{Op}
-use Rattle.pool.proofs.Stretches.{length-words_set, words_set-other, counted-length}
+use Rattle.pool.specs.declared.operation.Op.TheVariants.{Set}
+use Rattle.pool.proofs.Stretches.{length-words_set, words_set-other, words_set-none, words_set-next, sets_of-none, sets_of-write, sets_of-pass, set-same, counted-length}
 use Rattle.pool.proofs.Replaced.{Keeps, keeps-self, keeps-more}
 
 -- ---- none, and one run more
@@ -165,3 +166,61 @@ pub words_in-left : (start i : ℕ) (runs : List PageRun) (run : PageRun) → i 
     → words_in start (drop i runs) ≡ (index_from start (run.first + run.count) - index_from start run.first) + words_in start (drop (i + 1) runs)
 words_in-left start i runs run lt is =
     at_drop_more (words_in start) runs i run lt ∙ ap (λ r. words_in start (r ∷ drop (i + 1) runs)) (sym is)
+
+-- ---- a run of one page alone
+
+-- its word is that of one index
+page-alone : (page start word step number index next : ℕ) (pool : Pool) → index ≡ index_from start number → index + 1 ≡ index_from start (number + 1) → word + step * index ≡ next
+    → after_run page start word step (record { first = number; count = 1 }) pool ≡ after_sets page index (0 + 1) next step pool
+page-alone page start word step number index next pool at end is =
+    let one : index_from start (number + 1) - index ≡ 0 + 1 = omega (arith, end) in
+    ap (λ i. after_sets page i (index_from start (number + 1) - i) (word + step * i) step pool) (sym at)
+    ∙ ap (λ n. after_sets page index n (word + step * index) step pool) one
+    ∙ ap (λ w. after_sets page index (0 + 1) w step pool) is
+
+-- that is not there, and is written
+pub page-written : (page start word step number index next : ℕ) (old : List ℕ) (list : List Op) (pool : Pool)
+    → index ≡ index_from start number → index + 1 ≡ index_from start (number + 1) → word + step * index ≡ next
+    → slice_index old (512 * page + index) ≢ next → IsShown old list pool
+    → IsShown (slice_set old (512 * page + index) next) (list ++ Set page index next ∷ []) (after_run page start word step (record { first = number; count = 1 }) pool)
+page-written page start word step number index next old list pool at end is differs shown =
+    let words = pool.memory.words in
+    let place = 512 * page + index in
+    let here : index + 0 ≡ index = omega arith in
+    let this : next + step * 0 ≡ next = omega arith in
+    let none : words ≡ words_set words page index 0 next step = sym (words_set-none words page index next step) in
+    let stands : slice_index old place ≡ slice_index (words_set words page index 0 next step) place = ap (λ items. slice_index items place) (shown.words ∙ none) in
+    let set = sets_of-write words page index 0 next step index next here this (λ same. differs (stands ∙ same)) ∙ ap (λ ops. Set page index next ∷ ops) (sets_of-none words page index next step) in
+    subst (λ p. IsShown (slice_set old place next) (list ++ Set page index next ∷ []) p) (sym (page-alone page start word step number index next pool at end is)) (record {
+      words = ap (λ items. slice_set items place next) (shown.words ∙ none) ∙ sym (words_set-next words page index 0 next step index next here this);
+      operations = reverse-append list (Set page index next ∷ []) ∙ ap (λ ops. Set page index next ∷ ops) shown.operations ∙ ap (λ ops. ops ++ pool.operations) (sym set);
+    })
+
+-- that is there
+pub page-there : (page start word step number index next : ℕ) (old : List ℕ) (list : List Op) (pool : Pool)
+    → index ≡ index_from start number → index + 1 ≡ index_from start (number + 1) → word + step * index ≡ next
+    → 512 * page + index < length old → slice_index old (512 * page + index) ≡ next → IsShown old list pool
+    → IsShown old list (after_run page start word step (record { first = number; count = 1 }) pool)
+page-there page start word step number index next old list pool at end is inside there shown =
+    let words = pool.memory.words in
+    let place = 512 * page + index in
+    let here : index + 0 ≡ index = omega arith in
+    let this : next + step * 0 ≡ next = omega arith in
+    let none : words ≡ words_set words page index 0 next step = sym (words_set-none words page index next step) in
+    let stands : slice_index (words_set words page index 0 next step) place ≡ next = sym (ap (λ items. slice_index items place) (shown.words ∙ none)) ∙ there in
+    let pass = sets_of-pass words page index 0 next step index next here this stands ∙ sets_of-none words page index next step in
+    let same : words_set words page index (0 + 1) next step ≡ old =
+    words_set-next words page index 0 next step index next here this ∙ sym (ap (λ items. slice_set items place next) (shown.words ∙ none)) ∙ set-same old place next inside there in
+    subst (λ p. IsShown old list p) (sym (page-alone page start word step number index next pool at end is)) (record {
+      words = sym same;
+      operations = shown.operations ∙ ap (λ ops. ops ++ pool.operations) (sym pass);
+    })
+
+pub after_runs-one : (page start word step : ℕ) (runs : List PageRun) (run : PageRun) (first : ℕ) (pool : Pool) → length runs ≡ 1 → run ≡ get_or runs 0 run → first ≡ run.first → run.count ≡ 1
+    → after_runs page start word step runs pool ≡ after_run page start word step (record { first = first; count = 1 }) pool
+after_runs-one page start word step [] run first pool one is begins alone = absurd (omega (arith, one))
+after_runs-one page start word step (r ∷ []) run first pool one is begins alone =
+    after_runs-next page start word step r [] pool ∙ after_runs-none page start word step (after_run page start word step r pool)
+    ∙ ap (λ x. after_run page start word step x pool) (sym is)
+    ∙ ap₂ (λ (n k : ℕ). after_run page start word step (record { first = n; count = k }) pool) (sym begins) alone
+after_runs-one page start word step (r ∷ q ∷ rs) run first pool one is begins alone = absurd (omega (arith, one))

@@ -6,9 +6,10 @@ ghost use Rattle.pool.specs.Pool.{Pool, words_of, nonzero_in, index_from, after_
 ghost use Rattle.pool.specs.Shown.{IsShown};
 
 use crate::operation::Op;
-use crate::stretch::{Stretch, WORDS, write_others};
+use crate::stretch::{Stretch, WORDS, recounted, write_others};
 use crate::word_store::WordStore;
-use base::Run;
+use base::{Page, Run};
+use std::mem::replace;
 
 /// What the words of a page are to be: the first stands for the page `start` and is this word, and each
 /// other stands for a page more, and is a step more, than the one before.
@@ -94,7 +95,7 @@ fn write_run<S: WordStore>(
 /// operations. It answers these, and how many words of the page are not 0. The list is owned meanwhile, so
 /// that its length can stay in a register.
 #[inline(always)]
-pub(crate) fn write_runs<S: WordStore>(
+fn write_runs<S: WordStore>(
     store: &mut S,
     mut operations: Vec<Op>,
     mut count: u32,
@@ -119,4 +120,83 @@ pub(crate) fn write_runs<S: WordStore>(
         (operations, count) = write_run(store, operations, count, *run, with);
     }
     (operations, count)
+}
+
+/// Writes the word for a page, if it is among them and not there, and records the write behind these
+/// operations. It answers how many words of the page of words are not 0.
+#[inline(always)]
+fn set_one<S: WordStore>(
+    store: &mut S,
+    operations: &mut Vec<Op>,
+    count: u32,
+    page: Page,
+    with: RunWords,
+) -> u32
+    requires inside { 512 * with.page + 512 ≤ length (S.words store.old) }
+    requires start_in { with.start < 2 ^ 27 }
+    requires in_range { with.word + with.step * 512 < 2 ^ 64 }
+    requires counted { count ≡ nonzero_in (words_of (S.words store.old)) with.page }
+    requires ready { vec_len operations.old < vec_capacity operations.old }
+    ensures shown { (pool : Pool) → IsShown (S.words store.old) operations.old.items pool
+        → IsShown (S.words store.new) operations.new.items (after_run with.page with.start
+        with.word with.step (record { first = page; count = 1 }) pool) }
+    ensures whole { length (S.words store.new) ≡ length (S.words store.old) }
+    ensures counted { result ≡ nonzero_in (words_of (S.words store.new)) with.page }
+    ensures capacity { vec_capacity operations.new ≡ vec_capacity operations.old }
+    ensures len { vec_len operations.new ≤ vec_len operations.old + 1 }
+{
+    let index = page.number().wrapping_sub(with.start);
+    if index >= WORDS {
+        return count;
+    }
+    let word = with.word + with.step * u64::from(index);
+    let place = 512 * with.page as usize + index as usize;
+    let before = store.word(place);
+    if before == word {
+        return count;
+    }
+    store.set_word(place, word);
+    operations.push_reserved(Op::Set {
+        page: with.page,
+        index,
+        word,
+    });
+    recounted(count, before, word)
+}
+
+/// Writes the words for the pages of runs that are not there, and records each write behind these
+/// operations. It answers how many words of the page are not 0. For one page alone the list stays where
+/// it is.
+pub(crate) fn set_runs<S: WordStore>(
+    store: &mut S,
+    operations: &mut Vec<Op>,
+    count: u32,
+    runs: &[Run],
+    with: RunWords,
+) -> u32
+    requires inside { 512 * with.page + 512 ≤ length (S.words store.old) }
+    requires start_in { with.start < 2 ^ 27 }
+    requires normal { are_normal runs.now ≡ true }
+    requires in_range { with.word + with.step * 512 < 2 ^ 64 }
+    requires counted { count ≡ nonzero_in (words_of (S.words store.old)) with.page }
+    requires ready { vec_len operations.old + 512 ≤ vec_capacity operations.old }
+    ensures shown { (pool : Pool) → IsShown (S.words store.old) operations.old.items pool
+        → IsShown (S.words store.new) operations.new.items
+        (after_runs with.page with.start with.word with.step runs.now pool) }
+    ensures whole { length (S.words store.new) ≡ length (S.words store.old) }
+    ensures counted { result ≡ nonzero_in (words_of (S.words store.new)) with.page }
+    ensures capacity { vec_capacity operations.new ≡ vec_capacity operations.old }
+    ensures len { vec_len operations.new ≤ vec_len operations.old + 512 }
+{
+    if runs.len() == 1 {
+        let run = runs[0];
+        if run.count() == 1 {
+            return set_one(store, operations, count, run.first(), with);
+        }
+    }
+    let alloc = *operations.allocator();
+    let list = replace(operations, Vec::new(alloc));
+    let (list, count) = write_runs(store, list, count, runs, with);
+    *operations = list;
+    count
 }

@@ -7,7 +7,7 @@ ghost use Rattle.pool.specs.Pool as shares;
 use crate::image::Image;
 use crate::operation::Op;
 use crate::replace::{Replacement, replace_words};
-use crate::runs::{RunWords, write_runs};
+use crate::runs::{RunWords, set_runs};
 use crate::stretch::{Stretch, recounted, write_words};
 use crate::table_mem::TableMem;
 use crate::word_store::WordStore;
@@ -177,8 +177,6 @@ impl<S: WordStore> TableMem for TablePool<S> {
     }
 
     fn set_runs(&mut self, page: u32, start: Page, runs: &[Run], word: u64, step: u64) {
-        let alloc = *self.operations.allocator();
-        let operations = replace(&mut self.operations, Vec::new(alloc));
         let count = self.nonzero[page as usize];
         let with = RunWords {
             page,
@@ -186,8 +184,7 @@ impl<S: WordStore> TableMem for TablePool<S> {
             word,
             step,
         };
-        let (operations, count) = write_runs(&mut self.store, operations, count, runs, with);
-        self.operations = operations;
+        let count = set_runs(&mut self.store, &mut self.operations, count, runs, with);
         self.nonzero[page as usize] = count;
     }
 

@@ -1,8 +1,7 @@
-use Rattle.std.proofs.Common.{◌≡◌, ◌+◌, ◌*◌, ◌%◌, ◌^◌, ◌≤◌, ◌∙◌, Vec, Global, length, reverse, true≢false, subst, sym, ap, arith}
+use Rattle.std.proofs.Common.{◌≡◌, ◌+◌, ◌*◌, ◌%◌, ◌^◌, ◌≤◌, ◌∙◌, length, reverse, true≢false, subst, sym, ap, arith}
 use Rattle.std.proofs.lemmas.List.{length-reverse}
 use Rattle.pool.specs.Pool.{Pool, taken_of, after_runs}
 use Rattle.pool.specs.Shown.{IsShown}
-use Rattle.pool.specs.declared.operation.Op.{Op}
 use Rattle.pool.proofs.Nonzero.{counts_nonzero-page}
 use Rattle.pool.proofs.Replaced.{pools-same}
 use Rattle.pool.proofs.RunWords.{keeps-runs, others-runs}
@@ -12,15 +11,15 @@ pub invariant_of-self : goal.invariant_of-self
 invariant_of-self g c =
     let old = c.args.self.now in
     let start = g.S.WordStore.words old.store in
-    let new = g.S.WordStore.words c.write_runs-operations.new.store in
+    let new = g.S.WordStore.words c.set_runs-count.new.store in
     let whole : 512 * c.args.page + 512 ≤ length start = omega (arith, old.words_whole, c.requires.page_in) in
-    let others = others-runs c.args.page _ _ _ _ start new _ _ whole c.write_runs-operations.ensures.shown in
+    let others = others-runs c.args.page _ _ _ _ start new _ _ whole c.set_runs-count.ensures.shown in
     record {
       ids_whole = old.ids_whole;
-      words_whole = c.write_runs-operations.ensures.whole ∙ old.words_whole;
+      words_whole = c.set_runs-count.ensures.whole ∙ old.words_whole;
       taken_whole = old.taken_whole;
       free_counted = old.free_counted;
-      nonzero_counted = counts_nonzero-page old.quotas.items start new old.nonzero.items c.args.page c.write_runs-operations.result.1 old.nonzero_counted c.requires.page_in others c.write_runs-operations.ensures.counted;
+      nonzero_counted = counts_nonzero-page old.quotas.items start new old.nonzero.items c.args.page c.set_runs-count.result old.nonzero_counted c.requires.page_in others c.set_runs-count.ensures.counted;
       fits = old.fits;
       roots = old.roots;
       free_zero = λ q i free. others q i (λ is. true≢false (sym c.requires.taken ∙ ap (taken_of old.taken.items) (sym is) ∙ free)) ∙ old.free_zero q i free;
@@ -30,8 +29,8 @@ pub returns-clause-state : goal.returns-clause-state
 returns-clause-state g c =
     let old = c.args.self.now in
     let start = g.S.WordStore.words old.store in
-    let new = g.S.WordStore.words c.write_runs-operations.new.store in
-    let list = c.write_runs-operations.result.0.items in
+    let new = g.S.WordStore.words c.set_runs-count.new.store in
+    let list = c.set_runs-count.new.operations.items in
     let before : Pool = record {
       memory = record { ids = old.ids.items; quotas = old.quotas.items; words = start; taken = old.taken.items };
       operations = reverse old.operations.items;
@@ -41,7 +40,7 @@ returns-clause-state g c =
     let whole : 512 * c.args.page + 512 ≤ length start = omega (arith, old.words_whole, c.requires.page_in) in
     let keeps = keeps-runs c.args.page c.args.start c.args.word c.args.step c.args.runs.now before whole in
     let shown = subst (λ s. IsShown new list (after_runs c.args.page s c.args.word c.args.step c.args.runs.now before)) c.number.ensures.same
-    (c.write_runs-operations.ensures.shown before (record { words = λ i. start; operations = ap (λ (v : Vec Op Global). reverse v.items) c.replace-operations.ensures.value })) in
+    (c.set_runs-count.ensures.shown before (record { words = λ i. start; operations = λ i. reverse old.operations.items })) in
     let was : length (reverse old.operations.items) ≡ length old.operations.items = length-reverse old.operations.items in
     let made = keeps.made old.made_before (ap (λ k. (old.made_before + k) % 2 ^ 64) (sym was)) in
     let long : length list ≡ length after.operations = sym (length-reverse list) ∙ ap length shown.operations in
