@@ -78,7 +78,7 @@ fn live_until(live: &[Live], page: Page, limit: u32) -> u32
 {
     let mut end = limit;
     for transaction in live {
-        end = ranges_until(&transaction.ranges, page, end);
+        end = ranges_until(&transaction.terms.ranges, page, end);
     }
     end
 }
@@ -118,8 +118,8 @@ pub(crate) fn view_at(
 fn view_under(transaction: &Live, home: Option<Access>, p: PartitionId) -> Option<Access>
     ensures { result ≡ rules.view_under transaction.now home p }
 {
-    if transaction.sender == p {
-        kept(transaction.kind, home)
+    if transaction.terms.sender == p {
+        kept(transaction.terms.kind, home)
     } else {
         transaction.retrieved(p)
     }
@@ -190,7 +190,7 @@ fn live_at(live: &[Live], page: Page) -> Option<&Live>
     ensures { option_map (λ t. t.now) result ≡ rules.live_at live.now page }
 {
     live.iter()
-        .find(|transaction| is_covered(&transaction.ranges, page))
+        .find(|transaction| is_covered(&transaction.terms.ranges, page))
 }
 
 fn is_covered(ranges: &[Run], page: Page) -> bool

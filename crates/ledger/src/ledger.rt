@@ -186,7 +186,7 @@ impl Ledger {
     {
         put_all(
             &mut self.shared,
-            &transaction.ranges,
+            &transaction.terms.ranges,
             transaction.handle.bits(),
         );
         put_in(&mut self.live, transaction);
@@ -215,7 +215,7 @@ impl Ledger {
     {
         let place = place_of(&self.live, handle)?;
         let transaction = self.live.remove(place);
-        cut_all(&mut self.shared, &transaction.ranges);
+        cut_all(&mut self.shared, &transaction.terms.ranges);
         Some(transaction)
     }
 
@@ -253,7 +253,7 @@ impl Ledger {
         let Some(transaction) = self.find(handle) else {
             return;
         };
-        match transaction.kind {
+        match transaction.terms.kind {
             Kind::Share | Kind::Lend => self.set_retrieval(p, handle, Some(access)),
             Kind::Donate => self.complete(p, handle, access),
         }
@@ -271,11 +271,12 @@ impl Ledger {
         let Some(transaction) = self.take(handle) else {
             return;
         };
+        let terms = Box::into_inner(transaction.terms);
         let place = self.donations.len() as u64;
-        put_all(&mut self.given, &transaction.ranges, place);
+        put_all(&mut self.given, &terms.ranges, place);
         self.donations.push_reserved(Donation {
-            ranges: transaction.ranges,
-            giver: transaction.sender,
+            ranges: terms.ranges,
+            giver: terms.sender,
             taker: p,
             access,
         });

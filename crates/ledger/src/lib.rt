@@ -11,7 +11,7 @@ mod live;
 pub use donation::Donation;
 pub use free::Segment;
 pub use ledger::Ledger;
-pub use live::{Live, Receiver};
+pub use live::{Live, Receiver, Terms};
 
 #[cfg(test)]
 mod tests;

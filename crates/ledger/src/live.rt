@@ -5,6 +5,8 @@ ghost use Rattle.base.specs.Transactions.{AreAscending};
 ghost use Rattle.ledger.specs.Changes as changes;
 ghost use Rattle.ledger.specs.Ledger.{found, IsPoint, NamesItsSender};
 
+use arrayvec::ArrayVec;
+use base::limits::MOST_RECEIVERS;
 use base::{Access, Handle, Kind, PartitionId, Rights, Run};
 use std::marker::Model;
 
@@ -30,16 +32,38 @@ impl Model for Receiver {
     } };
 }
 
-/// A transaction that was sent and has not ended. Its ranges stand in the order sent.
+impl Default for Receiver {
+    ghost use Rattle.base.specs.declared.access.Rights.TheVariants.{Ro};
+
+    ghost is_default = { λ r. r ≡ record { partition = 0; cap = Ro; retrieved = None } };
+
+    /// Partition 0, which may read and has retrieved nothing.
+    fn default() -> Receiver {
+        Receiver {
+            partition: PartitionId::new(0),
+            cap: Rights::Ro,
+            retrieved: None,
+        }
+    }
+}
+
+/// What is kept of a transaction beside its handle. Its ranges stand in the order sent.
 #[derive(Drop)]
-pub struct Live {
-    pub handle: Handle,
+pub struct Terms {
     pub kind: Kind,
     pub sender: PartitionId,
     pub tag: u64,
     pub ranges: Vec<Run>,
-    pub receivers: Vec<Receiver>,
+    pub receivers: ArrayVec<Receiver, MOST_RECEIVERS>,
     pub home: Access,
+}
+
+/// A transaction that was sent and has not ended. Its terms stand in a place of their own, so that a list of
+/// transactions is short: one that is put in or taken out moves two words of each behind it.
+#[derive(Drop)]
+pub struct Live {
+    pub handle: Handle,
+    pub terms: Box<Terms>,
 }
 
 impl Model for Live {
@@ -49,12 +73,12 @@ impl Model for Live {
 
     ghost view = { λ t. record {
       handle = t.handle;
-      kind = t.kind;
-      sender = t.sender;
-      tag = t.tag;
-      ranges = t.ranges.items;
-      receivers = t.receivers.items;
-      home = t.home;
+      kind = t.terms.value.kind;
+      sender = t.terms.value.sender;
+      tag = t.terms.value.tag;
+      ranges = t.terms.value.ranges.items;
+      receivers = t.terms.value.receivers.items;
+      home = t.terms.value.home;
     } };
 }
 
@@ -67,7 +91,8 @@ impl Live {
         ensures { option_map (λ r. r.now) result
             ≡ find (λ r. r.partition == p) self.now.receivers }
     {
-        self.receivers
+        self.terms
+            .receivers
             .iter()
             .find(|receiver| receiver.partition == p)
     }
@@ -87,7 +112,7 @@ impl Live {
 pub(crate) fn set_retrieved(transaction: &mut Live, p: PartitionId, retrieved: Option<Access>)
     ensures { transaction.new ≡ changes.with_retrieval p retrieved transaction.old }
 {
-    set_receiver(&mut transaction.receivers, p, retrieved);
+    set_receiver(&mut transaction.terms.receivers, p, retrieved);
 }
 
 fn set_receiver(receivers: &mut [Receiver], p: PartitionId, retrieved: Option<Access>)
@@ -190,6 +215,6 @@ pub(crate) fn live_of(live: &[Live], p: PartitionId) -> usize
         return halved_of(live, p);
     }
     live.iter()
-        .filter(|transaction| transaction.sender == p)
+        .filter(|transaction| transaction.terms.sender == p)
         .count()
 }

@@ -1,4 +1,5 @@
-use crate::{Ledger, Live, Receiver};
+use crate::{Ledger, Live, Receiver, Terms};
+use arrayvec::ArrayVec;
 use base::{Access, Handle, Kind, OutOfMemory, Page, PartitionId, Rights, Run};
 use manifest::common_manifest;
 use std::alloc::Global;
@@ -37,21 +38,26 @@ fn transaction(
         cap: Rights::Rw,
         retrieved: None,
     };
-    Ok(Live {
-        handle: handle_of(sender),
+    let mut receivers = ArrayVec::new();
+    receivers.push(receiver);
+    let terms = Terms {
         kind,
         sender: PartitionId::new(sender),
         tag: 0,
         ranges,
-        receivers: vec![in alloc; receiver]?,
+        receivers,
         home: Access::normal(Rights::Rw, true),
+    };
+    Ok(Live {
+        handle: handle_of(sender),
+        terms: Box::new(alloc, terms)?,
     })
 }
 
 /// Opens a transaction with a handle of its sender's, where none is live.
 fn open(ledger: &mut Ledger, transaction: Live) -> Result<(), OutOfMemory> {
-    ledger.ready(transaction.ranges.len())?;
-    let named = transaction.handle.high() == u32::from(transaction.sender.number());
+    ledger.ready(transaction.terms.ranges.len())?;
+    let named = transaction.handle.high() == u32::from(transaction.terms.sender.number());
     if named && ledger.live().is_empty() {
         ledger.open(transaction);
     }
@@ -65,7 +71,7 @@ fn retrieve(
     access: Access,
 ) -> Result<(), OutOfMemory> {
     if let Some(transaction) = ledger.find(handle) {
-        let runs = transaction.ranges.len();
+        let runs = transaction.terms.ranges.len();
         ledger.ready(runs)?;
         ledger.retrieve(PartitionId::new(receiver), handle, access);
     }
@@ -74,7 +80,7 @@ fn retrieve(
 
 fn close(ledger: &mut Ledger, handle: Handle) -> Result<(), OutOfMemory> {
     if let Some(transaction) = ledger.find(handle) {
-        let runs = transaction.ranges.len();
+        let runs = transaction.terms.ranges.len();
         ledger.ready(runs)?;
         ledger.close(handle);
     }
@@ -83,7 +89,7 @@ fn close(ledger: &mut Ledger, handle: Handle) -> Result<(), OutOfMemory> {
 
 /// What the first receiver has retrieved.
 fn retrieved(ledger: &Ledger, handle: Handle) -> Option<Access> {
-    ledger.find(handle)?.receivers.first()?.retrieved
+    ledger.find(handle)?.terms.receivers.first()?.retrieved
 }
 
 /// Some pages are given from the first of these partitions to the second.

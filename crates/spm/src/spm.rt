@@ -28,9 +28,6 @@ use std::alloc::Global;
 use std::marker::Model;
 use wire::{Reply, Request, decode};
 
-#[cfg(test)]
-mod tests;
-
 /// The manager of the partitions of a manifest. In every value of the type the translation tables give
 /// each partition, page by page, what the state says, and some list of calls leads to the state.
 #[derive(Drop)]

@@ -16,9 +16,6 @@ use base::{Access, Page, PartitionId, Rights, Run, Status};
 use mailbox::Pair;
 use wire::Reply;
 
-#[cfg(test)]
-mod tests;
-
 // ---- FFA_RXTX_MAP
 
 /// The caller registers TX and RX at these addresses in bytes, with so many pages each.

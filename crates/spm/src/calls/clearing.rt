@@ -27,7 +27,7 @@ pub(crate) fn may_clear_lent(clears: bool, p: PartitionId, transaction: &Live) -
 pub(crate) fn may_clear_returned(clears: bool, transaction: &Live) -> bool
     ensures { result ≡ rules.may_clear_returned clears transaction.now }
 {
-    !clears || (!is_share(transaction.kind) && is_writable(Some(transaction.home)))
+    !clears || (!is_share(transaction.terms.kind) && is_writable(Some(transaction.terms.home)))
 }
 
 fn is_writable(view: Option<Access>) -> bool
@@ -48,8 +48,8 @@ fn is_share(kind: Kind) -> bool
 fn is_lent_to_one(transaction: &Live) -> bool
     ensures { result ≡ rules.is_lent_to_one transaction.now.kind transaction.now.receivers }
 {
-    match transaction.kind {
-        Kind::Lend => transaction.receivers.len() == 1,
+    match transaction.terms.kind {
+        Kind::Lend => transaction.terms.receivers.len() == 1,
         Kind::Share | Kind::Donate => false,
     }
 }

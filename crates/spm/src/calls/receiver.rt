@@ -31,6 +31,7 @@ fn is_received_by(transaction: &Live, p: PartitionId) -> bool
     ensures { result ≡ rules.is_received_by p transaction.now }
 {
     transaction
+        .terms
         .receivers
         .iter()
         .any(|receiver| receiver.partition == p)
@@ -52,7 +53,7 @@ pub(crate) fn receiver_edit(
         (Some (record { who = p; runs = transaction.now.ranges; to = to; clears = clears }))) }
     ensures orderly { IfOk result (AreOrderly p) }
 {
-    let runs = normal(alloc, spare, &transaction.ranges)?;
+    let runs = normal(alloc, spare, &transaction.terms.ranges)?;
     Ok(Some(Edit {
         who: p,
         runs,

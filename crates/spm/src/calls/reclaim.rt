@@ -20,9 +20,6 @@ use ledger::Live;
 use std::alloc::Global;
 use wire::Reply;
 
-#[cfg(test)]
-mod tests;
-
 /// The caller ends a transaction that it has sent and that no receiver has any more, and reaches its
 /// pages as before.
 pub(crate) fn reclaim(
@@ -82,7 +79,7 @@ fn sent_with(state: &State, p: PartitionId, handle: Handle) -> Option<&Live>
     ensures { option_map (λ t. t.now) result ≡ rules.sent_with state.now p handle }
 {
     let transaction = state.ledger.find(handle)?;
-    if transaction.sender == p {
+    if transaction.terms.sender == p {
         Some(transaction)
     } else {
         None
@@ -94,6 +91,7 @@ fn is_given_back(transaction: &Live) -> bool
     ensures { result ≡ rules.is_given_back transaction.now }
 {
     transaction
+        .terms
         .receivers
         .iter()
         .all(|receiver| receiver.retrieved.is_none())
@@ -112,14 +110,14 @@ fn returned_by(
     ensures same { IfOk result (AreSameEdits (rules.returned_by clears transaction.now)) }
     ensures orderly { IfOk result (AreOrderly p) }
 {
-    match transaction.kind {
+    match transaction.terms.kind {
         Kind::Share => Ok(None),
         Kind::Lend | Kind::Donate => {
-            let runs = normal(alloc, spare, &transaction.ranges)?;
+            let runs = normal(alloc, spare, &transaction.terms.ranges)?;
             Ok(Some(Edit {
                 who: p,
                 runs,
-                to: Some(transaction.home),
+                to: Some(transaction.terms.home),
                 clears,
             }))
         }
@@ -133,7 +131,7 @@ pub(crate) fn close(state: &mut State, handle: Handle) -> Result<(), OutOfMemory
     ensures err { OnErr result (state.new ≡ state.old) }
 {
     if let Some(transaction) = state.ledger.find(handle) {
-        let runs = transaction.ranges.len();
+        let runs = transaction.terms.ranges.len();
         state.ledger.ready(runs)?;
     }
     state.ledger.close(handle);

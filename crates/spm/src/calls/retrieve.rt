@@ -155,10 +155,10 @@ fn check_transaction(
 fn is_asked_rightly(request: &RetrieveDesc, transaction: &Live) -> bool
     ensures { result ≡ rules.is_asked_rightly request.now transaction.now }
 {
-    request.sender == transaction.sender
-        && request.tag == transaction.tag
-        && is_kind(transaction.kind, request.kind)
-        && (transaction.receivers.len() == 1 || request.bypass)
+    request.sender == transaction.terms.sender
+        && request.tag == transaction.terms.tag
+        && is_kind(transaction.terms.kind, request.kind)
+        && (transaction.terms.receivers.len() == 1 || request.bypass)
 }
 
 /// Whether a transaction is of the kind that is asked for, if one is.
@@ -182,7 +182,7 @@ fn granted(permissions: Permissions, p: PartitionId, transaction: &Live) -> Opti
     let rights = granted_rights(permissions.data(), cap)?;
     let may = may_execute(transaction, rights);
     let exec = granted_execution(permissions.instruction(), may)?;
-    Some(transaction.home.narrowed(rights, exec))
+    Some(transaction.terms.home.narrowed(rights, exec))
 }
 
 /// The most that a receiver may retrieve.
@@ -211,12 +211,12 @@ fn may_execute(transaction: &Live, rights: Rights) -> bool
     ensures value { result ≡ rules.may_execute transaction.now rights }
     ensures home { result ≡ true → transaction.now.home.exec ≡ true }
 {
-    let for_one = match transaction.kind {
+    let for_one = match transaction.terms.kind {
         Kind::Share => false,
-        Kind::Lend => transaction.receivers.len() == 1,
+        Kind::Lend => transaction.terms.receivers.len() == 1,
         Kind::Donate => true,
     };
-    rights == Rights::Ro && for_one && transaction.home.is_executable()
+    rights == Rights::Ro && for_one && transaction.terms.home.is_executable()
 }
 
 fn granted_execution(instruction: InstructionAccess, may: bool) -> Option<bool>
@@ -241,7 +241,7 @@ fn response_length(version: Version, transaction: &Live) -> u32
         Version::V10 => 32,
         Version::V11 => 48,
     };
-    header + 32 + 16 * transaction.ranges.len() as u32
+    header + 32 + 16 * transaction.terms.ranges.len() as u32
 }
 
 /// The size of the RX buffer in bytes; 0 without a pair.
@@ -289,15 +289,15 @@ fn respond(
         (record { transaction = transaction.now; access = access })) }
 {
     let fields = ResponseFields {
-        sender: transaction.sender,
-        kind: transaction.kind,
+        sender: transaction.terms.sender,
+        kind: transaction.terms.kind,
         handle: transaction.handle,
-        tag: transaction.tag,
+        tag: transaction.terms.tag,
         endpoint: Endpoint {
             partition: p,
             permissions: permissions_of(access),
         },
-        ranges: &transaction.ranges,
+        ranges: &transaction.terms.ranges,
     };
     let bytes = write_response(alloc, version, &fields)?;
     let regs = Reply::response(response_length(version, transaction)).regs;
@@ -343,10 +343,10 @@ fn ready_for(ledger: &mut Ledger, handle: Handle) -> Result<(), OutOfMemory>
 {
     let runs = match ledger.find(handle) {
         Some(transaction) => {
-            if transaction.kind != Kind::Donate {
+            if transaction.terms.kind != Kind::Donate {
                 return Ok(());
             }
-            transaction.ranges.len()
+            transaction.terms.ranges.len()
         }
         None => return Ok(()),
     };

@@ -17,18 +17,16 @@ use crate::calls::transfer::{are_lengths, names_tx};
 use crate::change::{Change, Edit, Stop, Update};
 use crate::partitions::PartitionState;
 use crate::state::State;
-use base::limits::MOST_LIVE;
+use arrayvec::ArrayVec;
+use base::limits::{MOST_LIVE, MOST_RECEIVERS};
 use base::{
     Access, Handle, Kind, MemoryAttributes, OutOfMemory, PartitionId, Permissions, Rights, Run,
     Status, normal,
 };
 use descr::{Endpoint, SendDesc, read_send};
-use ledger::{Live, Receiver};
+use ledger::{Live, Receiver, Terms};
 use std::alloc::Global;
 use wire::{Reply, Transfer};
-
-#[cfg(test)]
-mod tests;
 
 /// What the tests of a send found: what its descriptor says, the home of its pages, and how many of its
 /// sender's sends were accepted.
@@ -263,7 +261,7 @@ fn change(
         spare,
         kind,
         p,
-        &transaction.ranges,
+        &transaction.terms.ranges,
         checked.desc.clears,
     )?;
     Ok(Change {
@@ -286,39 +284,38 @@ fn transaction(
         ≡ rules.opened state.now p kind checked.now.desc checked.now.home) }
     ensures at_most_512 { IfOk result (λ t. length t.ranges ≤ 512) }
 {
-    let handle = Handle::new(p, checked.sends + 1);
-    let ranges = checked.desc.ranges().collect(state.alloc)?;
-    let receivers = receivers_of(state.alloc, kind, checked.home, &checked.desc.receivers)?;
-    Ok(Live {
-        handle,
+    let terms = Terms {
         kind,
         sender: p,
         tag: checked.desc.tag,
-        ranges,
-        receivers,
+        ranges: checked.desc.ranges().collect(state.alloc)?,
+        receivers: receivers_of(kind, checked.home, &checked.desc.receivers),
         home: checked.home,
+    };
+    Ok(Live {
+        handle: Handle::new(p, checked.sends + 1),
+        terms: Box::new(state.alloc, terms)?,
     })
 }
 
 /// The receivers of a transaction that nobody has retrieved.
 fn receivers_of(
-    alloc: Global,
     kind: Kind,
     home: Access,
     endpoints: &[Endpoint],
-) -> Result<Vec<Receiver>, OutOfMemory>
-    ensures { IfOk result (λ receivers. receivers.items ≡ map
-        (rules.receiver kind home) endpoints.now) }
+) -> ArrayVec<Receiver, MOST_RECEIVERS>
+    requires { length endpoints.now ≤ 8 }
+    ensures { result.items ≡ map (rules.receiver kind home) endpoints.now }
 {
-    let receivers = endpoints
-        .iter()
-        .map(|endpoint| Receiver {
+    let mut receivers = ArrayVec::new();
+    for endpoint in endpoints {
+        receivers.push(Receiver {
             partition: endpoint.partition,
             cap: cap_of(kind, home, endpoint),
             retrieved: None,
-        })
-        .collect(alloc)?;
-    Ok(receivers)
+        });
+    }
+    receivers
 }
 
 /// What the sender reaches no more: all of what it lends or gives away, and nothing of a share.
@@ -357,8 +354,8 @@ pub(crate) fn open(state: &mut State, transaction: Live) -> Result<(), OutOfMemo
     ensures ok { OnOk result (state.new ≡ rules.with_transaction state.old transaction) }
     ensures err { OnErr result (state.new ≡ state.old) }
 {
-    let p = transaction.sender;
-    state.ledger.ready(transaction.ranges.len())?;
+    let p = transaction.terms.sender;
+    state.ledger.ready(transaction.terms.ranges.len())?;
     state.ledger.open(transaction);
     count_send(&mut state.partitions, p);
     Ok(())

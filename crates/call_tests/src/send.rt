@@ -1,4 +1,3 @@
-use crate::spm::Spm;
 use crate::testing::{
     DENIED, DONATE_ID, FIRST_PAIR, INVALID_PARAMETERS, LEND, LEND_ID, NO_MEMORY, SECOND_PAIR,
     SHARE_ID, SendCase, answer_maps, answer_sends, booted, changed, counts, grant, lend, map,
@@ -7,6 +6,7 @@ use crate::testing::{
 use base::{Access, Handle, Kind, OutOfMemory, Page, PartitionId, Rights, Run};
 use ledger::{Live, Receiver};
 use pool::{ListPool, TableMem};
+use spm::Spm;
 use std::alloc::Global;
 use std::process::Abort;
 use std::test::Fail;
@@ -240,10 +240,10 @@ fn lend_page<M: TableMem + Drop>(
 /// The terms of the descriptor with tag 7.
 fn has_terms(rt: &impl Abort, live: &Live) {
     assert_eq!(rt; live.handle, Handle::new(PartitionId::new(0x8001), 1));
-    assert_eq!(rt; live.kind, Kind::Lend);
-    assert_eq!(rt; live.sender, PartitionId::new(0x8001));
-    assert_eq!(rt; live.tag, 7);
-    assert_eq!(rt; live.home, Access::normal(Rights::Rw, true));
+    assert_eq!(rt; live.terms.kind, Kind::Lend);
+    assert_eq!(rt; live.terms.sender, PartitionId::new(0x8001));
+    assert_eq!(rt; live.terms.tag, 7);
+    assert_eq!(rt; live.terms.home, Access::normal(Rights::Rw, true));
 }
 
 /// The page of the descriptor, and its receiver.
@@ -254,8 +254,8 @@ fn has_parts(rt: &impl Abort, live: &Live) {
         cap: Rights::Rw,
         retrieved: None,
     };
-    assert!(rt; live.ranges.len() == 1 && live.ranges[0] == range);
-    assert!(rt; live.receivers.len() == 1 && live.receivers[0] == receiver);
+    assert!(rt; live.terms.ranges.len() == 1 && live.terms.ranges[0] == range);
+    assert!(rt; live.terms.receivers.len() == 1 && live.terms.receivers[0] == receiver);
 }
 
 fn is_recorded<M: TableMem + Drop>(rt: &impl Abort, spm: &Spm<M>) {
@@ -423,8 +423,8 @@ fn is_shared<M: TableMem + Drop>(rt: &impl Abort, spm: &Spm<M>) {
     let live = spm.ledger().live();
     assert!(rt; !live.is_empty());
     let transaction = &live[0];
-    assert_eq!(rt; transaction.kind, Kind::Share);
-    assert_eq!(rt; transaction.tag, 5);
+    assert_eq!(rt; transaction.terms.kind, Kind::Share);
+    assert_eq!(rt; transaction.terms.tag, 5);
 }
 
 /// The sender keeps its access, and no table changes.

@@ -1,11 +1,10 @@
-use crate::call::Call;
-use crate::spm::Spm;
 use crate::testing::{
     DENIED, INVALID_PARAMETERS, LEND_ID, SHARE_ID, SendCase, answer_sends, grant, refuse, views,
     with_pair,
 };
 use base::OutOfMemory;
 use pool::{ListPool, TableMem};
+use spm::{Call, Spm};
 use std::alloc::Global;
 use std::process::Abort;
 use std::test::Fail;

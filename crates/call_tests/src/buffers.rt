@@ -1,9 +1,9 @@
-use crate::spm::Spm;
 use crate::testing::{
     DENIED, FIRST_PAIR, INVALID_PARAMETERS, MapCase, SECOND_PAIR, answer_maps, booted, grant, map,
 };
 use base::OutOfMemory;
 use pool::{ListPool, TableMem};
+use spm::Spm;
 use std::alloc::Global;
 use std::process::Abort;
 use std::test::Fail;

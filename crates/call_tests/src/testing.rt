@@ -1,10 +1,9 @@
 //! Calls for the tests, and what they are answered.
 
-use crate::call::Call;
-use crate::spm::Spm;
 use base::{Access, OutOfMemory, Page, PartitionId};
 use manifest::common_manifest;
 use pool::TableMem;
+use spm::{Call, Spm};
 use std::alloc::Global;
 use std::process::Abort;
 
