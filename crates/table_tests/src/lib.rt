@@ -1,0 +1,6 @@
+//! Tests of the translation tables, through the public functions of `stage2`. They stand apart from it, since
+//! a crate is proved once more with its tests.
+#![tactic(auto)]
+
+#[cfg(test)]
+mod tables;
