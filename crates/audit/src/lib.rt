@@ -19,6 +19,3 @@ pub use maps::maps_text;
 pub use owners::owners_text;
 pub use rebuilt::rebuild;
 pub use tables::tables_text;
-
-#[cfg(test)]
-mod tests;

@@ -8,22 +8,13 @@ use audit::check_text;
 use fault::Fault;
 use files::{open_script, read_manifest};
 use pool::RawPool;
-use script::run_script;
+use script::{Watched, run_script};
 use std::io::{self, Write};
 use std::process::ExitCode;
-use watched::Watched;
 
 mod arguments;
-mod digits;
 mod fault;
 mod files;
-mod input;
-mod operations;
-mod output;
-mod replies;
-mod script;
-mod watched;
-mod world;
 
 /// The manifest is read and judged before the script is opened.
 fn perform(rt: &HostRuntime, task: &Task<'_>) -> Result<(), Fault> {

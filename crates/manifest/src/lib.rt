@@ -16,6 +16,3 @@ pub use fault::{Key, ManifestFault, Place, Table};
 pub use manifest::{Manifest, Partition};
 pub use reader::read;
 pub use region::{Grant, Region};
-
-#[cfg(test)]
-mod tests;

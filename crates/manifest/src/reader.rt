@@ -42,6 +42,3 @@ pub fn read(alloc: Global, bytes: &[u8]) -> Result<Manifest, ManifestFault>
     let rows = document::rows_of(alloc, &document)?;
     Manifest::new(alloc, &rows.in_order())
 }
-
-#[cfg(test)]
-mod tests;

@@ -1,4 +1,4 @@
-use super::{Fault, RunFault};
+use super::Fault;
 use manifest::{ManifestFault, Place, Table};
 use std::test::Fail;
 

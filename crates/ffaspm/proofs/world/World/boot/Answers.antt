@@ -1,6 +1,0 @@
-use Rattle.std.proofs.Common.{rules}
-use Rattle.ffaspm.proofs.Worlds.{same_world}
-use Rattle.ffaspm.proofs.world.World.boot.Goals as goal
-
-pub returns : goal.returns
-returns g c = same_world _ _ _ _ (search rules) (λ p. search rules)

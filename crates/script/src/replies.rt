@@ -1,0 +1,53 @@
+//! The text of replies.
+
+ghost use Rattle.std.specs.Prelude.{◌≡◌, ◌++◌, OnOk};
+ghost use Rattle.std.specs.List.{flat_map};
+ghost use Rattle.audit.specs.Texts.{hex};
+ghost use Rattle.script.specs.Texts as spec;
+
+use crate::digits::push_hex;
+use std::alloc::AllocError;
+use wire::Reply;
+
+/// Writes `reply` and the eight registers, and where RX was filled `rx` and its bytes.
+pub(crate) fn write_reply(reply: &Reply, text: &mut Vec<u8>) -> Result<(), AllocError>
+    ensures { OnOk result (text.new.items ≡ text.old.items ++ spec.reply_text reply.now) }
+{
+    text.extend_from_slice(b"reply")?;
+    push_registers(&reply.regs, text)?;
+    text.extend_from_slice(b"\n")?;
+    match &reply.rx {
+        Some(bytes) => write_rx(bytes, text),
+        None => Ok(()),
+    }
+}
+
+/// Appends a blank and eight digits for each register.
+fn push_registers(registers: &[u64], text: &mut Vec<u8>) -> Result<(), AllocError>
+    ensures { OnOk result
+        (text.new.items ≡ text.old.items ++ flat_map spec.register_text registers.now) }
+{
+    for register in registers {
+        text.extend_from_slice(b" ")?;
+        push_hex(text, 8, *register)?;
+    }
+    Ok(())
+}
+
+/// Writes `rx` and two digits for each byte.
+fn write_rx(bytes: &[u8], text: &mut Vec<u8>) -> Result<(), AllocError>
+    ensures { OnOk result (text.new.items ≡ text.old.items ++ spec.filled_text bytes.now) }
+{
+    text.extend_from_slice(b"rx ")?;
+    push_bytes(bytes, text)?;
+    text.extend_from_slice(b"\n")
+}
+
+fn push_bytes(bytes: &[u8], text: &mut Vec<u8>) -> Result<(), AllocError>
+    ensures { OnOk result (text.new.items ≡ text.old.items ++ flat_map (hex 2) bytes.now) }
+{
+    for byte in bytes {
+        push_hex(text, 2, u64::from(*byte))?;
+    }
+    Ok(())
+}
