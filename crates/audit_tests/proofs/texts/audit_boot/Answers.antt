@@ -2,7 +2,7 @@ use Rattle.std.proofs.Common.{List, sym, subst}
 use Rattle.base.specs.Transactions.{Donation, Live}
 use Rattle.audit.specs.Laws.{AreOfReached}
 use Rattle.audit.proofs.Quotas.{boot-reached}
-use Rattle.audit.proofs.tests.audit_boot.Goals as goal
+use Rattle.audit_tests.proofs.texts.audit_boot.Goals as goal
 
 pub audit_text-requires-clause-reached : goal.audit_text-requires-clause-reached
 audit_text-requires-clause-reached c =
