@@ -1,5 +1,4 @@
 mod Receivers
-mod Several
 mod Transactions
 mod Donations
 mod Halving

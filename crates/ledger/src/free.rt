@@ -43,8 +43,8 @@ impl Segment {
 }
 
 impl Ledger {
-    /// What a page and those behind it have in common. It is found by halving, but for its region.
-    /// Outside all regions it is the page alone.
+    /// What a page and those behind it have in common. It is found by halving. Outside all regions it is the
+    /// page alone.
     pub fn segment(&self, page: Page) -> Segment
         ensures behind { page < result.end }
         ensures in_range { result.end ≤ 2 ^ 27 }

@@ -9,7 +9,6 @@ ghost use Rattle.ledger.specs.Ledger as spec;
 ghost use Rattle.ledger.specs.Changes as changes;
 
 use crate::donation::Donation;
-use crate::intervals::{cut_all, put_all};
 use crate::live::{self, Live, place_of, put_in, set_retrieved};
 use base::{Access, Handle, Kind, OutOfMemory, Page, PartitionId};
 use manifest::{Manifest, Region};
@@ -184,11 +183,8 @@ impl Ledger {
         ensures donations { self.new.donations ≡ self.old.donations }
         ensures live { self.new.live ≡ changes.with_live transaction self.old.live }
     {
-        put_all(
-            &mut self.shared,
-            &transaction.terms.ranges,
-            transaction.handle.bits(),
-        );
+        self.shared
+            .put_all(&transaction.terms.ranges, transaction.handle.bits());
         put_in(&mut self.live, transaction);
     }
 
@@ -215,7 +211,7 @@ impl Ledger {
     {
         let place = place_of(&self.live, handle)?;
         let transaction = self.live.remove(place);
-        cut_all(&mut self.shared, &transaction.terms.ranges);
+        self.shared.cut_all(&transaction.terms.ranges);
         Some(transaction)
     }
 
@@ -273,7 +269,7 @@ impl Ledger {
         };
         let terms = Box::into_inner(transaction.terms);
         let place = self.donations.len() as u64;
-        put_all(&mut self.given, &terms.ranges, place);
+        self.given.put_all(&terms.ranges, place);
         self.donations.push_reserved(Donation {
             ranges: terms.ranges,
             giver: terms.sender,

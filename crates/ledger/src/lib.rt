@@ -4,7 +4,6 @@
 
 mod donation;
 mod free;
-mod intervals;
 mod ledger;
 mod live;
 

@@ -22,13 +22,13 @@ no_right page s le = let e : leb (end_of s.run) page ≡ true = grind (arith, na
 remade : (s : Span) (first count : ℕ) → first ≡ s.run.first → count ≡ s.run.count → Some (record { run = record { first = first; count = count }; value = s.value }) ≡ Some s
 remade s first count f c = rw (f, c) refl
 
-whole_left : (page : ℕ) (s : Span) → 0 < s.run.count → end_of s.run ≤ page → left_of page s ≡ Some s
+pub whole_left : (page : ℕ) (s : Span) → 0 < s.run.count → end_of s.run ≤ page → left_of page s ≡ Some s
 whole_left page s some le =
     let e : leb page s.run.first ≡ false = grind (arith, nat_tests) in
     let c : min (end_of s.run) page - s.run.first ≡ s.run.count = omega arith in
     rw e (remade s s.run.first (min (end_of s.run) page - s.run.first) refl c)
 
-whole_right : (page : ℕ) (s : Span) → 0 < s.run.count → page ≤ s.run.first → right_of page s ≡ Some s
+pub whole_right : (page : ℕ) (s : Span) → 0 < s.run.count → page ≤ s.run.first → right_of page s ≡ Some s
 whole_right page s some le =
     let e : leb (end_of s.run) page ≡ false = grind (arith, nat_tests) in
     let f : max s.run.first page ≡ s.run.first = omega arith in
@@ -91,7 +91,7 @@ last false b c = refl
 none_before : (i l : Bool) (v : Option ℕ) → (i && l) ≡ false → cond (i && l) v None ≡ None
 none_before i l v e = rw e refl
 
-left_at : (page : ℕ) (s : Span) (n : ℕ) → value_at (listed (left_of page s)) n ≡ cond (in_run s.run n && ltb n page) (Some s.value) None
+pub left_at : (page : ℕ) (s : Span) (n : ℕ) → value_at (listed (left_of page s)) n ≡ cond (in_run s.run n && ltb n page) (Some s.value) None
 left_at page s n =
     elim (leb page s.run.first) as (λ t. leb page s.run.first ≡ t → value_at (listed (cond t None (Some (record { run = record { first = s.run.first; count = min (end_of s.run) page - s.run.first }; value = s.value })))) n ≡ cond (in_run s.run n && ltb n page) (Some s.value) None) [
       | true ↦ λ e. let out : (in_run s.run n && ltb n page) ≡ false = grind (arith, nat_tests) in sym (none_before (in_run s.run n) (ltb n page) (Some s.value) out)
@@ -101,7 +101,7 @@ left_at page s n =
           ap (λ (b : Bool). cond b (Some s.value) None) same
     ] refl
 
-right_at : (page : ℕ) (s : Span) (n : ℕ) → value_at (listed (right_of page s)) n ≡ cond (in_run s.run n && leb page n) (Some s.value) None
+pub right_at : (page : ℕ) (s : Span) (n : ℕ) → value_at (listed (right_of page s)) n ≡ cond (in_run s.run n && leb page n) (Some s.value) None
 right_at page s n =
     elim (leb (end_of s.run) page) as (λ t. leb (end_of s.run) page ≡ t → value_at (listed (cond t None (Some (record { run = record { first = max s.run.first page; count = end_of s.run - max s.run.first page }; value = s.value })))) n ≡ cond (in_run s.run n && leb page n) (Some s.value) None) [
       | true ↦ λ e. let out : (in_run s.run n && leb page n) ≡ false = grind (arith, nat_tests) in sym (none_before (in_run s.run n) (leb page n) (Some s.value) out)
@@ -124,7 +124,7 @@ choose false true false v w = refl
 choose false false true v w = refl
 choose false false false v w = refl
 
-outside : (run : PageRun) (n : ℕ) → in_run run n ≡ (not (ltb n run.first) && not (leb (end_of run) n))
+pub outside : (run : PageRun) (n : ℕ) → in_run run n ≡ (not (ltb n run.first) && not (leb (end_of run) n))
 outside run n = grind (arith, nat_tests)
 
 parts_at : (run : PageRun) (s : Span) (n : ℕ) (v : Option ℕ)
@@ -210,7 +210,7 @@ left_parts : (page : ℕ) (s l : Span) → 0 < s.run.count → leb page s.run.fi
 left_parts page s l some test same =
     subst (IsLeft page s) same (record { first = refl; some = grind (arith, nat_tests); within = grind (arith, nat_tests); before = grind (arith, nat_tests) })
 
-is_left : (page : ℕ) (s l : Span) → 0 < s.run.count → left_of page s ≡ Some l → IsLeft page s l
+pub is_left : (page : ℕ) (s l : Span) → 0 < s.run.count → left_of page s ≡ Some l → IsLeft page s l
 is_left page s l some e =
     elim (leb page s.run.first) as (λ t. leb page s.run.first ≡ t → cond t None (Some (record { run = record { first = s.run.first; count = min (end_of s.run) page - s.run.first }; value = s.value })) ≡ Some l → IsLeft page s l) [
       | true ↦ λ t h. absurd cc
@@ -229,7 +229,7 @@ right_parts : (page : ℕ) (s r : Span) → 0 < s.run.count → leb (end_of s.ru
 right_parts page s r some test same =
     subst (IsRight page s) same (record { from = omega arith; some = grind (arith, nat_tests); end = grind (arith, nat_tests); behind = grind (arith, nat_tests); least = omega arith })
 
-is_right : (page : ℕ) (s r : Span) → 0 < s.run.count → right_of page s ≡ Some r → IsRight page s r
+pub is_right : (page : ℕ) (s r : Span) → 0 < s.run.count → right_of page s ≡ Some r → IsRight page s r
 is_right page s r some e =
     elim (leb (end_of s.run) page) as (λ t. leb (end_of s.run) page ≡ t → cond t None (Some (record { run = record { first = max s.run.first page; count = end_of s.run - max s.run.first page }; value = s.value })) ≡ Some r → IsRight page s r) [
       | true ↦ λ t h. absurd cc

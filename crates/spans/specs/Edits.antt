@@ -1,5 +1,5 @@
 -- Intervals without the pages of a run.
-use Rattle.std.specs.Prelude.{◌≡◌, ℕ, ◌-◌, ◌<◌, ◌≤◌, true, nat_le, List, [], ◌∷◌, ◌++◌, Option, Some, None, length, take, drop, slice_index_or, min, max, if◌then◌else◌}
+use Rattle.std.specs.Prelude.{◌≡◌, ℕ, ◌-◌, ◌<◌, ◌≤◌, Bool, true, ◌&&◌, nat_le, List, [], ◌∷◌, ◌++◌, Option, Some, None, length, take, drop, slice_index_or, min, max, if◌then◌else◌}
 use Rattle.base.specs.Pages.{PageRun}
 use Rattle.spans.specs.Spans.{Span, end_of, ascend, end_from}
 
@@ -29,6 +29,31 @@ unfoldable pub without : PageRun → List Span → List Span
 without run [] = []
 without run (s ∷ ss) =
     listed (left_of run.first s) ++ (listed (right_of (end_of run) s) ++ without run ss)
+
+-- what the intervals have before a page
+unfoldable pub all_before : ℕ → List Span → List Span
+all_before page [] = []
+all_before page (s ∷ ss) = listed (left_of page s) ++ all_before page ss
+
+-- what they have from a page on
+unfoldable pub all_from : ℕ → List Span → List Span
+all_from page [] = []
+all_from page (s ∷ ss) = listed (right_of page s) ++ all_from page ss
+
+-- an interval with the pages of a run, where they are to have a number
+abbrev pub span_of : PageRun → Option ℕ → Option Span
+span_of run None = None
+span_of run (Some value) = Some (record { run = run; value = value })
+
+-- the intervals where the pages of a run have another number, or none
+abbrev pub replaced : PageRun → Option ℕ → List Span → List Span
+replaced run value ss =
+    all_before run.first ss ++ (listed (span_of run value) ++ all_from (end_of run) ss)
+
+-- the runs stand upward: each begins where the one before it ends, or later
+abbrev pub rise : ℕ → List PageRun → Bool
+rise end [] = true
+rise end (run ∷ runs) = nat_le end run.first && rise (end_of run) runs
 
 -- an interval of the run may stand at this place
 pub record IsGap (ss : List Span) (i : ℕ) (run : PageRun) : Type 0 where

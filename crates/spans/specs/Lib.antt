@@ -2,3 +2,4 @@ pub mod Alike
 pub mod Spans
 pub mod Edits
 pub mod Search
+pub mod Gaps

@@ -1,5 +1,5 @@
-ghost use Rattle.std.specs.Prelude.{◌≡◌, ◌+◌, ◌<◌, ◌≤◌, ◌↔◌, [], Some, None, true, length, if◌then◌else◌, IsTrue, OnOk};
-ghost use Rattle.base.specs.Pages.{in_run};
+ghost use Rattle.std.specs.Prelude.{◌≡◌, ◌+◌, ◌<◌, ◌≤◌, ◌↔◌, ℕ, [], Some, None, true, length, if◌then◌else◌, IsTrue, OnOk};
+ghost use Rattle.base.specs.Pages.{in_run, covers};
 ghost use Rattle.spans.specs.Spans as spec;
 
 use crate::probes::Probes;
@@ -9,6 +9,8 @@ use std::marker::Model;
 use std::sync::ledger::Ledger;
 
 mod edit;
+mod order;
+mod pass;
 
 /// The pages of a run, and the number that each of them has.
 #[derive(Clone, Copy)]
@@ -27,21 +29,23 @@ impl Model for Span {
     ghost inverse = { λ s. record { run = s.run; value = s.value } };
 }
 
-/// A map from pages to numbers: intervals of pages in ascending order, no two of which share a page.
+/// A map from pages to numbers: intervals of pages in ascending order, no two of which share a page. Beside
+/// them is memory in which runs are put in order.
 #[derive(Drop)]
 pub struct Spans {
     spans: Vec<Span>,
+    sorted: Vec<Run>,
 }
 
 impl Model for Spans {
-    ghost use Rattle.std.specs.Prelude.{◌-◌, IsTrue, vec_len, vec_capacity};
-    ghost use Rattle.spans.specs.Spans.{SpansView, ascend};
+    ghost use Rattle.std.specs.Prelude.{◌-◌, IsTrue, min, vec_len, vec_capacity};
+    ghost use Rattle.spans.specs.Spans.{SpansView, ascend, room_for};
 
     ghost Value = { SpansView };
 
     ghost view = { λ s. record {
       spans = s.spans.items;
-      room = vec_capacity s.spans - vec_len s.spans;
+      room = min (vec_capacity s.spans - vec_len s.spans) (room_for (vec_capacity s.sorted));
     } };
 
     ghost invariant = { λ s. IsTrue (ascend 0 s.spans.items) };
@@ -54,10 +58,12 @@ impl Spans {
     {
         Spans {
             spans: Vec::new(alloc),
+            sorted: Vec::new(alloc),
         }
     }
 
-    /// Makes room for this many calls of `put` or `cut`. A refusal changes no number.
+    /// Makes room for this many calls of `put` or `cut`, or for one of `put_all` or `cut_all` with this many
+    /// runs. A refusal changes no number.
     pub fn ready(&mut self, calls: usize) -> Result<(), OutOfMemory>
         ensures spans { self.new.spans ≡ self.old.spans }
         ensures room { OnOk result (spec.room_for calls ≤ self.new.room) }
@@ -67,6 +73,8 @@ impl Spans {
             return Err(OutOfMemory);
         };
         self.spans.reserve(spans)?;
+        self.sorted.clear();
+        self.sorted.reserve(calls)?;
         Ok(())
     }
 
@@ -88,6 +96,42 @@ impl Spans {
         ensures room { self.old.room ≤ self.new.room + spec.room_for 1 }
     {
         edit::cut(&mut self.spans, run);
+    }
+
+    /// Gives all pages of the runs this number; other pages keep theirs. This takes no memory. Many runs, no
+    /// two of which share a page, are put in one pass, in which no interval moves more than three times, and
+    /// where they share no page with one, none moves twice.
+    pub fn put_all(&mut self, runs: &[Run], value: u64)
+        requires { spec.room_for (length runs.now) ≤ self.old.room }
+        ensures { (n : ℕ) → spec.value_at self.new.spans n
+            ≡ (if covers runs.now n then Some value else spec.value_at self.old.spans n) }
+    {
+        if order::are_many(runs) && order::sort(&mut self.sorted, runs) {
+            pass::set_all(&mut self.spans, &self.sorted, Some(value));
+            return;
+        }
+        for run in runs {
+            self.put(*run, value);
+        }
+    }
+
+    /// Takes the numbers of all pages of the runs away; other pages keep theirs. This takes no memory, and
+    /// many runs are cut in one pass. Of few the last is cut first: where they ascend, no interval behind it
+    /// has to move up.
+    pub fn cut_all(&mut self, runs: &[Run])
+        requires { spec.room_for (length runs.now) ≤ self.old.room }
+        ensures { (n : ℕ) → spec.value_at self.new.spans n
+            ≡ (if covers runs.now n then None else spec.value_at self.old.spans n) }
+    {
+        if order::are_many(runs) && order::sort(&mut self.sorted, runs) {
+            pass::set_all(&mut self.spans, &self.sorted, None);
+            return;
+        }
+        let mut left = runs.len();
+        while 0 < left {
+            left -= 1;
+            self.cut(runs[left]);
+        }
     }
 
     /// How many intervals there are.

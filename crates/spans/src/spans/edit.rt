@@ -1,6 +1,6 @@
 //! Takes pages out of intervals, and puts others in their place.
 
-ghost use Rattle.std.specs.Prelude.{◌≡◌, ◌+◌, ◌^◌, ◌<◌, ◌≤◌, true, Some, None, IsTrue, length, take, vec_len, vec_capacity, if◌then◌else◌};
+ghost use Rattle.std.specs.Prelude.{◌≡◌, ◌+◌, ◌^◌, ◌<◌, ◌≤◌, true, Some, None, IsTrue, nat_le, length, take, slice_index_or, vec_len, vec_capacity, if◌then◌else◌};
 ghost use Rattle.base.specs.Pages.{in_run};
 ghost use Rattle.spans.specs.Spans as spec;
 ghost use Rattle.spans.specs.Edits.{left_of, right_of, without, IsGap, EndWith};
@@ -10,7 +10,7 @@ use base::{Page, Run};
 
 impl Span {
     /// Its pages before this one.
-    fn before(self, page: u32) -> Option<Span>
+    pub(super) fn before(self, page: u32) -> Option<Span>
         requires { page ≤ 2 ^ 27 }
         ensures { result ≡ left_of page self }
     {
@@ -24,7 +24,7 @@ impl Span {
     }
 
     /// Its pages from this one on.
-    fn from(self, page: u32) -> Option<Span>
+    pub(super) fn from(self, page: u32) -> Option<Span>
         ensures { result ≡ right_of page self }
     {
         let end = self.run.end();
@@ -38,17 +38,19 @@ impl Span {
 }
 
 /// The place of the first interval that ends behind a page.
-fn place_of(spans: &[Span], page: u32) -> usize
+pub(super) fn place_of(spans: &[Span], page: u32) -> usize
     requires { spec.ascend 0 spans.now ≡ true }
     ensures inside { result ≤ length spans.now }
     ensures below { spec.end_from 0 (take result spans.now) ≤ page }
+    ensures above { (d : spec.Span) → result < length spans.now
+        → page < spec.end_of (slice_index_or spans.now result d).run }
 {
     spans.partition_point(|span| span.run.end() <= page)
 }
 
 /// Whether all intervals end at a page or before it.
-fn end_before(spans: &[Span], page: u32) -> bool
-    ensures { IsTrue result → spec.end_from 0 spans.now ≤ page }
+pub(super) fn end_before(spans: &[Span], page: u32) -> bool
+    ensures { result ≡ nat_le (spec.end_from 0 spans.now) page }
 {
     if spans.is_empty() {
         return true;

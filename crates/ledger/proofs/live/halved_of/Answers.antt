@@ -1,4 +1,4 @@
-use Rattle.std.proofs.Common.{◌+◌, ◌*◌, ◌^◌, ◌≡◌, ◌∙◌, arith}
+use Rattle.std.proofs.Common.{◌∙◌, arith}
 use Rattle.ledger.proofs.Halving.{sent-between}
 use Rattle.ledger.proofs.live.halved_of.Goals as goal
 

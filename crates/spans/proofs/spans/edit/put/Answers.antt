@@ -1,5 +1,6 @@
-use Rattle.std.proofs.Common.{◌≡◌, ◌<◌, ◌≤◌, ◌∙◌, List, Bool, true, false, cond, is_ok, ap, rules, arith}
+use Rattle.std.proofs.Common.{◌≡◌, ◌<◌, ◌≤◌, ◌∙◌, List, Bool, true, false, cond, is_ok, sym, ap, rules, arith}
 use Rattle.std.specs.List.{insert}
+use Rattle.std.proofs.lemmas.Bool.{leb-true}
 use Rattle.spans.specs.Spans.{Span, ascend, value_at, end_from}
 use Rattle.spans.specs.Edits.{without, IsGap}
 use Rattle.spans.proofs.Cutting.{ascend-put, ascend-without, value_at-put}
@@ -13,7 +14,7 @@ inserted false ss new old e h = absurd cc
 pub returns-then-end_before-clause-ascending : goal.returns-then-end_before-clause-ascending
 returns-then-end_before-clause-ascending c =
     let run = ap (λ (s : Span). s.run) c.span.view_is in
-    let below = c.end_before.ensures (search rules) in
+    let below = leb-true _ _ (sym c.end_before.ensures ∙ search rules) in
     let le : end_from 0 c.args.spans.now.items ≤ c.args.span.run.first = rw (← c.deref.ensures.value, ← run) (omega (arith, below, c.number.ensures.same, c.first.ensures.same)) in
     let some : 0 < c.args.span.run.count = rw (← run) c.first.ensures.in_range.0 in
     rw c.push_reserved.ensures.items (ascend-behind c.args.spans.now.items c.args.span c.requires.ascending le some)
@@ -21,7 +22,7 @@ returns-then-end_before-clause-ascending c =
 pub returns-then-end_before-clause-at : goal.returns-then-end_before-clause-at
 returns-then-end_before-clause-at c = λ n.
     let run = ap (λ (s : Span). s.run) c.span.view_is in
-    let below = c.end_before.ensures (search rules) in
+    let below = leb-true _ _ (sym c.end_before.ensures ∙ search rules) in
     let le : end_from 0 c.args.spans.now.items ≤ c.args.span.run.first = rw (← c.deref.ensures.value, ← run) (omega (arith, below, c.number.ensures.same, c.first.ensures.same)) in
     rw c.push_reserved.ensures.items (value_at-behind_all c.args.spans.now.items c.args.span n c.requires.ascending le)
 

@@ -1,0 +1,52 @@
+//! Puts runs in ascending order.
+
+ghost use Rattle.std.specs.Prelude.{◌≡◌, ◌≤◌, ℕ, true, nat_lt, length, vec_capacity, IsTrue};
+ghost use Rattle.base.specs.Pages.{covers};
+ghost use Rattle.spans.specs.Edits.{rise};
+
+use base::Run;
+
+/// How many runs are put or cut one by one.
+const FEW: usize = 8;
+
+/// Whether one pass for all of them moves fewer intervals than one pass for each.
+pub(super) fn are_many(runs: &[Run]) -> bool
+    ensures { result ≡ nat_lt 8 (length runs.now) }
+{
+    FEW < runs.len()
+}
+
+/// Fills a list with the runs in ascending order, and says whether no two of them share a page.
+pub(super) fn sort(sorted: &mut Vec<Run>, runs: &[Run]) -> bool
+    requires { length runs.now ≤ vec_capacity sorted.old }
+    ensures ascending { IsTrue result → rise 0 sorted.new.items ≡ true }
+    ensures same { (n : ℕ) → covers sorted.new.items n ≡ covers runs.now n }
+    ensures len { length sorted.new.items ≡ length runs.now }
+    ensures capacity { vec_capacity sorted.new ≡ vec_capacity sorted.old }
+{
+    copy(sorted, runs);
+    if do_rise(sorted) {
+        return true;
+    }
+    sorted.sort_unstable_by_key(|run| run.first().number());
+    do_rise(sorted)
+}
+
+/// Fills a list with the runs.
+fn copy(list: &mut Vec<Run>, runs: &[Run])
+    requires { length runs.now ≤ vec_capacity list.old }
+    ensures items { list.new.items ≡ runs.now }
+    ensures capacity { vec_capacity list.new ≡ vec_capacity list.old }
+{
+    list.clear();
+    for run in runs {
+        list.push_reserved(*run);
+    }
+}
+
+/// Whether each run begins where the one before it ends, or later.
+fn do_rise(runs: &[Run]) -> bool
+    ensures { IsTrue result → rise 0 runs.now ≡ true }
+{
+    runs.is_sorted_by(|run, next| run.end() <= next.first().number())
+}
