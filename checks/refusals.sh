@@ -1,5 +1,5 @@
 #!/bin/sh
-# Refuses each allocation of the program in turn, over five scripts. It must write the whole text (a vector asks
+# Refuses each allocation of the program in turn, over six scripts. It must write the whole text (a vector asks
 # again for less), or end with status 4 and the line `out of memory`, and have written a beginning of it. Then
 # that an audit makes tables anew: the script `audit` takes at least two allocations more than `#audit`. To be
 # run after `rt run` in crates/ffaspm.
@@ -53,6 +53,10 @@ printf '%s\n' "$buffers" "$lend" "$retrieve" | refuse 'lend, retrieve'
 printf '%s\n' "$buffers" 'donate 8001 0 8002:00 80001000+1' 'retrieve 8002 800100000001 8001 0 3 01' \
     'donate 8002 0 8001:00 80001000+1' 'retrieve 8001 800200000001 8002 0 3 00' 'maps 8001' |
     refuse 'donate to and fro'
+ranges=80010000+1,8000e000+1,8000c000+1,80002000+1,80004000+1,80006000+1,80008000+1,8000a000+1,80012000+2,80020000+1
+printf '%s\n' "$buffers" "share 8001 0 8002:02 $ranges" 'reclaim 8001 800100000001' "donate 8001 0 8002:00 $ranges" \
+    'retrieve 8002 800100000002 8001 0 3 00' owners 'maps 8001' |
+    refuse 'share and donate ten ranges'
 printf '%s\n' "$buffers" "$lend" "$retrieve" 'reclaim 8001 800100000001' 'relinquish 8002 800100000001' \
     'reclaim 8001 800100000001' 'reclaim 8001 800100000001' 'tables 8001' 'tables 8002' audit |
     refuse 'lend, retrieve, relinquish, reclaim'
