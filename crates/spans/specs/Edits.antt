@@ -1,7 +1,7 @@
--- Intervals without the pages of a run.
-use Rattle.std.specs.Prelude.{◌≡◌, ℕ, ◌-◌, ◌<◌, ◌≤◌, Bool, true, ◌&&◌, nat_le, List, [], ◌∷◌, ◌++◌, Option, Some, None, length, take, drop, slice_index_or, min, max, if◌then◌else◌}
+-- Intervals in which the pages of a run get another number, or none.
+use Rattle.std.specs.Prelude.{◌≡◌, ℕ, ◌-◌, ◌<◌, Bool, true, ◌&&◌, nat_le, List, [], ◌∷◌, ◌++◌, Option, Some, None, length, slice_index_or, min, max, if◌then◌else◌}
 use Rattle.base.specs.Pages.{PageRun}
-use Rattle.spans.specs.Spans.{Span, end_of, ascend, end_from}
+use Rattle.spans.specs.Spans.{Span, end_of}
 
 -- the pages of an interval from one page up to another
 abbrev pub part_of : ℕ → ℕ → Span → Span
@@ -23,12 +23,6 @@ right_of page s =
 abbrev pub listed : Option Span → List Span
 listed None = []
 listed (Some s) = s ∷ []
-
--- the intervals without the pages of a run
-unfoldable pub without : PageRun → List Span → List Span
-without run [] = []
-without run (s ∷ ss) =
-    listed (left_of run.first s) ++ (listed (right_of (end_of run) s) ++ without run ss)
 
 -- what the intervals have before a page
 unfoldable pub all_before : ℕ → List Span → List Span
@@ -54,12 +48,6 @@ replaced run value ss =
 abbrev pub rise : ℕ → List PageRun → Bool
 rise end [] = true
 rise end (run ∷ runs) = nat_le end run.first && rise (end_of run) runs
-
--- an interval of the run may stand at this place
-pub record IsGap (ss : List Span) (i : ℕ) (run : PageRun) : Type 0 where
-  pub inside : i ≤ length ss
-  pub before : end_from 0 (take i ss) ≤ run.first
-  pub after : ascend (end_of run) (drop i ss) ≡ true
 
 -- the last of the intervals has the pages of the run
 pub record EndWith (run : PageRun) (ss : List Span) : Type 0 where

@@ -11,6 +11,7 @@ use std::sync::ledger::Ledger;
 mod edit;
 mod order;
 mod pass;
+mod place;
 
 /// The pages of a run, and the number that each of them has.
 #[derive(Clone, Copy)]
@@ -98,15 +99,15 @@ impl Spans {
         edit::cut(&mut self.spans, run);
     }
 
-    /// Gives all pages of the runs this number; other pages keep theirs. This takes no memory. Many runs, no
-    /// two of which share a page, are put in one pass, in which no interval moves more than three times, and
-    /// where they share no page with one, none moves twice.
+    /// Gives all pages of the runs this number; other pages keep theirs. This takes no memory. Runs that share
+    /// no page are put in one pass, in which no interval moves more than three times, and where they share no
+    /// page with one, none moves twice.
     pub fn put_all(&mut self, runs: &[Run], value: u64)
         requires { spec.room_for (length runs.now) ≤ self.old.room }
         ensures { (n : ℕ) → spec.value_at self.new.spans n
             ≡ (if covers runs.now n then Some value else spec.value_at self.old.spans n) }
     {
-        if order::are_many(runs) && order::sort(&mut self.sorted, runs) {
+        if 1 < runs.len() && order::sort(&mut self.sorted, runs) {
             pass::set_all(&mut self.spans, &self.sorted, Some(value));
             return;
         }
@@ -116,14 +117,13 @@ impl Spans {
     }
 
     /// Takes the numbers of all pages of the runs away; other pages keep theirs. This takes no memory, and
-    /// many runs are cut in one pass. Of few the last is cut first: where they ascend, no interval behind it
-    /// has to move up.
+    /// runs that share no page are cut in one pass.
     pub fn cut_all(&mut self, runs: &[Run])
         requires { spec.room_for (length runs.now) ≤ self.old.room }
         ensures { (n : ℕ) → spec.value_at self.new.spans n
             ≡ (if covers runs.now n then None else spec.value_at self.old.spans n) }
     {
-        if order::are_many(runs) && order::sort(&mut self.sorted, runs) {
+        if 1 < runs.len() && order::sort(&mut self.sorted, runs) {
             pass::set_all(&mut self.spans, &self.sorted, None);
             return;
         }

@@ -1,20 +1,10 @@
 //! Puts runs in ascending order.
 
-ghost use Rattle.std.specs.Prelude.{◌≡◌, ◌≤◌, ℕ, true, nat_lt, length, vec_capacity, IsTrue};
+ghost use Rattle.std.specs.Prelude.{◌≡◌, ◌≤◌, ℕ, true, length, vec_capacity, IsTrue};
 ghost use Rattle.base.specs.Pages.{covers};
 ghost use Rattle.spans.specs.Edits.{rise};
 
 use base::Run;
-
-/// How many runs are put or cut one by one.
-const FEW: usize = 8;
-
-/// Whether one pass for all of them moves fewer intervals than one pass for each.
-pub(super) fn are_many(runs: &[Run]) -> bool
-    ensures { result ≡ nat_lt 8 (length runs.now) }
-{
-    FEW < runs.len()
-}
 
 /// Fills a list with the runs in ascending order, and says whether no two of them share a page.
 pub(super) fn sort(sorted: &mut Vec<Run>, runs: &[Run]) -> bool

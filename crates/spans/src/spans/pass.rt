@@ -9,7 +9,7 @@ ghost use Rattle.spans.specs.Edits.{listed, all_before, all_from, replaced, rise
 ghost use Rattle.spans.specs.Gaps.{around, IsSameBefore};
 
 use super::Span;
-use super::edit::{end_before, place_of};
+use super::place::{end_before, place_of};
 use base::{Page, Run};
 
 /// Places among intervals that count for nothing: from `front` up to `back`. What stands before them is

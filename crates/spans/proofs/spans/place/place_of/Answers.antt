@@ -3,7 +3,7 @@ use Rattle.std.proofs.lemmas.Bool.{leb-false}
 use Rattle.std.proofs.lemmas.List.Sorted.{IsPartitionPoint-from_clause, IsPartitionedBy-leb}
 use Rattle.spans.specs.Spans.{Span, end_of}
 use Rattle.spans.proofs.Ascending.{ends_ascend, ends_before}
-use Rattle.spans.proofs.spans.edit.place_of.Goals as goal
+use Rattle.spans.proofs.spans.place.place_of.Goals as goal
 
 pub returns-clause-below : goal.returns-clause-below
 returns-clause-below c =

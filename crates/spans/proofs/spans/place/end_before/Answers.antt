@@ -1,7 +1,7 @@
 use Rattle.std.proofs.Common.{◌≡◌, ◌-◌, ◌<◌, ◌∙◌, leb, length, arith, rules, ap}
 use Rattle.spans.specs.Spans.{Span, end_of, end_from}
 use Rattle.spans.proofs.Ends.{end_from-last}
-use Rattle.spans.proofs.spans.edit.end_before.Goals as goal
+use Rattle.spans.proofs.spans.place.end_before.Goals as goal
 
 pub returns : goal.returns
 returns c =

@@ -1,0 +1,70 @@
+//! The place of a page among intervals, and what an interval has on each side of it.
+
+ghost use Rattle.std.specs.Prelude.{◌≡◌, ◌^◌, ◌<◌, ◌≤◌, true, IsTrue, nat_le, length, take, slice_index_or};
+ghost use Rattle.spans.specs.Spans as spec;
+ghost use Rattle.spans.specs.Edits.{left_of, right_of, EndWith};
+
+use super::Span;
+use base::{Page, Run};
+
+impl Span {
+    /// Its pages before this one.
+    pub(super) fn before(self, page: u32) -> Option<Span>
+        requires { page ≤ 2 ^ 27 }
+        ensures { result ≡ left_of page self }
+    {
+        let first = self.run.first();
+        if page <= first.number() {
+            return None;
+        }
+        let end = self.run.end().min(page);
+        let run = Run::new(first, end - first.number());
+        Some(Span { run, ..self })
+    }
+
+    /// Its pages from this one on.
+    pub(super) fn from(self, page: u32) -> Option<Span>
+        ensures { result ≡ right_of page self }
+    {
+        let end = self.run.end();
+        if end <= page {
+            return None;
+        }
+        let first = self.run.first().number().max(page);
+        let run = Run::new(Page::new(first), end - first);
+        Some(Span { run, ..self })
+    }
+}
+
+/// The place of the first interval that ends behind a page.
+pub(super) fn place_of(spans: &[Span], page: u32) -> usize
+    requires { spec.ascend 0 spans.now ≡ true }
+    ensures inside { result ≤ length spans.now }
+    ensures below { spec.end_from 0 (take result spans.now) ≤ page }
+    ensures above { (d : spec.Span) → result < length spans.now
+        → page < spec.end_of (slice_index_or spans.now result d).run }
+{
+    spans.partition_point(|span| span.run.end() <= page)
+}
+
+/// Whether all intervals end at a page or before it.
+pub(super) fn end_before(spans: &[Span], page: u32) -> bool
+    ensures { result ≡ nat_le (spec.end_from 0 spans.now) page }
+{
+    if spans.is_empty() {
+        return true;
+    }
+    let last = spans[spans.len() - 1];
+    last.run.end() <= page
+}
+
+/// Whether the last interval has just the pages of a run.
+pub(super) fn end_with(spans: &[Span], run: Run) -> bool
+    ensures { IsTrue result → EndWith run spans.now }
+{
+    if spans.is_empty() {
+        return false;
+    }
+    let last = spans[spans.len() - 1];
+    last.run.first().number() == run.first().number() && last.run.count() == run.count()
+}
