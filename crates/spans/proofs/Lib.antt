@@ -1,7 +1,7 @@
 mod Ascending
 mod Cutting
-mod Ends
 mod Gaps
 mod Halving
 mod Parting
+mod Places
 pub mod Segments

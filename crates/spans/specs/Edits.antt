@@ -49,7 +49,7 @@ abbrev pub rise : ℕ → List PageRun → Bool
 rise end [] = true
 rise end (run ∷ runs) = nat_le end run.first && rise (end_of run) runs
 
--- the last of the intervals has the pages of the run
-pub record EndWith (run : PageRun) (ss : List Span) : Type 0 where
-  pub some : 0 < length ss
-  pub last : (d : Span) → (slice_index_or ss (length ss - 1) d).run ≡ run
+-- the interval at a place has the pages of the run
+pub record HasRunAt (ss : List Span) (i : ℕ) (run : PageRun) : Type 0 where
+  pub inside : i < length ss
+  pub same : (d : Span) → (slice_index_or ss i d).run ≡ run

@@ -1,5 +1,5 @@
-//! Puts and cuts one run. What is put is behind all intervals, mostly, and what was put last is cut first, so
-//! that no search is needed; any other goes the way of many.
+//! Puts and cuts one run. What is put has no page of an interval, mostly, and what is cut is one; any other run
+//! goes the way of many.
 
 ghost use Rattle.std.specs.Prelude.{◌≡◌, ◌+◌, ◌≤◌, true, Some, None, vec_len, vec_capacity, if◌then◌else◌};
 ghost use Rattle.base.specs.Pages.{in_run};
@@ -7,7 +7,7 @@ ghost use Rattle.spans.specs.Spans as spec;
 
 use super::Span;
 use super::pass::set_all;
-use super::place::{end_before, end_with};
+use super::place::{is_at, place_near_end};
 use base::Run;
 
 /// Puts an interval in the place of what its pages were in.
@@ -20,8 +20,11 @@ pub(super) fn put(spans: &mut Vec<Span>, span: Span)
     ensures len { vec_len spans.new ≤ vec_len spans.old + 2 }
     ensures capacity { vec_capacity spans.new ≡ vec_capacity spans.old }
 {
-    if end_before(spans, span.run.first().number()) {
+    let place = place_near_end(spans, span.run.first().number());
+    if place == spans.len() {
         spans.push_reserved(span);
+    } else if span.run.end() <= spans[place].run.first().number() {
+        let _ = spans.insert(place, span);
     } else {
         set_all(spans, &[span.run], Some(span.value));
     }
@@ -37,8 +40,9 @@ pub(super) fn cut(spans: &mut Vec<Span>, run: Run)
     ensures len { vec_len spans.new ≤ vec_len spans.old + 2 }
     ensures capacity { vec_capacity spans.new ≡ vec_capacity spans.old }
 {
-    if end_with(spans, run) {
-        let _ = spans.pop();
+    let place = place_near_end(spans, run.first().number());
+    if is_at(spans, place, run) {
+        let _ = spans.remove(place);
     } else {
         set_all(spans, &[run], None);
     }

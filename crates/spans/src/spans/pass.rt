@@ -1,7 +1,7 @@
 //! Sets the numbers of many runs in one pass over the intervals, from the last to the first. The intervals
 //! that are done stand behind a gap, so that those in place of a run have room there.
 
-ghost use Rattle.std.specs.Prelude.{◌≡◌, ◌+◌, ◌*◌, ◌-◌, ◌++◌, [], ◌^◌, ◌<◌, ◌≤◌, ℕ, true, length, take, drop, slice_index_or, vec_len, vec_capacity, if◌then◌else◌};
+ghost use Rattle.std.specs.Prelude.{◌≡◌, ◌+◌, ◌*◌, ◌-◌, ◌++◌, [], ◌^◌, ◌<◌, ◌≤◌, ℕ, true, length, take, drop, vec_len, vec_capacity, if◌then◌else◌};
 ghost use Rattle.base.specs.Pages.{covers};
 ghost use Rattle.spans.specs.Spans as spec;
 ghost use Rattle.spans.specs.Edits as edits;
@@ -9,7 +9,7 @@ ghost use Rattle.spans.specs.Edits.{listed, all_before, all_from, replaced, rise
 ghost use Rattle.spans.specs.Gaps.{around, IsSameBefore};
 
 use super::Span;
-use super::place::{end_before, place_of};
+use super::place::place_near_end;
 use base::{Page, Run};
 
 /// Places among intervals that count for nothing: from `front` up to `back`. What stands before them is
@@ -72,25 +72,6 @@ fn close(spans: &mut Vec<Span>, gap: Gap)
     let left = spans.len() - (gap.back - gap.front);
     spans.copy_within(gap.back.., gap.front);
     spans.truncate(left);
-}
-
-/// The place of the first interval that ends behind a page. Mostly it is the last, or behind it, and so is
-/// found without a search.
-fn place_near_end(spans: &[Span], page: u32) -> usize
-    requires { spec.ascend 0 spans.now ≡ true }
-    ensures inside { result ≤ length spans.now }
-    ensures below { spec.end_from 0 (take result spans.now) ≤ page }
-    ensures above { (d : spec.Span) → result < length spans.now
-        → page < spec.end_of (slice_index_or spans.now result d).run }
-{
-    let len = spans.len();
-    if end_before(spans, page) {
-        len
-    } else if end_before(&spans[..len - 1], page) {
-        len - 1
-    } else {
-        place_of(spans, page)
-    }
 }
 
 /// Moves the intervals from a place on over the gap.

@@ -2,7 +2,7 @@
 
 ghost use Rattle.std.specs.Prelude.{◌≡◌, ◌^◌, ◌<◌, ◌≤◌, true, IsTrue, nat_le, length, take, slice_index_or};
 ghost use Rattle.spans.specs.Spans as spec;
-ghost use Rattle.spans.specs.Edits.{left_of, right_of, EndWith};
+ghost use Rattle.spans.specs.Edits.{left_of, right_of, HasRunAt};
 
 use super::Span;
 use base::{Page, Run};
@@ -37,7 +37,7 @@ impl Span {
 }
 
 /// The place of the first interval that ends behind a page.
-pub(super) fn place_of(spans: &[Span], page: u32) -> usize
+fn place_of(spans: &[Span], page: u32) -> usize
     requires { spec.ascend 0 spans.now ≡ true }
     ensures inside { result ≤ length spans.now }
     ensures below { spec.end_from 0 (take result spans.now) ≤ page }
@@ -48,7 +48,7 @@ pub(super) fn place_of(spans: &[Span], page: u32) -> usize
 }
 
 /// Whether all intervals end at a page or before it.
-pub(super) fn end_before(spans: &[Span], page: u32) -> bool
+fn end_before(spans: &[Span], page: u32) -> bool
     ensures { result ≡ nat_le (spec.end_from 0 spans.now) page }
 {
     if spans.is_empty() {
@@ -58,13 +58,32 @@ pub(super) fn end_before(spans: &[Span], page: u32) -> bool
     last.run.end() <= page
 }
 
-/// Whether the last interval has just the pages of a run.
-pub(super) fn end_with(spans: &[Span], run: Run) -> bool
-    ensures { IsTrue result → EndWith run spans.now }
+/// The place of the first interval that ends behind a page. Mostly it is the last, or behind it, and so is
+/// found without a search.
+pub(super) fn place_near_end(spans: &[Span], page: u32) -> usize
+    requires { spec.ascend 0 spans.now ≡ true }
+    ensures inside { result ≤ length spans.now }
+    ensures below { spec.end_from 0 (take result spans.now) ≤ page }
+    ensures above { (d : spec.Span) → result < length spans.now
+        → page < spec.end_of (slice_index_or spans.now result d).run }
 {
-    if spans.is_empty() {
+    let len = spans.len();
+    if end_before(spans, page) {
+        len
+    } else if end_before(&spans[..len - 1], page) {
+        len - 1
+    } else {
+        place_of(spans, page)
+    }
+}
+
+/// Whether the interval at a place has just the pages of a run.
+pub(super) fn is_at(spans: &[Span], place: usize, run: Run) -> bool
+    ensures { IsTrue result → HasRunAt spans.now place run }
+{
+    if spans.len() <= place {
         return false;
     }
-    let last = spans[spans.len() - 1];
-    last.run.first().number() == run.first().number() && last.run.count() == run.count()
+    let span = spans[place];
+    span.run.first().number() == run.first().number() && span.run.count() == run.count()
 }
