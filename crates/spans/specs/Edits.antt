@@ -1,5 +1,5 @@
 -- Intervals in which the pages of a run get another number, or none.
-use Rattle.std.specs.Prelude.{◌≡◌, ℕ, ◌-◌, ◌<◌, Bool, true, ◌&&◌, nat_le, List, [], ◌∷◌, ◌++◌, Option, Some, None, length, slice_index_or, min, max, if◌then◌else◌}
+use Rattle.std.specs.Prelude.{◌≡◌, ℕ, ◌+◌, ◌-◌, ◌<◌, ◌≤◌, ◌==◌, Bool, true, ◌&&◌, nat_le, List, [], ◌∷◌, ◌++◌, Option, Some, None, length, slice_index_or, min, max, if◌then◌else◌}
 use Rattle.base.specs.Pages.{PageRun}
 use Rattle.spans.specs.Spans.{Span, end_of}
 
@@ -44,6 +44,13 @@ abbrev pub replaced : PageRun → Option ℕ → List Span → List Span
 replaced run value ss =
     all_before run.first ss ++ (listed (span_of run value) ++ all_from (end_of run) ss)
 
+-- an interval and the next as one, where they touch and have the same number
+abbrev pub joined : Span → Span → Option Span
+joined s t =
+    if s.value == t.value && end_of s.run == t.run.first then
+    Some (record { run = record { first = s.run.first; count = s.run.count + t.run.count }; value = s.value })
+    else None
+
 -- the runs stand upward: each begins where the one before it ends, or later
 abbrev pub rise : ℕ → List PageRun → Bool
 rise end [] = true
@@ -53,3 +60,7 @@ rise end (run ∷ runs) = nat_le end run.first && rise (end_of run) runs
 pub record HasRunAt (ss : List Span) (i : ℕ) (run : PageRun) : Type 0 where
   pub inside : i < length ss
   pub same : (d : Span) → (slice_index_or ss i d).run ≡ run
+
+-- the interval at a place, if there is one, begins where a run ends, or later
+pub record IsAheadOf (run : PageRun) (ss : List Span) (i : ℕ) : Type 0 where
+  pub ahead : (d : Span) → i < length ss → end_of run ≤ (slice_index_or ss i d).run.first

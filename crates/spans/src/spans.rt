@@ -9,6 +9,7 @@ use std::marker::Model;
 use std::sync::ledger::Ledger;
 
 mod edit;
+mod join;
 mod order;
 mod pass;
 mod place;
@@ -30,8 +31,9 @@ impl Model for Span {
     ghost inverse = { λ s. record { run = s.run; value = s.value } };
 }
 
-/// A map from pages to numbers: intervals of pages in ascending order, no two of which share a page. Beside
-/// them is memory in which runs are put in order.
+/// A map from pages to numbers: intervals of pages in ascending order, no two of which share a page. A run that
+/// is put beside pages of the same number makes one interval with them. Beside the intervals is memory in which
+/// runs are put in order.
 #[derive(Drop)]
 pub struct Spans {
     spans: Vec<Span>,

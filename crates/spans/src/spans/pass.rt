@@ -2,13 +2,14 @@
 //! that are done stand behind a gap, so that those in place of a run have room there.
 
 ghost use Rattle.std.specs.Prelude.{◌≡◌, ◌+◌, ◌*◌, ◌-◌, ◌++◌, [], ◌^◌, ◌<◌, ◌≤◌, ℕ, true, length, take, drop, vec_len, vec_capacity, if◌then◌else◌};
-ghost use Rattle.base.specs.Pages.{covers};
+ghost use Rattle.base.specs.Pages.{covers, in_run};
 ghost use Rattle.spans.specs.Spans as spec;
 ghost use Rattle.spans.specs.Edits as edits;
 ghost use Rattle.spans.specs.Edits.{listed, all_before, all_from, replaced, rise};
 ghost use Rattle.spans.specs.Gaps.{around, IsSameBefore};
 
 use super::Span;
+use super::join::{join_behind, join_over};
 use super::place::place_near_end;
 use base::{Page, Run};
 
@@ -16,8 +17,8 @@ use base::{Page, Run};
 /// still to be gone over, and what stands behind them is done.
 #[derive(Clone, Copy)]
 pub(crate) struct Gap {
-    front: usize,
-    back: usize,
+    pub(super) front: usize,
+    pub(super) back: usize,
 }
 
 /// Adds so many places behind all intervals.
@@ -212,6 +213,29 @@ fn set(spans: &mut Vec<Span>, gap: Gap, run: Run, value: Option<u64>, places: us
     end(spans, gap, run.first().number())
 }
 
+/// The same, and where the run touches an interval with this number, the two become one.
+fn set_joined(spans: &mut Vec<Span>, gap: Gap, run: Run, value: Option<u64>, places: usize) -> Gap
+    requires ascending { spec.ascend 0 (around gap spans.old.items) ≡ true }
+    requires above { spec.ascend (spec.end_of run) (drop gap.back spans.old.items) ≡ true }
+    requires gap { gap.front ≤ gap.back }
+    requires inside { gap.back ≤ vec_len spans.old }
+    requires places { 2 ≤ places }
+    requires room { vec_len spans.old + places ≤ vec_capacity spans.old + (gap.back - gap.front) }
+    ensures at { (n : ℕ) → spec.value_at (around result spans.new.items) n
+        ≡ (if in_run run n then value else spec.value_at (around gap spans.old.items) n) }
+    ensures ascending { spec.ascend 0 (around result spans.new.items) ≡ true }
+    ensures above { spec.ascend run.first (drop result.back spans.new.items) ≡ true }
+    ensures gap { result.front ≤ result.back }
+    ensures inside { result.back ≤ vec_len spans.new }
+    ensures len { vec_len spans.new + (gap.back - gap.front)
+        ≤ vec_len spans.old + (result.back - result.front) + 2 }
+    ensures capacity { vec_capacity spans.new ≡ vec_capacity spans.old }
+{
+    let gap = join_over(spans, gap, run.end());
+    let gap = set(spans, gap, run, value, places);
+    join_behind(spans, gap)
+}
+
 /// Where nothing is done yet. There is a place for each of the runs where they get a number, so that those
 /// that share no page with an interval make the gap no wider.
 fn begin(spans: &mut Vec<Span>, runs: usize, value: Option<u64>) -> Gap
@@ -234,7 +258,8 @@ fn begin(spans: &mut Vec<Span>, runs: usize, value: Option<u64>) -> Gap
     }
 }
 
-/// Gives all pages of the runs this number, or none.
+/// Gives all pages of the runs this number, or none. Where a run touches an interval with this number, the two
+/// become one.
 pub(super) fn set_all(spans: &mut Vec<Span>, runs: &[Run], value: Option<u64>)
     requires ascending { spec.ascend 0 spans.old.items ≡ true }
     requires rise { rise 0 runs.now ≡ true }
@@ -249,7 +274,8 @@ pub(super) fn set_all(spans: &mut Vec<Span>, runs: &[Run], value: Option<u64>)
     let mut gap = begin(spans, left, value);
     while 0 < left {
         left -= 1;
-        gap = set(spans, gap, runs[left], value, 2 * (left + 1));
+        gap = set_joined(spans, gap, runs[left], value, 2 * (left + 1));
     }
+    gap = join_over(spans, gap, 0);
     close(spans, gap);
 }

@@ -1,7 +1,7 @@
-use Rattle.std.proofs.Common.{◌≡◌, ◌<◌, ◌≤◌, ◌∙◌, ℕ, List, Bool, Some, true, false, cond, length, get_or, take, is_ok, ap, rules, arith}
+use Rattle.std.proofs.Common.{◌≡◌, ◌<◌, ◌≤◌, ◌∙◌, ℕ, List, Bool, Some, true, false, cond, length, take, is_ok, ap, rules, arith}
 use Rattle.std.proofs.lemmas.List.{take_all}
 use Rattle.spans.specs.Spans.{Span, ascend, value_at, end_of, end_from}
-use Rattle.spans.specs.Edits.{replaced}
+use Rattle.spans.specs.Edits.{replaced, IsAheadOf}
 use Rattle.spans.proofs.Parting.{ascend-replaced, value_at-replaced}
 use Rattle.spans.proofs.Places.{put_behind, put_at, above_at}
 use Rattle.spans.proofs.spans.edit.put.Goals as goal
@@ -33,20 +33,18 @@ inserted : (c : goal.After-insert) → c.insert.new.self.items ≡ replaced c.ar
 inserted c =
     let old = c.args.spans.now.items in
     let i : ℕ = c.place_near_end-place.result in
-    let s = c.index.result.now in
     let run = ap (λ (x : Span). x.run) c.span.view_is in
     let ok : is_ok c.insert.result ≡ true = search rules in
-    let lt : i < length old = omega arith in
-    let is : s ≡ get_or old i s = search rules in
-    let first : c.first-else-place-len.result ≡ (get_or old i s).run.first = c.first-else-place-len.ensures.same ∙ ap (λ (x : Span). x.run.first) (c.behind-spans.view_is ∙ is) in
+    let lt : i < length old = omega (arith, c.place_near_end-place.ensures.inside, c.deref.ensures.len, c.len.ensures, c.if-place-len.false) in
+    let free : IsAheadOf c.args.span.run old i = rw (← c.deref-2.ensures.value) (c.fits.ensures (search rules)) in
     let before : end_from 0 (take i old) ≤ c.args.span.run.first = rw (← c.deref.ensures.value, ← run) (omega (arith, c.place_near_end-place.ensures.below, c.number.ensures.same, c.first.ensures.same)) in
-    let le : end_of c.args.span.run ≤ (get_or old i s).run.first = rw (← run) (omega (arith, first, c.if-end-number.true, c.end.ensures.same, c.number-else-place-len.ensures.same)) in
-    chosen _ _ _ _ c.insert.ensures.items ok ∙ put_at old i c.requires.ascending c.args.span before (above_at old i c.requires.ascending s lt (end_of c.args.span.run) le)
+    chosen _ _ _ _ c.insert.ensures.items ok
+    ∙ put_at old i c.requires.ascending c.args.span before (above_at old i c.requires.ascending c.args.span lt (end_of c.args.span.run) (free.ahead c.args.span lt))
 
-pub returns-then-end-number-clause-ascending : goal.returns-then-end-number-clause-ascending
-returns-then-end-number-clause-ascending c =
+pub returns-else-place-len-clause-ascending : goal.returns-else-place-len-clause-ascending
+returns-else-place-len-clause-ascending c =
     let some : 0 < c.args.span.run.count = rw (← ap (λ (s : Span). s.run) c.span.view_is) c.first.ensures.in_range.0 in
     ap (ascend 0) (inserted c) ∙ ascend-replaced c.args.span.run (Some c.args.span.value) c.args.spans.now.items some c.requires.ascending
 
-pub returns-then-end-number-clause-at : goal.returns-then-end-number-clause-at
-returns-then-end-number-clause-at c = λ n. ap (λ l. value_at l n) (inserted c) ∙ value_at-replaced c.args.span.run (Some c.args.span.value) c.args.spans.now.items n
+pub returns-else-place-len-clause-at : goal.returns-else-place-len-clause-at
+returns-else-place-len-clause-at c = λ n. ap (λ l. value_at l n) (inserted c) ∙ value_at-replaced c.args.span.run (Some c.args.span.value) c.args.spans.now.items n
