@@ -14,6 +14,9 @@ mod order;
 mod pass;
 mod place;
 
+#[cfg(test)]
+mod tests;
+
 /// The pages of a run, and the number that each of them has.
 #[derive(Clone, Copy)]
 struct Span {
