@@ -1,5 +1,5 @@
 -- The intervals agree with the lists after each change.
-use Rattle.std.proofs.Common.{◌≡◌, ℕ, true, cond, List, [], ◌∷◌, ◌++◌, Some, None, length, get_or, sym, ap, subst, ◌∙◌}
+use Rattle.std.proofs.Common.{◌≡◌, ℕ, true, cond, List, [], ◌∷◌, ◌++◌, Some, None, get_or, sym, ap, subst, ◌∙◌}
 use Rattle.std.specs.List.{AllByRecursion, remove}
 use Rattle.std.proofs.Math.ListN.{set}
 use Rattle.std.proofs.lemmas.Option.{slice_get-get_or}
@@ -10,10 +10,11 @@ use Rattle.base.specs.Ledger.{live_at}
 use Rattle.spans.specs.Spans.{Span, value_at}
 use Rattle.base.proofs.Ascending.{all_with}
 use Rattle.ledger.specs.Ledger.{found, NamesItsSender}
+use Rattle.ledger.specs.Gifts.{gift, gift_of}
 use Rattle.ledger.specs.Changes.{with_live, with_retrieval, with_retrieval_of, without}
-use Rattle.ledger.specs.Intervals.{AreAllSeparate, AreHandles, IsPlaced, IsKept}
+use Rattle.ledger.specs.Intervals.{AreAllSeparate, AreHandles, AreGifts, IsKept}
 use Rattle.ledger.proofs.Transactions.{AreHandles-open, AreAllSeparate-open, AreHandles-close, AreAllSeparate-without, AreHandles-retrieval, AreAllSeparate-retrieval, AllByRecursion-without, named-retrieval}
-use Rattle.ledger.proofs.Donations.{IsPlaced-more}
+use Rattle.ledger.proofs.Donations.{AreGifts-more}
 use Rattle.ledger.proofs.Places.{IsPlace}
 
 -- ---- one more transaction
@@ -27,7 +28,7 @@ IsKept-open ds live known next given shared new t runs h kept same runs_are h_is
     let put : (n : ℕ) → value_at new n ≡ cond (covers t.ranges n) (Some t.handle) (value_at shared n) =
     λ n. at n ∙ ap (λ (rs : List PageRun). cond (covers rs n) (Some h) (value_at shared n)) runs_are ∙ ap (λ (k : ℕ). cond (covers t.ranges n) (Some k) (value_at shared n)) h_is in
     record {
-      places = kept.places;
+      gifts = kept.gifts;
       handles = subst (λ (l : List Live). AreHandles l new) (sym items) (AreHandles-open live t shared new kept.handles none_now put);
       separate = subst AreAllSeparate (sym items) (AreAllSeparate-open live t kept.separate none_now unknown_now);
       named = subst (AllByRecursion NamesItsSender) (sym items) (all_with NamesItsSender t live kept.named its);
@@ -45,7 +46,7 @@ IsKept-close ds live next given shared new h i t runs kept place is runs_are at 
     let without_it : next ≡ without h live = items ∙ place.removed in
     let cut : (n : ℕ) → value_at new n ≡ cond (covers t.ranges n) None (value_at shared n) = λ n. at n ∙ ap (λ (rs : List PageRun). cond (covers rs n) None (value_at shared n)) runs_are in
     record {
-      places = kept.places;
+      gifts = kept.gifts;
       handles = subst (λ (l : List Live). AreHandles l new) (sym without_it) (AreHandles-close live h t shared new kept.separate is kept.handles cut);
       separate = subst AreAllSeparate (sym without_it) (AreAllSeparate-without live h kept.separate);
       named = subst (AllByRecursion NamesItsSender) (sym without_it) (AllByRecursion-without NamesItsSender live h kept.named);
@@ -58,7 +59,7 @@ changed_at live h p i view t new place is change = ap (λ (x : Live). set live i
 
 pub IsKept-retrieval : (ds : List Donation) (live next : List Live) (given shared : List Span) (h p : ℕ) (view : View) → IsKept ds live given shared → next ≡ with_retrieval_of h p view live → IsKept ds next given shared
 IsKept-retrieval ds live next given shared h p view kept items = record {
-  places = kept.places;
+  gifts = kept.gifts;
   handles = subst (λ (l : List Live). AreHandles l shared) (sym items) (AreHandles-retrieval live h p view shared kept.handles);
   separate = subst AreAllSeparate (sym items) (AreAllSeparate-retrieval live h p view kept.separate);
   named = subst (AllByRecursion NamesItsSender) (sym items) (named-retrieval live h p view kept.named);
@@ -66,13 +67,13 @@ IsKept-retrieval ds live next given shared h p view kept items = record {
 
 -- ---- one more donation
 
-pub IsKept-complete : (ds next : List Donation) (live : List Live) (given shared new : List Span) (e : Donation) (runs : List PageRun) (k : ℕ) → IsKept ds live given shared → k ≡ length ds → runs ≡ e.ranges
+pub IsKept-complete : (ds next : List Donation) (live : List Live) (given shared new : List Span) (e : Donation) (runs : List PageRun) (k : ℕ) → IsKept ds live given shared → gift_of k ≡ gift e → runs ≡ e.ranges
     → ((n : ℕ) → value_at new n ≡ cond (covers runs n) (Some k) (value_at given n)) → next ≡ ds ++ e ∷ [] → IsKept next live new shared
-IsKept-complete ds next live given shared new e runs k kept place runs_are at items =
-    let put : (n : ℕ) → value_at new n ≡ cond (covers e.ranges n) (Some (length ds)) (value_at given n) =
-    λ n. at n ∙ ap (λ (rs : List PageRun). cond (covers rs n) (Some k) (value_at given n)) runs_are ∙ ap (λ (j : ℕ). cond (covers e.ranges n) (Some j) (value_at given n)) place in
+IsKept-complete ds next live given shared new e runs k kept spells runs_are at items =
+    let put : (n : ℕ) → value_at new n ≡ cond (covers e.ranges n) (Some k) (value_at given n) =
+    λ n. at n ∙ ap (λ (rs : List PageRun). cond (covers rs n) (Some k) (value_at given n)) runs_are in
     record {
-      places = subst (λ (l : List Donation). IsPlaced l new) (sym items) (IsPlaced-more ds e given new kept.places put);
+      gifts = subst (λ (l : List Donation). AreGifts l new) (sym items) (AreGifts-more ds e k given new kept.gifts spells put);
       handles = kept.handles;
       separate = kept.separate;
       named = kept.named;

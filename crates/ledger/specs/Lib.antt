@@ -1,4 +1,5 @@
 pub mod Ledger
 pub mod Changes
+pub mod Gifts
 pub mod Intervals
 pub mod Free

@@ -55,8 +55,8 @@ impl Ledger {
         let lists = self.listed(page);
         let region = manifest.region_at(page);
         Segment {
-            owner: owner_by(lists.donation, region),
-            home: home_by(lists.donation, region),
+            owner: owner_by(lists.gift, region),
+            home: home_by(lists.gift, region),
             is_live: lists.is_live,
             is_sharable: is_sharable(region),
             end: lists.end.min(end_of_region(manifest, region, page)),

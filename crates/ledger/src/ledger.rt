@@ -7,8 +7,10 @@ ghost use Rattle.base.specs.declared.transaction.Kind.TheVariants.{Donate};
 ghost use Rattle.spans.specs.Spans.{room_for};
 ghost use Rattle.ledger.specs.Ledger as spec;
 ghost use Rattle.ledger.specs.Changes as changes;
+ghost use Rattle.ledger.specs.Gifts.{gift};
 
 use crate::donation::Donation;
+use crate::gift::Gift;
 use crate::live::{self, Live, place_of, put_in, set_retrieved};
 use base::{Access, Handle, Kind, OutOfMemory, Page, PartitionId};
 use manifest::{Manifest, Region};
@@ -18,9 +20,9 @@ use std::marker::Model;
 
 /// What the donations and the live transactions say of pages that follow one another.
 #[derive(Clone, Copy)]
-pub(crate) struct Listed<'a> {
-    /// The last donation that covers them.
-    pub(crate) donation: Option<&'a Donation>,
+pub(crate) struct Listed {
+    /// What the last donation that covers them gave.
+    pub(crate) gift: Option<Gift>,
     /// Whether a live transaction covers them.
     pub(crate) is_live: bool,
     /// The number of the page after the last of them.
@@ -98,12 +100,11 @@ impl Ledger {
         &self.live
     }
 
-    /// The last donation that covers a page.
-    fn donation_at(&self, page: Page) -> Option<&Donation>
-        ensures { option_map (λ d. d.now) result ≡ rules.donation_at self.now.donations page }
+    /// What the last donation that covers a page gave.
+    fn gift_at(&self, page: Page) -> Option<Gift>
+        ensures { result ≡ option_map gift (rules.donation_at self.now.donations page) }
     {
-        let place = self.given.get(page)?;
-        self.donations.get(place as usize)
+        self.given.get(page).map(Gift::from_number)
     }
 
     /// The partition that owns a page: the taker of the last donation that covers it, else the
@@ -111,7 +112,7 @@ impl Ledger {
     pub fn owner(&self, page: Page) -> Option<PartitionId>
         ensures { result ≡ rules.owner self.now.manifest self.now.donations page }
     {
-        owner_by(self.donation_at(page), self.manifest.region_at(page))
+        owner_by(self.gift_at(page), self.manifest.region_at(page))
     }
 
     /// What a page is to its owner: the access of the last donation that covers it, else the owner's
@@ -119,27 +120,23 @@ impl Ledger {
     pub fn home(&self, page: Page) -> Option<Access>
         ensures { result ≡ rules.home self.now.manifest self.now.donations page }
     {
-        home_by(self.donation_at(page), self.manifest.region_at(page))
+        home_by(self.gift_at(page), self.manifest.region_at(page))
     }
 
     /// What the donations and the live transactions say of a page, and up to which page they say the
     /// same of those behind it.
-    pub(crate) fn listed(&self, page: Page) -> Listed<'_>
+    pub(crate) fn listed(&self, page: Page) -> Listed
         ensures behind { page < result.end }
         ensures in_range { result.end ≤ 2 ^ 27 }
         ensures donations { (n : ℕ) → page ≤ n → n < result.end
-            → rules.donation_at self.now.donations n ≡ option_map (λ d. d.now) result.donation }
+            → option_map gift (rules.donation_at self.now.donations n) ≡ result.gift }
         ensures live { (n : ℕ) → page ≤ n → n < result.end
             → is_some (rules.live_at self.now.live n) ≡ result.is_live }
     {
         let given = self.given.segment_at(page);
         let shared = self.shared.segment_at(page);
-        let donation = match given.value {
-            Some(place) => self.donations.get(place as usize),
-            None => None,
-        };
         Listed {
-            donation,
+            gift: given.value.map(Gift::from_number),
             is_live: shared.value.is_some(),
             end: given.end.min(shared.end),
         }
@@ -268,8 +265,8 @@ impl Ledger {
             return;
         };
         let terms = Box::into_inner(transaction.terms);
-        let place = self.donations.len() as u64;
-        self.given.put_all(&terms.ranges, place);
+        let gift = Gift { taker: p, access };
+        self.given.put_all(&terms.ranges, gift.number());
         self.donations.push_reserved(Donation {
             ranges: terms.ranges,
             giver: terms.sender,
@@ -279,24 +276,24 @@ impl Ledger {
     }
 }
 
-/// The owner of a page, by the last donation that covers it and by its region.
-pub(crate) fn owner_by(donation: Option<&Donation>, region: Option<&Region>) -> Option<PartitionId>
-    ensures { result ≡ option_map_or (λ d. Some d.taker) (option_map (λ d. d.now) donation.entry)
+/// The owner of a page, by what the last donation that covers it gave and by its region.
+pub(crate) fn owner_by(gift: Option<Gift>, region: Option<&Region>) -> Option<PartitionId>
+    ensures { result ≡ option_map_or (λ g. Some g.taker) gift
         (option_map (λ r. r.owner) (option_map (λ r. r.now) region.entry)) }
 {
-    match donation {
-        Some(donation) => Some(donation.taker),
+    match gift {
+        Some(gift) => Some(gift.taker),
         None => Some(region?.owner()),
     }
 }
 
-/// What a page is to its owner, by the last donation that covers it and by its region.
-pub(crate) fn home_by(donation: Option<&Donation>, region: Option<&Region>) -> Option<Access>
-    ensures { result ≡ option_map_or (λ d. Some d.access) (option_map (λ d. d.now) donation.entry)
+/// What a page is to its owner, by what the last donation that covers it gave and by its region.
+pub(crate) fn home_by(gift: Option<Gift>, region: Option<&Region>) -> Option<Access>
+    ensures { result ≡ option_map_or (λ g. Some g.access) gift
         (option_and_then (λ r. granted_in r r.owner) (option_map (λ r. r.now) region.entry)) }
 {
-    match donation {
-        Some(donation) => Some(donation.access),
+    match gift {
+        Some(gift) => Some(gift.access),
         None => {
             let region = region?;
             region.access(region.owner())

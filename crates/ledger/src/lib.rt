@@ -4,6 +4,7 @@
 
 mod donation;
 mod free;
+mod gift;
 mod ledger;
 mod live;
 
