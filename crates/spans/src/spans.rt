@@ -13,7 +13,6 @@ mod join;
 mod order;
 mod pass;
 mod place;
-
 #[cfg(test)]
 mod tests;
 

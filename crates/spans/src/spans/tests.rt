@@ -10,7 +10,12 @@ fn page(rt: &impl Abort, number: u32) -> Run {
 }
 
 /// Each of these pages is put by itself.
-fn put_each(rt: &impl Abort, spans: &mut Spans, pages: &[u32], value: u64) -> Result<(), OutOfMemory> {
+fn put_each(
+    rt: &impl Abort,
+    spans: &mut Spans,
+    pages: &[u32],
+    value: u64,
+) -> Result<(), OutOfMemory> {
     for number in pages {
         spans.ready(1)?;
         spans.put(page(rt, *number), value);
@@ -19,7 +24,12 @@ fn put_each(rt: &impl Abort, spans: &mut Spans, pages: &[u32], value: u64) -> Re
 }
 
 /// The pages are put at once.
-fn put_at_once(rt: &impl Abort, spans: &mut Spans, pages: [u32; 2], value: u64) -> Result<(), OutOfMemory> {
+fn put_at_once(
+    rt: &impl Abort,
+    spans: &mut Spans,
+    pages: [u32; 2],
+    value: u64,
+) -> Result<(), OutOfMemory> {
     spans.ready(2)?;
     spans.put_all(&[page(rt, pages[0]), page(rt, pages[1])], value);
     Ok(())
