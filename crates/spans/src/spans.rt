@@ -104,8 +104,8 @@ impl Spans {
     }
 
     /// Gives all pages of the runs this number; other pages keep theirs. This takes no memory. Runs that share
-    /// no page are put in one pass, in which no interval moves more than three times, and where they share no
-    /// page with one, none moves twice.
+    /// no page are put in one pass, in which no interval moves more than three times. Where they share no page
+    /// with one, and touch none of this number, none moves twice.
     pub fn put_all(&mut self, runs: &[Run], value: u64)
         requires { spec.room_for (length runs.now) ≤ self.old.room }
         ensures { (n : ℕ) → spec.value_at self.new.spans n
