@@ -5,6 +5,7 @@ use Rattle.std.proofs.Math.ListN.{set}
 use Rattle.std.proofs.lemmas.Option.{slice_get-get_or}
 use Rattle.base.specs.Access.{View}
 use Rattle.base.specs.Transactions.{Live, Donation}
+use Rattle.base.specs.Manifest.{ManifestRows}
 use Rattle.base.specs.Pages.{PageRun, covers}
 use Rattle.base.specs.Ledger.{live_at}
 use Rattle.spans.specs.Spans.{Span, value_at}
@@ -19,10 +20,10 @@ use Rattle.ledger.proofs.Places.{IsPlace}
 
 -- ---- one more transaction
 
-pub IsKept-open : (ds : List Donation) (live known next : List Live) (given shared new : List Span) (t : Live) (runs : List PageRun) (h : ℕ) → IsKept ds live given shared → live ≡ known
+pub IsKept-open : (m : ManifestRows) (ds : List Donation) (live known next : List Live) (given shared new : List Span) (t : Live) (runs : List PageRun) (h : ℕ) → IsKept m ds live given shared → live ≡ known
     → runs ≡ t.ranges → h ≡ t.handle → found known t.handle ≡ None → NamesItsSender t → ((n : ℕ) → covers t.ranges n ≡ true → live_at known n ≡ None)
-    → ((n : ℕ) → value_at new n ≡ cond (covers runs n) (Some h) (value_at shared n)) → next ≡ with_live t live → IsKept ds next given new
-IsKept-open ds live known next given shared new t runs h kept same runs_are h_is unknown its none at items =
+    → ((n : ℕ) → value_at new n ≡ cond (covers runs n) (Some h) (value_at shared n)) → next ≡ with_live t live → IsKept m ds next given new
+IsKept-open m ds live known next given shared new t runs h kept same runs_are h_is unknown its none at items =
     let unknown_now : found live t.handle ≡ None = subst (λ (l : List Live). found l t.handle ≡ None) (sym same) unknown in
     let none_now : (n : ℕ) → covers t.ranges n ≡ true → live_at live n ≡ None = subst (λ (l : List Live). (n : ℕ) → covers t.ranges n ≡ true → live_at l n ≡ None) (sym same) none in
     let put : (n : ℕ) → value_at new n ≡ cond (covers t.ranges n) (Some t.handle) (value_at shared n) =
@@ -40,9 +41,9 @@ IsKept-open ds live known next given shared new t runs h kept same runs_are h_is
 pub found_at : (live : List Live) (h i : ℕ) (t : Live) → IsPlace live h i → t ≡ get_or live i t → found live h ≡ Some t
 found_at live h i t at is = sym at.got ∙ slice_get-get_or live i t at.inside ∙ ap (λ (x : Live). Some x) (sym is)
 
-pub IsKept-close : (ds : List Donation) (live next : List Live) (given shared new : List Span) (h i : ℕ) (t : Live) (runs : List PageRun) → IsKept ds live given shared → IsPlace live h i
-    → found live h ≡ Some t → runs ≡ t.ranges → ((n : ℕ) → value_at new n ≡ cond (covers runs n) None (value_at shared n)) → next ≡ remove live i → IsKept ds next given new
-IsKept-close ds live next given shared new h i t runs kept place is runs_are at items =
+pub IsKept-close : (m : ManifestRows) (ds : List Donation) (live next : List Live) (given shared new : List Span) (h i : ℕ) (t : Live) (runs : List PageRun) → IsKept m ds live given shared → IsPlace live h i
+    → found live h ≡ Some t → runs ≡ t.ranges → ((n : ℕ) → value_at new n ≡ cond (covers runs n) None (value_at shared n)) → next ≡ remove live i → IsKept m ds next given new
+IsKept-close m ds live next given shared new h i t runs kept place is runs_are at items =
     let without_it : next ≡ without h live = items ∙ place.removed in
     let cut : (n : ℕ) → value_at new n ≡ cond (covers t.ranges n) None (value_at shared n) = λ n. at n ∙ ap (λ (rs : List PageRun). cond (covers rs n) None (value_at shared n)) runs_are in
     record {
@@ -57,8 +58,8 @@ IsKept-close ds live next given shared new h i t runs kept place is runs_are at 
 pub changed_at : (live : List Live) (h p i : ℕ) (view : View) (t new : Live) → IsPlace live h i → t ≡ get_or live i t → new ≡ with_retrieval p view t → set live i new ≡ with_retrieval_of h p view live
 changed_at live h p i view t new place is change = ap (λ (x : Live). set live i x) change ∙ place.changed p view t (place.got ∙ found_at live h i t place is)
 
-pub IsKept-retrieval : (ds : List Donation) (live next : List Live) (given shared : List Span) (h p : ℕ) (view : View) → IsKept ds live given shared → next ≡ with_retrieval_of h p view live → IsKept ds next given shared
-IsKept-retrieval ds live next given shared h p view kept items = record {
+pub IsKept-retrieval : (m : ManifestRows) (ds : List Donation) (live next : List Live) (given shared : List Span) (h p : ℕ) (view : View) → IsKept m ds live given shared → next ≡ with_retrieval_of h p view live → IsKept m ds next given shared
+IsKept-retrieval m ds live next given shared h p view kept items = record {
   gifts = kept.gifts;
   handles = subst (λ (l : List Live). AreHandles l shared) (sym items) (AreHandles-retrieval live h p view shared kept.handles);
   separate = subst AreAllSeparate (sym items) (AreAllSeparate-retrieval live h p view kept.separate);
@@ -67,14 +68,24 @@ IsKept-retrieval ds live next given shared h p view kept items = record {
 
 -- ---- one more donation
 
-pub IsKept-complete : (ds next : List Donation) (live : List Live) (given shared new : List Span) (e : Donation) (runs : List PageRun) (k : ℕ) → IsKept ds live given shared → gift_of k ≡ gift e → runs ≡ e.ranges
-    → ((n : ℕ) → value_at new n ≡ cond (covers runs n) (Some k) (value_at given n)) → next ≡ ds ++ e ∷ [] → IsKept next live new shared
-IsKept-complete ds next live given shared new e runs k kept spells runs_are at items =
+pub IsKept-complete : (m : ManifestRows) (ds next : List Donation) (live : List Live) (given shared new : List Span) (e : Donation) (runs : List PageRun) (k : ℕ) → IsKept m ds live given shared → gift_of k ≡ gift e → runs ≡ e.ranges
+    → ((n : ℕ) → value_at new n ≡ cond (covers runs n) (Some k) (value_at given n)) → next ≡ ds ++ e ∷ [] → IsKept m next live new shared
+IsKept-complete m ds next live given shared new e runs k kept spells runs_are at items =
     let put : (n : ℕ) → value_at new n ≡ cond (covers e.ranges n) (Some k) (value_at given n) =
     λ n. at n ∙ ap (λ (rs : List PageRun). cond (covers rs n) (Some k) (value_at given n)) runs_are in
     record {
-      gifts = subst (λ (l : List Donation). AreGifts l new) (sym items) (AreGifts-more ds e k given new kept.gifts spells put);
+      gifts = subst (λ (l : List Donation). AreGifts m l new) (sym items) (AreGifts-more m ds e k given new kept.gifts spells put);
       handles = kept.handles;
       separate = kept.separate;
       named = kept.named;
     }
+
+-- ---- pages get the number of what is said of them
+
+pub IsKept-numbered : (m : ManifestRows) (ds : List Donation) (live : List Live) (given shared new : List Span) → IsKept m ds live given shared → AreGifts m ds new → IsKept m ds live new shared
+IsKept-numbered m ds live given shared new kept are = record {
+  gifts = are;
+  handles = kept.handles;
+  separate = kept.separate;
+  named = kept.named;
+}

@@ -86,7 +86,7 @@ fn is_sharable(region: Option<&Region>) -> bool
 }
 
 /// The number of the page after the last of the region of a page; outside all regions, of the next page.
-fn end_of_region(manifest: &Manifest, region: Option<&Region>, page: Page) -> u32
+pub(crate) fn end_of_region(manifest: &Manifest, region: Option<&Region>, page: Page) -> u32
     requires { option_map (λ r. r.now) region ≡ rows.region_at manifest.now page }
     ensures behind { page < result }
     ensures in_range { result ≤ 2 ^ 27 }

@@ -1,18 +1,19 @@
 ghost use Rattle.std.specs.Prelude.{◌≡◌, ◌==◌, ◌++◌, ◌∷◌, [], ◌≤◌, ◌<◌, ◌^◌, ℕ, None, Some, true, is_some, length, filter, OnOk};
-ghost use Rattle.std.specs.Option.{option_map, option_map_or, option_and_then};
-ghost use Rattle.base.specs.Manifest.{granted_in};
-ghost use Rattle.base.specs.Pages.{covers};
+ghost use Rattle.std.specs.Option.{option_map};
+ghost use Rattle.base.specs.Pages.{in_run, covers};
 ghost use Rattle.base.specs.Ledger as rules;
 ghost use Rattle.base.specs.declared.transaction.Kind.TheVariants.{Donate};
 ghost use Rattle.spans.specs.Spans.{room_for};
 ghost use Rattle.ledger.specs.Ledger as spec;
 ghost use Rattle.ledger.specs.Changes as changes;
-ghost use Rattle.ledger.specs.Gifts.{gift};
+ghost use Rattle.ledger.specs.Gifts as gifts;
+ghost use Rattle.ledger.specs.Gifts.{Says};
 
 use crate::donation::Donation;
+use crate::free::end_of_region;
 use crate::gift::Gift;
 use crate::live::{self, Live, place_of, put_in, set_retrieved};
-use base::{Access, Handle, Kind, OutOfMemory, Page, PartitionId};
+use base::{Access, Handle, Kind, OutOfMemory, Page, PartitionId, Run};
 use manifest::{Manifest, Region};
 use spans::Spans;
 use std::alloc::Global;
@@ -21,7 +22,7 @@ use std::marker::Model;
 /// What the donations and the live transactions say of pages that follow one another.
 #[derive(Clone, Copy)]
 pub(crate) struct Listed {
-    /// What the last donation that covers them gave.
+    /// What their number spells, if they have one.
     pub(crate) gift: Option<Gift>,
     /// Whether a live transaction covers them.
     pub(crate) is_live: bool,
@@ -29,9 +30,18 @@ pub(crate) struct Listed {
     pub(crate) end: u32,
 }
 
+/// What is said of pages that follow one another, as what a donation gives.
+#[derive(Clone, Copy)]
+struct Said {
+    run: Run,
+    gift: Gift,
+}
+
 /// The manifest, the completed donations in order, and the live transactions, in ascending order of
 /// their handles. No two of these share a page or a handle, and each handle has its sender in its high
-/// half. A page, a handle and a sender's transactions are looked up by halving.
+/// half. A page, a handle and a sender's transactions are looked up by halving. Once a donation has been
+/// opened, pages get a number in `given` that spells their owner and what they are to it, those of the first
+/// `numbered` regions and those that were donated.
 #[derive(Drop)]
 pub struct Ledger {
     manifest: Manifest,
@@ -39,6 +49,7 @@ pub struct Ledger {
     live: Vec<Live>,
     given: Spans,
     shared: Spans,
+    numbered: usize,
 }
 
 impl Model for Ledger {
@@ -60,7 +71,7 @@ impl Model for Ledger {
       };
     } };
 
-    ghost invariant = { λ l. IsKept l.donations.items l.live.items l.given.spans l.shared.spans };
+    ghost invariant = { λ l. IsKept l.manifest l.donations.items l.live.items l.given.spans l.shared.spans };
 }
 
 impl Ledger {
@@ -70,12 +81,14 @@ impl Ledger {
         ensures donations { result.donations ≡ [] }
         ensures live { result.live ≡ [] }
     {
+        let numbered = manifest.regions().len();
         Ledger {
             manifest,
             donations: Vec::new(alloc),
             live: Vec::new(alloc),
             given: Spans::new(alloc),
             shared: Spans::new(alloc),
+            numbered,
         }
     }
 
@@ -100,9 +113,9 @@ impl Ledger {
         &self.live
     }
 
-    /// What the last donation that covers a page gave.
+    /// What the number of a page spells, if it has one.
     fn gift_at(&self, page: Page) -> Option<Gift>
-        ensures { result ≡ option_map gift (rules.donation_at self.now.donations page) }
+        ensures { Says self.now.manifest self.now.donations page result }
     {
         self.given.get(page).map(Gift::from_number)
     }
@@ -128,8 +141,8 @@ impl Ledger {
     pub(crate) fn listed(&self, page: Page) -> Listed
         ensures behind { page < result.end }
         ensures in_range { result.end ≤ 2 ^ 27 }
-        ensures donations { (n : ℕ) → page ≤ n → n < result.end
-            → option_map gift (rules.donation_at self.now.donations n) ≡ result.gift }
+        ensures gift { (n : ℕ) → page ≤ n → n < result.end
+            → Says self.now.manifest self.now.donations n result.gift }
         ensures live { (n : ℕ) → page ≤ n → n < result.end
             → is_some (rules.live_at self.now.live n) ≡ result.is_live }
     {
@@ -162,11 +175,55 @@ impl Ledger {
         ensures same { spec.IsSameButRoom self.old self.new }
         ensures room { OnOk result (spec.IsReady runs self.new.room) }
     {
+        self.number_regions()?;
         self.donations.reserve(1)?;
         self.live.reserve(1)?;
         self.given.ready(runs)?;
         self.shared.ready(runs)?;
         Ok(())
+    }
+
+    /// Gives the pages of all regions a number, once a donation has been opened: from then on pages that are
+    /// the same to the same owner have the same number, whether they were donated or not.
+    fn number_regions(&mut self) -> Result<(), OutOfMemory>
+        ensures { spec.IsSameButRoom self.old self.new }
+    {
+        for place in self.numbered..self.manifest.regions().len() {
+            self.given.ready(1)?;
+            let first = self.manifest.regions()[place].pages().first();
+            self.number_pages(first);
+            self.numbered = place + 1;
+        }
+        Ok(())
+    }
+
+    /// Gives a page, and those behind it of which the same is said, the number of that.
+    fn number_pages(&mut self, page: Page)
+        requires { room_for 1 ≤ self.old.room.given }
+        ensures { spec.IsSameButRoom self.old self.new }
+    {
+        if let Some(said) = self.said_from(page) {
+            self.given.put(said.run, said.gift.number());
+        }
+    }
+
+    /// A page and those behind it of which the same is said, as what a donation gives; None where the page
+    /// has no owner, or is nothing to it.
+    fn said_from(&self, page: Page) -> Option<Said>
+        ensures { (said : _) → result ≡ Some said → (n : ℕ) → in_run said.run n ≡ true
+            → Says self.now.manifest self.now.donations n (Some said.gift) }
+    {
+        let given = self.given.segment_at(page);
+        let gift = given.value.map(Gift::from_number);
+        let region = self.manifest.region_at(page);
+        let end = given.end.min(end_of_region(&self.manifest, region, page));
+        let (taker, access) = (owner_by(gift, region), home_by(gift, region));
+        let gift = Gift {
+            taker: taker?,
+            access: access?,
+        };
+        let run = Run::new(page, end - page.number());
+        Some(Said { run, gift })
     }
 
     /// Adds a live transaction. This takes no memory.
@@ -180,9 +237,19 @@ impl Ledger {
         ensures donations { self.new.donations ≡ self.old.donations }
         ensures live { self.new.live ≡ changes.with_live transaction self.old.live }
     {
+        self.numbered = self.numbered_with(transaction.terms.kind);
         self.shared
             .put_all(&transaction.terms.ranges, transaction.handle.bits());
         put_in(&mut self.live, transaction);
+    }
+
+    /// Before which region all have numbers, or need none, when a transaction of this kind is opened.
+    fn numbered_with(&self, kind: Kind) -> usize {
+        if matches!(kind, Kind::Donate) && self.given.is_empty() {
+            0
+        } else {
+            self.numbered
+        }
     }
 
     /// Sets what a receiver has retrieved of the transaction of a handle.
@@ -276,10 +343,9 @@ impl Ledger {
     }
 }
 
-/// The owner of a page, by what the last donation that covers it gave and by its region.
+/// The owner of a page, by what its number spells, if it has one, and by its region.
 pub(crate) fn owner_by(gift: Option<Gift>, region: Option<&Region>) -> Option<PartitionId>
-    ensures { result ≡ option_map_or (λ g. Some g.taker) gift
-        (option_map (λ r. r.owner) (option_map (λ r. r.now) region.entry)) }
+    ensures { result ≡ gifts.owner_by gift (option_map (λ r. r.now) region.entry) }
 {
     match gift {
         Some(gift) => Some(gift.taker),
@@ -287,10 +353,9 @@ pub(crate) fn owner_by(gift: Option<Gift>, region: Option<&Region>) -> Option<Pa
     }
 }
 
-/// What a page is to its owner, by what the last donation that covers it gave and by its region.
+/// What a page is to its owner, by what its number spells, if it has one, and by its region.
 pub(crate) fn home_by(gift: Option<Gift>, region: Option<&Region>) -> Option<Access>
-    ensures { result ≡ option_map_or (λ g. Some g.access) gift
-        (option_and_then (λ r. granted_in r r.owner) (option_map (λ r. r.now) region.entry)) }
+    ensures { result ≡ gifts.home_by gift (option_map (λ r. r.now) region.entry) }
 {
     match gift {
         Some(gift) => Some(gift.access),

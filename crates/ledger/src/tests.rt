@@ -210,3 +210,15 @@ fn lend_comes_and_goes(rt: HostRuntime) -> Result<(), Fail> {
     );
     Ok(())
 }
+
+#[test]
+fn page_that_came_back_is_as_those_that_stayed(rt: HostRuntime) -> Result<(), Fail> {
+    let mut ledger = common_ledger(rt.alloc())?;
+    let page = run(&rt, 0x8_0001, 1);
+    let code = Access::normal(Rights::Rw, true);
+    donate(&mut ledger, rt.alloc(), [FIRST, SECOND], page, code)?;
+    segments(&rt, &ledger, &[(0x8_0000, false, 0x8_0001)]);
+    donate(&mut ledger, rt.alloc(), [SECOND, FIRST], page, code)?;
+    segments(&rt, &ledger, &[(0x8_0000, false, 0x8_0400)]);
+    Ok(())
+}

@@ -23,6 +23,6 @@ push_reserved-requires c =
 
 pub invariant_of-self : goal.invariant_of-self
 invariant_of-self c =
-    IsKept-complete c.self.inside.donations.items c.push_reserved.new.self.items c.self.inside.live.items c.self.inside.given.spans c.self.inside.shared.spans c.put_all.new.self.spans
+    IsKept-complete c.self.inside.manifest c.self.inside.donations.items c.push_reserved.new.self.items c.self.inside.live.items c.self.inside.given.spans c.self.inside.shared.spans c.put_all.new.self.spans
     (record { ranges = c.into_inner-terms.result.ranges.items; giver = c.into_inner-terms.result.sender; taker = c.args.p; access = c.args.access }) c.deref.result.now c.number.result
     c.self.invariant c.number.ensures c.deref.ensures.value c.put_all.ensures c.push_reserved.ensures.items

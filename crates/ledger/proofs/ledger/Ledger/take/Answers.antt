@@ -38,7 +38,7 @@ pub invariant_of-self : goal.invariant_of-self
 invariant_of-self c =
     let place = IsPlace-in c.self.inside.live.items c.deref.result.now c.args.handle c.in_ok-place.place c.place_of.result c.deref.ensures.value c.place_of.ensures c.in_ok-place.was in
     let is = found_at c.self.inside.live.items c.args.handle c.in_ok-place.place c.remove-transaction.result place c.remove-transaction.ensures.value in
-    IsKept-close c.self.inside.donations.items c.self.inside.live.items c.remove-transaction.new.self.items c.self.inside.given.spans c.self.inside.shared.spans c.cut_all.new.self.spans
+    IsKept-close c.self.inside.manifest c.self.inside.donations.items c.self.inside.live.items c.remove-transaction.new.self.items c.self.inside.given.spans c.self.inside.shared.spans c.cut_all.new.self.spans
     c.args.handle c.in_ok-place.place c.remove-transaction.result c.deref-3.result.now c.self.invariant place is
     (c.deref-3.ensures.value ∙ ap (λ (t : Terms). t.ranges.items) c.deref-2.ensures ∙ ap (λ (t : Live). t.ranges) c.transaction.view_is) c.cut_all.ensures c.remove-transaction.ensures.items
 
