@@ -34,6 +34,32 @@ either : (a b c : Bool) (v : ℕ) (w : Option ℕ) → c ≡ (a || b) → cond a
 either true b c v w e = rw e refl
 either false b c v w e = rw e refl
 
+-- ---- where pages that have the number get it
+
+one_of : (b : Bool) (v : ℕ) → Some v ≡ cond b (Some v) (Some v)
+one_of true v = refl
+one_of false v = refl
+
+turned : (a b : Bool) → (a || b) ≡ (b || a)
+turned true true = refl
+turned true false = refl
+turned false true = refl
+turned false false = refl
+
+either_same : (a b c : Bool) (v : ℕ) (w : Option ℕ) → c ≡ (a || b) → (a ≡ true → w ≡ Some v) → cond c (Some v) w ≡ cond b (Some v) w
+either_same true b c v w e has = rw (e, has refl) (one_of b v)
+either_same false b c v w e has = rw e refl
+
+module _ (j s t : Span) (one : AreOne j s t) (n : ℕ) (w : Option ℕ) where
+  is : in_run j.run n ≡ (in_run s.run n || in_run t.run n)
+  is = grind (arith, nat_tests, one.first, one.touch, one.end)
+
+  pub same_with_first : (in_run s.run n ≡ true → w ≡ Some s.value) → cond (in_run j.run n) (Some t.value) w ≡ cond (in_run t.run n) (Some t.value) w
+  same_with_first has = either_same (in_run s.run n) (in_run t.run n) (in_run j.run n) t.value w is (λ h. has h ∙ ap (λ (v : ℕ). Some v) (one.same_first ∙ sym one.same_next))
+
+  pub same_with_next : (in_run t.run n ≡ true → w ≡ Some t.value) → cond (in_run j.run n) (Some s.value) w ≡ cond (in_run s.run n) (Some s.value) w
+  same_with_next has = either_same (in_run t.run n) (in_run s.run n) (in_run j.run n) s.value w (is ∙ turned (in_run s.run n) (in_run t.run n)) (λ h. has h ∙ ap (λ (v : ℕ). Some v) (one.same_next ∙ sym one.same_first))
+
 module _ (j s t : Span) (one : AreOne j s t) (ys : List Span) where
   pub value_at-one : (n : ℕ) → value_at (j ∷ ys) n ≡ value_at (s ∷ t ∷ ys) n
   value_at-one n =

@@ -3,10 +3,10 @@ use Rattle.std.proofs.Common.{◌≡◌, ℕ, suc, ◌+◌, ◌<◌, ◌≤◌, 
 use Rattle.std.specs.List.{insert, remove}
 use Rattle.std.proofs.Math.Seq.{drop-cons}
 use Rattle.std.proofs.lemmas.List.{take-append-drop, take_all}
-use Rattle.base.specs.Pages.{PageRun}
-use Rattle.spans.specs.Spans.{Span, end_of, ascend, end_from}
+use Rattle.base.specs.Pages.{PageRun, in_run}
+use Rattle.spans.specs.Spans.{Span, value_at, end_of, ascend, end_from}
 use Rattle.spans.specs.Edits.{all_before, all_from, replaced}
-use Rattle.spans.proofs.Ascending.{Begins, begins, far, ascend-cons, ascend-left, ascend-right, end_from-take}
+use Rattle.spans.proofs.Ascending.{Begins, begins, far, ascend-cons, ascend-left, ascend-right, end_from-take, value_at-here}
 use Rattle.spans.proofs.Cutting.{no_right}
 use Rattle.spans.proofs.Parting.{all_before-append, all_before-above, all_before-below, all_from-append, all_from-above, all_from-below}
 
@@ -49,6 +49,13 @@ module _ (ss : List Span) (i : ℕ) (h : ascend 0 ss ≡ true) where
 
     pub some_at : 0 < (get_or ss i d).run.count
     some_at = here.some
+
+    -- its pages have its number
+    pub value_at_place : (n : ℕ) → in_run (get_or ss i d).run n ≡ true → value_at ss n ≡ Some (get_or ss i d).value
+    value_at_place n is =
+        let s = get_or ss i d in
+        let whole : ss ≡ take i ss ++ s ∷ drop (suc i) ss = parted ∙ ap (λ l. take i ss ++ l) next in
+        ap (λ l. value_at l n) whole ∙ value_at-here (take i ss) (drop (suc i) ss) s n (ap (ascend 0) (sym whole) ∙ h) is
 
     pub above_at : (e : ℕ) → e ≤ (get_or ss i d).run.first → ascend e (drop i ss) ≡ true
     above_at e le = rw next (ascend-cons e (get_or ss i d) (drop (suc i) ss) le here.some here.rest)

@@ -83,7 +83,8 @@ impl Spans {
         Ok(())
     }
 
-    /// Gives all pages of a run this number; other pages keep theirs. This takes no memory.
+    /// Gives all pages of a run this number; other pages keep theirs. This takes no memory. No interval moves more
+    /// than once, unless the run shares pages with one of this number.
     pub fn put(&mut self, run: Run, value: u64)
         requires { spec.room_for 1 ≤ self.old.room }
         ensures at { (n : _) → spec.value_at self.new.spans n
@@ -93,7 +94,8 @@ impl Spans {
         edit::put(&mut self.spans, Span { run, value });
     }
 
-    /// Takes the numbers of all pages of a run away; other pages keep theirs. This takes no memory.
+    /// Takes the numbers of all pages of a run away; other pages keep theirs. This takes no memory. No interval
+    /// moves more than once.
     pub fn cut(&mut self, run: Run)
         requires { spec.room_for 1 ≤ self.old.room }
         ensures at { (n : _) → spec.value_at self.new.spans n
@@ -112,7 +114,7 @@ impl Spans {
             ≡ (if covers runs.now n then Some value else spec.value_at self.old.spans n) }
     {
         if 1 < runs.len() && order::sort(&mut self.sorted, runs) {
-            pass::set_all(&mut self.spans, &self.sorted, Some(value));
+            pass::set_all(&mut self.spans, &self.sorted, Some(value), runs.len());
             return;
         }
         for run in runs {
@@ -128,7 +130,7 @@ impl Spans {
             ≡ (if covers runs.now n then None else spec.value_at self.old.spans n) }
     {
         if 1 < runs.len() && order::sort(&mut self.sorted, runs) {
-            pass::set_all(&mut self.spans, &self.sorted, None);
+            pass::set_all(&mut self.spans, &self.sorted, None, 0);
             return;
         }
         let mut left = runs.len();

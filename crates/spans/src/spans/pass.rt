@@ -209,8 +209,8 @@ fn set(spans: &mut Vec<Span>, gap: Gap, run: Run, value: Option<u64>, places: us
     ensures capacity { vec_capacity spans.new ≡ vec_capacity spans.old }
 {
     let gap = pass(spans, gap, run, places);
-    let gap = add(spans, gap, span_of(run, value), places - 1);
-    end(spans, gap, run.first().number())
+    let gap = end(spans, gap, run.first().number());
+    add(spans, gap, span_of(run, value), places - 1)
 }
 
 /// The same, and where the run touches an interval with this number, the two become one.
@@ -236,10 +236,9 @@ fn set_joined(spans: &mut Vec<Span>, gap: Gap, run: Run, value: Option<u64>, pla
     join_behind(spans, gap)
 }
 
-/// Where nothing is done yet. There is a place for each of the runs where they get a number, so that those
-/// that share no page with an interval make the gap no wider.
-fn begin(spans: &mut Vec<Span>, runs: usize, value: Option<u64>) -> Gap
-    requires { vec_len spans.old + runs ≤ vec_capacity spans.old }
+/// Where nothing is done yet, with so many places.
+fn begin(spans: &mut Vec<Span>, places: usize) -> Gap
+    requires { vec_len spans.old + places ≤ vec_capacity spans.old }
     ensures left { around result spans.new.items ≡ spans.old.items }
     ensures done { drop result.back spans.new.items ≡ [] }
     ensures gap { result.front ≤ result.back }
@@ -252,17 +251,15 @@ fn begin(spans: &mut Vec<Span>, runs: usize, value: Option<u64>) -> Gap
         front: end,
         back: end,
     };
-    match value {
-        Some(_) => widen(spans, gap, runs),
-        None => gap,
-    }
+    widen(spans, gap, places)
 }
 
 /// Gives all pages of the runs this number, or none. Where a run touches an interval with this number, the two
-/// become one.
-pub(super) fn set_all(spans: &mut Vec<Span>, runs: &[Run], value: Option<u64>)
+/// become one. The gap has so many places at first.
+pub(super) fn set_all(spans: &mut Vec<Span>, runs: &[Run], value: Option<u64>, places: usize)
     requires ascending { spec.ascend 0 spans.old.items ≡ true }
     requires rise { rise 0 runs.now ≡ true }
+    requires places { places ≤ 2 * length runs.now }
     requires room { vec_len spans.old + 2 * length runs.now ≤ vec_capacity spans.old }
     ensures ascending { spec.ascend 0 spans.new.items ≡ true }
     ensures at { (n : ℕ) → spec.value_at spans.new.items n
@@ -271,7 +268,7 @@ pub(super) fn set_all(spans: &mut Vec<Span>, runs: &[Run], value: Option<u64>)
     ensures capacity { vec_capacity spans.new ≡ vec_capacity spans.old }
 {
     let mut left = runs.len();
-    let mut gap = begin(spans, left, value);
+    let mut gap = begin(spans, places);
     while 0 < left {
         left -= 1;
         gap = set_joined(spans, gap, runs[left], value, 2 * (left + 1));
