@@ -33,9 +33,9 @@ impl Model for Span {
     ghost inverse = { λ s. record { run = s.run; value = s.value } };
 }
 
-/// A map from pages to numbers: intervals of pages in ascending order, no two of which share a page. A run that
-/// is put beside pages of the same number makes one interval with them. Beside the intervals is memory in which
-/// runs are put in order.
+/// A map from pages to numbers: intervals of pages in ascending order, no two of which share a page. Runs that are
+/// put beside pages of their number, and share none with such, make one interval with them. Beside the intervals
+/// is memory in which runs are put in order.
 #[derive(Drop)]
 pub struct Spans {
     spans: Vec<Span>,
@@ -83,8 +83,8 @@ impl Spans {
         Ok(())
     }
 
-    /// Gives all pages of a run this number; other pages keep theirs. This takes no memory. No interval moves more
-    /// than once, unless the run shares pages with one of this number.
+    /// Gives all pages of a run this number; other pages keep theirs. This takes no memory. Where the run shares no
+    /// page with an interval of this number, and no two that touch have one number, none moves more than once.
     pub fn put(&mut self, run: Run, value: u64)
         requires { spec.room_for 1 ≤ self.old.room }
         ensures at { (n : _) → spec.value_at self.new.spans n
@@ -94,8 +94,8 @@ impl Spans {
         edit::put(&mut self.spans, Span { run, value });
     }
 
-    /// Takes the numbers of all pages of a run away; other pages keep theirs. This takes no memory. No interval
-    /// moves more than once.
+    /// Takes the numbers of all pages of a run away; other pages keep theirs. This takes no memory. Where no two
+    /// intervals that touch have one number, none moves more than once.
     pub fn cut(&mut self, run: Run)
         requires { spec.room_for 1 ≤ self.old.room }
         ensures at { (n : _) → spec.value_at self.new.spans n
@@ -107,7 +107,7 @@ impl Spans {
 
     /// Gives all pages of the runs this number; other pages keep theirs. This takes no memory. Runs that share
     /// no page are put in one pass, in which no interval moves more than three times. Where they share no page
-    /// with one, and touch none of this number, none moves twice.
+    /// with one, and touch neither each other nor one of this number, none moves twice.
     pub fn put_all(&mut self, runs: &[Run], value: u64)
         requires { spec.room_for (length runs.now) ≤ self.old.room }
         ensures { (n : ℕ) → spec.value_at self.new.spans n
