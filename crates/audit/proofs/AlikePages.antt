@@ -8,7 +8,7 @@ use Rattle.base.specs.Pages.{PageRun, covers}
 use Rattle.base.specs.Ledger.{donation_at}
 use Rattle.base.specs.Transactions.{Donation}
 use Rattle.spans.specs.Alike.{IsAlikeUntil}
-use Rattle.audit.specs.Alike.{AreWhole, Given, given_by, given_at}
+use Rattle.audit.specs.Alike.{AreWhole}
 
 pub whole-none : {A : Type 0} (has : A → ℕ → Bool) (items : List A) (page limit : ℕ) → page < limit → AreWhole has items 0 page limit limit
 whole-none has items page limit lt = record { behind = lt; inside = omega arith; whole = λ k n d small le under. absurd (omega (arith, small)) }
@@ -66,23 +66,8 @@ last_of : (b c : Bool) (d e : Donation) (o : Option Donation)
 last_of b true d e o = refl
 last_of b false d e o = refl
 
-donation_at-append : (ds : List Donation) (e : Donation) (n : ℕ) → donation_at (ds ++ e ∷ []) n ≡ cond (covers e.ranges n) (Some e) (donation_at ds n)
+pub donation_at-append : (ds : List Donation) (e : Donation) (n : ℕ) → donation_at (ds ++ e ∷ []) n ≡ cond (covers e.ranges n) (Some e) (donation_at ds n)
 donation_at-append [] e n = refl
 donation_at-append (d ∷ ds) e n =
     ap (λ (o : Option Donation). option_map_or (λ (x : Donation). Some x) o (cond (covers d.ranges n) (Some d) None)) (donation_at-append ds e n)
     ∙ last_of (covers d.ranges n) (covers e.ranges n) d e (donation_at ds n)
-
--- what is given by the first donations, and by one more
-pub given-more : (ds : List Donation) (i n : ℕ) (d : Donation) → i < length ds → d ≡ get_or ds i d → given_at (take (i + 1) ds) n ≡ cond (covers d.ranges n) (Some (given_by d)) (given_at (take i ds) n)
-given-more ds i n d lt is =
-    let more : take (i + 1) ds ≡ take i ds ++ d ∷ [] = take_more ds i d lt ∙ ap (λ x. take i ds ++ x ∷ []) (sym is) in
-    ap (λ (t : List Donation). given_at t n) more
-    ∙ ap (option_map given_by) (donation_at-append (take i ds) d n)
-    ∙ elim (covers d.ranges n) as (λ b. option_map given_by (cond b (Some d) (donation_at (take i ds) n)) ≡ cond b (Some (given_by d)) (option_map given_by (donation_at (take i ds) n))) [ true ↦ refl | false ↦ refl ]
-
-pub given-step : (ds : List Donation) (i n : ℕ) (d : Donation) (given next : Option Given) (b : Bool) (runs : List PageRun) (g : Given) → i < length ds → d ≡ get_or ds i d → runs ≡ d.ranges → g ≡ given_by d → b ≡ covers runs n → given ≡ given_at (take i ds) n → next ≡ cond b (Some g) given → next ≡ given_at (take (i + 1) ds) n
-given-step ds i n d given next b runs g lt is same_runs same_given covered so now =
-    now ∙ ap (λ c. cond c (Some g) given) (covered ∙ ap (λ r. covers r n) same_runs)
-    ∙ ap (λ x. cond (covers d.ranges n) (Some x) given) same_given
-    ∙ ap (λ o. cond (covers d.ranges n) (Some (given_by d)) o) so
-    ∙ sym (given-more ds i n d lt is)

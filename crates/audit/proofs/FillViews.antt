@@ -19,6 +19,8 @@ use Rattle.stage2.specs.Walk.{walked}
 use Rattle.stage2.specs.declared.walked.Walked.TheVariants.{None as Unmapped}
 use Rattle.audit.specs.Alike.{IsSegment}
 use Rattle.audit.specs.Filling.{views, KeepsOthers, IsFilled, AreFilled}
+use Rattle.rules.specs.Laws.OneOwner.{AreAllApart}
+use Rattle.rules.proofs.Laws.OneOwner.{owned_once}
 use Rattle.audit.specs.Laws.{AreOfReached}
 use Rattle.audit.proofs.FillUpward.{below-in}
 use Rattle.audit.proofs.Quotas.{within_quotas, need-same, none-needed}
@@ -110,3 +112,23 @@ module _ (m : ManifestRows) (ds : List Donation) (live : List Live) where
           let outside : ltb (row_of (ids_of m.partitions) p) i ≡ false = grind (arith, nat_tests) in
           rw outside (ap (walked n) (sym (stranger-view p n small (no_quota m.partitions p (let count = length-map m.partitions (λ (row : PartitionRow). row.id) in omega (arith, le, end, count))))))
     ]
+
+-- what is filled by the same lists
+pub filled-same : (m n : ManifestRows) (ds es : List Donation) (live others : List Live) (p : ℕ) (t : TablesView) → m ≡ n → ds ≡ es → live ≡ others → IsFilled (view m ds live p) p t → IsFilled (view n es others p) p t
+filled-same m n ds es live others p t same_rows same_donations same_live =
+    subst (λ (v : ℕ → View). IsFilled v p t)
+    (ap (λ (x : ManifestRows). view x ds live p) same_rows ∙ (ap (λ (x : List Donation). view n x live p) same_donations ∙ ap (λ (x : List Live). view n es x p) same_live))
+
+-- the lists of a reached state, by other names
+pub reached-same : (m n : ManifestRows) (ds es : List Donation) (live others : List Live) → n ≡ m → es ≡ ds → others ≡ live → AreOfReached m ds live → AreOfReached n es others
+reached-same m n ds es live others same_rows same_donations same_live so = record {
+  state = so.state;
+  reached = so.reached;
+  of_manifest = so.of_manifest ∙ sym same_rows;
+  of_donations = so.of_donations ∙ sym same_donations;
+  of_live = so.of_live ∙ sym same_live;
+}
+
+-- no two live transactions of a reached state share a page
+pub all-apart : (m : ManifestRows) (ds : List Donation) (live : List Live) → AreOfReached m ds live → AreAllApart live
+all-apart m ds live so = subst AreAllApart so.of_live (owned_once so.state so.reached).apart

@@ -3,6 +3,7 @@ pub mod EachBelow
 pub mod EntryRuns
 pub mod FillUpward
 pub mod FillViews
+pub mod ListPlaces
 pub mod MaximalRuns
 pub mod OwnedRuns
 pub mod Padding

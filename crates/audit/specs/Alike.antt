@@ -1,7 +1,7 @@
 -- How far the pages behind a page are like it, by the lists of a state.
 use Rattle.std.specs.Prelude.{◌≡◌, ℕ, ◌<◌, ◌≤◌, ◌^◌, Bool, List, Option, slice_index_or}
-use Rattle.std.specs.Option.{option_map}
-use Rattle.base.specs.Access.{Access}
+use Rattle.std.specs.List.{slice_get}
+use Rattle.std.specs.Option.{option_and_then}
 use Rattle.base.specs.Ledger.{donation_at, live_at}
 use Rattle.base.specs.Manifest.{ManifestRows, region_at}
 use Rattle.base.specs.Transactions.{Donation, Live}
@@ -21,14 +21,6 @@ pub record AreWhole {A : Type 0} (has : A → ℕ → Bool) (items : List A) (co
   pub whole : (k n : ℕ) (d : A) → k < count → page ≤ n → n < end
       → has (slice_index_or items k d) n ≡ has (slice_index_or items k d) page
 
--- the taker of a donation, and what it retrieved
-pub record Given : Type 0 where
-  pub taker : ℕ
-  pub access : Access
-
-abbrev pub given_by : Donation → Given
-given_by d = record { taker = d.taker; access = d.access }
-
--- what the last donation that covers a page gave
-abbrev pub given_at : List Donation → ℕ → Option Given
-given_at ds n = option_map given_by (donation_at ds n)
+-- what stands at a place of a list, if a place is named
+abbrev pub at_place : {A : Type 0} → List A → Option ℕ → Option A
+at_place items place = option_and_then (slice_get items) place

@@ -7,6 +7,7 @@ mod alike;
 mod audited;
 mod check;
 mod entries;
+mod lists;
 mod maps;
 mod owners;
 mod rebuilt;

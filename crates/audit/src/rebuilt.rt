@@ -14,7 +14,8 @@ ghost use Rattle.stage2.specs.declared.walked.Walked.TheVariants.{None as Unmapp
 ghost use Rattle.audit.specs.Filling as spec;
 ghost use Rattle.audit.specs.Laws.{AreOfReached};
 
-use crate::alike::{is_same, segment_end, view_at};
+use crate::alike::is_same;
+use crate::lists::Lists;
 use base::{Access, OutOfMemory, Page, PartitionId, Run};
 use ledger::{Donation, Live};
 use manifest::Manifest;
@@ -36,9 +37,10 @@ pub fn rebuild(
         (λ t. AllWalksAre t.layout (rules.view manifest.now donations.now live.now) t.pool) }
     ensures canonical { IfOk result (λ t. AreCanonical t) }
 {
+    let lists = Lists::new(alloc, manifest, donations, live)?;
     let mut tables = Tables::empty(alloc, manifest)?;
     for partition in manifest.partitions() {
-        map_views(&mut tables, manifest, donations, live, partition.id)?;
+        map_views(&mut tables, &lists, partition.id)?;
     }
     Ok(tables)
 }
@@ -46,33 +48,31 @@ pub fn rebuild(
 /// Maps what a partition reaches, of which nothing is mapped.
 fn map_views(
     tables: &mut Tables<ListPool>,
-    manifest: &Manifest,
-    donations: &[Donation],
-    live: &[Live],
+    lists: &Lists<'_>,
     p: PartitionId,
 ) -> Result<(), OutOfMemory>
-    requires reached { AreOfReached manifest.now donations.now live.now }
-    requires placed { tables.old.layout ≡ layout_of manifest.now }
+    requires reached { AreOfReached lists.now.manifest.now lists.now.donations.now lists.now.live.now }
+    requires placed { tables.old.layout ≡ layout_of lists.now.manifest.now }
     requires canonical { AreCanonical tables.old }
     requires unmapped { (n : ℕ) → n < 2 ^ 27 → walk_in tables.old p n ≡ Unmapped }
-    ensures placed { OnOk result (tables.new.layout ≡ layout_of manifest.now) }
+    ensures placed { OnOk result (tables.new.layout ≡ layout_of lists.now.manifest.now) }
     ensures canonical { OnOk result (AreCanonical tables.new) }
     ensures others { OnOk result (spec.KeepsOthers p tables.old tables.new) }
-    ensures walks { OnOk result
-        (spec.IsFilled (rules.view manifest.now donations.now live.now p) p tables.new) }
+    ensures walks { OnOk result (spec.IsFilled
+        (rules.view lists.now.manifest.now lists.now.donations.now lists.now.live.now p) p tables.new) }
 {
     let mut first = 0;
     let mut access = None;
     let mut number = 0;
     while number < Page::COUNT {
         let page = Page::new(number);
-        let next = view_at(manifest, donations, live, p, page);
+        let next = lists.view_at(p, page);
         if !is_alike(&access, &next) {
             map_pending(tables, p, first, number, access)?;
             first = number;
             access = next;
         }
-        number = segment_end(manifest, donations, live, page);
+        number = lists.segment_end(page);
     }
     map_pending(tables, p, first, number, access)
 }

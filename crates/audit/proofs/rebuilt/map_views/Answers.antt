@@ -12,29 +12,29 @@ use Rattle.audit.proofs.rebuilt.map_views.Goals.{then-not-is_alike+in_ok-map_pen
 
 pub map_pending-requires-clause-fits : goal.map_pending-requires-clause-fits
 map_pending-requires-clause-fits c = λ a is.
-    let m = c.args.manifest.now in
-    let seen = views m c.args.donations.now c.args.live.now c.args.p in
+    let m = c.args.lists.now.manifest.now in
+    let seen = views m c.args.lists.now.donations.now c.args.lists.now.live.now c.args.p in
     let l = c.loop-number in
-    let here : seen l.number ≡ c.view_at-next.result = below-in (view m c.args.donations.now c.args.live.now c.args.p) (2 ^ 27) l.number c.loop-number-test.true
-    ∙ ap (view m c.args.donations.now c.args.live.now c.args.p) (sym c.new-page.ensures) ∙ sym c.view_at-next.ensures in
+    let here : seen l.number ≡ c.view_at-next.result = below-in (view m c.args.lists.now.donations.now c.args.lists.now.live.now c.args.p) (2 ^ 27) l.number c.loop-number-test.true
+    ∙ ap (view m c.args.lists.now.donations.now c.args.lists.now.live.now c.args.p) (sym c.new-page.ensures) ∙ sym c.view_at-next.ensures in
     let unlike : is_alike l.access (seen l.number) ≡ false = ap (is_alike l.access) here ∙ sym c.is_alike.ensures ∙ c.if-not-is_alike.true in
     can-map m seen c.args.p l.first l.number l.access l.tables l.invariant.filling a is
-    (edge-between m seen c.args.p l.first l.number l.access l.tables l.invariant.filling unlike) (views-fit m c.args.donations.now c.args.live.now c.requires.reached c.args.p)
+    (edge-between m seen c.args.p l.first l.number l.access l.tables l.invariant.filling unlike) (views-fit m c.args.lists.now.donations.now c.args.lists.now.live.now c.requires.reached c.args.p)
 
 pub map_pending-requires-2-clause-fits : goal.map_pending-requires-2-clause-fits
 map_pending-requires-2-clause-fits c = λ a is.
-    let m = c.args.manifest.now in
-    let all = view m c.args.donations.now c.args.live.now c.args.p in
-    let seen = views m c.args.donations.now c.args.live.now c.args.p in
+    let m = c.args.lists.now.manifest.now in
+    let all = view m c.args.lists.now.donations.now c.args.lists.now.live.now c.args.p in
+    let seen = views m c.args.lists.now.donations.now c.args.lists.now.live.now c.args.p in
     let l = c.loop-number in
     can-map m seen c.args.p l.first l.number l.access l.tables l.invariant.filling a is
-    (edge-last m all c.args.p l.first l.number l.access a l.tables l.invariant.filling c.loop-number-test.false is) (views-fit m c.args.donations.now c.args.live.now c.requires.reached c.args.p)
+    (edge-last m all c.args.p l.first l.number l.access a l.tables l.invariant.filling c.loop-number-test.false is) (views-fit m c.args.lists.now.donations.now c.args.lists.now.live.now c.requires.reached c.args.p)
 
 pub loop-number-preserved : goal.loop-number-preserved
 loop-number-preserved c =
-    let m = c.args.manifest.now in
-    let ds = c.args.donations.now in
-    let live = c.args.live.now in
+    let m = c.args.lists.now.manifest.now in
+    let ds = c.args.lists.now.donations.now in
+    let live = c.args.lists.now.live.now in
     let p = c.args.p in
     let seen = views m ds live p in
     let l = c.loop-number in
@@ -68,15 +68,15 @@ loop-number-preserved c =
 
 pub returns-clause-walks : goal.returns-clause-walks
 returns-clause-walks c =
-    let m = c.args.manifest.now in
-    let all = view m c.args.donations.now c.args.live.now c.args.p in
+    let m = c.args.lists.now.manifest.now in
+    let all = view m c.args.lists.now.donations.now c.args.lists.now.live.now c.args.p in
     let l = c.loop-number in
     on_ok_weaker _ (λ reach. filled m all c.args.p l.first l.number l.access l.tables c.map_pending-2.new.tables l.invariant.filling c.loop-number-test.false reach) c.map_pending-2.ensures.walks
 
 pub returns-clause-others : goal.returns-clause-others
 returns-clause-others c =
-    let m = c.args.manifest.now in
-    let seen = views m c.args.donations.now c.args.live.now c.args.p in
+    let m = c.args.lists.now.manifest.now in
+    let seen = views m c.args.lists.now.donations.now c.args.lists.now.live.now c.args.p in
     let l = c.loop-number in
     on_ok_weaker _ (λ reach. others-more c.args.p c.args.tables.now l.tables c.map_pending-2.new.tables l.invariant.others
     (others m seen c.args.p l.first l.number l.access l.tables l.invariant.filling c.map_pending-2.new.tables reach)) c.map_pending-2.ensures.walks

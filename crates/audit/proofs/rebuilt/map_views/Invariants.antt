@@ -5,7 +5,7 @@ use Rattle.audit.proofs.rebuilt.map_views.Given as goal
 -- the pages below the pending ones are mapped
 abbrev pub invariant-loop-number : goal.invariant-loop-number
 invariant-loop-number l = record {
-  filling : IsFilling l.manifest (views l.manifest l.donations l.live l.p) l.p l.first l.number l.access l.tables;
+  filling : IsFilling l.lists.manifest.now (views l.lists.manifest.now l.lists.donations.now l.lists.live.now l.p) l.p l.first l.number l.access l.tables;
   others : KeepsOthers l.p l.fn.tables l.tables;
 }
 

@@ -1,8 +1,18 @@
-use Rattle.std.proofs.Common.{◌≡◌, ◌<◌, List, length, get_or, ap, subst, arith}
+use Rattle.std.proofs.Common.{◌≡◌, ◌<◌, List, length, get_or, ap, subst, ◌∙◌, arith}
 use Rattle.base.specs.Manifest.{PartitionRow}
 use Rattle.manifest.proofs.Facts.{facts}
-use Rattle.audit.proofs.FillViews.{filled-none, not-filled, filled-more, filled-all}
+use Rattle.stage2.specs.Slot.{layout_of}
+use Rattle.audit.proofs.FillViews.{filled-none, not-filled, filled-more, filled-all, filled-same, reached-same, all-apart}
 use Rattle.audit.proofs.rebuilt.rebuild.Goals as goal
+
+pub new-requires : goal.new-requires
+new-requires c = all-apart c.args.manifest.now c.args.donations.now c.args.live.now c.requires.reached
+
+pub map_views-requires-clause-reached : goal.map_views-requires-clause-reached
+map_views-requires-clause-reached c =
+    let lists = c.in_ok-lists.lists in
+    let so = c.in_ok-lists.ensures in
+    reached-same c.args.manifest.now lists.manifest.now c.args.donations.now lists.donations.now c.args.live.now lists.live.now so.manifest so.donations so.live c.requires.reached
 
 pub loop-partition-init : goal.loop-partition-init
 loop-partition-init c = filled-none c.args.manifest.now c.args.donations.now c.args.live.now c.in_ok-tables.tables c.in_ok-tables.ensures.layout c.in_ok-tables.ensures.canonical c.in_ok-tables.ensures.unmapped
@@ -28,7 +38,11 @@ loop-partition-preserved c =
     let is : item ≡ get_or m.partitions i item = subst (λ (xs : List PartitionRow). item ≡ get_or xs i item) same c.partition-item.is in
     let id : c.partition.inside.id ≡ item.id = ap (λ (x : PartitionRow). x.id) c.partition.view_is in
     let e = c.in_ok-map_views.ensures in
-    filled-more m c.args.donations.now c.args.live.now c.requires.reached i c.partition.inside.id item c.loop-partition.tables c.map_views.new.tables (facts m c.partitions-partition-items.ensures.valid) lt is id c.loop-partition.invariant e.placed e.canonical e.others e.walks
+    let lists = c.in_ok-lists.lists in
+    let so = c.in_ok-lists.ensures in
+    filled-more m c.args.donations.now c.args.live.now c.requires.reached i c.partition.inside.id item c.loop-partition.tables c.map_views.new.tables (facts m c.partitions-partition-items.ensures.valid) lt is id c.loop-partition.invariant
+    (e.placed ∙ ap layout_of so.manifest) e.canonical e.others
+    (filled-same lists.manifest.now m lists.donations.now c.args.donations.now lists.live.now c.args.live.now c.partition.inside.id c.map_views.new.tables so.manifest so.donations so.live e.walks)
 
 pub returns-clause-agrees : goal.returns-clause-agrees
 returns-clause-agrees c =

@@ -1,0 +1,78 @@
+-- Places in lists, by page: of the last donation that covers it, and of the live transaction that does.
+use Rattle.std.proofs.Common.{◌≡◌, ℕ, zero, suc, ◌+◌, ◌<◌, Bool, true, false, cond, List, [], ◌∷◌, ◌++◌, length, take, get_or, Option, Some, None, find, refl, sym, ap, ◌∙◌, arith}
+use Rattle.std.specs.List.{slice_get, AllByRecursion}
+use Rattle.std.specs.Option.{option_or}
+use Rattle.std.proofs.lemmas.List.{take_more}
+use Rattle.std.proofs.lemmas.List.Folds.{find-append}
+use Rattle.base.specs.Pages.{covers}
+use Rattle.base.specs.Ledger.{donation_at, live_at}
+use Rattle.base.specs.Transactions.{Donation, Live}
+use Rattle.rules.specs.Laws.OneOwner.{AreApart, AreAllApart}
+use Rattle.audit.specs.Alike.{at_place}
+use Rattle.audit.proofs.AlikePages.{donation_at-append}
+
+got : {A : Type 0} (items : List A) (i : ℕ) (x : A) → i < length items → x ≡ get_or items i x → slice_get items i ≡ Some x
+got [] i x lt is = absurd (omega arith)
+got (y ∷ ys) zero x lt is = ap (λ z. Some z) (sym is)
+got (y ∷ ys) (suc i) x lt is = got ys i x (omega arith) is
+
+-- the place of an item, or another one
+at-cond : {A : Type 0} (items : List A) (i : ℕ) (x : A) (b : Bool) (place : Option ℕ) → i < length items → x ≡ get_or items i x → at_place items (cond b (Some i) place) ≡ cond b (Some x) (at_place items place)
+at-cond items i x true place lt is = got items i x lt is
+at-cond items i x false place lt is = refl
+
+-- ---- donations
+
+donation-more : (ds : List Donation) (i n : ℕ) (d : Donation) → i < length ds → d ≡ get_or ds i d → donation_at (take (i + 1) ds) n ≡ cond (covers d.ranges n) (Some d) (donation_at (take i ds) n)
+donation-more ds i n d lt is =
+    let more : take (i + 1) ds ≡ take i ds ++ d ∷ [] = take_more ds i d lt ∙ ap (λ x. take i ds ++ x ∷ []) (sym is) in
+    ap (λ (t : List Donation). donation_at t n) more ∙ donation_at-append (take i ds) d n
+
+-- with one donation more, a page that it covers has its place
+pub donation-placed : (ds : List Donation) (i n : ℕ) (d : Donation) (old new : Option ℕ) → i < length ds → d ≡ get_or ds i d
+    → donation_at (take i ds) n ≡ at_place ds old → new ≡ cond (covers d.ranges n) (Some i) old → donation_at (take (i + 1) ds) n ≡ at_place ds new
+donation-placed ds i n d old new lt is so now =
+    donation-more ds i n d lt is
+    ∙ ap (λ o. cond (covers d.ranges n) (Some d) o) so
+    ∙ sym (at-cond ds i d (covers d.ranges n) old lt is)
+    ∙ ap (at_place ds) (sym now)
+
+-- ---- live transactions
+
+apart_at : (u t : Live) (us : List Live) (j : ℕ) → AllByRecursion (AreApart u) us → j < length us → t ≡ get_or us j t → AreApart u t
+apart_at u t [] j all lt is = absurd (omega arith)
+apart_at u t (v ∷ vs) zero all lt is = λ n c. ap (λ (x : Live). covers x.ranges n) is ∙ all.0 n c
+apart_at u t (v ∷ vs) (suc j) all lt is = apart_at u t vs j all.1 (omega arith) is
+
+-- a page of a transaction is in none before it
+none-before : (live : List Live) (i n : ℕ) (t : Live) → AreAllApart live → i < length live → t ≡ get_or live i t → covers t.ranges n ≡ true → live_at (take i live) n ≡ None
+none-before [] i n t apart lt is c = absurd (omega arith)
+none-before (u ∷ us) zero n t apart lt is c = refl
+none-before (u ∷ us) (suc j) n t apart lt is c =
+    let out : covers u.ranges n ≡ false = elim (covers u.ranges n) as (λ b. covers u.ranges n ≡ b → b ≡ false) [
+      | true ↦ λ e. absurd (let no = apart_at u t us j apart.0 (omega arith) is n e in cc)
+      | false ↦ λ e. refl
+    ] refl in
+    ap (λ b. cond b (Some u) (live_at (take j us) n)) out ∙ none-before us j n t apart.1 (omega arith) is c
+
+or-last : (o : Option Live) (t : Live) (b : Bool) → (b ≡ true → o ≡ None) → option_or o (cond b (Some t) None) ≡ cond b (Some t) o
+or-last None t true none = refl
+or-last None t false none = refl
+or-last (Some u) t true none = absurd (let no = none refl in cc)
+or-last (Some u) t false none = refl
+
+live-more : (live : List Live) (i n : ℕ) (t : Live) → AreAllApart live → i < length live → t ≡ get_or live i t → live_at (take (i + 1) live) n ≡ cond (covers t.ranges n) (Some t) (live_at (take i live) n)
+live-more live i n t apart lt is =
+    let more : take (i + 1) live ≡ take i live ++ t ∷ [] = take_more live i t lt ∙ ap (λ x. take i live ++ x ∷ []) (sym is) in
+    ap (λ (l : List Live). live_at l n) more
+    ∙ find-append (λ (x : Live). covers x.ranges n) (take i live) (t ∷ [])
+    ∙ or-last (live_at (take i live) n) t (covers t.ranges n) (none-before live i n t apart lt is)
+
+-- with one transaction more, a page that it covers has its place
+pub live-placed : (live : List Live) (i n : ℕ) (t : Live) (old new : Option ℕ) → AreAllApart live → i < length live → t ≡ get_or live i t
+    → live_at (take i live) n ≡ at_place live old → new ≡ cond (covers t.ranges n) (Some i) old → live_at (take (i + 1) live) n ≡ at_place live new
+live-placed live i n t old new apart lt is so now =
+    live-more live i n t apart lt is
+    ∙ ap (λ o. cond (covers t.ranges n) (Some t) o) so
+    ∙ sym (at-cond live i t (covers t.ranges n) old lt is)
+    ∙ ap (at_place live) (sym now)
