@@ -3,10 +3,10 @@ pub mod EachBelow
 pub mod EntryRuns
 pub mod FillUpward
 pub mod FillViews
+pub mod HexDigits
 pub mod ListPlaces
 pub mod MaximalRuns
 pub mod OwnedRuns
-pub mod Padding
 pub mod SameEntries
 pub mod SameTexts
 pub mod WordReads

@@ -6,6 +6,7 @@
 mod alike;
 mod audited;
 mod check;
+mod digits;
 mod entries;
 mod lists;
 mod maps;
@@ -16,6 +17,7 @@ mod text;
 
 pub use audited::audit_text;
 pub use check::check_text;
+pub use digits::fill_digits;
 pub use maps::maps_text;
 pub use owners::owners_text;
 pub use rebuilt::rebuild;

@@ -8,6 +8,7 @@ ghost use Rattle.audit.specs.Runs as runs;
 ghost use Rattle.audit.specs.Texts as spec;
 
 use crate::alike::is_same;
+use crate::digits::push_decimal;
 use crate::entries::{TableEntry, table_entries};
 use crate::text::{access_text, kind_text, write_address, write_id};
 use base::{Access, OutOfMemory, PartitionId, Run};
@@ -143,20 +144,23 @@ fn write_header(text: &mut String, p: PartitionId, count: usize) -> Result<(), O
     ensures { OnOk result
         (string_bytes text.new ≡ string_bytes text.old ++ spec.maps_header p count) }
 {
-    write!(text, "maps ")?;
+    text.push_str("maps ")?;
     write_id(text, p)?;
-    writeln!(text, " {count}")?;
-    Ok(())
+    text.push_str(" ")?;
+    push_decimal(text, count as u64)?;
+    Ok(text.push_str("\n")?)
 }
 
 fn write_line(text: &mut String, reached: Reached) -> Result<(), OutOfMemory>
     ensures { OnOk result
         (string_bytes text.new ≡ string_bytes text.old ++ spec.maps_line reached) }
 {
-    let count = reached.run.count();
-    let access = access_text(reached.access);
-    let kind = kind_text(reached.access);
     write_address(text, reached.run.first())?;
-    writeln!(text, " {count} {access} {kind}")?;
-    Ok(())
+    text.push_str(" ")?;
+    push_decimal(text, u64::from(reached.run.count()))?;
+    text.push_str(" ")?;
+    text.push_str(access_text(reached.access))?;
+    text.push_str(" ")?;
+    text.push_str(kind_text(reached.access))?;
+    Ok(text.push_str("\n")?)
 }

@@ -6,6 +6,7 @@ ghost use Rattle.audit.specs.Runs.{ownership, ownership_of, is_same_ownership};
 ghost use Rattle.audit.specs.Texts as spec;
 
 use crate::alike::{is_same, segment_end};
+use crate::digits::push_decimal;
 use crate::text::{access_text, kind_text, write_address, write_id};
 use base::{Access, OutOfMemory, Page, PartitionId, Run};
 use ledger::Ledger;
@@ -196,21 +197,21 @@ fn write_line(text: &mut String, owned: Owned) -> Result<(), OutOfMemory>
     ensures { OnOk result
         (string_bytes text.new ≡ string_bytes text.old ++ spec.owners_line owned) }
 {
-    let count = owned.run.count();
     write_address(text, owned.run.first())?;
-    write!(text, " {count} ")?;
+    text.push_str(" ")?;
+    push_decimal(text, u64::from(owned.run.count()))?;
+    text.push_str(" ")?;
     write_ownership(text, owned.ownership)?;
-    writeln!(text)?;
-    Ok(())
+    Ok(text.push_str("\n")?)
 }
 
 fn write_ownership(text: &mut String, ownership: Ownership) -> Result<(), OutOfMemory>
     ensures { OnOk result
         (string_bytes text.new ≡ string_bytes text.old ++ spec.ownership_text ownership) }
 {
-    let access = access_text(ownership.home);
-    let kind = kind_text(ownership.home);
     write_id(text, ownership.owner)?;
-    write!(text, " {access} {kind}")?;
-    Ok(())
+    text.push_str(" ")?;
+    text.push_str(access_text(ownership.home))?;
+    text.push_str(" ")?;
+    Ok(text.push_str(kind_text(ownership.home))?)
 }

@@ -5,6 +5,7 @@ ghost use Rattle.stage2.specs.Slot.{layout_of};
 ghost use Rattle.stage2.specs.Tables.{view_of};
 ghost use Rattle.audit.specs.Texts as spec;
 
+use crate::digits::push_decimal;
 use crate::entries::{TableEntry, table_entries};
 use crate::text::{write_address, write_id, write_word};
 use base::{OutOfMemory, PartitionId};
@@ -51,13 +52,13 @@ fn write_header(text: &mut String, p: PartitionId, used: u32) -> Result<(), OutO
 fn write_entry(text: &mut String, entry: TableEntry) -> Result<(), OutOfMemory>
     ensures { OnOk result (string_bytes text.new ≡ string_bytes text.old ++ spec.entry_line entry) }
 {
-    let level = entry.level();
-    write!(text, "L{level} ")?;
+    text.push_str("L")?;
+    push_decimal(text, u64::from(entry.level()))?;
+    text.push_str(" ")?;
     write_address(text, entry.first())?;
-    write!(text, " ")?;
+    text.push_str(" ")?;
     write_content(text, entry)?;
-    writeln!(text)?;
-    Ok(())
+    Ok(text.push_str("\n")?)
 }
 
 fn write_content(text: &mut String, entry: TableEntry) -> Result<(), OutOfMemory>
@@ -69,9 +70,6 @@ fn write_content(text: &mut String, entry: TableEntry) -> Result<(), OutOfMemory
             let word = leaf_word(entry.first(), access, entry.level() == 2);
             write_word(text, word)
         }
-        None => {
-            write!(text, "table")?;
-            Ok(())
-        }
+        None => Ok(text.push_str("table")?),
     }
 }

@@ -3,6 +3,7 @@
 ghost use Rattle.std.specs.Prelude.{◌≡◌, ◌*◌, ◌++◌, OnOk, string_bytes};
 ghost use Rattle.audit.specs.Texts as spec;
 
+use crate::digits::push_hex;
 use base::limits::PAGE_SIZE;
 use base::{Access, MemoryKind, OutOfMemory, Page, PartitionId, Rights};
 
@@ -39,9 +40,7 @@ pub(crate) fn kind_text(access: Access) -> &'static str
 pub(crate) fn write_id(text: &mut String, p: PartitionId) -> Result<(), OutOfMemory>
     ensures { OnOk result (string_bytes text.new ≡ string_bytes text.old ++ spec.hex 4 p) }
 {
-    let id = p.number();
-    write!(text, "{id:04x}")?;
-    Ok(())
+    Ok(push_hex::<4>(text, u64::from(p.number()))?)
 }
 
 /// Appends the address of a page in ten hexadecimal digits.
@@ -49,15 +48,12 @@ pub(crate) fn write_address(text: &mut String, page: Page) -> Result<(), OutOfMe
     ensures { OnOk result
         (string_bytes text.new ≡ string_bytes text.old ++ spec.address_text page) }
 {
-    let address = address_of(page);
-    write!(text, "{address:010x}")?;
-    Ok(())
+    Ok(push_hex::<10>(text, address_of(page))?)
 }
 
 /// Appends a word in sixteen hexadecimal digits.
 pub(crate) fn write_word(text: &mut String, word: u64) -> Result<(), OutOfMemory>
     ensures { OnOk result (string_bytes text.new ≡ string_bytes text.old ++ spec.hex 16 word) }
 {
-    write!(text, "{word:016x}")?;
-    Ok(())
+    Ok(push_hex::<16>(text, word)?)
 }

@@ -1,0 +1,58 @@
+//! Digits at the end of a text.
+
+ghost use Rattle.std.specs.Prelude.{◌≡◌, ◌^◌, ◌<◌, ◌≤◌, ◌++◌, false, length, OnOk, string_bytes};
+ghost use Rattle.std.specs.Fmt.{decimal, digit_glyph};
+ghost use Rattle.audit.specs.Texts.{hex};
+
+use itoa::Buffer;
+use std::alloc::AllocError;
+use std::str;
+
+/// Writes a number in as many lower-case hexadecimal digits as there is room for.
+pub fn fill_digits(number: u64, out: &mut [u8])
+    requires some { 0 < length out.old }
+    requires fits { number < 16 ^ length out.old }
+    ensures { out.new ≡ hex (length out.old) number }
+{
+    let mut i = out.len();
+    let mut rest = number;
+    while i > 0 {
+        i -= 1;
+        out[i] = digit((rest % 16) as u8);
+        rest /= 16;
+    }
+}
+
+fn digit(value: u8) -> u8
+    requires { value < 16 }
+    ensures { result ≡ digit_glyph false value }
+{
+    if value < 10 {
+        b'0' + value
+    } else {
+        b'a' - 10 + value
+    }
+}
+
+/// Appends a number in N lower-case hexadecimal digits.
+pub(crate) fn push_hex<const N: usize>(text: &mut String, number: u64) -> Result<(), AllocError>
+    requires some { 0 < N }
+    requires most { N ≤ 16 }
+    requires fits { number < 16 ^ N }
+    ensures { OnOk result (string_bytes text.new ≡ string_bytes text.old ++ hex N number) }
+{
+    let mut digits = [b'0'; N];
+    fill_digits(number, &mut digits);
+    match str::from_utf8(&digits) {
+        Ok(digits) => text.push_str(digits),
+        Err(_) => unreachable!(),
+    }
+}
+
+/// Appends a number in decimal digits.
+pub(crate) fn push_decimal(text: &mut String, number: u64) -> Result<(), AllocError>
+    ensures { OnOk result (string_bytes text.new ≡ string_bytes text.old ++ decimal number) }
+{
+    let mut buffer = Buffer::new();
+    text.push_str(buffer.format(number))
+}
