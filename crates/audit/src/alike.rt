@@ -1,34 +1,32 @@
-//! How far the pages behind a page are like it, by a look at all lists of a state.
+//! How far the pages behind a page are like it, by a look at all regions and donations.
 //!
-//! Pages change only where a region, or a range of a donation or of a live transaction, begins or ends.
+//! Pages change only where a region, or a range of a donation, begins or ends.
 
-ghost use Rattle.std.specs.Prelude.{◌≡◌, ◌<◌};
+ghost use Rattle.std.specs.Prelude.{◌≡◌, ◌<◌, ◌≤◌, ◌^◌, ℕ};
 ghost use Rattle.std.specs.List.{find};
 ghost use Rattle.base.specs.Access.{is_same};
 ghost use Rattle.base.specs.Ledger as rules;
+ghost use Rattle.base.specs.Manifest as rows;
 ghost use Rattle.base.specs.Pages as pages;
 ghost use Rattle.base.specs.Pages.{in_run};
 ghost use Rattle.spans.specs.Alike.{IsAlikeUntil};
-ghost use Rattle.audit.specs.Alike as spec;
 
 use base::{Access, Page, Run};
-use ledger::{Donation, Live};
+use ledger::Donation;
 use manifest::{Manifest, Region};
 use spans::run_until;
 
-/// The number of a page up to which all pages from a page on have the same region, donation and live
-/// transaction.
-pub(crate) fn segment_end(
-    manifest: &Manifest,
-    donations: &[Donation],
-    live: &[Live],
-    page: Page,
-) -> u32
-    ensures { spec.IsSegment manifest.now donations.now live.now page result }
+/// The number of a page up to which all pages from a page on have the same region and donation.
+pub(crate) fn settled_end(manifest: &Manifest, donations: &[Donation], page: Page) -> u32
+    ensures behind { page < result }
+    ensures inside { result ≤ 2 ^ 27 }
+    ensures regions { (n : ℕ) → page ≤ n → n < result
+        → rows.region_at manifest.now n ≡ rows.region_at manifest.now page }
+    ensures donations { (n : ℕ) → page ≤ n → n < result
+        → rules.donation_at donations.now n ≡ rules.donation_at donations.now page }
 {
     let end = regions_until(manifest.regions(), page, Page::COUNT);
-    let end = donations_until(donations, page, end);
-    live_until(live, page, end)
+    donations_until(donations, page, end)
 }
 
 pub(crate) fn regions_until(regions: &[Region], page: Page, limit: u32) -> u32
@@ -49,17 +47,6 @@ fn donations_until(donations: &[Donation], page: Page, limit: u32) -> u32
     let mut end = limit;
     for donation in donations {
         end = ranges_until(&donation.ranges, page, end);
-    }
-    end
-}
-
-fn live_until(live: &[Live], page: Page, limit: u32) -> u32
-    requires { page < limit }
-    ensures { IsAlikeUntil (rules.live_at live.now) page limit result }
-{
-    let mut end = limit;
-    for transaction in live {
-        end = ranges_until(&transaction.terms.ranges, page, end);
     }
     end
 }

@@ -5,7 +5,7 @@ ghost use Rattle.audit.specs.Runs as runs;
 ghost use Rattle.audit.specs.Runs.{ownership, ownership_of, is_same_ownership};
 ghost use Rattle.audit.specs.Texts as spec;
 
-use crate::alike::{is_same, segment_end};
+use crate::alike::{is_same, settled_end};
 use crate::digits::push_decimal;
 use crate::text::{access_text, kind_text, write_address, write_id};
 use base::{Access, OutOfMemory, Page, PartitionId, Run};
@@ -129,7 +129,7 @@ fn owned_runs(
 }
 
 /// The number of a page up to which all pages from a page on have its owner and home. In a region it is
-/// found by halving, and else by a look at each range.
+/// found by halving, and else by a look at each range that was donated.
 fn segment_until(manifest: &Manifest, ledger: &Ledger, page: Page) -> u32
     requires manifest { ledger.now.manifest ≡ manifest.now }
     ensures behind { page < result }
@@ -141,7 +141,7 @@ fn segment_until(manifest: &Manifest, ledger: &Ledger, page: Page) -> u32
     if manifest.region_at(page).is_some() {
         ledger.segment(page).end
     } else {
-        segment_end(manifest, ledger.donations(), ledger.live(), page)
+        settled_end(manifest, ledger.donations(), page)
     }
 }
 
