@@ -281,3 +281,11 @@ no_text bytes bad =
       | None ↦ λ e. refl
       | Some line ↦ λ e. absurd (bad (IsUtf8-from_ascii bytes (ascii_parts 32 (omega arith) bytes (ascii_line (parted_by 32 bytes) line e))))
     ] refl
+
+-- and a name that is none is no line's
+pub no_name : (name : List ℕ) (words : List (List ℕ)) → (IsUtf8 name → ⊥) → None ≡ named name words
+no_name name words bad =
+    elim (named name words) as (λ o. named name words ≡ o → None ≡ o) [
+      | None ↦ λ e. refl
+      | Some line ↦ λ e. absurd (bad (IsUtf8-from_ascii name (ascii_named name words line e).0))
+    ] refl

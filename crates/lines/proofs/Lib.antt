@@ -1,5 +1,6 @@
 mod Ascii
 mod Digits
+pub mod FirstPart
 mod Hex
 mod Many
 mod Parts

@@ -1,6 +1,6 @@
 -- Lists of parts that a loop reads one by one.
-use Rattle.std.proofs.Common.{◌≡◌, ℕ, suc, ◌+◌, ◌-◌, ◌<◌, ◌≤◌, Bool, true, false, ◌&&◌, cond, leb, List, [], ◌∷◌, ◌++◌, length, get_or, drop, Option, Some, None, option_map, replicate, refl, sym, ap, subst, ◌∙◌, arith, append_assoc, append-nil}
-use Rattle.std.proofs.lemmas.List.{at_drop_more, at_drop_all, length_push, get_or-map}
+use Rattle.std.proofs.Common.{◌≡◌, ℕ, zero, suc, ◌+◌, ◌-◌, ◌<◌, ◌≤◌, Bool, true, false, ◌&&◌, cond, leb, List, [], ◌∷◌, ◌++◌, length, get_or, drop, Option, Some, None, option_map, replicate, refl, sym, ap, subst, ◌∙◌, arith, append_assoc, append-nil}
+use Rattle.std.proofs.lemmas.List.{at_drop_more, at_drop_all, length_push, length-drop, get_or-map}
 use Rattle.std.proofs.Math.Seq.{set-append_seam}
 use Rattle.std.proofs.Math.ListN.{set, length-map}
 use denote.Ref.{Bor}
@@ -37,10 +37,32 @@ reads_more read parts n done x a r at is =
       rest = pushed done a (each read (drop (n + 1) parts)) ∙ ap (option_map (λ more. done ++ more)) (sym read_next) ∙ r.rest;
     }
 
--- the loop goes on
-pub reads_push : {A W : Type 0} (read : List ℕ → Option A) (parts : List (List ℕ)) (yielded : List W) (word : W) (done after : List A) (x : List ℕ) (a : A) → Reads read parts (length yielded) done → (length yielded < length parts) × (x ≡ get_or parts (length yielded) x) → read x ≡ Some a → after ≡ done ++ a ∷ [] → Reads read parts (length (yielded ++ word ∷ [])) after
-reads_push read parts yielded word done after x a r at is after_is =
-    subst (λ n. Reads read parts n after) (sym (length_push yielded word)) (subst (Reads read parts (length yielded + 1)) (sym after_is) (reads_more read parts (length yielded) done x a r at is))
+-- what is left of parts, by its first one
+pub left_first : (parts : List (List ℕ)) (n : ℕ) (x : List ℕ) (rest : List (List ℕ)) → x ∷ rest ≡ drop n parts → (n < length parts) × (x ≡ get_or parts n x) × (rest ≡ drop (n + 1) parts)
+left_first [] zero x rest e = absurd cc
+left_first (part ∷ parts) zero x rest e = (omega arith, cc, cc)
+left_first [] (suc n) x rest e = absurd cc
+left_first (part ∷ parts) (suc n) x rest e =
+    let more = left_first parts n x rest e in
+    let place : n + 1 ≡ suc n = omega arith in
+    (omega (arith, more.0), more.1, more.2 ∙ ap (λ (k : ℕ). drop k parts) place ∙ ap (λ (k : ℕ). drop k (part ∷ parts)) {x = suc (suc n)} {y = suc n + 1} (omega arith))
+
+-- a loop that takes the first part of what is left goes on
+pub reads_next : {A : Type 0} (read : List ℕ → Option A) (parts : List (List ℕ)) (done after : List A) (x : List ℕ) (rest : List (List ℕ)) (a : A) → Reads read parts (length done) done → x ∷ rest ≡ drop (length done) parts → read x ≡ Some a → after ≡ done ++ a ∷ [] → Reads read parts (length after) after × (rest ≡ drop (length after) parts)
+reads_next read parts done after x rest a r left is after_is =
+    let first = left_first parts (length done) x rest left in
+    let count : length done + 1 ≡ length after = sym (ap length after_is ∙ length_push done a) in (
+      subst (λ n. Reads read parts n after) count (subst (Reads read parts (length done + 1)) (sym after_is) (reads_more read parts (length done) done x a r (first.0, first.1) is)),
+      first.2 ∙ ap (λ n. drop n parts) count,
+    )
+
+-- nothing is left
+pub none_left : (parts : List (List ℕ)) (n : ℕ) → [] ≡ drop n parts → length parts ≤ n
+none_left parts n e = omega (arith, length-drop n parts, ap length e)
+
+pub reads_end : {A : Type 0} (read : List ℕ → Option A) (parts : List (List ℕ)) (n : ℕ) (done : List A) → Reads read parts n done → [] ≡ drop n parts → each read parts ≡ Some done
+reads_end read parts n done r end =
+    sym r.rest ∙ ap (λ left. option_map (λ more. done ++ more) (each read left)) (sym end) ∙ ap (λ ys. Some ys) (append-nil done)
 
 -- a part that writes nothing
 pub reads_bad : {A : Type 0} (read : List ℕ → Option A) (parts : List (List ℕ)) (n : ℕ) (done : List A) (x : List ℕ) → Reads read parts n done → (n < length parts) × (x ≡ get_or parts n x) → read x ≡ None → each read parts ≡ None

@@ -5,7 +5,7 @@ ghost use Rattle.lines.specs.Grammar.{parted_by, registers_of, copy_of, tx_of, c
 
 use crate::receive::{read_relinquish, read_retrieve};
 use crate::send::{ReclaimLine, SendLine, read_reclaim, read_send};
-use crate::words::{read_id, read_number};
+use crate::words::{first_part, read_id, read_number};
 use arrayvec::ArrayVec;
 use base::{Kind, OutOfMemory, PartitionId};
 use descw::{RelinquishFields, RetrieveFields};
@@ -80,10 +80,11 @@ pub fn read_line(alloc: Global, bytes: &[u8]) -> Result<Option<Line>, OutOfMemor
     if bytes.is_empty() || bytes[0] == b'#' {
         return Ok(Some(Line::Nothing));
     }
-    let Ok(text) = str::from_utf8(bytes) else {
+    // Where bytes are no text, no memory is asked for.
+    let Ok(_) = str::from_utf8(bytes) else {
         return Ok(None);
     };
-    let Some(words) = words_of(text) else {
+    let Some(words) = words_of(bytes) else {
         return Ok(None);
     };
     match words.as_slice() {
@@ -93,12 +94,15 @@ pub fn read_line(alloc: Global, bytes: &[u8]) -> Result<Option<Line>, OutOfMemor
 }
 
 /// The words between blanks, where they are not too many.
-fn words_of(text: &str) -> Option<ArrayVec<&str, MOST_WORDS>>
-    ensures { MatchOption result (10 < length (parted_by 32 text.now))
-        (λ words. texts words.items ≡ parted_by 32 text.now) }
+fn words_of(bytes: &[u8]) -> Option<ArrayVec<&[u8], MOST_WORDS>>
+    ensures { MatchOption result (10 < length (parted_by 32 bytes.now))
+        (λ words. texts words.items ≡ parted_by 32 bytes.now) }
 {
     let mut words = ArrayVec::new();
-    for word in text.split(' ') {
+    let mut left = Some(bytes);
+    while let Some(parts) = left {
+        let (word, behind) = first_part(parts, b' ');
+        left = behind;
         if words.is_full() {
             return None;
         }
@@ -108,10 +112,13 @@ fn words_of(text: &str) -> Option<ArrayVec<&str, MOST_WORDS>>
 }
 
 /// The line of this name that the words after it say.
-fn read_named(alloc: Global, name: &str, words: &[&str]) -> Result<Option<Line>, OutOfMemory>
+fn read_named(alloc: Global, name: &[u8], words: &[&[u8]]) -> Result<Option<Line>, OutOfMemory>
     ensures line { IfOk result (λ line. option_map said line ≡ named name.now (texts words.now)) }
     ensures parts { IfOk result (λ line. IfSome line HasParts) }
 {
+    let Ok(name) = str::from_utf8(name) else {
+        return Ok(None);
+    };
     match name {
         "tx" => read_tx(alloc, words),
         "call" => Ok(read_call(words)),
@@ -131,7 +138,7 @@ fn read_named(alloc: Global, name: &str, words: &[&str]) -> Result<Option<Line>,
 }
 
 /// The identifier that is the one word.
-fn read_only_id(words: &[&str]) -> Option<PartitionId>
+fn read_only_id(words: &[&[u8]]) -> Option<PartitionId>
     ensures { result ≡ only_id (texts words.now) }
 {
     match words {
@@ -141,7 +148,7 @@ fn read_only_id(words: &[&str]) -> Option<PartitionId>
 }
 
 /// The copy of a TX buffer that the words `ID HEX` say, or `ID` for none.
-fn read_tx(alloc: Global, words: &[&str]) -> Result<Option<Line>, OutOfMemory>
+fn read_tx(alloc: Global, words: &[&[u8]]) -> Result<Option<Line>, OutOfMemory>
     ensures line { IfOk result (λ line. option_map said line ≡ tx_of (texts words.now)) }
     ensures parts { IfOk result (λ line. IfSome line HasParts) }
 {
@@ -156,7 +163,7 @@ fn read_tx(alloc: Global, words: &[&str]) -> Result<Option<Line>, OutOfMemory>
 }
 
 /// The bytes that two digits each are, where there are some and not too many.
-fn read_copy(alloc: Global, hex: &str) -> Result<Option<Vec<u8>>, OutOfMemory>
+fn read_copy(alloc: Global, hex: &[u8]) -> Result<Option<Vec<u8>>, OutOfMemory>
     ensures copy { IfOk result (λ found. option_map (λ bytes. bytes.items) found ≡ copy_of hex.now) }
     ensures few { IfOk result (λ found. IfSome found (λ bytes. length bytes.items ≤ 32768)) }
 {
@@ -174,7 +181,7 @@ fn read_copy(alloc: Global, hex: &str) -> Result<Option<Vec<u8>>, OutOfMemory>
 }
 
 /// The call that the words `ID NUM ..` say.
-fn read_call(words: &[&str]) -> Option<Line>
+fn read_call(words: &[&[u8]]) -> Option<Line>
     ensures line { option_map said result ≡ call_of (texts words.now) }
     ensures parts { IfSome result HasParts }
 {
@@ -185,7 +192,7 @@ fn read_call(words: &[&str]) -> Option<Line>
 }
 
 /// The registers of which the first are named, at least one and at most eight; the others are 0.
-fn read_registers(words: &[&str]) -> Option<[u64; 8]>
+fn read_registers(words: &[&[u8]]) -> Option<[u64; 8]>
     ensures { result ≡ registers_of (texts words.now) }
 {
     let mut registers = [0; 8];

@@ -18,7 +18,7 @@ const CLEAR: u32 = 1;
 
 /// The retrieve request that the words `ID NUM ID NUM TYPE PERM` say: who asks, the handle, the sender,
 /// the tag, the type and the permissions; where other borrowers are not named, with a last word `alone`.
-pub(crate) fn read_retrieve(words: &[&str]) -> Option<RetrieveFields>
+pub(crate) fn read_retrieve(words: &[&[u8]]) -> Option<RetrieveFields>
     ensures { result ≡ retrieve_of (texts words.now) }
 {
     let [id, handle, sender, tag, kind, permissions, last @ ..] = words else {
@@ -44,22 +44,22 @@ pub(crate) fn read_retrieve(words: &[&str]) -> Option<RetrieveFields>
 }
 
 /// The type in bits 4:3 of the flags that a digit 0 to 3 is: any, share, lend or donate.
-fn read_kind(word: &str) -> Option<u32>
+fn read_kind(word: &[u8]) -> Option<u32>
     ensures value { result ≡ type_of word.now }
     ensures small { IfSome result (λ kind. kind ≤ 24) }
 {
     match word {
-        "0" => Some(0),
-        "1" => Some(8),
-        "2" => Some(16),
-        "3" => Some(24),
+        b"0" => Some(0),
+        b"1" => Some(8),
+        b"2" => Some(16),
+        b"3" => Some(24),
         _ => None,
     }
 }
 
 /// The relinquish that the words `ID NUM` say: who gives up, and the handle; where the pages are to be
 /// cleared, with a last word `zero`.
-pub(crate) fn read_relinquish(words: &[&str]) -> Option<RelinquishFields>
+pub(crate) fn read_relinquish(words: &[&[u8]]) -> Option<RelinquishFields>
     ensures fields { result ≡ relinquish_of (texts words.now) }
     ensures flags { IfSome result (λ fields. IsTrue (are_clear_flags fields.flags)) }
 {

@@ -6,7 +6,9 @@ ghost use Rattle.lines.specs.Said.{said_send};
 ghost use Rattle.lines.specs.Grammar as grammar;
 ghost use Rattle.lines.specs.Grammar.{receiver_of, receivers_of, range_of, ranges_of, total_of, send_with, reclaim_of};
 
-use crate::words::{read_count, read_id, read_last_word, read_number, read_permissions};
+use crate::words::{
+    first_part, halves, read_count, read_id, read_last_word, read_number, read_permissions,
+};
 use arrayvec::ArrayVec;
 use base::limits::MOST_RANGES;
 use base::{Handle, OutOfMemory, PartitionId};
@@ -44,7 +46,7 @@ pub struct ReclaimLine {
 
 /// The send that the words `ID NUM RECEIVERS RANGES` say; where the pages are to be cleared, with a last
 /// word `zero`.
-pub(crate) fn read_send(alloc: Global, words: &[&str]) -> Result<Option<SendLine>, OutOfMemory>
+pub(crate) fn read_send(alloc: Global, words: &[&[u8]]) -> Result<Option<SendLine>, OutOfMemory>
     ensures send { IfOk result (λ line. option_map said_send line ≡ grammar.send_of (texts words.now)) }
     ensures whole { IfOk result (λ line. IfSome line IsWhole) }
 {
@@ -59,11 +61,11 @@ pub(crate) fn read_send(alloc: Global, words: &[&str]) -> Result<Option<SendLine
 
 /// The send of these ranges that the other words say.
 fn send_of(
-    id: &str,
-    tag: &str,
-    receivers: &str,
+    id: &[u8],
+    tag: &[u8],
+    receivers: &[u8],
     ranges: Vec<RangeFields>,
-    last: &[&str],
+    last: &[&[u8]],
 ) -> Option<SendLine>
     requires { length ranges.items ≤ 512 }
     ensures send { option_map said_send result
@@ -82,11 +84,14 @@ fn send_of(
 }
 
 /// The receivers `ID:PERM`, parted by commas, where they are not too many.
-fn read_receivers(text: &str) -> Option<ArrayVec<Endpoint, 8>>
+fn read_receivers(text: &[u8]) -> Option<ArrayVec<Endpoint, 8>>
     ensures { option_map (λ receivers. receivers.items) result ≡ receivers_of text.now }
 {
     let mut receivers = ArrayVec::new();
-    for word in text.split(',') {
+    let mut left = Some(text);
+    while let Some(parts) = left {
+        let (word, behind) = first_part(parts, b',');
+        left = behind;
         if receivers.is_full() {
             return None;
         }
@@ -95,10 +100,10 @@ fn read_receivers(text: &str) -> Option<ArrayVec<Endpoint, 8>>
     Some(receivers)
 }
 
-fn read_receiver(word: &str) -> Option<Endpoint>
+fn read_receiver(word: &[u8]) -> Option<Endpoint>
     ensures { result ≡ receiver_of word.now }
 {
-    let (id, permissions) = word.split_once(':')?;
+    let (id, permissions) = halves(word, b':')?;
     Some(Endpoint {
         partition: read_id(id)?,
         permissions: read_permissions(permissions)?,
@@ -106,13 +111,16 @@ fn read_receiver(word: &str) -> Option<Endpoint>
 }
 
 /// The ranges `NUM+COUNT`, parted by commas, where they are not too many.
-fn read_ranges(alloc: Global, text: &str) -> Result<Option<Vec<RangeFields>>, OutOfMemory>
+fn read_ranges(alloc: Global, text: &[u8]) -> Result<Option<Vec<RangeFields>>, OutOfMemory>
     ensures ranges { IfOk result (λ found.
         option_map (λ ranges. ranges.items) found ≡ ranges_of text.now) }
     ensures few { IfOk result (λ found. IfSome found (λ ranges. length ranges.items ≤ 512)) }
 {
     let mut ranges = Vec::new(alloc);
-    for word in text.split(',') {
+    let mut left = Some(text);
+    while let Some(parts) = left {
+        let (word, behind) = first_part(parts, b',');
+        left = behind;
         if ranges.len() == MOST_RANGES {
             return Ok(None);
         }
@@ -124,10 +132,10 @@ fn read_ranges(alloc: Global, text: &str) -> Result<Option<Vec<RangeFields>>, Ou
     Ok(Some(ranges))
 }
 
-fn read_range(word: &str) -> Option<RangeFields>
+fn read_range(word: &[u8]) -> Option<RangeFields>
     ensures { result ≡ range_of word.now }
 {
-    let (address, count) = word.split_once('+')?;
+    let (address, count) = halves(word, b'+')?;
     Some(RangeFields {
         address: read_number(address)?,
         count: read_count(count)?,
@@ -136,7 +144,7 @@ fn read_range(word: &str) -> Option<RangeFields>
 
 /// The reclaim that the words `ID NUM` say: who reclaims, and the handle; where the pages are to be
 /// cleared, with a last word `zero`.
-pub(crate) fn read_reclaim(words: &[&str]) -> Option<ReclaimLine>
+pub(crate) fn read_reclaim(words: &[&[u8]]) -> Option<ReclaimLine>
     ensures { result ≡ reclaim_of (texts words.now) }
 {
     let [id, handle, last @ ..] = words else {

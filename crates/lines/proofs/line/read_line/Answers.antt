@@ -1,4 +1,4 @@
-use Rattle.std.proofs.Common.{arith, ◌<◌, length, subst}
+use Rattle.std.proofs.Common.{arith, ◌<◌, length}
 use Rattle.std.proofs.lemmas.Grind.{common_steps}
 use Rattle.lines.specs.Grammar.{parted_by}
 use Rattle.lines.proofs.Ascii.{no_text}
@@ -15,5 +15,4 @@ pub returns-in_default-words_of-clause-line : goal.returns-in_default-words_of-c
 returns-in_default-words_of-clause-line c =
     let bytes = c.args.bytes.now in
     let some : 0 < length bytes = grind (arith, common_steps) in
-    let many = subst (λ text. 10 < length (parted_by 32 text)) c.in-Ok.ensures.cases.0 c.in_default-words_of.ensures in
-    no_line bytes (not_nothing bytes some c.if-bytes-eq35.false) (too_many (parted_by 32 bytes) many)
+    no_line bytes (not_nothing bytes some c.if-bytes-eq35.false) (too_many (parted_by 32 bytes) c.in_default-words_of.ensures)

@@ -1,10 +1,15 @@
-use Rattle.std.proofs.Common.{◌≤◌, length}
+use Rattle.std.proofs.Common.{◌≡◌, ◌+◌, ◌≤◌, [], length, drop}
+use Rattle.std.specs.Option.{option_map_or}
 use Rattle.lines.specs.Grammar.{parted_by, range_of}
 use Rattle.lines.proofs.Parts.{Reads}
 use Rattle.lines.proofs.send.read_ranges.Given as goal
 
-abbrev pub invariant-loop-word : goal.invariant-loop-word
-invariant-loop-word l = record {
+abbrev pub invariant-loop-left : goal.invariant-loop-left
+invariant-loop-left l = record {
   few : length l.ranges.items ≤ 512;
-  reads : Reads range_of (parted_by 44 l.text) (length l.yielded) l.ranges.items;
+  reads : Reads range_of (parted_by 44 l.text) (length l.ranges.items) l.ranges.items;
+  left : option_map_or (λ (parts : _). parted_by 44 parts.now) l.left [] ≡ drop (length l.ranges.items) (parted_by 44 l.text);
 }
+
+abbrev pub decreases-loop-left : goal.decreases-loop-left
+decreases-loop-left l = option_map_or (λ (parts : _). length parts.now + 1) l.left 0
