@@ -43,7 +43,7 @@ abbrev pub last_digits : ℕ → ℕ → List ℕ
 last_digits zero n = []
 last_digits (suc w) n = last_digits w (n / 16) ++ digit_glyph false (n % 16) ∷ []
 
-zeros : (w : ℕ) → last_digits w 0 ≡ replicate w 48
+pub zeros : (w : ℕ) → last_digits w 0 ≡ replicate w 48
 zeros zero = refl
 zeros (suc w) = ap (λ (ds : List ℕ). ds ++ 48 ∷ []) (zeros w) ∙ replicate_more {X = ℕ} w 48 ∙ ap (λ (k : ℕ). replicate {A = ℕ} k 48) (add-one w)
 

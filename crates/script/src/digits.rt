@@ -1,9 +1,10 @@
 //! Digits at the end of a text.
 
-ghost use Rattle.std.specs.Prelude.{◌≡◌, ◌<◌, ◌≤◌, ◌++◌, false, drop, replicate, OnOk};
+ghost use Rattle.std.specs.Prelude.{◌≡◌, ◌^◌, ◌<◌, ◌≤◌, ◌++◌, false, drop, replicate, OnOk};
 ghost use Rattle.std.specs.Fmt.{digit_glyph, digits, decimal};
 ghost use Rattle.audit.specs.Texts.{hex};
 
+use audit::fill_digits;
 use itoa::Buffer;
 use std::alloc::AllocError;
 
@@ -45,6 +46,18 @@ fn write_digits(number: u64, out: &mut [u8; 64]) -> usize
         }
     }
     i
+}
+
+/// Appends a number in N lower-case hexadecimal digits.
+pub(crate) fn push_digits<const N: usize>(text: &mut Vec<u8>, number: u64) -> Result<(), AllocError>
+    requires some { 0 < N }
+    requires few { N ≤ 16 }
+    requires fits { number < 16 ^ N }
+    ensures { OnOk result (text.new.items ≡ text.old.items ++ hex N number) }
+{
+    let mut digits = [b'0'; N];
+    fill_digits(number, &mut digits);
+    text.extend_from_slice(&digits)
 }
 
 fn digit(value: u8) -> u8

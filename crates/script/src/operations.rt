@@ -5,7 +5,7 @@ ghost use Rattle.std.specs.Fmt.{decimal};
 ghost use Rattle.audit.specs.Texts.{address_text};
 ghost use Rattle.script.specs.Texts as spec;
 
-use crate::digits::{push_decimal, push_hex};
+use crate::digits::{push_decimal, push_digits};
 use base::limits::PAGE_SIZE;
 use base::{Page, Run};
 use pool::Op;
@@ -38,11 +38,11 @@ fn write_operation(operation: &Op, text: &mut Vec<u8>) -> Result<(), AllocError>
             text.extend_from_slice(b" ")?;
             push_decimal(text, u64::from(*index))?;
             text.extend_from_slice(b" ")?;
-            push_hex(text, 16, *word)?;
+            push_digits::<16>(text, *word)?;
         }
         Op::Invalidate { who, run } => {
             text.extend_from_slice(b"inv ")?;
-            push_hex(text, 4, u64::from(who.number()))?;
+            push_digits::<4>(text, u64::from(who.number()))?;
             text.extend_from_slice(b" ")?;
             push_run(text, *run)?;
         }
@@ -59,7 +59,7 @@ fn push_run(text: &mut Vec<u8>, run: Run) -> Result<(), AllocError>
     ensures { OnOk result (text.new.items
         ≡ text.old.items ++ address_text run.first ++ codes " " ++ decimal run.count) }
 {
-    push_hex(text, 10, address_of(run.first()))?;
+    push_digits::<10>(text, address_of(run.first()))?;
     text.extend_from_slice(b" ")?;
     push_decimal(text, u64::from(run.count()))
 }

@@ -5,7 +5,8 @@ ghost use Rattle.std.specs.List.{flat_map};
 ghost use Rattle.audit.specs.Texts.{hex};
 ghost use Rattle.script.specs.Texts as spec;
 
-use crate::digits::push_hex;
+use crate::digits::{push_digits, push_hex};
+use audit::fill_digits;
 use std::alloc::AllocError;
 use wire::Reply;
 
@@ -28,10 +29,25 @@ fn push_registers(registers: &[u64], text: &mut Vec<u8>) -> Result<(), AllocErro
         (text.new.items ≡ text.old.items ++ flat_map spec.register_text registers.now) }
 {
     for register in registers {
-        text.extend_from_slice(b" ")?;
-        push_hex(text, 8, *register)?;
+        push_register(*register, text)?;
     }
     Ok(())
+}
+
+/// Appends a blank and eight digits, or more where the register has more. Most registers are 0.
+fn push_register(register: u64, text: &mut Vec<u8>) -> Result<(), AllocError>
+    ensures { OnOk result (text.new.items ≡ text.old.items ++ spec.register_text register) }
+{
+    if register == 0 {
+        return text.extend_from_slice(b" 00000000");
+    }
+    if register >= 0x1_0000_0000 {
+        text.extend_from_slice(b" ")?;
+        return push_hex(text, 8, register);
+    }
+    let mut digits = [b' '; 9];
+    fill_digits(register, &mut digits[1..]);
+    text.extend_from_slice(&digits)
 }
 
 /// Writes `rx` and two digits for each byte.
@@ -47,7 +63,7 @@ fn push_bytes(bytes: &[u8], text: &mut Vec<u8>) -> Result<(), AllocError>
     ensures { OnOk result (text.new.items ≡ text.old.items ++ flat_map (hex 2) bytes.now) }
 {
     for byte in bytes {
-        push_hex(text, 2, u64::from(*byte))?;
+        push_digits::<2>(text, u64::from(*byte))?;
     }
     Ok(())
 }

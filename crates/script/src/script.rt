@@ -16,6 +16,7 @@ use crate::watched::Watched;
 use crate::world::World;
 use lines::read_line;
 use manifest::Manifest;
+use memchr::memchr;
 use pool::TableMem;
 use std::alloc::Global;
 use std::io::{Read, Write};
@@ -102,7 +103,7 @@ fn first_line(lines: &[u8]) -> (&[u8], Option<&[u8]>)
 fn line_feed(bytes: &[u8]) -> Option<usize>
     ensures { result ≡ position (λ b. b == 10) bytes.now }
 {
-    bytes.iter().position(|byte| *byte == b'\n')
+    memchr(b'\n', bytes)
 }
 
 /// Does what a line says, and appends what it writes, which is gathered in `line_text`. An error leaves

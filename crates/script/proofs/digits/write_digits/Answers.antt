@@ -1,7 +1,7 @@
 use Rattle.std.proofs.Common.{◌-◌, ◌/◌, false, drop, sym, ap, ◌∙◌, drop_of_length-le, arith}
 use Rattle.std.specs.Fmt.{digits_onto}
 use Rattle.std.proofs.Math.ListN.{length-set}
-use Rattle.script.proofs.HexDigits.{onto_nil, onto_last, onto_step, drop-set-cons}
+use Rattle.audit.proofs.HexDigits.{onto_nil, onto_last, onto_step, drop-set-cons}
 use Rattle.script.proofs.digits.write_digits.Goals as goal
 
 pub loop-i-init : goal.loop-i-init

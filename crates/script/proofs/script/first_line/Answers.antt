@@ -1,6 +1,6 @@
 use Rattle.std.proofs.Common.{sym, ◌∙◌}
 use Rattle.std.proofs.lemmas.List.{take_rest}
-use Rattle.script.proofs.FirstLine.{parted_at, unparted}
+use Rattle.lines.proofs.FirstPart.{parted_at, unparted}
 use Rattle.script.proofs.script.first_line.Goals as goal
 
 pub returns-in-Some-clause-parts : goal.returns-in-Some-clause-parts
