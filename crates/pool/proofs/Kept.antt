@@ -1,5 +1,5 @@
 -- What a table memory keeps at each write, and what its searches find.
-use Rattle.std.proofs.Common.{◌≡◌, ℕ, ◌+◌, ◌<◌, ◌≤◌, ◌^◌, Bool, true, false, List, length, slice_index, slice_index_or, slice_set, ◌∙◌, ap, ap₂, ◌*◌, replicate, ◌++◌, refl, arith, inl, inr, add-zero, IsTrue, IsSome, Some, ◌==◌}
+use Rattle.std.proofs.Common.{◌≡◌, ℕ, zero, suc, ◌+◌, ◌<◌, ◌≤◌, ◌^◌, Bool, true, false, List, length, slice_index, slice_index_or, slice_set, ◌∙◌, ap, ap₂, ◌*◌, replicate, ◌++◌, refl, arith, inl, inr, add-zero, IsTrue, IsSome, Some, ◌==◌}
 use Rattle.std.specs.List.{position}
 use Rattle.std.proofs.lemmas.Grind.{common_steps}
 use Rattle.std.proofs.lemmas.Bool.{cases_eq, cases_lt}
@@ -89,6 +89,14 @@ searched-next m p page free searched held =
       };
       below = below;
     }
+
+pub searched-past : (m : Pages) (p page k : ℕ) → 0 < free_of m p → IsSearched m (row_of m.ids p) page → ((x : ℕ) → page ≤ x → x < page + k → m.taken x ≡ true)
+    → IsSearched m (row_of m.ids p) (page + k)
+searched-past m p page zero free searched held = rw (add-zero page) searched
+searched-past m p page (suc k) free searched held =
+    let before = searched-past m p page k free searched (λ x from to. held x from (omega (arith, to))) in
+    let next : page + suc k ≡ page + k + 1 = omega arith in
+    rw next (searched-next m p (page + k) free before (held (page + k) (omega arith) (omega arith)))
 
 pub searched-within : {S : Type 0} {g : Ghosts S} (m : TablePool S g) (row page : ℕ) → IsSearched (pages_in m) row page → page < length m.taken.items
 searched-within m row page searched = omega (arith, m.taken_whole, share_inside m.quotas.items row page searched.inside)

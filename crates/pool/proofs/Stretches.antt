@@ -1,16 +1,15 @@
 -- Words of a page that follow one another, and the operations that write them.
-use Rattle.std.proofs.Common.{◌≡◌, ◌≢◌, ℕ, zero, suc, ◌+◌, ◌*◌, ◌%◌, ◌^◌, ◌<◌, ◌≤◌, ◌==◌, not, arith, Bool, true, false, List, [], ◌∷◌, ◌++◌, length, reverse, slice_index, slice_set, true≢false, refl, sym, ap, ap₂, ◌∙◌, ◌⊎◌, inl, inr, add-one}
+use Rattle.std.proofs.Common.{◌≡◌, ◌≢◌, ℕ, zero, suc, ◌+◌, ◌*◌, ◌%◌, ◌^◌, ◌<◌, ◌≤◌, ◌==◌, arith, Bool, true, false, cond, List, [], ◌∷◌, ◌++◌, length, reverse, slice_index, slice_set, true≢false, refl, sym, ap, ◌∙◌, ◌⊎◌, inl, inr, add-one}
 use Rattle.std.proofs.lemmas.Bool.{cases_eq}
 use Rattle.std.proofs.lemmas.Bool.Decides.{nat_tests}
-use Rattle.std.proofs.lemmas.List.{length-set, length-append, length-reverse}
+use Rattle.std.proofs.lemmas.List.{length-set, length-append, length-reverse, append_assoc}
 use Rattle.base.specs.Manifest.{page_count}
 use Rattle.pool.specs.Pool.{Words, put, words_of, taken_of, nonzero_in, CountsNonzero, words_set, sets_of, counted}
 use Rattle.pool.specs.declared.operation.Op.{Op}
 use Rattle.pool.specs.declared.operation.Op.TheVariants.{Set}
 use Rattle.pool.proofs.Words.{words_of-set_at, put-same, put-other_index, put-other_page}
 use Rattle.pool.specs.Shown.{AllDiffer}
-use Rattle.pool.proofs.Count.{count_below-none}
-use Rattle.pool.proofs.Nonzero.{word-read, nonzero-put, nonzero-zeros, nonzero-full, counts_nonzero-page}
+use Rattle.pool.proofs.Nonzero.{word-read, nonzero-put, counts_nonzero-page}
 
 -- their number stays
 pub length-words_set : (words : List ℕ) (page first n word step : ℕ) → length (words_set words page first n word step) ≡ length words
@@ -123,51 +122,71 @@ pub counts_nonzero-stretch : (quotas words nonzero : List ℕ) (page first n wor
 counts_nonzero-stretch quotas words nonzero page first n word step count counts whole inside small right =
     counts_nonzero-page quotas words (words_set words page first n word step) nonzero page count counts inside (λ q i differs. words_set-other words page first n word step q i (omega (arith, whole, inside)) small differs) right
 
--- ---- stretches in pages whose words are all 0, or none of which is
+-- words that go on where others end
+pub words_set-join : (words : List ℕ) (page first a b n word step index next : ℕ) → first + a ≡ index → word + step * a ≡ next → a + b ≡ n
+    → words_set (words_set words page first a word step) page index b next step ≡ words_set words page first n word step
+unfolding words_set
+words_set-join words page first a zero n word step index next is there sum = let all : a ≡ n = omega (arith, sum) in ap (λ k. words_set words page first k word step) all
+words_set-join words page first a (suc b) n word step index next is there sum =
+    let more : n ≡ suc (a + b) = omega (arith, sum) in
+    let before = words_set-join words page first a b (a + b) word step index next is there refl in
+    let place : index + b ≡ first + (a + b) = omega (arith, is) in
+    let at : next + step * b ≡ word + step * (a + b) = omega (arith, there) in
+    rw (more, before, place, at) refl
+
+pub sets_of-join : (words : List ℕ) (page first a b n word step index next : ℕ) → first + a ≡ index → word + step * a ≡ next → a + b ≡ n
+    → sets_of (words_set words page first a word step) page index b next step ++ sets_of words page first a word step ≡ sets_of words page first n word step
+unfolding sets_of
+sets_of-join words page first a zero n word step index next is there sum = let all : a ≡ n = omega (arith, sum) in ap (λ k. sets_of words page first k word step) all
+sets_of-join words page first a (suc b) n word step index next is there sum =
+    let more : n ≡ suc (a + b) = omega (arith, sum) in
+    let before = words_set-join words page first a b (a + b) word step index next is there refl in
+    let place : index + b ≡ first + (a + b) = omega (arith, is) in
+    let at : next + step * b ≡ word + step * (a + b) = omega (arith, there) in
+    rw (more, before, place, at)
+    (append_assoc (here (first + (a + b)) (word + step * (a + b))) (sets_of (words_set words page first a word step) page index b next step) (sets_of words page first a word step)
+    ∙ ap (λ ops. here (first + (a + b)) (word + step * (a + b)) ++ ops) (sets_of-join words page first a b (a + b) word step index next is there refl))
+  where
+    here : ℕ → ℕ → List Op
+    here i w = cond (slice_index (words_set words page first (a + b) word step) (512 * page + i) == w) [] (Set page i w ∷ [])
+
+-- ---- stretches whose words are all 0, or none of which is
 
 -- how many are not 0 then
-pub nonzero-fresh : (words : List ℕ) (page first n word step : ℕ) → 512 * page + 512 ≤ length words → first + n ≤ 512 → nonzero_in (words_of words) page ≡ 0 → 0 < word → nonzero_in (words_of (words_set words page first n word step)) page ≡ n
+pub nonzero-filled : (words : List ℕ) (page first n word step : ℕ) → 512 * page + 512 ≤ length words → first + n ≤ 512 → ((x : ℕ) → x < n → words_of words page (first + x) ≡ 0) → 0 < word
+    → nonzero_in (words_of (words_set words page first n word step)) page ≡ nonzero_in (words_of words) page + n
 unfolding words_set
-nonzero-fresh words page first zero word step room small none some = none
-nonzero-fresh words page first (suc n) word step room small none some =
+nonzero-filled words page first zero word step room small zeros some = omega arith
+nonzero-filled words page first (suc n) word step room small zeros some =
     let set = words_set words page first n word step in
     let long = length-words_set words page first n word step in
     let next = word + step * n in
-    let rest = nonzero-fresh words page first n word step room (omega (arith, small)) none some in
+    let rest = nonzero-filled words page first n word step room (omega (arith, small)) (λ x lt. zeros x (omega (arith, lt))) some in
     let written = words_of-set_at set page (first + n) next (omega (arith, small)) (omega (arith, small, room, long)) in
-    let was : words_of set page (first + n) ≡ 0 = words_set-beside words page first n word step (first + n) room (omega (arith, small)) (inr (omega arith)) ∙ nonzero-zeros (words_of words) page (first + n) none (omega (arith, small)) in
+    let was : words_of set page (first + n) ≡ 0 = words_set-beside words page first n word step (first + n) room (omega (arith, small)) (inr (omega arith)) ∙ zeros n (omega arith) in
     let now = nonzero-put (words_of set) page (first + n) next (omega (arith, small)) in
     let zero_test : (words_of set page (first + n) == 0) ≡ true = grind (arith, nat_tests, was) in
     let some_test : (next == 0) ≡ false = (let above : 0 < next = omega (arith, some) in grind (arith, nat_tests, above)) in
     let more = rw (zero_test, some_test) at now in
     ap (λ w. nonzero_in w page) written ∙ omega (arith, more, rest)
 
-pub nonzero-cleared : (words : List ℕ) (page first n : ℕ) → 512 * page + 512 ≤ length words → first + n ≤ 512 → nonzero_in (words_of words) page ≡ 512 → nonzero_in (words_of (words_set words page first n 0 0)) page + n ≡ 512
+pub nonzero-cleared : (words : List ℕ) (page first n : ℕ) → 512 * page + 512 ≤ length words → first + n ≤ 512 → ((x : ℕ) → x < n → words_of words page (first + x) ≢ 0)
+    → nonzero_in (words_of (words_set words page first n 0 0)) page + n ≡ nonzero_in (words_of words) page
 unfolding words_set
-nonzero-cleared words page first zero room small full = omega (arith, full)
-nonzero-cleared words page first (suc n) room small full =
+nonzero-cleared words page first zero room small others = omega arith
+nonzero-cleared words page first (suc n) room small others =
     let set = words_set words page first n 0 0 in
     let long = length-words_set words page first n 0 0 in
     let zero_next : 0 + 0 * n ≡ 0 = omega arith in
-    let rest = nonzero-cleared words page first n room (omega (arith, small)) full in
+    let rest = nonzero-cleared words page first n room (omega (arith, small)) (λ x lt. others x (omega (arith, lt))) in
     let written = words_of-set_at set page (first + n) 0 (omega (arith, small)) (omega (arith, small, room, long)) in
-    let was : words_of set page (first + n) ≢ 0 = λ is. nonzero-full (words_of words) page (first + n) full (omega (arith, small)) (sym (words_set-beside words page first n 0 0 (first + n) room (omega (arith, small)) (inr (omega arith))) ∙ is) in
+    let was : words_of set page (first + n) ≢ 0 = λ is. others n (omega arith) (sym (words_set-beside words page first n 0 0 (first + n) room (omega (arith, small)) (inr (omega arith))) ∙ is) in
     let now = nonzero-put (words_of set) page (first + n) 0 (omega (arith, small)) in
     let test : (words_of set page (first + n) == 0) ≡ false = grind (arith, nat_tests, was) in
     let less = rw test at now in
     let new : nonzero_in (words_of (slice_set set (512 * page + (first + n)) (0 + 0 * n))) page ≡ nonzero_in (put page (first + n) 0 (words_of set)) page =
     ap (λ w. nonzero_in (words_of (slice_set set (512 * page + (first + n)) w)) page) zero_next ∙ ap (λ w. nonzero_in w page) written in
     omega (arith, new, less, rest)
-
--- none of them is there
-pub differ-fresh : (words : List ℕ) (page first n word step : ℕ) → first + n ≤ 512 → nonzero_in (words_of words) page ≡ 0 → 0 < word → AllDiffer words page first n word step
-differ-fresh words page first n word step small none some x lt is =
-    let was = nonzero-zeros (words_of words) page (first + x) none (omega (arith, small, lt)) in
-    absurd (omega (arith, was, is, some))
-
-pub differ-full : (words : List ℕ) (page first n word step : ℕ) → first + n ≤ 512 → nonzero_in (words_of words) page ≡ 512 → word ≡ 0 → step ≡ 0 → AllDiffer words page first n word step
-differ-full words page first n word step small full word_none step_none x lt is =
-    nonzero-full (words_of words) page (first + x) full (omega (arith, small, lt)) (is ∙ ap₂ (λ w s. w + s * x) word_none step_none ∙ omega arith)
 
 -- what is not there where a stretch begins is not there once the words before it are written
 pub differ-next : (words : List ℕ) (page first n m word step index next : ℕ) → 512 * page + 512 ≤ length words → first + m ≤ 512 → n < m → first + n ≡ index → word + step * n ≡ next → AllDiffer words page first m word step
@@ -176,13 +195,3 @@ differ-next words page first n m word step index next room small lt at there dif
     let read = word-read (words_set words page first n word step) page index (slice_index (words_set words page first n word step) (512 * page + index)) (omega (arith, at, small, lt)) refl in
     let beside = words_set-beside words page first n word step index room (omega (arith, small, lt)) (inr (omega (arith, at))) in
     differ n lt (ap (words_of words page) at ∙ sym beside ∙ sym read ∙ is ∙ sym there)
-
--- a page whose words are all made 0
-pub nonzero-wiped : (words : List ℕ) (page first n word step : ℕ) → 512 * page + 512 ≤ length words → first + n ≤ 512 → n ≡ 512 → word ≡ 0 → step ≡ 0 → nonzero_in (words_of (words_set words page first n word step)) page ≡ 0
-unfolding nonzero_in
-nonzero-wiped words page first n word step room small all word_none step_none =
-    count_below-none (λ i. not (words_of (words_set words page first n word step) page i == 0)) 512 (λ i lt.
-    let start : first + i ≡ i = omega (arith, small, all) in
-    let at = words_set-at words page first n word step i room small (omega (arith, lt, all)) in
-    let is : words_of (words_set words page first n word step) page i ≡ 0 = ap (words_of (words_set words page first n word step) page) (sym start) ∙ at ∙ ap₂ (λ w t. w + t * i) word_none step_none ∙ omega arith in
-    rw is refl)

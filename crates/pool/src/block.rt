@@ -1,5 +1,6 @@
-ghost use Rattle.std.specs.Prelude.{◌≡◌, Some, None, length, map, replicate};
+ghost use Rattle.std.specs.Prelude.{◌≡◌, ◌+◌, ◌-◌, ◌*◌, ◌^◌, ◌<◌, ◌≤◌, Some, None, length, map, replicate};
 ghost use Rattle.pool.specs.Cells.{contents};
+ghost use Rattle.pool.specs.Pool.{words_set};
 
 use crate::cells::{Base, Cells, Deed, allocate, deallocate};
 use crate::word_store::WordStore;
@@ -47,6 +48,38 @@ fn empty(base: Base<u64>, count: usize, cells: &mut Cells<u64>)
 {
     for place in 0..count {
         let _word = cells.read(base, place);
+    }
+}
+
+/// Writes words of a page, 512 to a page, in place of what stands there: the first is this word, and each
+/// other a step more than the one before. Where the block begins is at hand, whatever is written.
+#[inline(always)]
+fn put_words(
+    base: Base<u64>,
+    cells: &mut Cells<u64>,
+    page: u32,
+    first: u32,
+    end: u32,
+    word: u64,
+    step: u64,
+)
+    requires place { base.ptr ≡ cells.old.at }
+    requires full { cells.old.slots ≡ map Some (contents cells.old.slots) }
+    requires ordered { first ≤ end }
+    requires index_in { end ≤ 512 }
+    requires inside { 512 * page + 512 ≤ length (contents cells.old.slots) }
+    requires in_range { word + step * (end - first) < 2 ^ 64 }
+    ensures place { cells.new.at ≡ cells.old.at }
+    ensures full { cells.new.slots ≡ map Some (contents cells.new.slots) }
+    ensures words { contents cells.new.slots
+        ≡ words_set (contents cells.old.slots) page first (end - first) word step }
+{
+    let mut next = word;
+    for index in first..end {
+        let place = 512 * page as usize + index as usize;
+        let _old = cells.read(base, place);
+        cells.write(base, place, next);
+        next += step;
     }
 }
 
@@ -98,6 +131,10 @@ impl WordStore for Block {
     fn set_word(&mut self, place: usize, word: u64) {
         let _old = self.cells.read(self.base, place);
         self.cells.write(self.base, place, word);
+    }
+
+    fn set_words(&mut self, page: u32, first: u32, end: u32, word: u64, step: u64) {
+        put_words(self.base, &mut self.cells, page, first, end, word, step);
     }
 
     fn copy(&self, alloc: Global) -> Result<Vec<u64>, OutOfMemory> {

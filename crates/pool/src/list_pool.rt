@@ -21,6 +21,14 @@ impl WordStore for Vec<u64> {
         self[place] = word;
     }
 
+    fn set_words(&mut self, page: u32, first: u32, end: u32, word: u64, step: u64) {
+        let mut next = word;
+        for index in first..end {
+            self[512 * page as usize + index as usize] = next;
+            next += step;
+        }
+    }
+
     fn copy(&self, alloc: Global) -> Result<Vec<u64>, OutOfMemory> {
         Ok(self.to_vec(alloc)?)
     }

@@ -6,7 +6,7 @@ ghost use Rattle.pool.specs.Shown.{IsShown};
 ghost use Rattle.pool.specs.declared.operation.Op.TheVariants.{Invalidate};
 
 use crate::operation::Op;
-use crate::stretch::{Stretch, WORDS, recounted, write_all};
+use crate::stretch::{Stretch, WORDS, recounted, write_words};
 use crate::word_store::WordStore;
 use base::{Page, PartitionId, Run};
 use std::mem::replace;
@@ -133,7 +133,7 @@ fn make_all<S: WordStore>(store: &mut S, operations: Vec<Op>, with: Replacement)
         word: with.word,
         step: with.step,
     };
-    (write_all(store, operations, stretch), with.end - with.first)
+    write_words(store, operations, 0, stretch)
 }
 
 /// Replaces words of a page that has no 0 by zeros, and records each operation behind these. It answers

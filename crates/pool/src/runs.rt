@@ -6,7 +6,7 @@ ghost use Rattle.pool.specs.Pool.{Pool, words_of, nonzero_in, index_from, after_
 ghost use Rattle.pool.specs.Shown.{IsShown};
 
 use crate::operation::Op;
-use crate::stretch::{Stretch, WORDS, recounted, write_others};
+use crate::stretch::{Stretch, WORDS, recounted, write_others, write_words};
 use crate::word_store::WordStore;
 use base::{Page, Run};
 use std::mem::replace;
@@ -88,7 +88,7 @@ fn write_run<S: WordStore>(
     }
     let first = index_from(with.start, run.first().number());
     let end = index_from(with.start, run.end());
-    write_others(store, operations, count, with.stretch(first, end))
+    write_words(store, operations, count, with.stretch(first, end))
 }
 
 /// Writes the words for the pages of runs that are not there, and records each write behind these

@@ -1,6 +1,6 @@
 //! Words of a page that follow one another, and are written at once.
 
-ghost use Rattle.std.specs.Prelude.{◌≡◌, ◌+◌, ◌-◌, ◌*◌, ◌<◌, ◌≤◌, ◌^◌, ◌++◌, ◌⊎◌, length, reverse, vec_len, vec_capacity, if◌then◌else◌, ◌==◌};
+ghost use Rattle.std.specs.Prelude.{◌≡◌, ◌≢◌, ℕ, true, ◌+◌, ◌-◌, ◌*◌, ◌<◌, ◌≤◌, ◌^◌, ◌++◌, ◌⊎◌, length, reverse, vec_len, vec_capacity, if◌then◌else◌, ◌==◌};
 ghost use Rattle.pool.specs.Pool.{words_of, nonzero_in, words_set, sets_of};
 ghost use Rattle.pool.specs.Shown.{AllDiffer};
 
@@ -9,6 +9,12 @@ use crate::word_store::WordStore;
 
 /// How many words a page has.
 pub(crate) const WORDS: u32 = 512;
+
+/// How many words are looked at, at most, before they are written.
+const MOST: u32 = 64;
+
+/// Fewer words than these are written one by one.
+const FEW: u32 = 8;
 
 /// Words of a page from one index up to another: the first is this word, and each other a step more
 /// than the one before.
@@ -31,12 +37,68 @@ pub(crate) fn recounted(count: u32, before: u64, after: u64) -> u32
     count + u32::from(after != 0) - u32::from(before != 0)
 }
 
+/// Whether words of a page are all 0.
+#[inline(always)]
+fn are_zeros<S: WordStore>(store: &S, stretch: Stretch) -> bool
+    requires index_in { stretch.end ≤ 512 }
+    requires inside { 512 * stretch.page + 512 ≤ length (S.words store.now) }
+    ensures { result ≡ true → (x : ℕ) → x < stretch.end - stretch.first
+        → words_of (S.words store.now) stretch.page (stretch.first + x) ≡ 0 }
+{
+    let mut are = true;
+    for index in stretch.first..stretch.end {
+        are &= store.word(512 * stretch.page as usize + index as usize) == 0;
+    }
+    are
+}
+
+/// Whether none of them is 0.
+#[inline(always)]
+fn are_others<S: WordStore>(store: &S, stretch: Stretch) -> bool
+    requires index_in { stretch.end ≤ 512 }
+    requires inside { 512 * stretch.page + 512 ≤ length (S.words store.now) }
+    ensures { result ≡ true → (x : ℕ) → x < stretch.end - stretch.first
+        → words_of (S.words store.now) stretch.page (stretch.first + x) ≢ 0 }
+{
+    let mut are = true;
+    for index in stretch.first..stretch.end {
+        are &= store.word(512 * stretch.page as usize + index as usize) != 0;
+    }
+    are
+}
+
+/// Records the writes of words, none of which is there, behind these operations.
+#[inline(always)]
+fn record_all<S: WordStore>(store: &S, mut operations: Vec<Op>, stretch: Stretch) -> Vec<Op>
+    requires ordered { stretch.first ≤ stretch.end }
+    requires index_in { stretch.end ≤ 512 }
+    requires inside { 512 * stretch.page + 512 ≤ length (S.words store.now) }
+    requires in_range { stretch.word + stretch.step * (stretch.end - stretch.first) < 2 ^ 64 }
+    requires differ { AllDiffer (S.words store.now) stretch.page stretch.first
+        (stretch.end - stretch.first) stretch.word stretch.step }
+    requires ready { vec_len operations + stretch.end
+        ≤ vec_capacity operations + stretch.first }
+    ensures made { reverse result.items ≡ sets_of (S.words store.now) stretch.page stretch.first
+        (stretch.end - stretch.first) stretch.word stretch.step ++ reverse operations.items }
+    ensures capacity { vec_capacity result ≡ vec_capacity operations }
+    ensures len { vec_len result + stretch.first ≤ vec_len operations + stretch.end }
+{
+    let _store = store;
+    let mut word = stretch.word;
+    for index in stretch.first..stretch.end {
+        operations.push_reserved(Op::Set {
+            page: stretch.page,
+            index,
+            word,
+        });
+        word += stretch.step;
+    }
+    operations
+}
+
 /// Writes all of these words, none of which is there, and records each write behind these operations.
-pub(crate) fn write_all<S: WordStore>(
-    store: &mut S,
-    mut operations: Vec<Op>,
-    stretch: Stretch,
-) -> Vec<Op>
+#[inline(always)]
+fn write_all<S: WordStore>(store: &mut S, operations: Vec<Op>, stretch: Stretch) -> Vec<Op>
     requires ordered { stretch.first ≤ stretch.end }
     requires index_in { stretch.end ≤ 512 }
     requires inside { 512 * stretch.page + 512 ≤ length (S.words store.old) }
@@ -52,16 +114,15 @@ pub(crate) fn write_all<S: WordStore>(
     ensures capacity { vec_capacity result ≡ vec_capacity operations }
     ensures len { vec_len result + stretch.first ≤ vec_len operations + stretch.end }
 {
-    let mut word = stretch.word;
-    for index in stretch.first..stretch.end {
-        store.set_word(512 * stretch.page as usize + index as usize, word);
-        operations.push_reserved(Op::Set {
-            page: stretch.page,
-            index,
-            word,
-        });
-        word += stretch.step;
-    }
+    let Stretch {
+        page,
+        first,
+        end,
+        word,
+        step,
+    } = stretch;
+    let operations = record_all(store, operations, stretch);
+    store.set_words(page, first, end, word, step);
     operations
 }
 
@@ -107,41 +168,10 @@ pub(crate) fn write_others<S: WordStore>(
     (operations, count)
 }
 
-/// Writes 0 where another word is there, and records each write behind these operations.
-fn clear_words<S: WordStore>(store: &mut S, mut operations: Vec<Op>, stretch: Stretch) -> Vec<Op>
-    requires ordered { stretch.first ≤ stretch.end }
-    requires index_in { stretch.end ≤ 512 }
-    requires inside { 512 * stretch.page + 512 ≤ length (S.words store.old) }
-    requires zero { stretch.word ≡ 0 }
-    requires same { stretch.step ≡ 0 }
-    requires ready { vec_len operations + stretch.end
-        ≤ vec_capacity operations + stretch.first }
-    ensures words { S.words store.new ≡ words_set (S.words store.old) stretch.page stretch.first
-        (stretch.end - stretch.first) stretch.word stretch.step }
-    ensures made { reverse result.items ≡ sets_of (S.words store.old) stretch.page stretch.first
-        (stretch.end - stretch.first) stretch.word stretch.step ++ reverse operations.items }
-    ensures capacity { vec_capacity result ≡ vec_capacity operations }
-    ensures len { vec_len result + stretch.first ≤ vec_len operations + stretch.end }
-{
-    let page = stretch.page;
-    for index in stretch.first..stretch.end {
-        let place = 512 * page as usize + index as usize;
-        if store.word(place) != 0 {
-            store.set_word(place, 0);
-            operations.push_reserved(Op::Set {
-                page,
-                index,
-                word: 0,
-            });
-        }
-    }
-    operations
-}
-
-/// Writes words that are not there, and records each write behind these operations. It answers these,
-/// and how many words of the page are not 0. The list is owned meanwhile, so that its length can stay
-/// in a register. Where all words of the page are 0, or none is, it is known which are not there.
-pub(crate) fn write_words<S: WordStore>(
+/// The same for words that are looked at first: where all of them are 0, or none is, it is known which are
+/// not there.
+#[inline(always)]
+fn write_part<S: WordStore>(
     store: &mut S,
     operations: Vec<Op>,
     count: u32,
@@ -163,14 +193,88 @@ pub(crate) fn write_words<S: WordStore>(
     ensures len { vec_len result.0 + stretch.first ≤ vec_len operations + stretch.end }
 {
     let written = stretch.end - stretch.first;
-    if count == 0 && stretch.word > 0 {
-        return (write_all(store, operations, stretch), written);
+    if stretch.word > 0 && are_zeros(store, stretch) {
+        return (write_all(store, operations, stretch), count + written);
     }
-    if count == WORDS && stretch.word == 0 && stretch.step == 0 {
-        return (write_all(store, operations, stretch), WORDS - written);
-    }
-    if written == WORDS && stretch.word == 0 && stretch.step == 0 {
-        return (clear_words(store, operations, stretch), 0);
+    if stretch.word == 0 && stretch.step == 0 && are_others(store, stretch) {
+        return (write_all(store, operations, stretch), count - written);
     }
     write_others(store, operations, count, stretch)
+}
+
+/// The same for many words, part by part.
+fn write_parts<S: WordStore>(
+    store: &mut S,
+    mut operations: Vec<Op>,
+    mut count: u32,
+    stretch: Stretch,
+) -> (Vec<Op>, u32)
+    requires ordered { stretch.first ≤ stretch.end }
+    requires index_in { stretch.end ≤ 512 }
+    requires inside { 512 * stretch.page + 512 ≤ length (S.words store.old) }
+    requires in_range { stretch.word + stretch.step * (stretch.end - stretch.first) < 2 ^ 64 }
+    requires counted { count ≡ nonzero_in (words_of (S.words store.old)) stretch.page }
+    requires ready { vec_len operations + stretch.end
+        ≤ vec_capacity operations + stretch.first }
+    ensures words { S.words store.new ≡ words_set (S.words store.old) stretch.page stretch.first
+        (stretch.end - stretch.first) stretch.word stretch.step }
+    ensures made { reverse result.0.items ≡ sets_of (S.words store.old) stretch.page stretch.first
+        (stretch.end - stretch.first) stretch.word stretch.step ++ reverse operations.items }
+    ensures counted { result.1 ≡ nonzero_in (words_of (S.words store.new)) stretch.page }
+    ensures capacity { vec_capacity result.0 ≡ vec_capacity operations }
+    ensures len { vec_len result.0 + stretch.first ≤ vec_len operations + stretch.end }
+{
+    let Stretch {
+        page,
+        end,
+        step,
+        ..
+    } = stretch;
+    let mut first = stretch.first;
+    let mut word = stretch.word;
+    while first < end {
+        let written = (end - first).min(MOST);
+        let part = Stretch {
+            page,
+            first,
+            end: first + written,
+            word,
+            step,
+        };
+        (operations, count) = write_part(store, operations, count, part);
+        first += written;
+        word += step * u64::from(written);
+    }
+    (operations, count)
+}
+
+/// Writes words that are not there, and records each write behind these operations. It answers these,
+/// and how many words of the page are not 0. The list is owned meanwhile, so that its length can stay
+/// in a register. Few words are written here, without a call.
+#[inline(always)]
+pub(crate) fn write_words<S: WordStore>(
+    store: &mut S,
+    operations: Vec<Op>,
+    count: u32,
+    stretch: Stretch,
+) -> (Vec<Op>, u32)
+    requires ordered { stretch.first ≤ stretch.end }
+    requires index_in { stretch.end ≤ 512 }
+    requires inside { 512 * stretch.page + 512 ≤ length (S.words store.old) }
+    requires in_range { stretch.word + stretch.step * (stretch.end - stretch.first) < 2 ^ 64 }
+    requires counted { count ≡ nonzero_in (words_of (S.words store.old)) stretch.page }
+    requires ready { vec_len operations + stretch.end
+        ≤ vec_capacity operations + stretch.first }
+    ensures words { S.words store.new ≡ words_set (S.words store.old) stretch.page stretch.first
+        (stretch.end - stretch.first) stretch.word stretch.step }
+    ensures made { reverse result.0.items ≡ sets_of (S.words store.old) stretch.page stretch.first
+        (stretch.end - stretch.first) stretch.word stretch.step ++ reverse operations.items }
+    ensures counted { result.1 ≡ nonzero_in (words_of (S.words store.new)) stretch.page }
+    ensures capacity { vec_capacity result.0 ≡ vec_capacity operations }
+    ensures len { vec_len result.0 + stretch.first ≤ vec_len operations + stretch.end }
+{
+    if stretch.end - stretch.first < FEW {
+        return write_others(store, operations, count, stretch);
+    }
+    write_parts(store, operations, count, stretch)
 }

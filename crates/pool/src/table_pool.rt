@@ -19,6 +19,9 @@ use std::mem::replace;
 #[cfg(test)]
 mod tests;
 
+/// How many marks of pages are looked at at once.
+const AT_ONCE: u32 = 32;
+
 /// Table memory whose words stand in a store, 512 for each page, page by page. `taken` has a mark for
 /// each page, `free` says for each row how many pages of its share are free, `nonzero` for each page how
 /// many of its words are not 0, and `made_before` how many operations were made before those that are
@@ -88,6 +91,33 @@ fn total(quotas: &[u32]) -> u32
     ensures { result ≡ sum quotas.now }
 {
     quotas.iter().sum()
+}
+
+/// Whether so many pages that follow one another, from this one on, as are looked at at once, are all taken.
+#[inline(always)]
+fn are_taken(taken: &[bool], first: u32) -> bool
+    requires { first + 32 ≤ length taken.now }
+    ensures { result ≡ true
+        → (x : ℕ) → first ≤ x → x < first + 32 → taken_of taken.now x ≡ true }
+{
+    let mut are = true;
+    for x in 0..AT_ONCE {
+        are &= taken[first as usize + x as usize];
+    }
+    are
+}
+
+/// Up to where pages are taken, from this one on, as far as many marks at once tell it.
+fn taken_until(taken: &[bool], first: u32) -> u32
+    requires { length taken.now ≤ 2 ^ 27 }
+    ensures from { first ≤ result }
+    ensures taken { (x : ℕ) → first ≤ x → x < result → taken_of taken.now x ≡ true }
+{
+    let mut page = first;
+    while page as usize + AT_ONCE as usize <= taken.len() && are_taken(taken, page) {
+        page += AT_ONCE;
+    }
+    page
 }
 
 /// The first page of a row's share.
@@ -223,7 +253,8 @@ impl<S: WordStore> TableMem for TablePool<S> {
 
     fn take_page(&mut self, p: PartitionId) -> u32 {
         let row = row_of(&self.ids, p).unwrap();
-        let mut page = share_start(&self.quotas, row);
+        let start = share_start(&self.quotas, row);
+        let mut page = taken_until(&self.taken, start);
         while self.taken[page as usize] {
             page += 1;
         }

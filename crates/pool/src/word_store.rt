@@ -1,4 +1,5 @@
-ghost use Rattle.std.specs.Prelude.{◌≡◌, ℕ, ◌<◌, List, length, replicate, slice_index, slice_set, IfOk};
+ghost use Rattle.std.specs.Prelude.{◌≡◌, ℕ, ◌+◌, ◌-◌, ◌*◌, ◌^◌, ◌<◌, ◌≤◌, List, length, replicate, slice_index, slice_set, IfOk};
+ghost use Rattle.pool.specs.Pool.{words_set};
 
 use base::OutOfMemory;
 use std::alloc::Global;
@@ -23,6 +24,15 @@ pub trait WordStore: Drop {
     fn set_word(&mut self, place: usize, word: u64)
         requires { place < length (words self.old) }
         ensures { words self.new ≡ slice_set (words self.old) place word };
+
+    /// Writes words of a page from one index up to another, 512 to a page: the first is this word, and each
+    /// other a step more than the one before.
+    fn set_words(&mut self, page: u32, first: u32, end: u32, word: u64, step: u64)
+        requires ordered { first ≤ end }
+        requires index_in { end ≤ 512 }
+        requires inside { 512 * page + 512 ≤ length (words self.old) }
+        requires in_range { word + step * (end - first) < 2 ^ 64 }
+        ensures { words self.new ≡ words_set (words self.old) page first (end - first) word step };
 
     /// A copy of all words.
     fn copy(&self, alloc: Global) -> Result<Vec<u64>, OutOfMemory>

@@ -4,6 +4,7 @@ pub mod Trades
 pub mod ChunkKeeps
 pub mod Level3Words
 pub mod PlannedWords
+pub mod Gaps
 pub mod LeafWords
 pub mod Stretches
 pub mod RunWords

@@ -32,6 +32,10 @@ abbrev pub some_pages : ℕ → ℕ → ℕ → View → ℕ → Option View
 some_pages c first end answer n =
     if nat_le (512 * c + first) n && nat_lt n (512 * c + end) then Some answer else None
 
+-- pages in none of the runs get this answer, and the others stay
+abbrev pub gaps : List PageRun → View → ℕ → Option View
+gaps runs answer n = if covers runs n then None else Some answer
+
 -- the level 2 word of a chunk is made invalid
 abbrev pub Breaks : ℕ → ℕ → ℕ → Pool → Pool → Type 0
 Breaks who j c old new = Made (broken who j c (words_of old.memory.words j (c % 512))) old new

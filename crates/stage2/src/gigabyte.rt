@@ -14,7 +14,7 @@ ghost use Rattle.stage2.specs.Clauses.{IsLinkedOrderly, IsSecond, FitsChunks, ch
 use crate::chunk::{edit_chunk, points_at_table, set_blocks, table_of};
 use crate::edit::{give_page, put_word, take_page};
 use crate::layout::Layout;
-use crate::part::chunk_runs;
+use crate::part::{chunk_runs, runs_past};
 use crate::place::{Chunk, Gigabyte, Span};
 use crate::read::{AT_ONCE, read_gigabyte, read_word};
 use crate::span::{chunk_span, first_unfilled};
@@ -115,9 +115,12 @@ fn edit_chunks<M: TableMem>(
     ensures room { M.room memory.old ≤ M.room memory.new + chunks_operations runs.now gigabyte }
 {
     let span = chunk_span(runs, gigabyte);
+    let mut rest = runs;
     let mut index = span.first;
     while index < span.end {
-        let unfilled = first_unfilled(runs, gigabyte, index, span.end);
+        let chunk = gigabyte.chunk(index);
+        rest = runs_past(rest, chunk.first().number());
+        let unfilled = first_unfilled(rest, gigabyte, index, span.end);
         let plain = plain_until(memory, second, index, unfilled.min(span.end));
         if index < plain {
             let chunks = Span {
@@ -127,8 +130,7 @@ fn edit_chunks<M: TableMem>(
             set_blocks(memory, p, second, gigabyte, chunks, access);
             index = plain;
         } else {
-            let chunk = gigabyte.chunk(index);
-            let part = chunk_runs(runs, chunk);
+            let part = chunk_runs(rest, chunk);
             if touches(runs, part, chunk) {
                 edit_chunk(memory, layout, p, row, second, chunk, part, access);
             }
@@ -153,7 +155,7 @@ pub(crate) fn find_table<M: TableMem>(
 }
 
 /// Whether all words of a table are 0, which their count tells.
-fn is_empty<M: TableMem>(memory: &M, table: TablePage) -> bool
+pub(crate) fn is_empty<M: TableMem>(memory: &M, table: TablePage) -> bool
     requires { table < page_count (M.state memory.now).memory.quotas }
     ensures yes { result ≡ true → IsEmpty table (M.state memory.now) }
     ensures no { result ≡ false → HasWord table (M.state memory.now) }

@@ -9,6 +9,8 @@ ghost use Rattle.stage2.specs.History.{Filled};
 ghost use Rattle.stage2.specs.Clauses.{WritesPlan, some_pages, LeavesZero, OthersAnswer, word_in};
 
 use crate::edit::{put_runs, put_words, step_of, word_of};
+use crate::gaps::fill_gaps;
+use crate::gigabyte::is_empty;
 use crate::part::{is_covered, runs_from, stretch_at};
 use crate::place::{Chunk, Span};
 use crate::read::{AT_ONCE, read_word};
@@ -21,7 +23,7 @@ const MANY_RUNS: usize = 8;
 
 /// Writes the words for pages of a chunk that follow one another, counted from its first, into a
 /// table, where they are not there. The pages have one answer.
-fn write_pages<M: TableMem>(
+pub(crate) fn write_pages<M: TableMem>(
     memory: &mut M,
     third: TablePage,
     chunk: Chunk,
@@ -106,6 +108,32 @@ fn fill_table<M: TableMem>(
     }
 }
 
+/// The same: of an empty table the words for pages that are not to be reached are there.
+fn fill_words<M: TableMem>(
+    memory: &mut M,
+    third: TablePage,
+    chunk: Chunk,
+    runs: &[Run],
+    access: &Option<Access>,
+    other: &Option<Access>,
+)
+    requires normal { are_normal runs.now ≡ true }
+    requires page_in { third < page_count (M.state memory.old).memory.quotas }
+    requires taken { taken_of (M.state memory.old).memory.taken third ≡ true }
+    requires room { 512 ≤ M.room memory.old }
+    ensures writes { WritesPlan third chunk (planned runs.now access.now (Some other.now))
+        (M.state memory.old) (M.state memory.new) }
+    ensures filled { Filled third chunk 512 (planned runs.now access.now (Some other.now))
+        (M.state memory.old) (M.state memory.new) }
+    ensures room { M.room memory.old ≤ M.room memory.new + 512 }
+{
+    if access.is_none() && is_empty(memory, third) {
+        fill_gaps(memory, third, chunk, runs, other);
+        return;
+    }
+    fill_table(memory, third, chunk, runs, access, other);
+}
+
 /// Writes the words that are planned for the pages of a chunk, upward, into a table: pages of the
 /// runs get one answer, and the others another one, or stay.
 #[inline(always)]
@@ -128,7 +156,7 @@ pub(crate) fn write_table<M: TableMem>(
     ensures room { M.room memory.old ≤ M.room memory.new + 512 }
 {
     match others {
-        Some(other) => fill_table(memory, third, chunk, runs, access, other),
+        Some(other) => fill_words(memory, third, chunk, runs, access, other),
         None => write_runs(memory, third, chunk, runs, access),
     }
 }

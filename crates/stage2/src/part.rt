@@ -1,11 +1,14 @@
 //! The runs that an edit of one gigabyte, or of one chunk, looks at.
 
-ghost use Rattle.std.specs.Prelude.{◌≡◌, ℕ, ◌+◌, ◌*◌, ◌<◌, ◌≤◌, true};
+ghost use Rattle.std.specs.Prelude.{◌≡◌, ℕ, ◌+◌, ◌*◌, ◌<◌, ◌≤◌, true, take, drop, length};
 ghost use Rattle.base.specs.Pages.{are_normal, covers};
 ghost use Rattle.stage2.specs.Parts as parts;
 
 use crate::place::{Chunk, Gigabyte};
 use base::{Page, Run};
+
+/// How many runs are looked at one by one before they are halved.
+const LOOKS: usize = 2;
 
 /// Pages of a chunk that follow one another, all of which the runs have, or none.
 #[derive(Clone, Copy)]
@@ -16,21 +19,51 @@ pub(crate) struct Stretch {
     pub(crate) end: u32,
 }
 
-/// Those of the runs that have a page from one up to another. One run alone is told by its bounds.
+/// How many of the runs end at or before a page: for whoever goes upward none, or few, which a look tells.
+fn ended(runs: &[Run], first: u32) -> usize
+    requires { are_normal runs.now ≡ true }
+    ensures same { drop result runs.now ≡ parts.runs_past first runs.now }
+    ensures most { result ≤ length runs.now }
+{
+    for index in 0..runs.len().min(LOOKS) {
+        if first < runs[index].end() {
+            return index;
+        }
+    }
+    runs.partition_point(|run| run.end() <= first)
+}
+
+/// How many of the runs begin before a page.
+fn begun(runs: &[Run], end: u32) -> usize
+    requires { are_normal runs.now ≡ true }
+    ensures same { take result runs.now ≡ parts.runs_before end runs.now }
+    ensures most { result ≤ length runs.now }
+{
+    for index in 0..runs.len().min(LOOKS) {
+        if end <= runs[index].first().number() {
+            return index;
+        }
+    }
+    runs.partition_point(|run| run.first().number() < end)
+}
+
+/// Those of the runs that end behind a page: whoever goes upward needs no others.
+pub(crate) fn runs_past(runs: &[Run], first: u32) -> &[Run]
+    requires { are_normal runs.now ≡ true }
+    ensures same { result.now ≡ parts.runs_past first runs.now }
+    ensures normal { are_normal result.now ≡ true }
+{
+    &runs[ended(runs, first)..]
+}
+
+/// Those of the runs that have a page from one up to another.
 pub(crate) fn runs_between(runs: &[Run], first: u32, end: u32) -> &[Run]
     requires { are_normal runs.now ≡ true }
     ensures same { result.now ≡ parts.runs_between first end runs.now }
     ensures normal { are_normal result.now ≡ true }
 {
-    if runs.len() == 1 {
-        let run = runs[0];
-        let is_between = first < run.end() && run.first().number() < end;
-        return &runs[..usize::from(is_between)];
-    }
-    let before = runs.partition_point(|run| run.end() <= first);
-    let rest = &runs[before..];
-    let count = rest.partition_point(|run| run.first().number() < end);
-    &rest[..count]
+    let rest = runs_past(runs, first);
+    &rest[..begun(rest, end)]
 }
 
 /// Whether a page is in one of the runs. Where the first of them does not end before it, that one

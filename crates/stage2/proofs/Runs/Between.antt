@@ -1,49 +1,89 @@
 -- The runs with pages from one up to another are found by two halvings, as runs stand upward.
-use Rattle.std.proofs.Common.{◌≡◌, ℕ, zero, suc, ◌+◌, ◌-◌, ◌*◌, ◌<◌, ◌≤◌, ◌⊎◌, true, false, not, ◌&&◌, ◌||◌, Bool, cond, eqb, leb, ltb, List, [], ◌∷◌, get_or, length, take, drop, refl, arith, ap, sym, ◌∙◌, inl, inr}
-use Rattle.std.specs.List.Sorted.{IsPartitionPoint}
-use Rattle.std.proofs.lemmas.List.{get_or-drop, length-drop}
+use Rattle.std.proofs.Common.{◌≡◌, ℕ, zero, suc, ◌+◌, ◌-◌, ◌*◌, ◌<◌, ◌≤◌, ◌⊎◌, true, false, not, ◌&&◌, ◌||◌, Bool, cond, eqb, leb, ltb, List, [], ◌∷◌, get_or, length, take, drop, refl, arith, ap, ◌∙◌, inl, inr}
 use Rattle.std.proofs.lemmas.Bool.{cases_Bool, ltb-true, and_parts}
 use Rattle.std.proofs.lemmas.Bool.Decides.{nat_tests}
 use Rattle.std.specs.List.{list_any}
 use Rattle.base.specs.Pages.{PageRun, in_run, covers, rise_above, are_normal}
 use Rattle.stage2.specs.Clauses.{IsPartlyCovered}
-use Rattle.stage2.specs.Parts.{runs_between}
+use Rattle.stage2.specs.Parts.{runs_past, runs_before, runs_between, chunk_runs}
+use Rattle.stage2.specs.Chunks.{covers_chunk}
+use Rattle.std.proofs.lemmas.Map.Views.{any-filter_same}
 use Rattle.stage2.proofs.Runs.Normal.{end_of, first_of}
 
-module _ (first end : ℕ) where
-  -- those before the n-th end too early
-  skipped : (runs : List PageRun) (n : ℕ) → n ≤ length runs → ((k : ℕ) (d : PageRun) → k < n → leb (end_of (get_or runs k d)) first ≡ true) → runs_between first end runs ≡ runs_between first end (drop n runs)
-  skipped runs zero le early = refl
-  skipped [] (suc n) le early = refl
-  skipped (r ∷ runs) (suc n) le early =
-      let here : leb (end_of r) first ≡ true = early 0 r (omega arith) in
-      let out : (ltb first (end_of r) && ltb r.first end) ≡ false = grind (arith, nat_tests) in
-      rw out (skipped runs n (omega arith) (λ k d lt. early (suc k) d (omega arith)))
+-- those that end behind a page are all from the n-th on, where those before it end too early, and no other does
+pub past-halved : (first : ℕ) (runs : List PageRun) (n : ℕ) → ((k : ℕ) (d : PageRun) → k < n → k < length runs → leb (end_of (get_or runs k d)) first ≡ true)
+    → ((k : ℕ) (d : PageRun) → n ≤ k → k < length runs → leb (end_of (get_or runs k d)) first ≡ false) → drop n runs ≡ runs_past first runs
+past-halved first [] zero early late = refl
+past-halved first [] (suc n) early late = refl
+past-halved first (r ∷ runs) zero early late =
+    let here : leb (end_of r) first ≡ false = late 0 r (omega arith) (omega arith) in
+    let behind : ltb first (end_of r) ≡ true = grind (arith, nat_tests) in
+    rw behind (ap (λ rest. r ∷ rest) (past-halved first runs zero (λ k d lt _. absurd (omega arith)) (λ k d _ lt. late (suc k) d (omega arith) (omega (arith, lt)))))
+past-halved first (r ∷ runs) (suc n) early late =
+    let here : leb (end_of r) first ≡ true = early 0 r (omega arith) (omega arith) in
+    let out : ltb first (end_of r) ≡ false = grind (arith, nat_tests) in
+    rw out (past-halved first runs n (λ k d lt small. early (suc k) d (omega (arith, lt)) (omega (arith, small))) (λ k d le lt. late (suc k) d (omega (arith, le)) (omega (arith, lt))))
 
-  -- the first n of the others begin early enough, and no other does
-  kept : (runs : List PageRun) (n : ℕ) → ((k : ℕ) (d : PageRun) → k < length runs → leb (end_of (get_or runs k d)) first ≡ false) → ((k : ℕ) (d : PageRun) → k < n → k < length runs → ltb (get_or runs k d).first end ≡ true)
-      → ((k : ℕ) (d : PageRun) → n ≤ k → k < length runs → ltb (get_or runs k d).first end ≡ false) → runs_between first end runs ≡ take n runs
-  kept [] zero late begins ends = refl
-  kept [] (suc n) late begins ends = refl
-  kept (r ∷ runs) zero late begins ends =
-      let past : ltb r.first end ≡ false = ends 0 r (omega arith) (omega arith) in
-      let out : (ltb first (end_of r) && ltb r.first end) ≡ false = grind (arith, nat_tests) in
-      rw out (kept runs zero (λ k d lt. late (suc k) d (omega (arith, lt))) (λ k d lt _. absurd (omega arith)) (λ k d _ lt. ends (suc k) d (omega arith) (omega (arith, lt))))
-  kept (r ∷ runs) (suc n) late begins ends =
-      let here : leb (end_of r) first ≡ false = late 0 r (omega arith) in
-      let early : ltb r.first end ≡ true = begins 0 r (omega arith) (omega arith) in
-      let inside : (ltb first (end_of r) && ltb r.first end) ≡ true = grind (arith, nat_tests) in
-      rw inside (ap (λ rest. r ∷ rest) (kept runs n (λ k d lt. late (suc k) d (omega (arith, lt))) (λ k d lt small. begins (suc k) d (omega (arith, lt)) (omega (arith, small))) (λ k d le lt. ends (suc k) d (omega (arith, le)) (omega (arith, lt)))))
+-- those that begin before one are the first n, where these begin early enough, and no other does
+pub before-halved : (end : ℕ) (runs : List PageRun) (n : ℕ) → ((k : ℕ) (d : PageRun) → k < n → k < length runs → ltb (first_of (get_or runs k d)) end ≡ true)
+    → ((k : ℕ) (d : PageRun) → n ≤ k → k < length runs → ltb (first_of (get_or runs k d)) end ≡ false) → take n runs ≡ runs_before end runs
+before-halved end [] zero early late = refl
+before-halved end [] (suc n) early late = refl
+before-halved end (r ∷ runs) zero early late =
+    let here : ltb r.first end ≡ false = late 0 r (omega arith) (omega arith) in
+    rw here (before-halved end runs zero (λ k d lt _. absurd (omega arith)) (λ k d _ lt. late (suc k) d (omega arith) (omega (arith, lt))))
+before-halved end (r ∷ runs) (suc n) early late =
+    let here : ltb r.first end ≡ true = early 0 r (omega arith) (omega arith) in
+    rw here (ap (λ rest. r ∷ rest) (before-halved end runs n (λ k d lt small. early (suc k) d (omega (arith, lt)) (omega (arith, small))) (λ k d le lt. late (suc k) d (omega (arith, le)) (omega (arith, lt)))))
 
-  pub between-halved : (runs : List PageRun) (n count : ℕ) → n ≤ length runs
-      → IsPartitionPoint (λ run. leb (end_of run) first ≡ true) (λ run. leb (end_of run) first ≡ false) runs n
-      → IsPartitionPoint (λ run. ltb (first_of run) end ≡ true) (λ run. ltb (first_of run) end ≡ false) (drop n runs) count → take count (drop n runs) ≡ runs_between first end runs
-  between-halved runs n count le past begun =
-      sym (skipped runs n le (λ k d lt. past.0 k d (omega arith) lt)
-      ∙ kept (drop n runs) count
-      (λ k d lt. ap (λ r. leb (end_of r) first) (get_or-drop n runs k d) ∙ past.1 (n + k) d (omega arith) (let len = length-drop n runs in omega (arith, len, lt, le)))
-      (λ k d lt small. begun.0 k d (omega arith) lt)
-      (λ k d from lt. begun.1 k d from lt))
+-- both tests, one after the other
+pub between-parts : (first end : ℕ) (runs : List PageRun) → runs_before end (runs_past first runs) ≡ runs_between first end runs
+between-parts first end [] = refl
+between-parts first end (r ∷ runs) = elim (cases_Bool (ltb first (end_of r))) [
+  | inl past ↦ elim (cases_Bool (ltb r.first end)) [
+    | inl early ↦ rw (past, early) (ap (λ rest. r ∷ rest) (between-parts first end runs))
+    | inr late ↦ rw (past, late) (between-parts first end runs)
+  ]
+  | inr over ↦ rw over (between-parts first end runs)
+]
+
+-- of the runs that end behind a page the same ones have a page from a later one on
+pub between-past : (page first end : ℕ) (runs : List PageRun) → page ≤ first → runs_between first end (runs_past page runs) ≡ runs_between first end runs
+between-past page first end [] le = refl
+between-past page first end (r ∷ runs) le = elim (cases_Bool (ltb page (end_of r))) [
+  | inl past ↦ elim (cases_Bool (ltb first (end_of r) && ltb r.first end)) [
+    | inl in_both ↦ rw (past, in_both) (ap (λ rest. r ∷ rest) (between-past page first end runs le))
+    | inr out ↦ rw (past, out) (between-past page first end runs le)
+  ]
+  | inr over ↦
+      let out : (ltb first (end_of r) && ltb r.first end) ≡ false = grind (arith, nat_tests) in
+      rw (over, out) (between-past page first end runs le)
+]
+
+-- and the same chunks are filled
+pub fills-past : (page c : ℕ) (runs : List PageRun) → page ≤ 512 * c → covers_chunk c (runs_past page runs) ≡ covers_chunk c runs
+fills-past page c runs le = any-filter_same (λ run. leb run.first (512 * c) && leb (512 * c + 512) (run.first + run.count)) (λ run. ltb page (run.first + run.count)) true (λ run fills. here run.first run.count fills) runs
+  where
+    here : (start count : ℕ) → (leb start (512 * c) && leb (512 * c + 512) (start + count)) ≡ true → ltb page (start + count) ≡ true
+    here start count fills = grind (arith, nat_tests)
+
+-- from a chunk on it is all one whether these runs are asked or those
+pub record AreLeft (c : ℕ) (rest runs : List PageRun) : Type 0 where
+  pub parts : (x : ℕ) → c ≤ x → chunk_runs x rest ≡ chunk_runs x runs
+  pub fills : (x : ℕ) → c ≤ x → covers_chunk x rest ≡ covers_chunk x runs
+
+pub left-all : (c : ℕ) (runs : List PageRun) → AreLeft c runs runs
+left-all c runs = record { parts = λ x le. refl; fills = λ x le. refl }
+
+pub left-later : (c d : ℕ) (rest runs : List PageRun) → c ≤ d → AreLeft c rest runs → AreLeft d rest runs
+left-later c d rest runs later left = record { parts = λ x le. left.parts x (omega (arith, later, le)); fills = λ x le. left.fills x (omega (arith, later, le)) }
+
+-- those that end before it are left out
+pub left-past : (c page : ℕ) (rest past runs : List PageRun) → page ≡ 512 * c → past ≡ runs_past page rest → AreLeft c rest runs → AreLeft c past runs
+left-past c page rest past runs at is left = rw is record {
+  parts = λ x le. between-past page (512 * x) (512 * x + 512) rest (omega (arith, at, le)) ∙ left.parts x le;
+  fills = λ x le. fills-past page x rest (omega (arith, at, le)) ∙ left.fills x le;
+}
 
 -- a page is in one of the runs exactly where one of them has a page from it up to the next
 pub covered-between : (runs : List PageRun) (n : ℕ) → covers runs n ≡ not (eqb (length (runs_between n (n + 1) runs)) 0)

@@ -71,8 +71,9 @@ returns-clause-counted g c =
     let w = c.args.with in
     let start = g.S.WordStore.words c.args.store.now in
     let end : c.loop-index.index ≡ w.end = omega (arith, c.loop-index-test.false, c.loop-index.auto.index-end, c.requires.ordered) in
-    let cleared = nonzero-cleared start w.page w.first (w.end - w.first) c.requires.inside (omega (arith, c.requires.ordered, c.requires.index_in)) c.requires.all in
-    let less : 512 - (w.end - w.first) ≡ nonzero_in (words_of (words_set start w.page w.first (w.end - w.first) 0 0)) w.page = omega (arith, cleared) in
+    let cleared = nonzero-cleared start w.page w.first (w.end - w.first) c.requires.inside (omega (arith, c.requires.ordered, c.requires.index_in))
+    (λ x lt. nonzero-full (words_of start) w.page (w.first + x) c.requires.all (omega (arith, lt, c.requires.ordered, c.requires.index_in))) in
+    let less : 512 - (w.end - w.first) ≡ nonzero_in (words_of (words_set start w.page w.first (w.end - w.first) 0 0)) w.page = omega (arith, cleared, c.requires.all) in
     less
     ∙ ap (λ e. nonzero_in (words_of (words_set start w.page w.first (e - w.first) 0 0)) w.page) (sym end)
     ∙ ap (λ l. nonzero_in (words_of l) w.page) (sym c.loop-index.invariant.words)

@@ -1,15 +1,10 @@
 use Rattle.std.proofs.Common.{◌≡◌, ◌+◌, ◌-◌, ◌*◌, ◌≤◌, length, sym, ap, subst, ◌∙◌, arith}
 use Rattle.pool.specs.Pool.{Pool, words_of, nonzero_in}
 use Rattle.pool.specs.Shown.{IsShown}
-use Rattle.pool.proofs.Stretches.{length-words_set, nonzero-fresh, differ-fresh}
+use Rattle.pool.proofs.Stretches.{length-words_set}
 use Rattle.pool.proofs.Replaced.{replaces-fresh}
 use Rattle.pool.proofs.RunWords.{shown-sets}
 use Rattle.pool.proofs.replace.make_all.Goals as goal
-
-pub write_all-requires-clause-differ : goal.write_all-requires-clause-differ
-write_all-requires-clause-differ g c =
-    let w = c.args.with in
-    differ-fresh (g.S.WordStore.words c.args.store.now) w.page w.first (w.end - w.first) w.word w.step (omega (arith, c.requires.ordered, c.requires.index_in)) c.requires.none c.requires.some
 
 pub returns-clause-shown : goal.returns-clause-shown
 returns-clause-shown g c = λ pool shown.
@@ -19,14 +14,8 @@ returns-clause-shown g c = λ pool shown.
     let room : 512 * w.page + 512 ≤ length pool.memory.words = (let long = ap length shown.words in omega (arith, c.requires.inside, long)) in
     let none : nonzero_in (words_of pool.memory.words) w.page ≡ 0 = ap (λ l. nonzero_in (words_of l) w.page) (sym shown.words) ∙ c.requires.none in
     let fresh = replaces-fresh w.who w.page w.first n w.word w.step w.start pool (omega (arith, c.requires.ordered, c.requires.index_in)) room none c.requires.some in
-    subst (λ (p : Pool). IsShown (g.S.WordStore.words c.write_all.new.store) c.write_all.result.items p) (sym fresh)
-    (shown-sets start (g.S.WordStore.words c.write_all.new.store) c.args.operations.items c.write_all.result.items w.page w.first n w.word w.step pool c.write_all.ensures.words c.write_all.ensures.made shown)
+    subst (λ (p : Pool). IsShown (g.S.WordStore.words c.write_words.new.store) c.write_words.result.0.items p) (sym fresh)
+    (shown-sets start (g.S.WordStore.words c.write_words.new.store) c.args.operations.items c.write_words.result.0.items w.page w.first n w.word w.step pool c.write_words.ensures.words c.write_words.ensures.made shown)
 
 pub returns-clause-whole : goal.returns-clause-whole
-returns-clause-whole g c = ap length c.write_all.ensures.words ∙ length-words_set _ _ _ _ _ _
-
-pub returns-clause-counted : goal.returns-clause-counted
-returns-clause-counted g c =
-    let w = c.args.with in
-    sym (nonzero-fresh (g.S.WordStore.words c.args.store.now) w.page w.first (w.end - w.first) w.word w.step c.requires.inside (omega (arith, c.requires.ordered, c.requires.index_in)) c.requires.none c.requires.some)
-    ∙ ap (λ words. nonzero_in (words_of words) w.page) (sym c.write_all.ensures.words)
+returns-clause-whole g c = ap length c.write_words.ensures.words ∙ length-words_set _ _ _ _ _ _

@@ -19,11 +19,11 @@ returns-then-index-ge-WORDS-clause-shown g c = λ pool shown.
 pub returns-then-count-eq1-clause-whole : goal.returns-then-count-eq1-clause-whole
 returns-then-count-eq1-clause-whole g c = ap length c.write_others.ensures.words ∙ length-words_set _ _ _ _ _ _
 
-pub write_others-requires-2-clause-in_range : goal.write_others-requires-2-clause-in_range
-write_others-requires-2-clause-in_range g c =
+pub write_words-requires-clause-in_range : goal.write_words-requires-clause-in_range
+write_words-requires-clause-in_range g c =
     let first : c.index_from-first.result ≤ 512 = omega (arith, c.index_from-first.ensures) in
     let end : c.index_from-end.result ≤ 512 = omega (arith, c.index_from-end.ensures) in
     rw c.stretch-2.ensures (words-in_range c.args.with.word c.args.with.step c.index_from-first.result c.index_from-end.result c.requires.in_range first end)
 
 pub returns-clause-whole : goal.returns-clause-whole
-returns-clause-whole g c = ap length c.write_others-2.ensures.words ∙ length-words_set _ _ _ _ _ _
+returns-clause-whole g c = ap length c.write_words.ensures.words ∙ length-words_set _ _ _ _ _ _

@@ -1,4 +1,4 @@
-use Rattle.std.proofs.Common.{◌≡◌, ℕ, zero, suc, ◌+◌, ◌-◌, ◌*◌, ◌<◌, ◌≤◌, min, true, None, List, cond, inl, inr, sym, ap₂, subst, ◌∙◌, arith}
+use Rattle.std.proofs.Common.{◌≡◌, ℕ, zero, suc, ◌+◌, ◌-◌, ◌*◌, ◌<◌, ◌≤◌, min, true, None, List, cond, inl, inr, sym, ap, ap₂, subst, ◌∙◌, arith}
 use Rattle.base.specs.Access.{View}
 use Rattle.stage2.specs.Walk.{walked}
 use Rattle.stage2.specs.Orderly.{answers, linked}
@@ -11,7 +11,7 @@ use Rattle.stage2.specs.Change.{block_step}
 use Rattle.stage2.specs.Moments.{StaysInStep}
 use Rattle.stage2.specs.Slot.{slot}
 use Rattle.stage2.specs.Walk.{next_page}
-use Rattle.stage2.specs.Parts.{part_count, chunk_runs}
+use Rattle.stage2.specs.Parts.{part_count, chunk_runs, runs_past}
 use Rattle.stage2.specs.Gigabytes.{sum_below, touches_chunk, chunk_operations, IsUnderway}
 use Rattle.stage2.proofs.Walkers.ChunkSteps.{march-edit, march-skip, march-seated, march-free}
 use Rattle.stage2.proofs.Editing.ChunkByChunk.{sum_below-more, sum_below-up, underway-start, underway-skip, underway-edit, site, has-free, untouched}
@@ -19,13 +19,27 @@ use Rattle.stage2.proofs.Editing.FilledChunks.{edited-many, stays-many}
 use Rattle.stage2.proofs.Editing.FourChunkEdits.{second-inside, second-taken}
 use Rattle.stage2.proofs.Runs.Spans.{AreUntouched, UnderwayAt, StaysAt, underway-gap, stays-gap, outside-chunks}
 use Rattle.stage2.proofs.Runs.OwnRuns.{chunk-covers, chunk-touches, chunk-count, chunk-growing, chunk-redoes, chunk-free, chunk-stays}
+use Rattle.stage2.proofs.Runs.Between.{AreLeft, left-all, left-later, left-past}
 use Rattle.stage2.proofs.Walkers.ZeroedTables.{stays-none}
 use Rattle.stage2.proofs.gigabyte.edit_chunks.Goals as goal
 use Rattle.stage2.proofs.gigabyte.edit_chunks.Goals.{then-touches, else-touches}
 
+-- the runs of a chunk, by those that are left
+own : (c page : ℕ) (rest past runs part : List PageRun) → page ≡ 512 * c → past ≡ runs_past page rest → AreLeft c rest runs → part ≡ chunk_runs c past → part ≡ chunk_runs c runs
+own c page rest past runs part at is left same = same ∙ (left-past c page rest past runs at is left).parts c (omega arith)
+
+-- a chunk that these fill is filled
+fills : (c page x : ℕ) (rest past runs : List PageRun) → page ≡ 512 * c → past ≡ runs_past page rest → AreLeft c rest runs → c ≤ x → covers_chunk x past ≡ true → covers_chunk x runs ≡ true
+fills c page x rest past runs at is left le filled = sym ((left-past c page rest past runs at is left).fills x le) ∙ filled
+
 -- the operations of a chunk that is touched
 cost : (c : ℕ) (runs part : List PageRun) → part ≡ chunk_runs c runs → touches_chunk c part ≡ true → chunk_operations runs c ≡ 515 + part_count c part
 cost c runs part is touched = ap₂ (λ t k. cond t (515 + k) 0) (sym (chunk-touches c runs part is) ∙ touched) (sym (chunk-count c runs part is))
+
+pub touches-requires : goal.touches-requires
+touches-requires g c =
+    let here = c.chunk-chunk.ensures.same in
+    rw here (own (512 * c.args.gigabyte + c.loop-index.index) c.number.result c.loop-index.rest.now c.runs_past-rest.result.now c.args.runs.now c.chunk_runs-part.result.now (c.number.ensures.same ∙ c.first.ensures.same ∙ ap (λ k. 512 * k) here) c.runs_past-rest.ensures.same c.loop-index.invariant.left (rw here at c.chunk_runs-part.ensures.same))
 
 pub edit_chunk-requires-clause-site : goal.edit_chunk-requires-clause-site
 edit_chunk-requires-clause-site g c =
@@ -40,7 +54,7 @@ edit_chunk-requires-clause-free g c = λ grows.
     let part = c.chunk_runs-part.result.now in
     has-free c.args.layout.now c.args.row c.args.gigabyte c.args.second c.args.runs.now c.args.access.now (pages_of (g.M.TableMem.state c.args.memory.now).memory) c.requires.partition c.chunk_span-span.ensures.in_range
     c.loop-index.index (omega (arith, c.loop-index-test.true, c.chunk_span-span.ensures.most)) mid c.loop-index.invariant.underway c.requires.free.fits
-    (chunk-growing chunk c.args.runs.now part c.args.access.now (chunk-covers chunk c.args.runs.now part (rw here at c.chunk_runs-part.ensures.same)) (answers_in c.args.layout.now c.args.row chunk c.args.second mid) (rw here at grows))
+    (chunk-growing chunk c.args.runs.now part c.args.access.now (chunk-covers chunk c.args.runs.now part (own (512 * c.args.gigabyte + c.loop-index.index) c.number.result c.loop-index.rest.now c.runs_past-rest.result.now c.args.runs.now c.chunk_runs-part.result.now (c.number.ensures.same ∙ c.first.ensures.same ∙ ap (λ k. 512 * k) here) c.runs_past-rest.ensures.same c.loop-index.invariant.left (rw here at c.chunk_runs-part.ensures.same))) (answers_in c.args.layout.now c.args.row chunk c.args.second mid) (rw here at grows))
 
 pub edit_chunk-requires-clause-room : goal.edit_chunk-requires-clause-room
 edit_chunk-requires-clause-room g c =
@@ -50,7 +64,7 @@ edit_chunk-requires-clause-room g c =
     let c0 = 512 * c.args.gigabyte + c.loop-index.index in
     let part = c.chunk_runs-part.result.now in
     let here = c.chunk-chunk.ensures.same in
-    let one = cost c0 c.args.runs.now part (rw here at c.chunk_runs-part.ensures.same) (sym (rw here at c.touches.ensures) ∙ c.if-touches.true) in
+    let one = cost c0 c.args.runs.now part (own (512 * c.args.gigabyte + c.loop-index.index) c.number.result c.loop-index.rest.now c.runs_past-rest.result.now c.args.runs.now c.chunk_runs-part.result.now (c.number.ensures.same ∙ c.first.ensures.same ∙ ap (λ k. 512 * k) here) c.runs_past-rest.ensures.same c.loop-index.invariant.left (rw here at c.chunk_runs-part.ensures.same)) (sym (rw here at c.touches.ensures) ∙ c.if-touches.true) in
     rw here (enough (g.M.TableMem.room c.args.memory.now) (g.M.TableMem.room c.loop-index.memory) (f c.loop-index.index) (515 + part_count c0 part) (sum_below f c.loop-index.index) (sum_below f (c.loop-index.index + 1)) (sum_below f 512) one more up c.loop-index.invariant.room c.requires.room)
   where
     enough : (r0 r one cost before next all : ℕ) → one ≡ cost → next ≡ one + before → next ≤ all → r0 ≤ r + before → all ≤ r0 → cost ≤ r
@@ -101,7 +115,7 @@ set_blocks-requires-clause-room g c =
     let end = c.plain_until-plain.result in
     let k = end - i in
     let last : i + k ≡ end = omega (arith, c.if-index-plain.true) in
-    let costs = filled-costs f i k (λ x from to. filled-cost c.args.runs.now (512 * c.args.gigabyte + x) (c.first_unfilled-unfilled.ensures.filled x from (omega (arith, to, last, below, least)))) in
+    let costs = filled-costs f i k (λ x from to. filled-cost c.args.runs.now (512 * c.args.gigabyte + x) (fills (512 * c.args.gigabyte + c.loop-index.index) c.number.result (512 * c.args.gigabyte + x) c.loop-index.rest.now c.runs_past-rest.result.now c.args.runs.now (c.number.ensures.same ∙ c.first.ensures.same ∙ ap (λ k. 512 * k) c.chunk-chunk.ensures.same) c.runs_past-rest.ensures.same c.loop-index.invariant.left (omega (arith, from)) (c.first_unfilled-unfilled.ensures.filled x from (omega (arith, to, last, below, least))))) in
     let up = sum_below-up f (i + k) 512 (omega (arith, last, below, least, most)) in
     enough (g.M.TableMem.room c.args.memory.now) (g.M.TableMem.room c.loop-index.memory) (sum_below f i) (sum_below f (i + k)) (sum_below f 512) i end k costs up c.loop-index.invariant.room c.requires.room last
   where
@@ -126,13 +140,13 @@ loop-index-preserved-then-index-plain g c =
     let end = c.plain_until-plain.result in
     let k = end - i in
     let last : i + k ≡ end = omega (arith, c.if-index-plain.true) in
-    let costs = filled-costs f i k (λ x from to. filled-cost c.args.runs.now (512 * c.args.gigabyte + x) (c.first_unfilled-unfilled.ensures.filled x from (omega (arith, to, last, below, least)))) in
+    let costs = filled-costs f i k (λ x from to. filled-cost c.args.runs.now (512 * c.args.gigabyte + x) (fills (512 * c.args.gigabyte + c.loop-index.index) c.number.result (512 * c.args.gigabyte + x) c.loop-index.rest.now c.runs_past-rest.result.now c.args.runs.now (c.number.ensures.same ∙ c.first.ensures.same ∙ ap (λ k. 512 * k) c.chunk-chunk.ensures.same) c.runs_past-rest.ensures.same c.loop-index.invariant.left (omega (arith, from)) (c.first_unfilled-unfilled.ensures.filled x from (omega (arith, to, last, below, least))))) in
     let up = sum_below-up f (i + k) 512 (omega (arith, last, below, least, most)) in
     let lt : i < 512 = omega (arith, c.loop-index-test.true, most) in
     let here = site layout row gigabyte c.args.second runs access old c.requires.partition c.chunk_span-span.ensures.in_range i lt mid c.loop-index.invariant.underway in
     let inside = second-inside layout row (512 * gigabyte + i) c.args.second mid here in
     let r = c.set_blocks.ensures.replaces in
-    let filled : (x : ℕ) → i ≤ x → x < end → covers_chunk (512 * gigabyte + x) runs ≡ true = λ x from to. c.first_unfilled-unfilled.ensures.filled x from (omega (arith, to, below, least)) in
+    let filled : (x : ℕ) → i ≤ x → x < end → covers_chunk (512 * gigabyte + x) runs ≡ true = λ x from to. fills (512 * c.args.gigabyte + c.loop-index.index) c.number.result (512 * c.args.gigabyte + x) c.loop-index.rest.now c.runs_past-rest.result.now c.args.runs.now (c.number.ensures.same ∙ c.first.ensures.same ∙ ap (λ k. 512 * k) c.chunk-chunk.ensures.same) c.runs_past-rest.ensures.same c.loop-index.invariant.left (omega (arith, from)) (c.first_unfilled-unfilled.ensures.filled x from (omega (arith, to, below, least))) in
     let none : (x : ℕ) → i ≤ x → x < end → next_page (slot layout 2 (words_of s.memory.words c.args.second x)) ≡ None = λ x from to. c.plain_until-plain.ensures.plain layout x from to in
     let first : ℕ → View = answers layout (linked layout row gigabyte c.args.second old).words row in
     let view : ℕ → View = edited runs access first in
@@ -145,6 +159,8 @@ loop-index-preserved-then-index-plain g c =
           let stays = stays-many layout row gigabyte c.args.second runs access old c.requires.partition c.chunk_span-span.ensures.in_range c.args.p c.requires.row (g.M.TableMem.state c.args.memory.now) i r.word s (g.met.M.TableMem.whole c.loop-index.memory) inside r.block end (omega (arith, below, least, most)) filled none c.loop-index.invariant.underway k (omega (arith, last)) seated (c.loop-index.invariant.in_step seated free) in
           subst (λ (t : Pool). StaysInStep layout row (disturbed_below gigabyte end runs first view) (λ n. walked n (view n)) start t) (sym r.state)
           (subst (λ x. StaysInStep layout row (disturbed_below gigabyte x runs first view) (λ n. walked n (view n)) start (after_replaces c.args.p c.args.second i k r.word (block_step access) (512 * (512 * gigabyte + i)) s)) last stays);
+      left = left-later (512 * gigabyte + i) (512 * gigabyte + end) c.runs_past-rest.result.now runs (omega (arith, c.if-index-plain.true)) (left-past (512 * gigabyte + i) c.number.result c.loop-index.rest.now c.runs_past-rest.result.now runs (c.number.ensures.same ∙ c.first.ensures.same ∙ ap (λ k. 512 * k) c.chunk-chunk.ensures.same) c.runs_past-rest.ensures.same c.loop-index.invariant.left);
+      normal = c.runs_past-rest.ensures.normal;
       last = omega (arith, below, least);
       room = rw (← last) (less (g.M.TableMem.room c.args.memory.now) (g.M.TableMem.room c.loop-index.memory) (g.M.TableMem.room c.set_blocks.new.memory) (sum_below f i) (sum_below f (i + k)) i end k costs c.loop-index.invariant.room c.set_blocks.ensures.room last);
     }
@@ -165,7 +181,7 @@ loop-index-preserved g c =
     let here = c.chunk-chunk.ensures.same in
     let v : ℕ → View = answers_in c.args.layout.now c.args.row chunk c.args.second mid in
     let part = c.chunk_runs-part.result.now in
-    let is = rw here at c.chunk_runs-part.ensures.same in
+    let is = (own (512 * c.args.gigabyte + c.loop-index.index) c.number.result c.loop-index.rest.now c.runs_past-rest.result.now c.args.runs.now c.chunk_runs-part.result.now (c.number.ensures.same ∙ c.first.ensures.same ∙ ap (λ k. 512 * k) here) c.runs_past-rest.ensures.same c.loop-index.invariant.left (rw here at c.chunk_runs-part.ensures.same)) in
     let touches = rw here at c.touches.ensures in
     let covered = chunk-covers chunk runs part is in
     (elim c.if-touches.branch [
@@ -182,6 +198,8 @@ loop-index-preserved g c =
             (march-seated c.args.layout.now c.args.row c.args.gigabyte c.args.second c.args.runs.now c.args.access.now old c.requires.partition c.chunk_span-span.ensures.in_range i (omega (arith, c.loop-index-test.true, c.chunk_span-span.ensures.most)) mid c.loop-index.invariant.underway seated)
             (chunk-free chunk runs part c.args.access.now covered v
             (march-free c.args.layout.now c.args.row c.args.gigabyte c.args.second c.args.runs.now c.args.access.now old c.requires.partition c.chunk_span-span.ensures.in_range i (omega (arith, c.loop-index-test.true, c.chunk_span-span.ensures.most)) mid c.loop-index.invariant.underway free))));
+        left = left-later (512 * c.args.gigabyte + i) (512 * c.args.gigabyte + (i + 1)) c.runs_past-rest.result.now c.args.runs.now (omega arith) (left-past (512 * c.args.gigabyte + i) c.number.result c.loop-index.rest.now c.runs_past-rest.result.now c.args.runs.now (c.number.ensures.same ∙ c.first.ensures.same ∙ ap (λ k. 512 * k) c.chunk-chunk.ensures.same) c.runs_past-rest.ensures.same c.loop-index.invariant.left);
+        normal = c.runs_past-rest.ensures.normal;
         last = omega (arith, c.loop-index-test.true);
         room = less (g.M.TableMem.room c.args.memory.now) (g.M.TableMem.room c.loop-index.memory) (g.M.TableMem.room t.edit_chunk.new.memory) (f i) (515 + part_count chunk part) (sum_below f i) (sum_below f (i + 1))
             (cost chunk runs part is (sym touches ∙ t.if-touches.true)) more c.loop-index.invariant.room (rw here at t.edit_chunk.ensures.room);
@@ -194,6 +212,8 @@ loop-index-preserved g c =
             march-skip c.args.layout.now c.args.row c.args.gigabyte c.args.second c.args.runs.now c.args.access.now old c.requires.partition c.chunk_span-span.ensures.in_range
             i (omega (arith, c.loop-index-test.true, c.chunk_span-span.ensures.most)) mid c.loop-index.invariant.underway (g.M.TableMem.state c.args.memory.now) (g.M.TableMem.state c.loop-index.memory)
             (sym (chunk-touches chunk runs part is) ∙ sym touches ∙ t.if-touches.false) (c.loop-index.invariant.in_step seated free);
+        left = left-later (512 * c.args.gigabyte + i) (512 * c.args.gigabyte + (i + 1)) c.runs_past-rest.result.now c.args.runs.now (omega arith) (left-past (512 * c.args.gigabyte + i) c.number.result c.loop-index.rest.now c.runs_past-rest.result.now c.args.runs.now (c.number.ensures.same ∙ c.first.ensures.same ∙ ap (λ k. 512 * k) c.chunk-chunk.ensures.same) c.runs_past-rest.ensures.same c.loop-index.invariant.left);
+        normal = c.runs_past-rest.ensures.normal;
         last = omega (arith, c.loop-index-test.true);
         room = omega (arith, up, c.loop-index.invariant.room);
       })
@@ -219,6 +239,8 @@ loop-index-init g c =
     record {
       underway = subst (UnderwayAt c.args.layout.now c.args.row c.args.gigabyte c.args.second c.args.runs.now c.args.access.now old old c.requires.partition c.chunk_span-span.ensures.in_range) e (underway-gap c.args.layout.now c.args.row c.args.gigabyte c.args.second c.args.runs.now c.args.access.now old old c.requires.partition c.chunk_span-span.ensures.in_range first 0 le none start);
       in_step = λ seated free. stays-none c.args.layout.now c.args.row (disturbed_below c.args.gigabyte first c.args.runs.now v w) (λ n. walked n (w n)) state;
+      left = left-all (512 * c.args.gigabyte + first) c.args.runs.now;
+      normal = c.requires.normal;
       last = c.chunk_span-span.ensures.ordered;
       room = omega arith;
     }

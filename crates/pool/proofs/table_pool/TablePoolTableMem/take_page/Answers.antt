@@ -1,11 +1,11 @@
-use Rattle.std.proofs.Common.{◌≡◌, ◌==◌, ◌-◌, ◌∙◌, sym, subst, arith, length, slice_index, Some}
+use Rattle.std.proofs.Common.{◌≡◌, ◌==◌, ◌+◌, ◌-◌, ◌∙◌, sym, subst, arith, length, slice_index, Some}
 use Rattle.std.proofs.lemmas.List.{get_or_read}
 use Rattle.std.proofs.Math.ListN.{length-set}
 use Rattle.std.specs.List.{position}
 use Rattle.base.specs.Manifest.{row_of}
 use Rattle.pool.specs.Pool.{InShare, share_start}
 use Rattle.pool.proofs.Shares.{share_inside}
-use Rattle.pool.proofs.Kept.{memory_in, pages_in, free_zero-mark, roots-mark, taken_of-read, searched-first, searched-next, searched-within, searched-found, position-found, row_of-within, row_of-found, counts-take, counts-free}
+use Rattle.pool.proofs.Kept.{memory_in, pages_in, free_zero-mark, roots-mark, taken_of-read, IsSearched, searched-first, searched-next, searched-past, searched-within, searched-found, position-found, row_of-within, row_of-found, counts-take, counts-free}
 use Rattle.pool.proofs.table_pool.TablePoolTableMem.take_page.Goals as goal
 
 pub unwrap-row-requires : goal.unwrap-row-requires
@@ -18,8 +18,14 @@ loop-page-init g c =
     let old = c.args.self.now in
     let found : position (λ id. id == c.args.p) old.ids.items ≡ Some c.unwrap-row.result = rw (← c.deref.ensures.value) (sym c.row_of.ensures ∙ c.unwrap-row.ensures) in
     let is : row_of old.ids.items c.args.p ≡ c.unwrap-row.result = (row_of-found old.ids.items c.args.p c.unwrap-row.result found).0 in
-    let start : c.share_start-page.result ≡ share_start old.quotas.items (row_of old.ids.items c.args.p) = rw (is, ← c.deref-2.ensures.value) c.share_start-page.ensures in
-    rw start (searched-first (pages_in old) c.args.p c.requires.free)
+    let start : c.share_start-start.result ≡ share_start old.quotas.items (row_of old.ids.items c.args.p) = rw (is, ← c.deref-2.ensures.value) c.share_start-start.ensures in
+    let begun : IsSearched (pages_in old) (row_of old.ids.items c.args.p) c.share_start-start.result = rw start (searched-first (pages_in old) c.args.p c.requires.free) in
+    let from = c.taken_until-page.ensures.from in
+    let k = c.taken_until-page.result - c.share_start-start.result in
+    let last : c.share_start-start.result + k ≡ c.taken_until-page.result = omega (arith, from) in
+    subst (IsSearched (pages_in old) (row_of old.ids.items c.args.p)) last
+    (searched-past (pages_in old) c.args.p c.share_start-start.result k c.requires.free begun
+    (λ x above below. rw c.deref-3.ensures.value at c.taken_until-page.ensures.taken x above (omega (arith, below, last))))
 
 pub index-requires : goal.index-requires
 index-requires g c = omega (arith, c.args.self.now.taken.ok.0, searched-within c.args.self.now _ _ c.loop-page.invariant)

@@ -1,9 +1,9 @@
-use Rattle.std.proofs.Common.{◌≡◌, ◌≢◌, ◌+◌, ◌-◌, ◌*◌, ◌<◌, ◌++◌, ◌∷◌, [], reverse, length, slice_index, slice_set, vec_capacity, sym, ap, ◌∙◌, arith}
+use Rattle.std.proofs.Common.{◌≡◌, ◌≢◌, ◌+◌, ◌-◌, ◌*◌, ◌<◌, ◌++◌, ◌∷◌, [], reverse, slice_index, vec_capacity, sym, ap, ◌∙◌, arith}
 use Rattle.std.proofs.lemmas.List.{reverse-append}
 use Rattle.pool.specs.Pool.{words_set}
 use Rattle.pool.specs.declared.operation.Op.TheVariants.{Set}
-use Rattle.pool.proofs.Stretches.{length-words_set, words_set-none, words_set-next, sets_of-none, sets_of-write, differ-next}
-use Rattle.pool.proofs.stretch.write_all.Goals as goal
+use Rattle.pool.proofs.Stretches.{sets_of-none, sets_of-write, differ-next}
+use Rattle.pool.proofs.stretch.record_all.Goals as goal
 
 pub loop-index-init : goal.loop-index-init
 loop-index-init g c =
@@ -11,17 +11,11 @@ loop-index-init g c =
     let words = g.S.WordStore.words c.args.store.now in
     let none : s.first - s.first ≡ 0 = omega arith in
     record {
-      words = rw none (sym (words_set-none words s.page s.first s.word s.step));
       made = rw (none, sets_of-none words s.page s.first s.word s.step) (λ i. reverse c.args.operations.items);
       word = rw none (omega arith);
       capacity = λ i. vec_capacity c.args.operations;
       len = omega arith;
     }
-
-pub set_word-requires : goal.set_word-requires
-set_word-requires g c =
-    let long = ap length c.loop-index.invariant.words ∙ length-words_set (g.S.WordStore.words c.args.store.now) c.args.stretch.page c.args.stretch.first (c.loop-index.index - c.args.stretch.first) c.args.stretch.word c.args.stretch.step in
-    omega (arith, long, c.requires.inside, c.requires.index_in, c.loop-index-test.true)
 
 pub loop-index-preserved : goal.loop-index-preserved
 loop-index-preserved g c =
@@ -38,7 +32,6 @@ loop-index-preserved g c =
     let differs : slice_index (words_set start s.page s.first n s.word s.step) (512 * s.page + i) ≢ c.loop-index.word =
     differ-next start s.page s.first n (s.end - s.first) s.word s.step i c.loop-index.word c.requires.inside (omega (arith, c.requires.ordered, c.requires.index_in)) lt index next c.requires.differ in
     rw more record {
-      words = c.set_word.ensures ∙ ap (λ items. slice_set items (512 * s.page + i) c.loop-index.word) before.words ∙ sym (words_set-next start s.page s.first n s.word s.step i c.loop-index.word index next);
       made = ap reverse c.push_reserved.ensures.items ∙ reverse-append c.loop-index.operations.items (Set s.page i c.loop-index.word ∷ []) ∙ ap (λ ops. Set s.page i c.loop-index.word ∷ ops) before.made
           ∙ ap (λ ops. ops ++ reverse c.args.operations.items) (sym (sets_of-write start s.page s.first n s.word s.step i c.loop-index.word index next differs));
       word = omega (arith, next);
