@@ -15,7 +15,7 @@ use crate::gift::Gift;
 use crate::live::{self, Live, place_of, put_in, set_retrieved};
 use base::{Access, Handle, Kind, OutOfMemory, Page, PartitionId, Run};
 use manifest::{Manifest, Region};
-use spans::Spans;
+use spans::PageMap;
 use std::alloc::Global;
 use std::marker::Model;
 
@@ -47,8 +47,8 @@ pub struct Ledger {
     manifest: Manifest,
     donations: Vec<Donation>,
     live: Vec<Live>,
-    given: Spans,
-    shared: Spans,
+    given: PageMap,
+    shared: PageMap,
     numbered: usize,
 }
 
@@ -86,8 +86,8 @@ impl Ledger {
             manifest,
             donations: Vec::new(alloc),
             live: Vec::new(alloc),
-            given: Spans::new(alloc),
-            shared: Spans::new(alloc),
+            given: PageMap::new(alloc),
+            shared: PageMap::new(alloc),
             numbered,
         }
     }

@@ -1,8 +1,9 @@
 -- Intervals in ascending order: parts of the list, and the numbers of pages between them.
-use Rattle.std.proofs.Common.{◌≡◌, ℕ, zero, suc, ◌<◌, ◌≤◌, true, false, ◌&&◌, cond, leb, ltb, List, [], ◌∷◌, ◌++◌, length, get_or, take, Some, None, refl, ◌∙◌, arith}
+use Rattle.std.proofs.Common.{◌≡◌, ℕ, zero, suc, ◌<◌, ◌≤◌, true, false, ◌&&◌, cond, leb, ltb, List, [], ◌∷◌, ◌++◌, length, get_or, take, drop, Some, None, refl, ap, ◌∙◌, arith}
 use Rattle.std.specs.Option.{option_map_or}
 use Rattle.std.specs.List.{AllWithin}
 use Rattle.std.specs.List.Sorted.{IsNonDecreasingBy}
+use Rattle.std.proofs.lemmas.List.{take-append-drop}
 use Rattle.std.proofs.lemmas.Bool.{and_parts, and_from, leb-true, ltb-true}
 use Rattle.std.proofs.lemmas.Bool.Decides.{nat_tests}
 use Rattle.base.specs.Pages.{PageRun, in_run}
@@ -70,7 +71,7 @@ value_at-append (s ∷ xs) ys n =
       | false ↦ value_at-append xs ys n
     ]
 
-out : (s : Span) (ss : List Span) (n : ℕ) → in_run s.run n ≡ false → value_at (s ∷ ss) n ≡ value_at ss n
+pub out : (s : Span) (ss : List Span) (n : ℕ) → in_run s.run n ≡ false → value_at (s ∷ ss) n ≡ value_at ss n
 out s ss n h = rw h refl
 
 pub not_in : (run : PageRun) (n : ℕ) → (end_of run ≤ n → ⊥) → (n < run.first → ⊥) → in_run run n ≡ true
@@ -138,3 +139,9 @@ ends_before [] (suc i) page le h = absurd (omega arith)
 ends_before (s ∷ ss) (suc i) page le h =
     let last : end_of (get_or (s ∷ ss) i s).run ≤ page = leb-true _ _ (h i s (omega arith) (omega arith)) in
     rw (end_from-take 0 i (s ∷ ss) s (omega arith)) last
+
+pub ascend-taken : (i : ℕ) (ss : List Span) → ascend 0 ss ≡ true → ascend 0 (take i ss) ≡ true
+ascend-taken i ss h = ascend-left 0 (take i ss) (drop i ss) (ap (ascend 0) (take-append-drop i ss) ∙ h)
+
+pub ascend-dropped : (i : ℕ) (ss : List Span) → ascend 0 ss ≡ true → ascend 0 (drop i ss) ≡ true
+ascend-dropped i ss h = far 0 (end_from 0 (take i ss)) (drop i ss) (omega arith) (ascend-right 0 (take i ss) (drop i ss) (ap (ascend 0) (take-append-drop i ss) ∙ h))

@@ -1,8 +1,11 @@
 mod Ascending
+mod Blocks
 mod Cutting
 mod Gaps
 mod Halving
 mod Joining
 mod Parting
+mod Parts
 mod Places
 pub mod Segments
+mod Zones

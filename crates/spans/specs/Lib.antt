@@ -3,3 +3,4 @@ pub mod Spans
 pub mod Edits
 pub mod Search
 pub mod Gaps
+pub mod Blocks

@@ -3,10 +3,12 @@
 
 mod alike;
 mod find;
+mod page_map;
 mod probes;
 mod spans;
 
 pub use alike::run_until;
 pub use find::Segment;
+pub use page_map::PageMap;
 pub use probes::Probes;
 pub use spans::Spans;

@@ -8,6 +8,7 @@ use std::alloc::Global;
 use std::marker::Model;
 use std::sync::ledger::Ledger;
 
+mod block;
 mod edit;
 mod join;
 mod order;
@@ -15,6 +16,8 @@ mod pass;
 mod place;
 #[cfg(test)]
 mod tests;
+
+pub(crate) use order::sort;
 
 /// The pages of a run, and the number that each of them has.
 #[derive(Clone, Copy)]

@@ -7,7 +7,7 @@ ghost use Rattle.spans.specs.Edits.{rise};
 use base::Run;
 
 /// Fills a list with the runs in ascending order, and says whether no two of them share a page.
-pub(super) fn sort(sorted: &mut Vec<Run>, runs: &[Run]) -> bool
+pub(crate) fn sort(sorted: &mut Vec<Run>, runs: &[Run]) -> bool
     requires { length runs.now ≤ vec_capacity sorted.old }
     ensures ascending { IsTrue result → rise 0 sorted.new.items ≡ true }
     ensures same { (n : ℕ) → covers sorted.new.items n ≡ covers runs.now n }

@@ -16,7 +16,7 @@ returns-in_err-finish-clause-left g c =
     let waits = rw (c.in_ok-world.ensures, c.deref.ensures.value) at c.run_lines-outcome.ensures.waits in (
       c.in_ok-script.script.items,
       c.in_ok-script.ensures.whole,
-      ended_in_write _ _ _ _ _ (search rules) (unfinished _ _ _ _ _ _ _ write waits c.in_err-finish.ensures.beginning),
+      ended_in_write _ _ _ _ _ (search (rules, c.from_residual-in_err-finish.ensures, c.in_err-finish.ensures, c.in_err-finish.ensures.failed)) (unfinished _ _ _ _ _ _ _ write waits c.in_err-finish.ensures.beginning),
     )
 
 pub returns-clause-left : goal.returns-clause-left

@@ -1,0 +1,177 @@
+ghost use Rattle.std.specs.Prelude.{◌≡◌, ◌+◌, ◌<◌, ◌≤◌, ◌↔◌, ◌^◌, ℕ, [], Some, None, length, if◌then◌else◌, IsTrue, OnOk};
+ghost use Rattle.base.specs.Pages.{in_run, covers};
+ghost use Rattle.spans.specs.Spans as spec;
+
+use crate::find::Segment;
+use crate::spans::{Spans, sort};
+use base::{OutOfMemory, Page, Run};
+use std::alloc::Global;
+use std::marker::Model;
+
+mod edit;
+mod place;
+mod room;
+mod runs;
+#[cfg(test)]
+mod tests;
+
+use edit::{set_more, set_runs};
+use place::{block_at, place_of};
+use room::{part_first, ready_blocks};
+use runs::{Zone, clip, part_of};
+
+/// A map from pages to numbers as `Spans` is, whose intervals stand in blocks, so that an edit moves only those
+/// of the blocks that it touches. All intervals of a block end before the next block begins. A map of few
+/// intervals has one block. Beside the blocks is memory in which the runs of an edit are put in order, and cut to
+/// what a block has of them.
+#[derive(Drop)]
+pub struct PageMap {
+    first: Spans,
+    more: Vec<Spans>,
+    sorted: Vec<Run>,
+    clipped: Vec<Run>,
+}
+
+impl Model for PageMap {
+    ghost use Rattle.std.specs.Prelude.{◌++◌, min, vec_capacity};
+    ghost use Rattle.spans.specs.Spans.{SpansView};
+    ghost use Rattle.spans.specs.Blocks.{all_spans, room_of, AreStacked};
+
+    ghost Value = { SpansView };
+
+    ghost view = { λ m. record {
+      spans = m.first.spans ++ all_spans m.more.items;
+      room = room_of m.first m.more.items (min (vec_capacity m.sorted) (vec_capacity m.clipped));
+    } };
+
+    ghost invariant = { λ m. AreStacked m.first.spans m.more.items };
+}
+
+impl PageMap {
+    /// No page has a number. This takes no memory.
+    pub fn new(alloc: Global) -> Self
+        ensures { result.spans ≡ [] }
+    {
+        PageMap {
+            first: Spans::new(alloc),
+            more: Vec::new(alloc),
+            sorted: Vec::new(alloc),
+            clipped: Vec::new(alloc),
+        }
+    }
+
+    /// Makes room for one call of `put`, or for one of `put_all` or `cut_all` with this many runs. A refusal changes
+    /// no number. Of a block of many intervals the upper half becomes a block of its own, if there is memory for it.
+    pub fn ready(&mut self, runs: usize) -> Result<(), OutOfMemory>
+        ensures spans { self.new.spans ≡ self.old.spans }
+        ensures room { OnOk result (spec.room_for runs ≤ self.new.room) }
+    {
+        part_first(
+            &mut self.first,
+            &mut self.more,
+            &mut self.sorted,
+            &mut self.clipped,
+            runs,
+        );
+        ready_blocks(&mut self.more, &mut self.sorted, &mut self.clipped, runs)?;
+        self.first.ready(runs)?;
+        Ok(())
+    }
+
+    /// Gives all pages of a run this number; other pages keep theirs. This takes no memory.
+    pub fn put(&mut self, run: Run, value: u64)
+        requires { spec.room_for 1 ≤ self.old.room }
+        ensures { (n : _) → spec.value_at self.new.spans n
+            ≡ (if in_run run n then Some value else spec.value_at self.old.spans n) }
+    {
+        if self.more.is_empty() {
+            self.first.put(run, value);
+        } else {
+            self.set_all(&[run], Some(value));
+        }
+    }
+
+    /// Gives all pages of the runs this number; other pages keep theirs. This takes no memory. Runs that share no
+    /// page are put in one pass over each block that has pages of them.
+    pub fn put_all(&mut self, runs: &[Run], value: u64)
+        requires { spec.room_for (length runs.now) ≤ self.old.room }
+        ensures { (n : ℕ) → spec.value_at self.new.spans n
+            ≡ (if covers runs.now n then Some value else spec.value_at self.old.spans n) }
+    {
+        self.set_all(runs, Some(value));
+    }
+
+    /// Takes the numbers of all pages of the runs away; other pages keep theirs. This takes no memory, and
+    /// runs that share no page are cut in one pass over each block that has pages of them.
+    pub fn cut_all(&mut self, runs: &[Run])
+        requires { spec.room_for (length runs.now) ≤ self.old.room }
+        ensures { (n : ℕ) → spec.value_at self.new.spans n
+            ≡ (if covers runs.now n then None else spec.value_at self.old.spans n) }
+    {
+        self.set_all(runs, None);
+    }
+
+    /// Gives the pages of the runs this number, or none.
+    fn set_all(&mut self, runs: &[Run], value: Option<u64>)
+        requires { spec.room_for (length runs.now) ≤ self.old.room }
+        ensures { (n : ℕ) → spec.value_at self.new.spans n
+            ≡ (if covers runs.now n then value else spec.value_at self.old.spans n) }
+    {
+        if self.more.is_empty() {
+            let _ = set_runs(&mut self.first, runs, value);
+            return;
+        }
+        let do_rise = sort(&mut self.sorted, runs);
+        let end = set_more(
+            &mut self.more,
+            &self.sorted,
+            do_rise,
+            &mut self.clipped,
+            value,
+        );
+        let zone = Zone { first: 0, end };
+        clip(
+            &mut self.clipped,
+            part_of(&self.sorted, do_rise, zone),
+            zone,
+        );
+        let _ = set_runs(&mut self.first, &self.clipped, value);
+    }
+
+    /// Whether no page has a number.
+    pub fn is_empty(&self) -> bool
+        ensures { IsTrue result ↔ (self.now.spans ≡ []) }
+    {
+        self.more.is_empty() && self.first.is_empty()
+    }
+
+    /// The number of a page.
+    pub fn get(&self, page: Page) -> Option<u64>
+        ensures { result ≡ spec.value_at self.now.spans page }
+    {
+        if self.more.is_empty() {
+            return self.first.get(page);
+        }
+        let place = place_of(&self.more, page.number() + 1);
+        block_at(&self.first, &self.more, place).get(page)
+    }
+
+    /// The number of a page, and how far the pages behind it have the same.
+    pub fn segment_at(&self, page: Page) -> Segment
+        ensures behind { page < result.end }
+        ensures in_range { result.end ≤ 2 ^ 27 }
+        ensures value { (n : ℕ) → page ≤ n → n < result.end
+            → spec.value_at self.now.spans n ≡ result.value }
+    {
+        if self.more.is_empty() {
+            return self.first.segment_at(page);
+        }
+        let place = place_of(&self.more, page.number() + 1);
+        let segment = block_at(&self.first, &self.more, place).segment_at(page);
+        if place == self.more.len() {
+            return segment;
+        }
+        let end = segment.end.min(self.more[place].begin());
+        Segment { end, ..segment }
+    }
+}

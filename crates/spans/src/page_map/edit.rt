@@ -1,0 +1,82 @@
+//! Sets the numbers of many runs, block by block, from the last to the first.
+
+ghost use Rattle.std.specs.Prelude.{◌≡◌, ◌≤◌, ◌<◌, ◌&&◌, ℕ, true, nat_le, length, slice_index_or, vec_len, vec_capacity, IsTrue, if◌then◌else◌};
+ghost use Rattle.base.specs.Pages.{covers};
+ghost use Rattle.spans.specs.Spans as spec;
+ghost use Rattle.spans.specs.Blocks.{all_spans, AreFilled, HaveRoom, IsSetAt};
+ghost use Rattle.spans.specs.Edits.{rise};
+
+use super::place::place_of;
+use super::runs::{Zone, clip, part_of, reach_of};
+use crate::spans::Spans;
+use base::Run;
+
+/// Gives the pages of the runs this number, or none, and answers how many intervals there are then.
+pub(super) fn set_runs(block: &mut Spans, runs: &[Run], value: Option<u64>) -> usize
+    requires { spec.room_for (length runs.now) ≤ block.old.room }
+    ensures at { (n : ℕ) → spec.value_at block.new.spans n
+        ≡ (if covers runs.now n then value else spec.value_at block.old.spans n) }
+    ensures len { result ≡ length block.new.spans }
+    ensures ascending { spec.ascend 0 block.new.spans ≡ true }
+{
+    match value {
+        Some(value) => block.put_all(runs, value),
+        None => block.cut_all(runs),
+    }
+    block.len()
+}
+
+/// Gives the pages of the runs this number in the block at a place, or none. A block that has no interval then is
+/// taken out.
+fn set_at(more: &mut Vec<Spans>, place: usize, runs: &[Run], value: Option<u64>)
+    requires inside { place < vec_len more.old }
+    requires filled { AreFilled more.old.items }
+    requires room { (d : spec.SpansView) → spec.room_for (length runs.now)
+        ≤ (slice_index_or more.old.items place d).room }
+    ensures { IsSetAt runs.now value more.old.items place more.new.items }
+{
+    if set_runs(&mut more[place], runs, value) == 0 {
+        let _ = more.remove(place);
+    }
+}
+
+/// Gives the pages of the runs this number, or none, in all blocks that have pages of them. It answers up to which
+/// page it left those of the runs as they were, since they stand before these blocks.
+pub(super) fn set_more(
+    more: &mut Vec<Spans>,
+    runs: &[Run],
+    do_rise: bool,
+    clipped: &mut Vec<Run>,
+    value: Option<u64>,
+) -> u32
+    requires ascending { spec.ascend 0 (all_spans more.old.items) ≡ true }
+    requires filled { AreFilled more.old.items }
+    requires room { HaveRoom (spec.room_for (length runs.now)) more.old.items }
+    requires clipped { length runs.now ≤ vec_capacity clipped.old }
+    requires rise { IsTrue do_rise → rise 0 runs.now ≡ true }
+    ensures at { (n : ℕ) → spec.value_at (all_spans more.new.items) n
+        ≡ (if covers runs.now n && nat_le result n then value
+        else spec.value_at (all_spans more.old.items) n) }
+    ensures ascending { (e : ℕ) → spec.ascend e (all_spans more.old.items) ≡ true
+        → spec.ascend e (all_spans more.new.items) ≡ true }
+    ensures above { spec.ascend result (all_spans more.new.items) ≡ true }
+    ensures behind { (e n : ℕ) → spec.ascend e (all_spans more.old.items) ≡ true
+        → covers runs.now n ≡ true → result ≤ n → e ≤ n }
+    ensures filled { AreFilled more.new.items }
+    ensures capacity { vec_capacity clipped.new ≡ vec_capacity clipped.old }
+{
+    let reach = reach_of(runs);
+    let mut end = reach.end;
+    let mut place = place_of(more, end);
+    while 0 < place && reach.first < end {
+        place -= 1;
+        let zone = Zone {
+            first: more[place].begin(),
+            end,
+        };
+        clip(clipped, part_of(runs, do_rise, zone), zone);
+        set_at(more, place, clipped, value);
+        end = zone.first;
+    }
+    if place == 0 { end } else { 0 }
+}

@@ -1,0 +1,73 @@
+//! What a map of one block among others needs.
+
+ghost use Rattle.std.specs.Prelude.{◌≡◌, ◌≤◌, ◌<◌, ◌++◌, true, false, length, IsTrue, IfSome, IfNone, OnOk};
+ghost use Rattle.spans.specs.Spans as spec;
+ghost use Rattle.spans.specs.Search.{begins_at};
+ghost use Rattle.spans.specs.Blocks.{IsParted};
+
+use super::{Span, Spans};
+use base::{OutOfMemory, Page};
+
+impl Spans {
+    /// The first page that has a number; without one, the number of pages.
+    pub(crate) fn begin(&self) -> u32
+        ensures { result ≡ begins_at self.now.spans }
+    {
+        if self.spans.is_empty() {
+            return Page::COUNT;
+        }
+        let span = self.spans[0];
+        span.run.first().number()
+    }
+
+    /// Takes the upper half of its intervals out, as a map of their own that is ready for this many calls. Where
+    /// there is no memory for it, all stay.
+    pub(crate) fn split(&mut self, calls: usize) -> Option<Spans>
+        requires { 1 < length self.old.spans }
+        ensures some { IfSome result (λ upper. IsParted self.old.spans self.new.spans upper.spans) }
+        ensures room { IfSome result (λ upper. spec.room_for calls ≤ upper.room) }
+        ensures none { IfNone result (self.new.spans ≡ self.old.spans) }
+    {
+        let place = self.spans.len() / 2;
+        let mut upper = Spans::new(*self.spans.allocator());
+        upper.fill(&self.spans[place..], calls).ok()?;
+        self.spans.truncate(place);
+        Some(upper)
+    }
+
+    /// Takes these intervals in, behind which there is room for this many calls.
+    fn fill(&mut self, spans: &[Span], calls: usize) -> Result<(), OutOfMemory>
+        requires ascending { spec.ascend 0 spans.now ≡ true }
+        ensures spans { OnOk result (self.new.spans ≡ spans.now) }
+        ensures room { OnOk result (spec.room_for calls ≤ self.new.room) }
+    {
+        let Some(places) = calls.checked_mul(3) else {
+            return Err(OutOfMemory);
+        };
+        let Some(places) = places.checked_add(spans.len()) else {
+            return Err(OutOfMemory);
+        };
+        self.spans.clear();
+        self.spans.reserve(places)?;
+        self.spans.extend_from_slice(spans)?;
+        self.sorted.clear();
+        self.sorted.reserve(calls)?;
+        Ok(())
+    }
+
+    /// Takes the intervals of the next block in behind its own, where there is room for them, and for this many calls
+    /// then. This takes no memory.
+    pub(crate) fn join(&mut self, next: &Spans, calls: usize) -> bool
+        requires ascending { spec.ascend 0 (self.old.spans ++ next.now.spans) ≡ true }
+        requires room { spec.room_for calls ≤ self.old.room }
+        ensures joined { IsTrue result → self.new.spans ≡ self.old.spans ++ next.now.spans }
+        ensures kept { result ≡ false → self.new.spans ≡ self.old.spans }
+        ensures room { spec.room_for calls ≤ self.new.room }
+    {
+        let free = self.spans.capacity() - self.spans.len();
+        if free < next.spans.len() || (free - next.spans.len()) / 3 < calls {
+            return false;
+        }
+        self.spans.extend_from_slice(&next.spans).is_ok()
+    }
+}
