@@ -8,5 +8,6 @@ pub mod Replaced
 pub mod RunWords
 pub mod Applying
 mod Contents
+mod Held
 mod CellMemory
 mod CellSharing

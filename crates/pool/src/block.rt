@@ -1,6 +1,6 @@
-ghost use Rattle.std.specs.Prelude.{◌≡◌, ◌+◌, ◌-◌, ◌*◌, ◌^◌, ◌<◌, ◌≤◌, Some, None, length, map, replicate};
-ghost use Rattle.pool.specs.Cells.{contents};
-ghost use Rattle.pool.specs.Pool.{words_set};
+ghost use Rattle.std.specs.Prelude.{◌≡◌, ◌≢◌, ℕ, ◌+◌, ◌-◌, ◌*◌, ◌/◌, ◌^◌, ◌<◌, ◌≤◌, List, Bool, None, true, false, length, replicate, slice_index, slice_index_or};
+ghost use Rattle.pool.specs.Cells.{held, with_zeros, IsPageFilled, IsPageEmpty, AreMarked};
+ghost use Rattle.pool.specs.Pool.{words_of, words_set};
 
 use crate::cells::{Base, Cells, Deed, allocate, deallocate};
 use crate::word_store::WordStore;
@@ -11,43 +11,62 @@ use std_alloc::room::may_hold;
 #[cfg(test)]
 mod tests;
 
-/// Words in a block of raw memory, which goes back to the allocator when they end.
+/// How many words a page has.
+const PAGE: usize = 512;
+
+/// Words in a block of raw memory, which goes back to the allocator when they end. Those of a page stand there
+/// once it has a mark: a memory of many pages is made without a write to any of them.
 pub struct Block {
     base: Base<u64>,
     count: usize,
     cells: Cells<u64>,
+    marks: Vec<bool>,
     deed: Deed<u64, Global>,
     alloc: Global,
     ghost cells_placed: { cells.at ≡ base.ptr },
     ghost deed_placed: { deed.at ≡ base.ptr },
     ghost deed_counts: { deed.len ≡ count },
     ghost deed_alloc: { deed.alloc ≡ alloc },
-    ghost full: { cells.slots ≡ map Some (contents cells.slots) },
-    ghost counted: { length (contents cells.slots) ≡ count },
+    ghost counted: { length cells.slots ≡ count },
+    ghost sized: { count < 512 * length marks.items + 512 },
+    ghost marked: { AreMarked marks.items cells.slots },
 }
 
-/// Fills so many empty places with 0.
-fn fill(base: Base<u64>, count: usize, cells: &mut Cells<u64>)
-    requires place { base.ptr ≡ cells.old.at }
-    requires empty { cells.old.slots ≡ replicate count None }
-    ensures place { cells.new.at ≡ cells.old.at }
-    ensures filled { cells.new.slots ≡ map Some (replicate count 0) }
+/// Whether the page of a place has a mark.
+fn is_marked(marks: &[bool], place: usize) -> bool
+    ensures { result ≡ slice_index_or marks.now (place / 512) false }
 {
-    for place in 0..count {
-        cells.write(base, place, 0);
+    match marks.get(place / PAGE) {
+        Some(mark) => *mark,
+        None => false,
+    }
+}
+
+/// Fills an empty page with zeros.
+fn fill_page(base: Base<u64>, cells: &mut Cells<u64>, page: u32)
+    requires place { base.ptr ≡ cells.old.at }
+    requires empty { IsPageEmpty cells.old.slots page }
+    requires inside { 512 * page + 512 ≤ length cells.old.slots }
+    ensures place { cells.new.at ≡ cells.old.at }
+    ensures slots { cells.new.slots ≡ with_zeros cells.old.slots page 512 }
+{
+    for index in 0..PAGE {
+        cells.write(base, PAGE * page as usize + index, 0);
     }
 }
 
 /// Empties so many places.
-fn empty(base: Base<u64>, count: usize, cells: &mut Cells<u64>)
+fn empty(base: Base<u64>, count: usize, cells: &mut Cells<u64>, marks: &[bool])
     requires place { base.ptr ≡ cells.old.at }
-    requires full { cells.old.slots ≡ map Some (contents cells.old.slots) }
-    requires counted { length (contents cells.old.slots) ≡ count }
+    requires counted { length cells.old.slots ≡ count }
+    requires marked { AreMarked marks.now cells.old.slots }
     ensures place { cells.new.at ≡ cells.old.at }
     ensures empty { cells.new.slots ≡ replicate count None }
 {
     for place in 0..count {
-        let _word = cells.read(base, place);
+        if is_marked(marks, place) {
+            let _word = cells.read(base, place);
+        }
     }
 }
 
@@ -64,23 +83,57 @@ fn put_words(
     step: u64,
 )
     requires place { base.ptr ≡ cells.old.at }
-    requires full { cells.old.slots ≡ map Some (contents cells.old.slots) }
+    requires filled { IsPageFilled cells.old.slots page }
     requires ordered { first ≤ end }
     requires index_in { end ≤ 512 }
-    requires inside { 512 * page + 512 ≤ length (contents cells.old.slots) }
+    requires inside { 512 * page + 512 ≤ length cells.old.slots }
     requires in_range { word + step * (end - first) < 2 ^ 64 }
     ensures place { cells.new.at ≡ cells.old.at }
-    ensures full { cells.new.slots ≡ map Some (contents cells.new.slots) }
-    ensures words { contents cells.new.slots
-        ≡ words_set (contents cells.old.slots) page first (end - first) word step }
+    ensures len { length cells.new.slots ≡ length cells.old.slots }
+    ensures words { held cells.new.slots
+        ≡ words_set (held cells.old.slots) page first (end - first) word step }
+    ensures marked { (marks : List Bool)
+        → AreMarked marks cells.old.slots → AreMarked marks cells.new.slots }
 {
     let mut next = word;
     for index in first..end {
-        let place = 512 * page as usize + index as usize;
+        let place = PAGE * page as usize + index as usize;
         let _old = cells.read(base, place);
         cells.write(base, place, next);
         next += step;
     }
+}
+
+/// Whether words of a filled page are all 0.
+#[inline(always)]
+fn are_zeros(base: Base<u64>, cells: &Cells<u64>, page: u32, first: u32, end: u32) -> bool
+    requires place { base.ptr ≡ cells.now.at }
+    requires filled { IsPageFilled cells.now.slots page }
+    requires index_in { end ≤ 512 }
+    ensures { result ≡ true → (x : ℕ) → x < end - first
+        → words_of (held cells.now.slots) page (first + x) ≡ 0 }
+{
+    let mut are = true;
+    for index in first..end {
+        are &= *cells.get(base, PAGE * page as usize + index as usize) == 0;
+    }
+    are
+}
+
+/// Whether none of them is 0.
+#[inline(always)]
+fn are_others(base: Base<u64>, cells: &Cells<u64>, page: u32, first: u32, end: u32) -> bool
+    requires place { base.ptr ≡ cells.now.at }
+    requires filled { IsPageFilled cells.now.slots page }
+    requires index_in { end ≤ 512 }
+    ensures { result ≡ true → (x : ℕ) → x < end - first
+        → words_of (held cells.now.slots) page (first + x) ≢ 0 }
+{
+    let mut are = true;
+    for index in first..end {
+        are &= *cells.get(base, PAGE * page as usize + index as usize) != 0;
+    }
+    are
 }
 
 impl Block {
@@ -90,6 +143,32 @@ impl Block {
     {
         self.base.ptr.cast_const()
     }
+
+    /// Fills a page, if it is not filled yet.
+    #[inline(always)]
+    fn hold(&mut self, page: u32)
+        requires { 512 * page + 512 ≤ self.old.count }
+        ensures words { held self.new.cells.slots ≡ held self.old.cells.slots }
+        ensures count { self.new.count ≡ self.old.count }
+        ensures filled { IsPageFilled self.new.cells.slots page }
+    {
+        if !self.marks[page as usize] {
+            fill_page(self.base, &mut self.cells, page);
+            self.marks[page as usize] = true;
+        }
+    }
+
+    /// The word at a place.
+    fn word_at(&self, place: usize) -> u64
+        requires { place < self.now.count }
+        ensures { result ≡ slice_index (held self.now.cells.slots) place }
+    {
+        if is_marked(&self.marks, place) {
+            *self.cells.get(self.base, place)
+        } else {
+            0
+        }
+    }
 }
 
 impl Drop for Block {
@@ -98,49 +177,72 @@ impl Drop for Block {
             base,
             count,
             mut cells,
+            marks,
             deed,
             alloc,
         } = self;
-        empty(base, count, &mut cells);
+        empty(base, count, &mut cells, &marks);
         deallocate(&alloc, base, count, cells, deed);
     }
 }
 
 impl WordStore for Block {
-    ghost words = { λ b. contents b.cells.slots };
+    ghost words = { λ b. held b.cells.slots };
 
     fn zeroed(alloc: Global, count: usize) -> Result<Self, OutOfMemory> {
         if !may_hold::<u64>(count) {
             return Err(OutOfMemory);
         }
-        let (base, mut cells, deed) = allocate(&alloc, count)?;
-        fill(base, count, &mut cells);
+        let marks = vec![in alloc; false; count / PAGE]?;
+        let (base, cells, deed) = allocate(&alloc, count)?;
         Ok(Block {
             base,
             count,
             cells,
+            marks,
             deed,
             alloc,
         })
     }
 
-    fn word(&self, place: usize) -> u64 {
-        *self.cells.get(self.base, place)
+    fn fill(&mut self, page: u32) {
+        self.hold(page);
     }
 
-    fn set_word(&mut self, place: usize, word: u64) {
+    fn word(&self, page: u32, index: u32) -> u64 {
+        if self.marks[page as usize] {
+            *self
+                .cells
+                .get(self.base, PAGE * page as usize + index as usize)
+        } else {
+            0
+        }
+    }
+
+    fn set_word(&mut self, page: u32, index: u32, word: u64) {
+        self.hold(page);
+        let place = PAGE * page as usize + index as usize;
         let _old = self.cells.read(self.base, place);
         self.cells.write(self.base, place, word);
     }
 
     fn set_words(&mut self, page: u32, first: u32, end: u32, word: u64, step: u64) {
+        self.hold(page);
         put_words(self.base, &mut self.cells, page, first, end, word, step);
+    }
+
+    fn are_zeros(&self, page: u32, first: u32, end: u32) -> bool {
+        !self.marks[page as usize] || are_zeros(self.base, &self.cells, page, first, end)
+    }
+
+    fn are_others(&self, page: u32, first: u32, end: u32) -> bool {
+        self.marks[page as usize] && are_others(self.base, &self.cells, page, first, end)
     }
 
     fn copy(&self, alloc: Global) -> Result<Vec<u64>, OutOfMemory> {
         let mut copy = Vec::with_capacity(alloc, self.count)?;
         for place in 0..self.count {
-            copy.push(self.word(place))?;
+            copy.push(self.word_at(place))?;
         }
         Ok(copy)
     }

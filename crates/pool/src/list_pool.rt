@@ -13,12 +13,14 @@ impl WordStore for Vec<u64> {
         Ok(vec![in alloc; 0; count]?)
     }
 
-    fn word(&self, place: usize) -> u64 {
-        self[place]
+    fn fill(&mut self, _page: u32) {}
+
+    fn word(&self, page: u32, index: u32) -> u64 {
+        self[512 * page as usize + index as usize]
     }
 
-    fn set_word(&mut self, place: usize, word: u64) {
-        self[place] = word;
+    fn set_word(&mut self, page: u32, index: u32, word: u64) {
+        self[512 * page as usize + index as usize] = word;
     }
 
     fn set_words(&mut self, page: u32, first: u32, end: u32, word: u64, step: u64) {
@@ -27,6 +29,22 @@ impl WordStore for Vec<u64> {
             self[512 * page as usize + index as usize] = next;
             next += step;
         }
+    }
+
+    fn are_zeros(&self, page: u32, first: u32, end: u32) -> bool {
+        let mut are = true;
+        for index in first..end {
+            are &= self.word(page, index) == 0;
+        }
+        are
+    }
+
+    fn are_others(&self, page: u32, first: u32, end: u32) -> bool {
+        let mut are = true;
+        for index in first..end {
+            are &= self.word(page, index) != 0;
+        }
+        are
     }
 
     fn copy(&self, alloc: Global) -> Result<Vec<u64>, OutOfMemory> {

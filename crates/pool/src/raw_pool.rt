@@ -5,7 +5,10 @@ use crate::block::Block;
 use crate::table_pool::TablePool;
 
 /// Table memory in one block of raw memory: the word of page j at index i stands at place
-/// `512 * j + i` from `address` on, as a processor reads it that walks the tables.
+/// `512 * j + i` from `address` on, as a processor reads it that walks the tables. The pages of roots are
+/// written when the memory is made, and a page of a share when it is first taken: until then no table names it,
+/// its words are 0, and what lies at its place is not touched. So memory that is asked for and not needed costs
+/// no time.
 ///
 /// The block has 4,096 bytes for each page, and is asked for in one piece, aligned to 8 bytes. Where
 /// a processor is to walk the tables, the allocator below `Global` has to align a block of whole pages

@@ -62,12 +62,11 @@ fn break_word<S: WordStore>(
     ensures capacity { vec_capacity operations.new ≡ vec_capacity operations.old }
     ensures len { vec_len operations.new ≤ vec_len operations.old + 2 }
 {
-    let place = 512 * page as usize + index as usize;
-    let before = store.word(place);
+    let before = store.word(page, index);
     if before == 0 {
         return count;
     }
-    store.set_word(place, 0);
+    store.set_word(page, index, 0);
     operations.push_reserved(Op::Set {
         page,
         index,
@@ -101,8 +100,7 @@ fn make_word<S: WordStore>(
     if word == 0 {
         return count;
     }
-    let place = 512 * page as usize + index as usize;
-    store.set_word(place, word);
+    store.set_word(page, index, word);
     operations.push_reserved(Op::Set { page, index, word });
     recounted(count, 0, word)
 }
@@ -161,7 +159,7 @@ fn break_all<S: WordStore>(
     ensures len { vec_len result.0 + 3 * with.first ≤ vec_len operations + 3 * with.end }
 {
     for index in with.first..with.end {
-        store.set_word(512 * with.page as usize + index as usize, 0);
+        store.set_word(with.page, index, 0);
         operations.push_reserved(Op::Set {
             page: with.page,
             index,

@@ -150,12 +150,11 @@ fn set_one<S: WordStore>(
         return count;
     }
     let word = with.word + with.step * u64::from(index);
-    let place = 512 * with.page as usize + index as usize;
-    let before = store.word(place);
+    let before = store.word(with.page, index);
     if before == word {
         return count;
     }
-    store.set_word(place, word);
+    store.set_word(with.page, index, word);
     operations.push_reserved(Op::Set {
         page: with.page,
         index,

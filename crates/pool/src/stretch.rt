@@ -37,36 +37,6 @@ pub(crate) fn recounted(count: u32, before: u64, after: u64) -> u32
     count + u32::from(after != 0) - u32::from(before != 0)
 }
 
-/// Whether words of a page are all 0.
-#[inline(always)]
-fn are_zeros<S: WordStore>(store: &S, stretch: Stretch) -> bool
-    requires index_in { stretch.end ≤ 512 }
-    requires inside { 512 * stretch.page + 512 ≤ length (S.words store.now) }
-    ensures { result ≡ true → (x : ℕ) → x < stretch.end - stretch.first
-        → words_of (S.words store.now) stretch.page (stretch.first + x) ≡ 0 }
-{
-    let mut are = true;
-    for index in stretch.first..stretch.end {
-        are &= store.word(512 * stretch.page as usize + index as usize) == 0;
-    }
-    are
-}
-
-/// Whether none of them is 0.
-#[inline(always)]
-fn are_others<S: WordStore>(store: &S, stretch: Stretch) -> bool
-    requires index_in { stretch.end ≤ 512 }
-    requires inside { 512 * stretch.page + 512 ≤ length (S.words store.now) }
-    ensures { result ≡ true → (x : ℕ) → x < stretch.end - stretch.first
-        → words_of (S.words store.now) stretch.page (stretch.first + x) ≢ 0 }
-{
-    let mut are = true;
-    for index in stretch.first..stretch.end {
-        are &= store.word(512 * stretch.page as usize + index as usize) != 0;
-    }
-    are
-}
-
 /// Records the writes of words, none of which is there, behind these operations.
 #[inline(always)]
 fn record_all<S: WordStore>(store: &S, mut operations: Vec<Op>, stretch: Stretch) -> Vec<Op>
@@ -152,10 +122,9 @@ pub(crate) fn write_others<S: WordStore>(
 {
     let mut word = stretch.word;
     for index in stretch.first..stretch.end {
-        let place = 512 * stretch.page as usize + index as usize;
-        let before = store.word(place);
+        let before = store.word(stretch.page, index);
         if before != word {
-            store.set_word(place, word);
+            store.set_word(stretch.page, index, word);
             count = recounted(count, before, word);
             operations.push_reserved(Op::Set {
                 page: stretch.page,
@@ -192,11 +161,17 @@ fn write_part<S: WordStore>(
     ensures capacity { vec_capacity result.0 ≡ vec_capacity operations }
     ensures len { vec_len result.0 + stretch.first ≤ vec_len operations + stretch.end }
 {
-    let written = stretch.end - stretch.first;
-    if stretch.word > 0 && are_zeros(store, stretch) {
+    let Stretch {
+        page,
+        first,
+        end,
+        ..
+    } = stretch;
+    let written = end - first;
+    if stretch.word > 0 && store.are_zeros(page, first, end) {
         return (write_all(store, operations, stretch), count + written);
     }
-    if stretch.word == 0 && stretch.step == 0 && are_others(store, stretch) {
+    if stretch.word == 0 && stretch.step == 0 && store.are_others(page, first, end) {
         return (write_all(store, operations, stretch), count - written);
     }
     write_others(store, operations, count, stretch)
@@ -248,6 +223,38 @@ fn write_parts<S: WordStore>(
     (operations, count)
 }
 
+/// The same: where all words of the page are 0, or none is, their count tells which are not there.
+fn write_many<S: WordStore>(
+    store: &mut S,
+    operations: Vec<Op>,
+    count: u32,
+    stretch: Stretch,
+) -> (Vec<Op>, u32)
+    requires ordered { stretch.first ≤ stretch.end }
+    requires index_in { stretch.end ≤ 512 }
+    requires inside { 512 * stretch.page + 512 ≤ length (S.words store.old) }
+    requires in_range { stretch.word + stretch.step * (stretch.end - stretch.first) < 2 ^ 64 }
+    requires counted { count ≡ nonzero_in (words_of (S.words store.old)) stretch.page }
+    requires ready { vec_len operations + stretch.end
+        ≤ vec_capacity operations + stretch.first }
+    ensures words { S.words store.new ≡ words_set (S.words store.old) stretch.page stretch.first
+        (stretch.end - stretch.first) stretch.word stretch.step }
+    ensures made { reverse result.0.items ≡ sets_of (S.words store.old) stretch.page stretch.first
+        (stretch.end - stretch.first) stretch.word stretch.step ++ reverse operations.items }
+    ensures counted { result.1 ≡ nonzero_in (words_of (S.words store.new)) stretch.page }
+    ensures capacity { vec_capacity result.0 ≡ vec_capacity operations }
+    ensures len { vec_len result.0 + stretch.first ≤ vec_len operations + stretch.end }
+{
+    let written = stretch.end - stretch.first;
+    if count == 0 && stretch.word > 0 {
+        return (write_all(store, operations, stretch), written);
+    }
+    if count == WORDS && stretch.word == 0 && stretch.step == 0 {
+        return (write_all(store, operations, stretch), WORDS - written);
+    }
+    write_parts(store, operations, count, stretch)
+}
+
 /// Writes words that are not there, and records each write behind these operations. It answers these,
 /// and how many words of the page are not 0. The list is owned meanwhile, so that its length can stay
 /// in a register. Few words are written here, without a call.
@@ -276,5 +283,5 @@ pub(crate) fn write_words<S: WordStore>(
     if stretch.end - stretch.first < FEW {
         return write_others(store, operations, count, stretch);
     }
-    write_parts(store, operations, count, stretch)
+    write_many(store, operations, count, stretch)
 }

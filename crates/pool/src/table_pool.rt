@@ -78,6 +78,19 @@ fn zeros(alloc: Global, pages: usize) -> Result<Vec<u32>, OutOfMemory>
     Ok(vec![in alloc; 0; pages]?)
 }
 
+/// So many pages of words, all of them 0, of which the first are filled.
+fn filled<S: WordStore>(alloc: Global, pages: usize, first: usize) -> Result<S, OutOfMemory>
+    requires inside { first ≤ pages }
+    requires fits { pages ≤ 2 ^ 27 }
+    ensures { IfOk result (λ store. S.words store ≡ replicate (512 * pages) 0) }
+{
+    let mut store = S::zeroed(alloc, 512 * pages)?;
+    for page in 0..first {
+        store.fill(page as u32);
+    }
+    Ok(store)
+}
+
 /// The row of a partition.
 fn row_of(ids: &[PartitionId], p: PartitionId) -> Option<usize>
     ensures { result ≡ position (λ id. id == p) ids.now }
@@ -164,7 +177,7 @@ impl<S: WordStore> TableMem for TablePool<S> {
         Ok(TablePool {
             ids,
             quotas,
-            store: S::zeroed(alloc, 512 * (roots + shares))?,
+            store: filled(alloc, roots + shares, roots)?,
             taken: marks(alloc, roots, shares)?,
             free: quotas_of(alloc, partitions)?,
             nonzero: zeros(alloc, roots + shares)?,
@@ -174,7 +187,7 @@ impl<S: WordStore> TableMem for TablePool<S> {
     }
 
     fn word(&self, page: u32, index: u32) -> u64 {
-        self.store.word(512 * page as usize + index as usize)
+        self.store.word(page, index)
     }
 
     fn nonzero(&self, page: u32) -> u32 {
@@ -182,9 +195,8 @@ impl<S: WordStore> TableMem for TablePool<S> {
     }
 
     fn set_word(&mut self, page: u32, index: u32, word: u64) {
-        let place = 512 * page as usize + index as usize;
-        let before = self.store.word(place);
-        self.store.set_word(place, word);
+        let before = self.store.word(page, index);
+        self.store.set_word(page, index, word);
         let count = self.nonzero[page as usize];
         self.nonzero[page as usize] = recounted(count, before, word);
         self.operations.push_reserved(Op::Set { page, index, word });
@@ -258,6 +270,7 @@ impl<S: WordStore> TableMem for TablePool<S> {
         while self.taken[page as usize] {
             page += 1;
         }
+        self.store.fill(page);
         self.taken[page as usize] = true;
         self.free[row] -= 1;
         page

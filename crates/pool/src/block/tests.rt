@@ -6,6 +6,7 @@ use base::PartitionId;
 use manifest::read;
 use std::fs::File;
 use std::io::{self, Read};
+use std::process::Abort;
 use std::test::Fail;
 
 /// Two partitions with 1,026 table pages, which take 4,202,496 bytes.
@@ -34,6 +35,14 @@ fn resident(rt: &HostRuntime) -> io::Result<u64> {
     Ok(number.and_then(|number| number.parse().ok()).unwrap_or(0))
 }
 
+/// Takes all pages of a partition's share, which are written then.
+fn take_all(rt: &impl Abort, memory: &mut RawPool, p: PartitionId) {
+    for _ in 0..512 {
+        assert!(rt; memory.free(p) > 0);
+        let _page = memory.take_page(p);
+    }
+}
+
 /// A hundred memories that are ended hold less than a hundred take, which is 410,400 KB.
 #[test]
 fn gives_its_block_back(rt: HostRuntime) -> Result<(), Fail> {
@@ -41,8 +50,10 @@ fn gives_its_block_back(rt: HostRuntime) -> Result<(), Fail> {
     let before = resident(&rt)?;
     assert!(rt; before > 0);
     for _ in 0..100 {
-        let memory = RawPool::make(rt.alloc(), &manifest)?;
+        let mut memory = RawPool::make(rt.alloc(), &manifest)?;
         assert_eq!(rt; memory.free(PartitionId::new(0x8001)), 512);
+        take_all(&rt, &mut memory, PartitionId::new(0x8001));
+        take_all(&rt, &mut memory, PartitionId::new(0x8002));
         let _start = memory.address();
     }
     assert!(rt; resident(&rt)? < before.saturating_add(350_000));
@@ -53,5 +64,19 @@ fn gives_its_block_back(rt: HostRuntime) -> Result<(), Fail> {
 fn holds_no_words(rt: HostRuntime) -> Result<(), Fail> {
     let block = Block::zeroed(rt.alloc(), 0)?;
     assert!(rt; block.copy(rt.alloc())?.is_empty());
+    Ok(())
+}
+
+/// A memory of which no page was taken holds less than it takes, which is 4,104 KB a memory.
+#[test]
+fn touches_no_page_that_is_free(rt: HostRuntime) -> Result<(), Fail> {
+    let manifest = read(rt.alloc(), LARGE.as_bytes())?;
+    let mut memories = Vec::new(rt.alloc());
+    let before = resident(&rt)?;
+    assert!(rt; before > 0);
+    for _ in 0..50 {
+        memories.push(RawPool::make(rt.alloc(), &manifest)?)?;
+    }
+    assert!(rt; resident(&rt)? < before.saturating_add(50_000));
     Ok(())
 }

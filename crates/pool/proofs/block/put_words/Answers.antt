@@ -1,26 +1,25 @@
-use Rattle.std.proofs.Common.{◌≡◌, ◌+◌, ◌-◌, ◌*◌, ◌<◌, length, slice_index, slice_set, sym, ap, ◌∙◌, arith}
-use Rattle.pool.specs.Cells.{contents}
-use Rattle.pool.proofs.Contents.{read, replaced, replaced-contents, replaced-full}
-use Rattle.pool.proofs.Stretches.{length-words_set, words_set-none, words_set-next}
+use Rattle.std.proofs.Common.{◌≡◌, ◌+◌, ◌-◌, ◌*◌, slice_set, sym, ap, ◌∙◌, refl, arith, Some, None}
+use Rattle.std.proofs.Math.ListN.{set}
+use Rattle.pool.specs.Cells.{held, IsFilled}
+use Rattle.pool.proofs.Held.{length-put, filled-at, held-set, filled-set, marked-set}
+use Rattle.pool.proofs.Stretches.{words_set-none, words_set-next}
 use Rattle.pool.proofs.block.put_words.Goals as goal
 
 pub loop-index-init : goal.loop-index-init
 loop-index-init c =
     let none : c.args.first - c.args.first ≡ 0 = omega arith in
     record {
-      place = λ i. c.args.cells.now.at;
-      full = c.requires.full;
-      words = rw none (sym (words_set-none (contents c.args.cells.now.slots) c.args.page c.args.first c.args.word c.args.step));
+      place = refl;
+      len = refl;
+      filled = c.requires.filled;
+      words = rw none (sym (words_set-none (held c.args.cells.now.slots) c.args.page c.args.first c.args.word c.args.step));
+      marked = λ marks old. old;
       next = rw none (omega arith);
     }
 
 pub read-old-requires : goal.read-old-requires
 read-old-requires c =
-    let slots = c.loop-index.cells.slots in
-    let place = 512 * c.args.page + c.loop-index.index in
-    let long = ap length c.loop-index.invariant.words ∙ length-words_set (contents c.args.cells.now.slots) c.args.page c.args.first (c.loop-index.index - c.args.first) c.args.word c.args.step in
-    let inside : place < length (contents slots) = omega (arith, long, c.requires.inside, c.requires.index_in, c.loop-index-test.true) in
-    (c.requires.place ∙ sym c.loop-index.invariant.place, (slice_index (contents slots) place, read slots place 0 c.loop-index.invariant.full inside))
+    (c.requires.place ∙ sym c.loop-index.invariant.place, filled-at c.loop-index.cells.slots c.args.page c.loop-index.index c.loop-index.invariant.filled (omega (arith, c.requires.index_in, c.loop-index-test.true)))
 
 pub loop-index-preserved : goal.loop-index-preserved
 loop-index-preserved c =
@@ -33,11 +32,14 @@ loop-index-preserved c =
     let index : c.args.first + n ≡ i = omega (arith, from) in
     let next : c.args.word + c.args.step * n ≡ c.loop-index.next = sym before.next in
     let more : (i + 1) - c.args.first ≡ n + 1 = omega (arith, from) in
-    let written : c.write.new.self.slots ≡ replaced slots place c.loop-index.next = rw c.read-old.ensures.slots.1 at c.write.ensures.1 in
-    rw more record {
+    let here : IsFilled slots place = filled-at slots c.args.page i before.filled (omega (arith, c.requires.index_in, c.loop-index-test.true)) in
+    let written : c.write.new.self.slots ≡ set (set slots place None) place (Some c.loop-index.next) = rw c.read-old.ensures.slots.1 at c.write.ensures.1 in
+    rw (more, written) record {
       place = c.write.ensures.0 ∙ c.read-old.ensures.slots.0 ∙ before.place;
-      full = rw written (replaced-full slots place c.loop-index.next before.full);
-      words = ap contents written ∙ replaced-contents slots place c.loop-index.next before.full ∙ ap (λ items. slice_set items place c.loop-index.next) before.words
-          ∙ sym (words_set-next (contents c.args.cells.now.slots) c.args.page c.args.first n c.args.word c.args.step i c.loop-index.next index next);
+      len = length-put slots place c.loop-index.next ∙ before.len;
+      filled = filled-set slots c.args.page place c.loop-index.next here before.filled;
+      words = held-set slots place c.loop-index.next ∙ ap (λ items. slice_set items place c.loop-index.next) before.words
+          ∙ sym (words_set-next (held c.args.cells.now.slots) c.args.page c.args.first n c.args.word c.args.step i c.loop-index.next index next);
+      marked = λ marks old. marked-set marks slots place c.loop-index.next here (before.marked marks old);
       next = omega (arith, next);
     }

@@ -1,2 +1,0 @@
-use Rattle.std.proofs.Common.{◌≡◌, ◌+◌, ◌-◌, arith}
-use Rattle.pool.proofs.replace.replace_words.Goals as goal

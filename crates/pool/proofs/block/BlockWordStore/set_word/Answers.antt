@@ -1,29 +1,34 @@
-use Rattle.std.proofs.Common.{◌≡◌, ◌∙◌, sym, ap, length, slice_index}
-use Rattle.std.proofs.Math.ListN.{length-set}
-use Rattle.pool.specs.Cells.{contents}
-use Rattle.pool.proofs.Contents.{read, replaced, replaced-contents, replaced-full}
+use Rattle.std.proofs.Common.{◌≡◌, ◌+◌, ◌*◌, ◌∙◌, sym, ap, slice_set, Some, None}
+use Rattle.std.proofs.Math.ListN.{set}
+use Rattle.pool.specs.Cells.{held, IsFilled}
+use Rattle.pool.proofs.Held.{filled-at, held-set, length-put, marked-set}
 use Rattle.pool.proofs.block.BlockWordStore.set_word.Goals as goal
 
 pub read-old-requires : goal.read-old-requires
 read-old-requires c =
-    let old = c.args.self.now in
-    (sym old.cells_placed, (slice_index (contents old.cells.slots) c.args.place, read old.cells.slots c.args.place 0 old.full c.requires))
+    let block = c.hold.new.self in
+    (sym block.cells_placed, filled-at block.cells.slots c.args.page c.args.index c.hold.ensures.filled c.requires.index_in)
 
 pub returns : goal.returns
 returns c =
-    let old = c.args.self.now in
-    let written : c.write.new.self.slots ≡ replaced old.cells.slots c.args.place c.args.word = rw c.read-old.ensures.slots.1 at c.write.ensures.1 in
-    rw written (replaced-contents old.cells.slots c.args.place c.args.word old.full)
+    let slots = c.hold.new.self.cells.slots in
+    let place = 512 * c.args.page + c.args.index in
+    let written : c.write.new.self.slots ≡ set (set slots place None) place (Some c.args.word) = rw c.read-old.ensures.slots.1 at c.write.ensures.1 in
+    ap held written ∙ held-set slots place c.args.word ∙ ap (λ items. slice_set items place c.args.word) c.hold.ensures.words
 
 pub invariant_of-self : goal.invariant_of-self
 invariant_of-self c =
-    let old = c.args.self.now in
-    let written : c.write.new.self.slots ≡ replaced old.cells.slots c.args.place c.args.word = rw c.read-old.ensures.slots.1 at c.write.ensures.1 in
+    let block = c.hold.new.self in
+    let slots = block.cells.slots in
+    let place = 512 * c.args.page + c.args.index in
+    let here : IsFilled slots place = filled-at slots c.args.page c.args.index c.hold.ensures.filled c.requires.index_in in
+    let written : c.write.new.self.slots ≡ set (set slots place None) place (Some c.args.word) = rw c.read-old.ensures.slots.1 at c.write.ensures.1 in
     record {
-      cells_placed = c.write.ensures.0 ∙ c.read-old.ensures.slots.0 ∙ old.cells_placed;
-      deed_placed = old.deed_placed;
-      deed_counts = old.deed_counts;
-      deed_alloc = old.deed_alloc;
-      full = rw written (replaced-full old.cells.slots c.args.place c.args.word old.full);
-      counted = rw written (ap length (replaced-contents old.cells.slots c.args.place c.args.word old.full) ∙ length-set (contents old.cells.slots) c.args.place c.args.word ∙ old.counted);
+      cells_placed = c.write.ensures.0 ∙ c.read-old.ensures.slots.0 ∙ block.cells_placed;
+      deed_placed = block.deed_placed;
+      deed_counts = block.deed_counts;
+      deed_alloc = block.deed_alloc;
+      counted = rw written (length-put slots place c.args.word ∙ block.counted);
+      sized = block.sized;
+      marked = rw written (marked-set block.marks.items slots place c.args.word here block.marked);
     }

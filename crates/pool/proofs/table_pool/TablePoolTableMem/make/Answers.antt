@@ -10,7 +10,7 @@ pub invariant_of-result-clause-words_whole : goal.invariant_of-result-clause-wor
 invariant_of-result-clause-words_whole g c =
     let rows : length c.in_ok-quotas.quotas.items ≡ length c.partitions-partitions.result.now = ap length c.in_ok-quotas.ensures ∙ length-quotas_of _ in
     let shares : c.total-shares.result ≡ sum c.in_ok-quotas.quotas.items = rw c.deref.ensures.value at c.total-shares.ensures in
-    rw c.in_ok-zeroed.ensures (simp length-replicate (omega (arith, rows, shares)))
+    rw c.in_ok-filled.ensures (simp length-replicate (omega (arith, rows, shares)))
 
 pub invariant_of-result-clause-taken_whole : goal.invariant_of-result-clause-taken_whole
 invariant_of-result-clause-taken_whole g c =
@@ -29,7 +29,7 @@ invariant_of-result-clause-roots g c = λ row below.
 
 pub invariant_of-result-clause-free_zero : goal.invariant_of-result-clause-free_zero
 invariant_of-result-clause-free_zero g c = λ page index free.
-    rw c.in_ok-zeroed.ensures (words_of-zeros (512 * (length c.partitions-partitions.result.now + c.total-shares.result)) page index)
+    rw c.in_ok-filled.ensures (words_of-zeros (512 * (length c.partitions-partitions.result.now + c.total-shares.result)) page index)
 
 pub invariant_of-result-clause-free_counted : goal.invariant_of-result-clause-free_counted
 invariant_of-result-clause-free_counted g c =
@@ -47,4 +47,4 @@ invariant_of-result-clause-nonzero_counted g c =
     let shares : c.total-shares.result ≡ sum c.in_ok-quotas.quotas.items = rw c.deref.ensures.value at c.total-shares.ensures in
     let pages : length c.partitions-partitions.result.now + c.total-shares.result ≡ page_count c.in_ok-quotas.quotas.items = omega (arith, rows, shares) in
     let zeros : c.in_ok-zeros.field-0.items ≡ replicate (page_count c.in_ok-quotas.quotas.items) 0 = c.in_ok-zeros.ensures ∙ ap (λ n. replicate n 0) pages in
-    rw (c.in_ok-zeroed.ensures, zeros, pages) (counts_nonzero-new c.in_ok-quotas.quotas.items)
+    rw (c.in_ok-filled.ensures, zeros, pages) (counts_nonzero-new c.in_ok-quotas.quotas.items)

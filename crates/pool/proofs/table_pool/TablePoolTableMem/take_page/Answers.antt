@@ -59,7 +59,7 @@ invariant_of-self-clause-free_zero g c =
     let old = c.args.self.now in
     let inside = searched-within old _ _ c.loop-page.invariant in
     let free = taken_of-read old.taken.items _ _ c.index.ensures inside ∙ c.loop-page-test.false in
-    free_zero-mark (g.S.WordStore.words old.store) old.taken.items c.loop-page.page _ inside (λ i. old.free_zero c.loop-page.page i free) old.free_zero
+    rw c.fill.ensures (free_zero-mark (g.S.WordStore.words old.store) old.taken.items c.loop-page.page _ inside (λ i. old.free_zero c.loop-page.page i free) old.free_zero)
 
 pub invariant_of-self-clause-roots : goal.invariant_of-self-clause-roots
 invariant_of-self-clause-roots g c =

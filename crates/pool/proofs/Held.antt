@@ -1,0 +1,165 @@
+-- What places stand for of which some are empty, and which pages are filled.
+use Rattle.std.proofs.Common.{◌≡◌, ◌≢◌, ℕ, zero, suc, ◌+◌, ◌*◌, ◌/◌, ◌%◌, ◌<◌, ◌≤◌, ◌⊎◌, Bool, true, false, List, [], ◌∷◌, length, replicate, get_or, slice_index, slice_index_or, unwrap_or, is_some, Option, Some, None, refl, sym, ap, ◌∙◌, arith, inl, inr, add-one, true≢false}
+use Rattle.std.proofs.Math.ListN.{set, get_or-map}
+use Rattle.std.proofs.Math.Nat.{div-add-mod, mod-lt}
+use Rattle.std.proofs.Math.Seq.{map-set_same}
+use Rattle.std.proofs.lemmas.Bool.{cases_eq, cases_lt}
+use Rattle.std.proofs.lemmas.List.{set-set, map-set, length-map, length-set, get_or-set_same, get_or-set_other, set-get_or}
+use Rattle.std.proofs.lemmas.Option.{none-some}
+use Rattle.pool.specs.Cells.{held, with_zeros, IsFilled, IsPageFilled, IsPageEmpty, AreMarked}
+use Rattle.pool.proofs.Contents.{swept, swept-here, swept-next}
+
+-- ---- single places
+
+pub length-held : (cs : List (Option ℕ)) → length (held cs) ≡ length cs
+length-held cs = length-map cs (λ c. unwrap_or c 0)
+
+pub held-at : (cs : List (Option ℕ)) (i x : ℕ) → get_or cs i None ≡ Some x → slice_index (held cs) i ≡ x
+held-at cs i x is = get_or-map (λ c. unwrap_or c 0) cs i None ∙ ap (λ c. unwrap_or c 0) is
+
+pub held-none : (cs : List (Option ℕ)) (i : ℕ) → get_or cs i None ≡ None → slice_index (held cs) i ≡ 0
+held-none cs i is = get_or-map (λ c. unwrap_or c 0) cs i None ∙ ap (λ c. unwrap_or c 0) is
+
+-- a place is emptied and filled again
+pub held-set : (cs : List (Option ℕ)) (i x : ℕ) → held (set (set cs i None) i (Some x)) ≡ set (held cs) i x
+held-set cs i x = ap held (set-set cs i None (Some x)) ∙ map-set (λ c. unwrap_or c 0) cs i (Some x)
+
+pub held-new : (n : ℕ) → held (replicate n None) ≡ replicate n 0
+held-new zero = refl
+held-new (suc n) = ap (λ rest. 0 ∷ rest) (held-new n)
+
+pub below : (cs : List (Option ℕ)) (k x : ℕ) → get_or cs k None ≡ Some x → k < length cs
+below [] k x is = absurd (none-some x is)
+below (c ∷ cs) zero x is = omega arith
+below (c ∷ cs) (suc k) x is = let less = below cs k x is in omega (arith, less)
+
+pub length-put : (cs : List (Option ℕ)) (i x : ℕ) → length (set (set cs i None) i (Some x)) ≡ length cs
+length-put cs i x = length-set (set cs i None) i (Some x) ∙ length-set cs i None
+
+is-some : (o : Option ℕ) → is_some o ≡ true → (x : ℕ) × (o ≡ Some x)
+is-some None h = absurd (true≢false (sym h))
+is-some (Some x) h = (x, refl)
+
+-- ---- the page of a place
+
+pub filled-at : (cs : List (Option ℕ)) (page i : ℕ) → IsPageFilled cs page → i < 512 → IsFilled cs (512 * page + i)
+filled-at cs page i filled lt = is-some _ (filled i lt)
+
+pub filled-place : (marks : List Bool) (cs : List (Option ℕ)) (place : ℕ) → AreMarked marks cs → slice_index_or marks (place / 512) false ≡ true → IsFilled cs place
+filled-place marks cs place marked is =
+    is-some _ (ap (λ k. is_some (get_or cs k None)) (sym (div-add-mod place 512)) ∙ marked.filled (place / 512) is (place % 512) (mod-lt place (omega arith)))
+
+pub empty-place : (marks : List Bool) (cs : List (Option ℕ)) (place : ℕ) → AreMarked marks cs → slice_index_or marks (place / 512) false ≡ false → get_or cs place None ≡ None
+empty-place marks cs place marked is =
+    ap (λ k. get_or cs k None) (sym (div-add-mod place 512)) ∙ marked.empty (place / 512) is (place % 512) (mod-lt place (omega arith))
+
+-- ---- marks
+
+-- a filled place stays filled, with another word
+pub marked-set : (marks : List Bool) (cs : List (Option ℕ)) (k x : ℕ) → IsFilled cs k → AreMarked marks cs → AreMarked marks (set (set cs k None) k (Some x))
+marked-set marks cs k x is marked =
+    let inside : k < length cs = below cs k is.0 is.1 in
+    let new = set cs k (Some x) in
+    let whole : AreMarked marks new = record {
+      filled = λ page mark i lt. elim (cases_eq (512 * page + i) k) [
+        | inl same ↦ ap is_some (ap (λ j. get_or new j None) same ∙ get_or-set_same cs k (Some x) None inside)
+        | inr other ↦ ap is_some (get_or-set_other cs k (512 * page + i) (Some x) None other) ∙ marked.filled page mark i lt
+      ];
+      empty = λ page mark i lt. elim (cases_eq (512 * page + i) k) [
+        | inl same ↦ absurd (none-some is.0 (sym (marked.empty page mark i lt) ∙ ap (λ j. get_or cs j None) same ∙ is.1))
+        | inr other ↦ get_or-set_other cs k (512 * page + i) (Some x) None other ∙ marked.empty page mark i lt
+      ];
+    } in
+    rw (set-set cs k None (Some x)) whole
+
+pub filled-set : (cs : List (Option ℕ)) (page k x : ℕ) → IsFilled cs k → IsPageFilled cs page → IsPageFilled (set (set cs k None) k (Some x)) page
+filled-set cs page k x is all i lt =
+    let inside : k < length cs = below cs k is.0 is.1 in
+    rw (set-set cs k None (Some x)) (elim (cases_eq (512 * page + i) k) [
+      | inl same ↦ ap is_some (ap (λ j. get_or (set cs k (Some x)) j None) same ∙ get_or-set_same cs k (Some x) None inside)
+      | inr other ↦ ap is_some (get_or-set_other cs k (512 * page + i) (Some x) None other) ∙ all i lt
+    ])
+
+unmarked : (pages page : ℕ) → slice_index_or (replicate pages false) page false ≡ false
+unmarked zero page = refl
+unmarked (suc pages) zero = refl
+unmarked (suc pages) (suc page) = unmarked pages page
+
+nothing : (n k : ℕ) → get_or (replicate {A = Option ℕ} n None) k None ≡ None
+nothing zero k = refl
+nothing (suc n) zero = refl
+nothing (suc n) (suc k) = nothing n k
+
+pub marked-new : (pages n : ℕ) → AreMarked (replicate pages false) (replicate n None)
+marked-new pages n = record {
+  filled = λ page mark i lt. absurd (true≢false (sym mark ∙ unmarked pages page));
+  empty = λ page mark i lt. nothing n (512 * page + i);
+}
+
+-- ---- a page that is filled with zeros
+
+pub length-zeros : (cs : List (Option ℕ)) (page n : ℕ) → length (with_zeros cs page n) ≡ length cs
+unfolding with_zeros
+length-zeros cs page zero = refl
+length-zeros cs page (suc n) = length-set (with_zeros cs page n) (512 * page + n) (Some 0) ∙ length-zeros cs page n
+
+pub zeros-none : (cs : List (Option ℕ)) (page : ℕ) → with_zeros cs page 0 ≡ cs
+unfolding with_zeros
+zeros-none cs page = refl
+
+zeros-suc : (cs : List (Option ℕ)) (page n : ℕ) → with_zeros cs page (suc n) ≡ set (with_zeros cs page n) (512 * page + n) (Some 0)
+unfolding with_zeros
+zeros-suc cs page n = refl
+
+pub zeros-next : (cs : List (Option ℕ)) (page n : ℕ) → with_zeros cs page (n + 1) ≡ set (with_zeros cs page n) (512 * page + n) (Some 0)
+zeros-next cs page n = rw (add-one n) (zeros-suc cs page n)
+
+pub zeros-beside : (cs : List (Option ℕ)) (page n k : ℕ) → (k < 512 * page) ⊎ (512 * page + n ≤ k) → get_or (with_zeros cs page n) k None ≡ get_or cs k None
+unfolding with_zeros
+zeros-beside cs page zero k beside = refl
+zeros-beside cs page (suc n) k beside =
+    let other : k ≢ 512 * page + n = elim beside [ inl before ↦ (λ is. omega (arith, before, is)) | inr behind ↦ (λ is. omega (arith, behind, is)) ] in
+    let less : (k < 512 * page) ⊎ (512 * page + n ≤ k) = elim beside [ inl before ↦ inl before | inr behind ↦ inr (omega (arith, behind)) ] in
+    get_or-set_other (with_zeros cs page n) (512 * page + n) k (Some 0) None other ∙ zeros-beside cs page n k less
+
+zeros-done : (cs : List (Option ℕ)) (page n i : ℕ) → i < n → 512 * page + n ≤ length cs → get_or (with_zeros cs page n) (512 * page + i) None ≡ Some 0
+unfolding with_zeros
+zeros-done cs page zero i lt inside = absurd (omega (arith, lt))
+zeros-done cs page (suc n) i lt inside =
+    let before = with_zeros cs page n in
+    let long : length before ≡ length cs = length-zeros cs page n in
+    elim (cases_eq i n) [
+      | inl same ↦ ap (λ j. get_or (set before (512 * page + n) (Some 0)) (512 * page + j) None) same ∙ get_or-set_same before (512 * page + n) (Some 0) None (omega (arith, long, inside))
+      | inr other ↦ get_or-set_other before (512 * page + n) (512 * page + i) (Some 0) None (λ is. other (omega (arith, is))) ∙ zeros-done cs page n i (omega (arith, lt, other)) (omega (arith, inside))
+    ]
+
+pub held-zeros : (cs : List (Option ℕ)) (page n : ℕ) → n ≤ 512 → IsPageEmpty cs page → held (with_zeros cs page n) ≡ held cs
+unfolding with_zeros
+held-zeros cs page zero most empty = refl
+held-zeros cs page (suc n) most empty =
+    let before = with_zeros cs page n in
+    let none : get_or before (512 * page + n) None ≡ None = zeros-beside cs page n (512 * page + n) (inr (omega arith)) ∙ empty n (omega (arith, most)) in
+    map-set_same (λ c. unwrap_or c 0) before (512 * page + n) (Some 0) None (sym (ap (λ c. unwrap_or c 0) none)) ∙ held-zeros cs page n (omega (arith, most)) empty
+
+apart : (q page i n : ℕ) → q ≢ page → i < 512 → n ≡ 512 → (512 * q + i < 512 * page) ⊎ (512 * page + n ≤ 512 * q + i)
+apart q page i n other lt is = elim (cases_lt q page) [ inl before ↦ inl (omega (arith, before, lt)) | inr behind ↦ inr (omega (arith, behind, other, is)) ]
+
+pub marked-fill : (marks : List Bool) (cs : List (Option ℕ)) (page n : ℕ) → n ≡ 512 → page < length marks → 512 * page + n ≤ length cs → AreMarked marks cs → AreMarked (set marks page true) (with_zeros cs page n)
+marked-fill marks cs page n is inside room marked = record {
+  filled = λ q mark i lt. elim (cases_eq q page) [
+    | inl same ↦ ap is_some (ap (λ j. get_or (with_zeros cs page n) (512 * j + i) None) same ∙ zeros-done cs page n i (omega (arith, lt, is)) room)
+    | inr other ↦ ap is_some (zeros-beside cs page n (512 * q + i) (apart q page i n other lt is)) ∙ marked.filled q (sym (get_or-set_other marks page q true false other) ∙ mark) i lt
+  ];
+  empty = λ q mark i lt. elim (cases_eq q page) [
+    | inl same ↦ absurd (true≢false (sym (get_or-set_same marks page true false inside) ∙ ap (λ j. get_or (set marks page true) j false) (sym same) ∙ mark))
+    | inr other ↦ zeros-beside cs page n (512 * q + i) (apart q page i n other lt is) ∙ marked.empty q (sym (get_or-set_other marks page q true false other) ∙ mark) i lt
+  ];
+}
+
+-- ---- places that are emptied one after another
+
+pub swept-empty : (cs : List (Option ℕ)) (place : ℕ) → place < length cs → get_or cs place None ≡ None → swept None place cs ≡ swept None (place + 1) cs
+swept-empty cs place inside none =
+    let rest = swept None place cs in
+    let here : get_or rest place None ≡ None = swept-here None place cs None inside ∙ none in
+    sym (set-get_or rest place None) ∙ ap (λ c. set rest place c) here ∙ swept-next None place cs inside

@@ -1,0 +1,10 @@
+-- The places of the page below `index` are filled.
+use Rattle.std.proofs.Common.{◌≡◌}
+use Rattle.pool.specs.Cells.{with_zeros}
+use Rattle.pool.proofs.block.fill_page.Given as goal
+
+abbrev pub invariant-loop-index : goal.invariant-loop-index
+invariant-loop-index l = record {
+  place : l.cells.at ≡ l.fn.cells.at;
+  slots : l.cells.slots ≡ with_zeros l.fn.cells.slots l.page l.index;
+}
