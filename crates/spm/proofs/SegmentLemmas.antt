@@ -1,6 +1,7 @@
 -- Pages that are alike are free alike, and a page of each segment tells of all.
-use Rattle.std.proofs.Common.{◌≡◌, ℕ, zero, suc, ◌+◌, ◌-◌, ◌<◌, ◌≤◌, Bool, true, false, ◌&&◌, not, cond, List, ◌∷◌, Option, Some, None, refl, sym, ap, ◌∙◌, arith}
+use Rattle.std.proofs.Common.{◌≡◌, ℕ, zero, suc, ◌+◌, ◌-◌, ◌<◌, ◌≤◌, Bool, true, false, ◌&&◌, not, cond, List, ◌∷◌, Option, Some, None, refl, sym, ap, ◌∙◌, arith, inl, inr}
 use Rattle.std.specs.Option.{option_map_or}
+use Rattle.std.proofs.lemmas.Bool.{cases_lt}
 use Rattle.base.specs.Access.{Access, View, is_rw, is_normal, is_same_bool, is_reached_with}
 use Rattle.base.specs.Ledger.{is_idle}
 use Rattle.base.specs.Buffers.{Pair, in_pair, is_buffer, pair_of}
@@ -64,6 +65,25 @@ each_page-past f end (suc k) n inside holds =
     let e : (n + 1) + k ≡ n + suc k = omega arith in
     first ∙ rest ∙ ap (λ i. each_page f i (end - i)) e
 
+-- where it holds of all pages up to one, that one decides, also where it is behind the end
+pub each_page-over : (f : ℕ → Bool) (end n until : ℕ) → n ≤ until → n ≤ end → ((m : ℕ) → n ≤ m → m < until → f m ≡ true) → each_page f until (end - until) ≡ each_page f n (end - n)
+each_page-over f end n until from inside holds = elim (cases_lt end until) [
+  | inl beyond ↦
+      let left : end - until ≡ 0 = omega (arith, beyond) in
+      let all : n + (end - n) ≡ end = omega (arith, inside) in
+      let none : end - end ≡ 0 = omega arith in
+      let past = each_page-past f end (end - n) n (omega (arith, all)) (λ m above below. holds m above (omega (arith, below, all, beyond))) in
+      ap (each_page f until) left ∙ sym (past ∙ ap (λ i. each_page f i (end - i)) all ∙ ap (each_page f end) none)
+  | inr within ↦
+      let all : n + (until - n) ≡ until = omega (arith, from) in
+      let past = each_page-past f end (until - n) n (omega (arith, all, within)) (λ m above below. holds m above (omega (arith, below, all))) in
+      sym (past ∙ ap (λ i. each_page f i (end - i)) all)
+]
+
+-- where no page is left, it holds of all
+pub each_page-done : (f : ℕ → Bool) (end n : ℕ) → end ≤ n → each_page f n (end - n) ≡ true
+each_page-done f end n past = let none : end - n ≡ 0 = omega (arith, past) in ap (each_page f n) none
+
 -- where it holds of a page, and of those behind it alike, the next page decides
 each_page-next : (f : ℕ → Bool) (end n until : ℕ) (all : Bool) → n < until → until ≤ end → ((m : ℕ) → n ≤ m → m < until → f m ≡ f n) → f n ≡ true → each_page f n (end - n) ≡ all → each_page f until (end - until) ≡ all
 each_page-next f end n until all lt inside alike one so_far =
@@ -72,7 +92,7 @@ each_page-next f end n until all lt inside alike one so_far =
     sym (past ∙ ap (λ i. each_page f i (end - i)) e) ∙ so_far
 
 -- where it fails at a page, it does not hold of all
-each_page-fails : (f : ℕ → Bool) (end n : ℕ) → n < end → f n ≡ false → each_page f n (end - n) ≡ false
+pub each_page-fails : (f : ℕ → Bool) (end n : ℕ) → n < end → f n ≡ false → each_page f n (end - n) ≡ false
 each_page-fails f end n lt fails =
     let split : end - n ≡ suc (end - (n + 1)) = omega arith in
     rw (split, fails) refl
@@ -115,6 +135,15 @@ same_bool false = refl
 -- a home is reached with itself
 with-itself : (home : Access) → is_reached_with home (Some home) ≡ true
 with-itself home = rw (same_bool (is_rw home.rights), same_bool home.exec, same_bool (is_normal home.kind)) refl
+
+-- pages alike to one whose home is as good are free with this home
+pub reached-free : (s : State) (p : ℕ) (home : Access) (page limit until : ℕ) (here : View) → here ≡ free_home s p page → is_reached_with home here ≡ true → IsAlikeUntil (free_home s p) page limit until → (n : ℕ) → page ≤ n → n < until → is_free_with s p home n ≡ true
+reached-free s p home page limit until here is good alike n from to =
+    free_with-by s p home n ∙ ap (is_reached_with home) (alike.alike n from to ∙ sym is) ∙ good
+
+-- and where it is not, the page is not
+pub reached-fails : (s : State) (p : ℕ) (home : Access) (page : ℕ) (here : View) → here ≡ free_home s p page → is_reached_with home here ≡ false → is_free_with s p home page ≡ false
+reached-fails s p home page here is bad = free_with-by s p home page ∙ ap (is_reached_with home) (sym is) ∙ bad
 
 -- pages alike to one with this home are free with it
 pub known-free : (s : State) (p : ℕ) (home : Access) (page limit until : ℕ) → Some home ≡ free_home s p page → IsAlikeUntil (free_home s p) page limit until → (n : ℕ) → page ≤ n → n < until → is_free_with s p home n ≡ true

@@ -1,16 +1,33 @@
-use Rattle.std.proofs.Common.{true, false, sym, ◌∙◌}
+use Rattle.std.proofs.Common.{◌≡◌, ◌≤◌, true, false, sym, ◌∙◌, arith}
 use Rattle.base.specs.State.{is_free_with}
-use Rattle.spm.proofs.SegmentLemmas.{each_page-known, next-range}
+use Rattle.spm.proofs.SegmentLemmas.{each_page-known, each_page-done, next-range}
 use Rattle.spm.proofs.state.State.are_all_free_with.Goals as goal
 
-pub returns-then-not-are_free_with : goal.returns-then-not-are_free_with
-returns-then-not-are_free_with c =
+pub returns-in-None-free_until : goal.returns-in-None-free_until
+returns-in-None-free_until c =
     let f = is_free_with c.args.self.now c.args.p c.args.home in
-    let decided = each_page-known f c.in-Some.run' c.past.result c.end.result c.end.ensures.same c.past.ensures.behind c.past.ensures.inside (λ n from to. let known = c.past.ensures.known n from to in c.requires.known n known.0 known.1) in
-    next-range f _ _ c.in-Some.run' false _ c.in-Some.ensures.steps (sym c.if-not-are_free_with.true ∙ c.are_free_with.ensures ∙ decided) c.loop-run.invariant
+    let end = c.end-then-first-end in
+    let decided = each_page-known f c.in-Some.run' c.past-first.result end.result end.ensures.same c.past-first.ensures.behind c.past-first.ensures.inside
+    (λ n from to. let known = c.past-first.ensures.known n from to in c.loop-run.invariant.known n known.0 known.1) in
+    next-range f _ _ c.in-Some.run' false _ c.in-Some.ensures.steps (sym c.in-None-free_until.ensures.none ∙ decided) c.loop-run.invariant.rest
+
+pub loop-run-preserved-then-first-end : goal.loop-run-preserved-then-first-end
+loop-run-preserved-then-first-end c =
+    let f = is_free_with c.args.self.now c.args.p c.args.home in
+    let end = c.end-then-first-end in
+    let decided = each_page-known f c.in-Some.run' c.past-first.result end.result end.ensures.same c.past-first.ensures.behind c.past-first.ensures.inside
+    (λ n from to. let known = c.past-first.ensures.known n from to in c.loop-run.invariant.known n known.0 known.1) in
+    record {
+      rest = next-range f _ _ c.in-Some.run' true _ c.in-Some.ensures.steps (sym c.in-Some-free_until.ensures.some ∙ decided) c.loop-run.invariant.rest;
+      known = c.in-Some-free_until.ensures.known;
+    }
 
 pub loop-run-preserved : goal.loop-run-preserved
 loop-run-preserved c =
     let f = is_free_with c.args.self.now c.args.p c.args.home in
-    let decided = each_page-known f c.in-Some.run' c.past.result c.end.result c.end.ensures.same c.past.ensures.behind c.past.ensures.inside (λ n from to. let known = c.past.ensures.known n from to in c.requires.known n known.0 known.1) in
-    next-range f _ _ c.in-Some.run' true _ c.in-Some.ensures.steps (sym c.if-not-are_free_with.false ∙ c.are_free_with.ensures ∙ decided) c.loop-run.invariant
+    let decided = each_page-known f c.in-Some.run' c.past-first.result c.end.result c.end.ensures.same c.past-first.ensures.behind c.past-first.ensures.inside
+    (λ n from to. let known = c.past-first.ensures.known n from to in c.loop-run.invariant.known n known.0 known.1) in
+    record {
+      rest = next-range f _ _ c.in-Some.run' true _ c.in-Some.ensures.steps (sym (each_page-done f c.end.result c.past-first.result c.if-first-end.false) ∙ decided) c.loop-run.invariant.rest;
+      known = c.loop-run.invariant.known;
+    }
