@@ -3,7 +3,7 @@ ghost use Rattle.base.specs.Pages.{in_run, covers};
 ghost use Rattle.spans.specs.Spans as spec;
 
 use crate::find::Segment;
-use crate::spans::{Spans, sort};
+use crate::spans::Spans;
 use base::{OutOfMemory, Page, Run};
 use std::alloc::Global;
 use std::marker::Model;
@@ -15,10 +15,9 @@ mod runs;
 #[cfg(test)]
 mod tests;
 
-use edit::{set_more, set_runs};
-use place::{block_at, place_of};
-use room::{part_first, ready_blocks};
-use runs::{Zone, clip, part_of};
+use edit::set_blocks;
+use place::{get_in_blocks, segment_in_blocks};
+use room::{LIMIT, part_first, ready_blocks};
 
 /// A map from pages to numbers as `Spans` is, whose intervals stand in blocks, so that an edit moves only those
 /// of the blocks that it touches. All intervals of a block end before the next block begins. A map of few
@@ -62,7 +61,20 @@ impl PageMap {
 
     /// Makes room for one call of `put`, or for one of `put_all` or `cut_all` with this many runs. A refusal changes
     /// no number. Of a block of many intervals the upper half becomes a block of its own, if there is memory for it.
+    #[inline]
     pub fn ready(&mut self, runs: usize) -> Result<(), OutOfMemory>
+        ensures spans { self.new.spans ≡ self.old.spans }
+        ensures room { OnOk result (spec.room_for runs ≤ self.new.room) }
+    {
+        if self.more.is_empty() && self.first.len() <= LIMIT {
+            return self.first.ready(runs);
+        }
+        self.ready_all(runs)
+    }
+
+    /// The same where there are more blocks, or the first is long.
+    #[inline(never)]
+    fn ready_all(&mut self, runs: usize) -> Result<(), OutOfMemory>
         ensures spans { self.new.spans ≡ self.old.spans }
         ensures room { OnOk result (spec.room_for runs ≤ self.new.room) }
     {
@@ -79,6 +91,7 @@ impl PageMap {
     }
 
     /// Gives all pages of a run this number; other pages keep theirs. This takes no memory.
+    #[inline]
     pub fn put(&mut self, run: Run, value: u64)
         requires { spec.room_for 1 ≤ self.old.room }
         ensures { (n : _) → spec.value_at self.new.spans n
@@ -87,58 +100,56 @@ impl PageMap {
         if self.more.is_empty() {
             self.first.put(run, value);
         } else {
-            self.set_all(&[run], Some(value));
+            self.put_all(&[run], value);
         }
     }
 
     /// Gives all pages of the runs this number; other pages keep theirs. This takes no memory. Runs that share no
     /// page are put in one pass over each block that has pages of them.
+    #[inline]
     pub fn put_all(&mut self, runs: &[Run], value: u64)
         requires { spec.room_for (length runs.now) ≤ self.old.room }
         ensures { (n : ℕ) → spec.value_at self.new.spans n
             ≡ (if covers runs.now n then Some value else spec.value_at self.old.spans n) }
     {
-        self.set_all(runs, Some(value));
+        if self.more.is_empty() {
+            self.first.put_all(runs, value);
+            return;
+        }
+        set_blocks(
+            &mut self.first,
+            &mut self.more,
+            &mut self.sorted,
+            &mut self.clipped,
+            runs,
+            Some(value),
+        );
     }
 
     /// Takes the numbers of all pages of the runs away; other pages keep theirs. This takes no memory, and
     /// runs that share no page are cut in one pass over each block that has pages of them.
+    #[inline]
     pub fn cut_all(&mut self, runs: &[Run])
         requires { spec.room_for (length runs.now) ≤ self.old.room }
         ensures { (n : ℕ) → spec.value_at self.new.spans n
             ≡ (if covers runs.now n then None else spec.value_at self.old.spans n) }
     {
-        self.set_all(runs, None);
-    }
-
-    /// Gives the pages of the runs this number, or none.
-    fn set_all(&mut self, runs: &[Run], value: Option<u64>)
-        requires { spec.room_for (length runs.now) ≤ self.old.room }
-        ensures { (n : ℕ) → spec.value_at self.new.spans n
-            ≡ (if covers runs.now n then value else spec.value_at self.old.spans n) }
-    {
         if self.more.is_empty() {
-            let _ = set_runs(&mut self.first, runs, value);
+            self.first.cut_all(runs);
             return;
         }
-        let do_rise = sort(&mut self.sorted, runs);
-        let end = set_more(
+        set_blocks(
+            &mut self.first,
             &mut self.more,
-            &self.sorted,
-            do_rise,
+            &mut self.sorted,
             &mut self.clipped,
-            value,
+            runs,
+            None,
         );
-        let zone = Zone { first: 0, end };
-        clip(
-            &mut self.clipped,
-            part_of(&self.sorted, do_rise, zone),
-            zone,
-        );
-        let _ = set_runs(&mut self.first, &self.clipped, value);
     }
 
     /// Whether no page has a number.
+    #[inline]
     pub fn is_empty(&self) -> bool
         ensures { IsTrue result ↔ (self.now.spans ≡ []) }
     {
@@ -146,17 +157,18 @@ impl PageMap {
     }
 
     /// The number of a page.
+    #[inline]
     pub fn get(&self, page: Page) -> Option<u64>
         ensures { result ≡ spec.value_at self.now.spans page }
     {
         if self.more.is_empty() {
             return self.first.get(page);
         }
-        let place = place_of(&self.more, page.number() + 1);
-        block_at(&self.first, &self.more, place).get(page)
+        get_in_blocks(&self.first, &self.more, page)
     }
 
     /// The number of a page, and how far the pages behind it have the same.
+    #[inline]
     pub fn segment_at(&self, page: Page) -> Segment
         ensures behind { page < result.end }
         ensures in_range { result.end ≤ 2 ^ 27 }
@@ -166,12 +178,6 @@ impl PageMap {
         if self.more.is_empty() {
             return self.first.segment_at(page);
         }
-        let place = place_of(&self.more, page.number() + 1);
-        let segment = block_at(&self.first, &self.more, place).segment_at(page);
-        if place == self.more.len() {
-            return segment;
-        }
-        let end = segment.end.min(self.more[place].begin());
-        Segment { end, ..segment }
+        segment_in_blocks(&self.first, &self.more, page)
     }
 }

@@ -1,14 +1,14 @@
 //! Sets the numbers of many runs, block by block, from the last to the first.
 
-ghost use Rattle.std.specs.Prelude.{◌≡◌, ◌≤◌, ◌<◌, ◌&&◌, ℕ, true, nat_le, length, slice_index_or, vec_len, vec_capacity, IsTrue, if◌then◌else◌};
+ghost use Rattle.std.specs.Prelude.{◌≡◌, ◌≤◌, ◌<◌, ◌&&◌, ◌++◌, ℕ, true, nat_le, length, slice_index_or, vec_len, vec_capacity, IsTrue, if◌then◌else◌};
 ghost use Rattle.base.specs.Pages.{covers};
 ghost use Rattle.spans.specs.Spans as spec;
-ghost use Rattle.spans.specs.Blocks.{all_spans, AreFilled, HaveRoom, IsSetAt};
+ghost use Rattle.spans.specs.Blocks.{all_spans, AreFilled, HaveRoom, IsStack, AreStacked, IsSetAt};
 ghost use Rattle.spans.specs.Edits.{rise};
 
 use super::place::place_of;
 use super::runs::{Zone, clip, part_of, reach_of};
-use crate::spans::Spans;
+use crate::spans::{Spans, sort};
 use base::Run;
 
 /// Gives the pages of the runs this number, or none, and answers how many intervals there are then.
@@ -42,7 +42,7 @@ fn set_at(more: &mut Vec<Spans>, place: usize, runs: &[Run], value: Option<u64>)
 
 /// Gives the pages of the runs this number, or none, in all blocks that have pages of them. It answers up to which
 /// page it left those of the runs as they were, since they stand before these blocks.
-pub(super) fn set_more(
+fn set_more(
     more: &mut Vec<Spans>,
     runs: &[Run],
     do_rise: bool,
@@ -79,4 +79,33 @@ pub(super) fn set_more(
         end = zone.first;
     }
     if place == 0 { end } else { 0 }
+}
+
+/// Gives the pages of the runs this number, or none, where there are blocks behind the first.
+#[inline(never)]
+pub(super) fn set_blocks(
+    first: &mut Spans,
+    more: &mut Vec<Spans>,
+    sorted: &mut Vec<Run>,
+    clipped: &mut Vec<Run>,
+    runs: &[Run],
+    value: Option<u64>,
+)
+    requires stack { IsStack first.old.spans more.old.items }
+    requires first { spec.room_for (length runs.now) ≤ first.old.room }
+    requires room { HaveRoom (spec.room_for (length runs.now)) more.old.items }
+    requires sorted { length runs.now ≤ vec_capacity sorted.old }
+    requires clipped { length runs.now ≤ vec_capacity clipped.old }
+    ensures at { (n : ℕ) → spec.value_at (first.new.spans ++ all_spans more.new.items) n
+        ≡ (if covers runs.now n then value
+        else spec.value_at (first.old.spans ++ all_spans more.old.items) n) }
+    ensures stack { AreStacked first.new.spans more.new.items }
+    ensures sorted { vec_capacity sorted.new ≡ vec_capacity sorted.old }
+    ensures clipped { vec_capacity clipped.new ≡ vec_capacity clipped.old }
+{
+    let do_rise = sort(sorted, runs);
+    let end = set_more(more, sorted, do_rise, clipped, value);
+    let zone = Zone { first: 0, end };
+    clip(clipped, part_of(sorted, do_rise, zone), zone);
+    let _ = set_runs(first, clipped, value);
 }

@@ -8,7 +8,7 @@ use crate::spans::Spans;
 use base::{OutOfMemory, Run};
 
 /// A block that has more intervals is parted when it gets room.
-const LIMIT: usize = 2048;
+pub(super) const LIMIT: usize = 2048;
 
 /// Makes room in both lists for so many runs. What stood in them is dropped.
 fn ready_lists(

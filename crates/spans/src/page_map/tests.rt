@@ -248,3 +248,16 @@ fn blocks_vanish_with_their_intervals(rt: HostRuntime) -> Result<(), Fail> {
     assert!(&rt; pair.map.is_empty());
     Ok(())
 }
+
+#[test]
+fn block_is_parted_beyond_its_limit(rt: HostRuntime) -> Result<(), Fail> {
+    let mut pair = Pair::new(rt.alloc());
+    let mut draw = Draw { state: 4 };
+    for (calls, more) in [(4, 0), (5, 1)] {
+        fill(&rt, &mut pair, calls)?;
+        pair.ready(1)?;
+        assert_eq!(&rt; pair.map.more.len(), more);
+        pair.compare_many(&rt, &mut draw, 500);
+    }
+    Ok(())
+}
