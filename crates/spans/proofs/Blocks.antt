@@ -1,7 +1,7 @@
 -- Intervals in blocks: what an edit of one block does to all of them.
-use Rattle.std.proofs.Common.{◌≡◌, ℕ, zero, suc, ◌-◌, ◌<◌, ◌≤◌, Bool, true, false, ◌&&◌, cond, leb, ltb, List, [], ◌∷◌, ◌++◌, length, get_or, take, drop, Option, Some, None, max, length-append, refl, sym, ap, subst, ◌∙◌, append_assoc, arith}
+use Rattle.std.proofs.Common.{◌≡◌, ℕ, zero, suc, ◌+◌, ◌-◌, ◌<◌, ◌≤◌, Bool, true, false, ◌&&◌, cond, leb, ltb, List, [], ◌∷◌, ◌++◌, length, get_or, take, drop, Option, Some, None, max, length-append, refl, sym, ap, subst, ◌∙◌, append_assoc, arith}
 use Rattle.std.specs.Option.{option_map_or}
-use Rattle.std.specs.List.{AllByRecursion}
+use Rattle.std.specs.List.{AllByRecursion, remove}
 use Rattle.std.specs.List.Sorted.{IsNonDecreasingBy}
 use Rattle.std.proofs.Math.ListN.{set}
 use Rattle.std.proofs.Math.Seq.{drop-cons, take-append_seam, drop-append_seam}
@@ -11,7 +11,7 @@ use Rattle.std.proofs.lemmas.Bool.Decides.{nat_tests}
 use Rattle.base.specs.Pages.{PageRun, in_run, covers}
 use Rattle.spans.specs.Spans.{Span, SpansView, value_at, end_of, ascend, end_from, room_for}
 use Rattle.spans.specs.Search.{begins_at}
-use Rattle.spans.specs.Blocks.{all_spans, least_room, room_of, block_before, HaveRoom, AreFilled, IsStack, AreStacked, IsSetAt}
+use Rattle.spans.specs.Blocks.{all_spans, least_room, room_of, block_before, HaveRoom, AreFilled, IsStack, AreReady, AreStacked, IsSetAt}
 use Rattle.spans.proofs.Zones.{clipped_parts, clipped_more}
 use Rattle.spans.proofs.Ascending.{begins, far, ascend-cons, ascend-left, ascend-right, ascend-append, least, out, behind, value_at-append, value_at-behind, value_at-ahead}
 
@@ -175,8 +175,10 @@ above_page e page (suc i) (b ∷ bs) f h le = above_page (end_from e b.spans) pa
 
 module _ (runs : List PageRun) (value : Option ℕ) (old : List SpansView) (i : ℕ) (block : SpansView) (lt : i < length old) (filled : AreFilled old) (ascending : ascend 0 block.spans ≡ true)
     (at : (d : SpansView) (n : ℕ) → value_at block.spans n ≡ cond (covers runs n) value (value_at (get_or old i d).spans n)) where
-  in_place : (tail : List SpansView) → all_spans tail ≡ block.spans ++ all_spans (drop (suc i) old) → AreFilled tail → IsSetAt runs value old i (take i old ++ tail)
-  in_place tail rest some =
+  in_place : (tail : List SpansView) → all_spans tail ≡ block.spans ++ all_spans (drop (suc i) old) → AreFilled tail
+      → ((room : ℕ) → ((d : SpansView) → room ≤ (get_or old i d).room - room_for (length runs)) → HaveRoom room (drop (suc i) old) → HaveRoom room tail)
+      → IsSetAt runs value old i (take i old ++ tail)
+  in_place tail rest some rooms =
       let long : i ≡ length (take i old) = let l = length-take i old in omega arith in
       record {
         spans = block.spans;
@@ -185,11 +187,19 @@ module _ (runs : List PageRun) (value : Option ℕ) (old : List SpansView) (i : 
         before = ap (λ (k : ℕ). take k (take i old ++ tail)) long ∙ take-append_seam (take i old) tail;
         rest = ap all_spans (ap (λ (k : ℕ). drop k (take i old ++ tail)) long ∙ drop-append_seam (take i old) tail) ∙ rest;
         filled = all_joined (λ b. 0 < length b.spans) (take i old) tail (all_taken (λ b. 0 < length b.spans) i old filled) some;
+        room = λ room here behind. subst (HaveRoom room) (sym (ap (λ (k : ℕ). drop k (take i old ++ tail)) long ∙ drop-append_seam (take i old) tail)) (rooms room here behind);
         inside = let l = length-append (take i old) tail in omega arith;
       }
 
-  pub set_kept : 0 < length block.spans → IsSetAt runs value old i (set old i block)
-  set_kept some = rw (set_split old i block lt) (in_place (block ∷ drop (suc i) old) refl (some, all_dropped (λ b. 0 < length b.spans) (suc i) old filled))
+  pub set_kept : 0 < length block.spans → ((d : SpansView) → (get_or old i d).room ≤ block.room + room_for (length runs)) → IsSetAt runs value old i (set old i block)
+  set_kept some left =
+      rw (set_split old i block lt) (in_place (block ∷ drop (suc i) old) refl (some, all_dropped (λ b. 0 < length b.spans) (suc i) old filled)
+      (λ room here behind. (omega (arith, here block, left block), behind)))
+
+  pub set_removed : block.spans ≡ [] → IsSetAt runs value old i (remove old i)
+  set_removed none =
+      in_place (drop (suc i) old) (ap (λ l. l ++ all_spans (drop (suc i) old)) (sym none)) (all_dropped (λ b. 0 < length b.spans) (suc i) old filled)
+      (λ room here behind. behind)
 
 -- ---- a step: the block before those that are done
 
@@ -321,6 +331,47 @@ has_rooms room first [] runs le some = absurd (omega arith)
 has_rooms room first (b ∷ bs) runs le some =
     let r = each_room room (room_for runs) (b ∷ bs) (omega arith) in
     record { in_first = omega arith; in_more = r.0; for_runs = r.1 }
+
+pub less_room : (room more : ℕ) (bs : List SpansView) → room ≤ more → HaveRoom more bs → HaveRoom room bs
+less_room room more [] le h = tt
+less_room room more (b ∷ bs) le h = (omega (arith, h.0), less_room room more bs le h.1)
+
+pub room_taken : (room k i : ℕ) (bs : List SpansView) (d : SpansView) → HaveRoom room (take k bs) → i < k → i < length bs → room ≤ (get_or bs i d).room
+room_taken room zero i bs d h lt inside = absurd (omega arith)
+room_taken room (suc k) i [] d h lt inside = absurd (omega arith)
+room_taken room (suc k) zero (b ∷ bs) d h lt inside = h.0
+room_taken room (suc k) (suc i) (b ∷ bs) d h lt inside = room_taken room k i bs d h.1 (omega arith) (omega arith)
+
+-- room in the first blocks and in the others
+pub room_in_all : (room : ℕ) (i : ℕ) (bs : List SpansView) → HaveRoom room (take i bs) → HaveRoom room (drop i bs) → HaveRoom room bs
+room_in_all room zero bs h k = k
+room_in_all room (suc i) [] h k = tt
+room_in_all room (suc i) (b ∷ bs) h k = (h.0, room_in_all room i bs h.1 k)
+
+least_from : (room limit : ℕ) (bs : List SpansView) → HaveRoom room bs → room ≤ limit → room ≤ least_room limit bs
+least_from room limit [] h le = le
+least_from room limit (b ∷ bs) h le = let r = least_from room limit bs h.1 le in omega (arith, h.0)
+
+pub are_ready : (spare lists : ℕ) (more : List SpansView) → HaveRoom (room_for spare) more → spare ≤ lists → AreReady spare more lists
+are_ready spare lists [] h le = tt
+are_ready spare lists (b ∷ bs) h le = least_from (room_for spare) (room_for lists) (b ∷ bs) h (omega arith)
+
+pub never_ready : (lists : ℕ) (more : List SpansView) → AreReady 0 more lists
+never_ready lists [] = tt
+never_ready lists (b ∷ bs) = omega arith
+
+-- an edit with so many runs
+pub still_ready : (spare lists count : ℕ) (old new : List SpansView) → 0 < length old → AreReady spare old lists
+    → ((room : ℕ) → HaveRoom room old → HaveRoom (room - room_for count) new) → AreReady (spare - count) new lists
+still_ready spare lists count [] new some h edit = absurd (omega arith)
+still_ready spare lists count (b ∷ bs) new some h edit =
+    let r = each_room (room_for spare) (room_for lists) (b ∷ bs) h in
+    let e : room_for spare - room_for count ≡ room_for (spare - count) = omega arith in
+    are_ready (spare - count) lists new (subst (λ (room : ℕ). HaveRoom room new) e (edit (room_for spare) r.0)) (omega (arith, r.1))
+
+pub ready_room : (runs spare lists : ℕ) (first : SpansView) (more : List SpansView) → runs ≤ spare → AreReady spare more lists → room_for runs ≤ first.room → room_for runs ≤ room_of first more lists
+ready_room runs spare lists first [] le h here = here
+ready_room runs spare lists first (b ∷ bs) le h here = omega (arith, h)
 
 -- ---- the number of a page is that of its block
 

@@ -3,8 +3,8 @@ use Rattle.std.proofs.Common.{◌≡◌, ℕ, zero, suc, ◌+◌, ◌<◌, ◌�
 use Rattle.std.specs.List.{insert, remove}
 use Rattle.std.proofs.Math.ListN.{set}
 use Rattle.std.proofs.lemmas.List.{set_split, take_more_set, drop-set, drop-set-lt}
-use Rattle.spans.specs.Spans.{SpansView, ascend, end_from, room_for}
-use Rattle.spans.specs.Blocks.{all_spans, least_room, room_of, HaveRoom, AreFilled}
+use Rattle.spans.specs.Spans.{SpansView, ascend, end_from}
+use Rattle.spans.specs.Blocks.{all_spans, HaveRoom, AreFilled}
 use Rattle.spans.proofs.Ascending.{far, ascend-left, ascend-right}
 use Rattle.spans.proofs.Blocks.{all-append, all-parted, all-next, all_at, all_taken, all_dropped, all_joined}
 
@@ -44,14 +44,6 @@ set_room room bs i block lt here rest = rw (drop-set bs i block lt) (here, rest)
 
 pub filled_at : (bs : List SpansView) (i : ℕ) (block d : SpansView) → i < length bs → AreFilled bs → block.spans ≡ (get_or bs i d).spans → 0 < length block.spans
 filled_at bs i block d lt filled e = rw e (all_at (λ b. 0 < length b.spans) bs i d filled lt)
-
-least_from : (room limit : ℕ) (bs : List SpansView) → HaveRoom room bs → room ≤ limit → room ≤ least_room limit bs
-least_from room limit [] h le = le
-least_from room limit (b ∷ bs) h le = let r = least_from room limit bs h.1 le in omega (arith, h.0)
-
-pub room_from : (room : ℕ) (first : SpansView) (more : List SpansView) (runs : ℕ) → room ≤ first.room → HaveRoom room more → room ≤ room_for runs → room ≤ room_of first more runs
-room_from room first [] runs here rest le = here
-room_from room first (b ∷ bs) runs here rest le = let r = least_from room (room_for runs) (b ∷ bs) rest le in omega arith
 
 -- ---- two blocks that are joined
 

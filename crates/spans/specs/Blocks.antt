@@ -1,5 +1,5 @@
 -- Intervals that stand in blocks.
-use Rattle.std.specs.Prelude.{◌≡◌, ℕ, ◌<◌, ◌≤◌, suc, Bool, true, ◌&&◌, nat_le, nat_lt, List, [], ◌∷◌, ◌++◌, Option, length, slice_index_or, take, drop, min, if◌then◌else◌}
+use Rattle.std.specs.Prelude.{◌≡◌, ℕ, ◌-◌, ◌<◌, ◌≤◌, suc, Bool, true, ◌&&◌, nat_le, nat_lt, List, [], ◌∷◌, ◌++◌, Option, length, slice_index_or, take, drop, min, if◌then◌else◌}
 use Rattle.std.specs.List.{AllByRecursion}
 use Rattle.base.specs.Pages.{PageRun, covers}
 use Rattle.spans.specs.declared.page_map.runs.Zone.{Zone}
@@ -42,6 +42,16 @@ abbrev pub AreStacked : List Span → List SpansView → Type 0
 AreStacked first [] = Unit {0}
 AreStacked first (b ∷ bs) = IsStack first (b ∷ bs)
 
+-- where there are blocks behind the first, each has room for so many runs, and so have lists of this capacity
+abbrev pub AreReady : ℕ → List SpansView → ℕ → Type 0
+AreReady spare [] lists = Unit {0}
+AreReady spare (b ∷ bs) lists = room_for spare ≤ least_room (room_for lists) (b ∷ bs)
+
+-- the blocks stand upward, and behind the first is room
+pub record AreBlocks (first : List Span) (more : List SpansView) (spare lists : ℕ) : Type 0 where
+  pub stacked : AreStacked first more
+  pub ready : AreReady spare more lists
+
 -- the block before a place among those behind the first
 abbrev pub block_before : SpansView → List SpansView → ℕ → SpansView
 block_before first more i = slice_index_or (first ∷ more) i first
@@ -55,6 +65,8 @@ pub record IsSetAt (runs : List PageRun) (value : Option ℕ) (old : List SpansV
   pub before : take i new ≡ take i old
   pub rest : all_spans (drop i new) ≡ spans ++ all_spans (drop (suc i) old)
   pub filled : AreFilled new
+  pub room : (room : ℕ) → ((d : SpansView) → room ≤ (slice_index_or old i d).room - room_for (length runs))
+      → HaveRoom room (drop (suc i) old) → HaveRoom room (drop i new)
   pub inside : i ≤ length new
 
 -- intervals as two lists, one before the other, neither of which is empty

@@ -17,24 +17,26 @@ mod tests;
 
 use edit::set_blocks;
 use place::{get_in_blocks, segment_in_blocks};
-use room::{LIMIT, part_first, ready_blocks};
+use room::{LIMIT, ready_blocks};
 
 /// A map from pages to numbers as `Spans` is, whose intervals stand in blocks, so that an edit moves only those
 /// of the blocks that it touches. All intervals of a block end before the next block begins. A map of few
 /// intervals has one block. Beside the blocks is memory in which the runs of an edit are put in order, and cut to
-/// what a block has of them.
+/// what a block has of them. Each block behind the first has room for so many runs at least as `spare` says, and so
+/// have both lists.
 #[derive(Drop)]
 pub struct PageMap {
     first: Spans,
     more: Vec<Spans>,
     sorted: Vec<Run>,
     clipped: Vec<Run>,
+    spare: usize,
 }
 
 impl Model for PageMap {
     ghost use Rattle.std.specs.Prelude.{◌++◌, min, vec_capacity};
     ghost use Rattle.spans.specs.Spans.{SpansView};
-    ghost use Rattle.spans.specs.Blocks.{all_spans, room_of, AreStacked};
+    ghost use Rattle.spans.specs.Blocks.{all_spans, room_of, AreBlocks};
 
     ghost Value = { SpansView };
 
@@ -43,7 +45,8 @@ impl Model for PageMap {
       room = room_of m.first m.more.items (min (vec_capacity m.sorted) (vec_capacity m.clipped));
     } };
 
-    ghost invariant = { λ m. AreStacked m.first.spans m.more.items };
+    ghost invariant = { λ m. AreBlocks m.first.spans m.more.items m.spare
+        (min (vec_capacity m.sorted) (vec_capacity m.clipped)) };
 }
 
 impl PageMap {
@@ -56,6 +59,7 @@ impl PageMap {
             more: Vec::new(alloc),
             sorted: Vec::new(alloc),
             clipped: Vec::new(alloc),
+            spare: 0,
         }
     }
 
@@ -78,16 +82,17 @@ impl PageMap {
         ensures spans { self.new.spans ≡ self.old.spans }
         ensures room { OnOk result (spec.room_for runs ≤ self.new.room) }
     {
-        part_first(
-            &mut self.first,
-            &mut self.more,
-            &mut self.sorted,
-            &mut self.clipped,
-            runs,
-        );
-        ready_blocks(&mut self.more, &mut self.sorted, &mut self.clipped, runs)?;
-        self.first.ready(runs)?;
-        Ok(())
+        if self.spare < runs || LIMIT < self.first.len() {
+            self.spare = 0;
+            self.spare = ready_blocks(
+                &mut self.first,
+                &mut self.more,
+                &mut self.sorted,
+                &mut self.clipped,
+                runs,
+            )?;
+        }
+        self.first.ready(runs)
     }
 
     /// Gives all pages of a run this number; other pages keep theirs. This takes no memory.
@@ -124,6 +129,7 @@ impl PageMap {
             runs,
             Some(value),
         );
+        self.spare = self.spare.saturating_sub(runs.len());
     }
 
     /// Takes the numbers of all pages of the runs away; other pages keep theirs. This takes no memory, and
@@ -146,6 +152,7 @@ impl PageMap {
             runs,
             None,
         );
+        self.spare = self.spare.saturating_sub(runs.len());
     }
 
     /// Whether no page has a number.

@@ -116,6 +116,16 @@ impl Spans {
         ensures { (n : ℕ) → spec.value_at self.new.spans n
             ≡ (if covers runs.now n then Some value else spec.value_at self.old.spans n) }
     {
+        self.put_runs(runs, value);
+    }
+
+    /// The same, with what it takes of the room.
+    pub(crate) fn put_runs(&mut self, runs: &[Run], value: u64)
+        requires { spec.room_for (length runs.now) ≤ self.old.room }
+        ensures at { (n : ℕ) → spec.value_at self.new.spans n
+            ≡ (if covers runs.now n then Some value else spec.value_at self.old.spans n) }
+        ensures room { self.old.room ≤ self.new.room + spec.room_for (length runs.now) }
+    {
         if 1 < runs.len() && order::sort(&mut self.sorted, runs) {
             pass::set_all(&mut self.spans, &self.sorted, Some(value), runs.len());
             return;
@@ -131,6 +141,16 @@ impl Spans {
         requires { spec.room_for (length runs.now) ≤ self.old.room }
         ensures { (n : ℕ) → spec.value_at self.new.spans n
             ≡ (if covers runs.now n then None else spec.value_at self.old.spans n) }
+    {
+        self.cut_runs(runs);
+    }
+
+    /// The same, with what it takes of the room.
+    pub(crate) fn cut_runs(&mut self, runs: &[Run])
+        requires { spec.room_for (length runs.now) ≤ self.old.room }
+        ensures at { (n : ℕ) → spec.value_at self.new.spans n
+            ≡ (if covers runs.now n then None else spec.value_at self.old.spans n) }
+        ensures room { self.old.room ≤ self.new.room + spec.room_for (length runs.now) }
     {
         if 1 < runs.len() && order::sort(&mut self.sorted, runs) {
             pass::set_all(&mut self.spans, &self.sorted, None, 0);

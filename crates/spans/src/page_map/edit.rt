@@ -1,9 +1,9 @@
 //! Sets the numbers of many runs, block by block, from the last to the first.
 
-ghost use Rattle.std.specs.Prelude.{◌≡◌, ◌≤◌, ◌<◌, ◌&&◌, ◌++◌, ℕ, true, nat_le, length, slice_index_or, vec_len, vec_capacity, IsTrue, if◌then◌else◌};
+ghost use Rattle.std.specs.Prelude.{◌≡◌, ◌+◌, ◌-◌, ◌≤◌, ◌<◌, ◌&&◌, ◌++◌, ℕ, true, nat_le, length, slice_index_or, vec_len, vec_capacity, IsTrue, if◌then◌else◌};
 ghost use Rattle.base.specs.Pages.{covers};
 ghost use Rattle.spans.specs.Spans as spec;
-ghost use Rattle.spans.specs.Blocks.{all_spans, AreFilled, HaveRoom, IsStack, AreStacked, IsSetAt};
+ghost use Rattle.spans.specs.Blocks.{all_spans, AreFilled, HaveRoom, IsStack, AreReady, AreStacked, IsSetAt};
 ghost use Rattle.spans.specs.Edits.{rise};
 
 use super::place::place_of;
@@ -16,12 +16,13 @@ pub(super) fn set_runs(block: &mut Spans, runs: &[Run], value: Option<u64>) -> u
     requires { spec.room_for (length runs.now) ≤ block.old.room }
     ensures at { (n : ℕ) → spec.value_at block.new.spans n
         ≡ (if covers runs.now n then value else spec.value_at block.old.spans n) }
+    ensures room { block.old.room ≤ block.new.room + spec.room_for (length runs.now) }
     ensures len { result ≡ length block.new.spans }
     ensures ascending { spec.ascend 0 block.new.spans ≡ true }
 {
     match value {
-        Some(value) => block.put_all(runs, value),
-        None => block.cut_all(runs),
+        Some(value) => block.put_runs(runs, value),
+        None => block.cut_runs(runs),
     }
     block.len()
 }
@@ -63,6 +64,8 @@ fn set_more(
     ensures behind { (e n : ℕ) → spec.ascend e (all_spans more.old.items) ≡ true
         → covers runs.now n ≡ true → result ≤ n → e ≤ n }
     ensures filled { AreFilled more.new.items }
+    ensures room { (room : ℕ) → HaveRoom room more.old.items
+        → HaveRoom (room - spec.room_for (length runs.now)) more.new.items }
     ensures capacity { vec_capacity clipped.new ≡ vec_capacity clipped.old }
 {
     let reach = reach_of(runs);
@@ -92,6 +95,7 @@ pub(super) fn set_blocks(
     value: Option<u64>,
 )
     requires stack { IsStack first.old.spans more.old.items }
+    requires some { 0 < vec_len more.old }
     requires first { spec.room_for (length runs.now) ≤ first.old.room }
     requires room { HaveRoom (spec.room_for (length runs.now)) more.old.items }
     requires sorted { length runs.now ≤ vec_capacity sorted.old }
@@ -100,6 +104,8 @@ pub(super) fn set_blocks(
         ≡ (if covers runs.now n then value
         else spec.value_at (first.old.spans ++ all_spans more.old.items) n) }
     ensures stack { AreStacked first.new.spans more.new.items }
+    ensures ready { (spare lists : ℕ) → AreReady spare more.old.items lists
+        → AreReady (spare - length runs.now) more.new.items lists }
     ensures sorted { vec_capacity sorted.new ≡ vec_capacity sorted.old }
     ensures clipped { vec_capacity clipped.new ≡ vec_capacity clipped.old }
 {

@@ -1,14 +1,18 @@
 //! Makes room in each block, and parts those that have grown long.
 
-ghost use Rattle.std.specs.Prelude.{◌≡◌, ◌≤◌, ◌<◌, ◌+◌, ◌++◌, min, true, drop, vec_len, vec_capacity, OnOk};
+ghost use Rattle.std.specs.Prelude.{◌≡◌, ◌≤◌, ◌<◌, ◌+◌, ◌++◌, min, true, drop, vec_len, vec_capacity, OnOk, IfOk};
 ghost use Rattle.spans.specs.Spans as spec;
-ghost use Rattle.spans.specs.Blocks.{all_spans, room_of, AreFilled, HaveRoom, IsStack, AreStacked};
+ghost use Rattle.spans.specs.Blocks.{all_spans, AreFilled, HaveRoom, IsStack, AreReady, AreStacked};
 
 use crate::spans::Spans;
 use base::{OutOfMemory, Run};
 
-/// A block that has more intervals is parted when it gets room.
+/// A block that has more intervals is parted when all blocks get room. Between two such passes an edit may make
+/// one longer, by no more than the room that it got.
 pub(super) const LIMIT: usize = 2048;
+
+/// For at least so many runs blocks get room, so that most edits find it there.
+const AHEAD: usize = 64;
 
 /// Makes room in both lists for so many runs. What stood in them is dropped.
 fn ready_lists(
@@ -27,7 +31,7 @@ fn ready_lists(
 }
 
 /// Parts the first block, if it is long. Where there is no memory for that, it stays as it is.
-pub(super) fn part_first(
+fn part_first(
     first: &mut Spans,
     more: &mut Vec<Spans>,
     sorted: &mut Vec<Run>,
@@ -108,25 +112,51 @@ fn ready_more(more: &mut Vec<Spans>, calls: usize) -> Result<(), OutOfMemory>
     Ok(())
 }
 
-/// Where there are blocks behind the first, makes room in each of them, and in both lists, for so many runs.
-pub(super) fn ready_blocks(
+/// Where there are blocks behind the first, makes room in each of them, and in both lists, for so many runs. A
+/// first block that is long is parted before.
+fn ready_each(
+    first: &mut Spans,
     more: &mut Vec<Spans>,
     sorted: &mut Vec<Run>,
     clipped: &mut Vec<Run>,
     runs: usize,
 ) -> Result<(), OutOfMemory>
-    requires ascending { spec.ascend 0 (all_spans more.old.items) ≡ true }
-    requires filled { AreFilled more.old.items }
-    ensures spans { all_spans more.new.items ≡ all_spans more.old.items }
-    ensures filled { AreFilled more.new.items }
-    ensures room { OnOk result ((first : spec.SpansView) → spec.room_for runs ≤ first.room
-        → spec.room_for runs ≤ room_of first more.new.items
+    requires { AreStacked first.old.spans more.old.items }
+    ensures spans { first.new.spans ++ all_spans more.new.items
+        ≡ first.old.spans ++ all_spans more.old.items }
+    ensures stack { AreStacked first.new.spans more.new.items }
+    ensures ready { OnOk result (AreReady runs more.new.items
         (min (vec_capacity sorted.new) (vec_capacity clipped.new))) }
 {
+    part_first(first, more, sorted, clipped, runs);
     if more.is_empty() {
         return Ok(());
     }
     ready_lists(sorted, clipped, runs)?;
     ready_more(more, runs)?;
     Ok(())
+}
+
+/// The same for more runs than these, if there is memory for that. It answers for how many.
+pub(super) fn ready_blocks(
+    first: &mut Spans,
+    more: &mut Vec<Spans>,
+    sorted: &mut Vec<Run>,
+    clipped: &mut Vec<Run>,
+    runs: usize,
+) -> Result<usize, OutOfMemory>
+    requires { AreStacked first.old.spans more.old.items }
+    ensures spans { first.new.spans ++ all_spans more.new.items
+        ≡ first.old.spans ++ all_spans more.old.items }
+    ensures stack { AreStacked first.new.spans more.new.items }
+    ensures enough { IfOk result (λ spare. runs ≤ spare) }
+    ensures ready { IfOk result (λ spare. AreReady spare more.new.items
+        (min (vec_capacity sorted.new) (vec_capacity clipped.new))) }
+{
+    let ample = runs.max(AHEAD);
+    if ready_each(first, more, sorted, clipped, ample).is_ok() {
+        return Ok(ample);
+    }
+    ready_each(first, more, sorted, clipped, runs)?;
+    Ok(runs)
 }

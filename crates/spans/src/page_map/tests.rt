@@ -261,3 +261,28 @@ fn block_is_parted_beyond_its_limit(rt: HostRuntime) -> Result<(), Fail> {
     }
     Ok(())
 }
+
+#[test]
+fn edits_between_two_passes_find_room(rt: HostRuntime) -> Result<(), Fail> {
+    let mut pair = Pair::new(rt.alloc());
+    let mut draw = Draw { state: 5 };
+    fill(&rt, &mut pair, 16)?;
+    let mut passes = 0;
+    for call in 0..200 {
+        let spare = pair.map.spare;
+        let shape = Shape {
+            first: draw.below(16_000),
+            count: draw.between(1, 8),
+            step: draw.between(1, 400),
+            pages: draw.between(1, 3),
+        };
+        let value = if call % 3 == 0 { None } else { Some(5) };
+        pair.shape(&rt, shape, value, call % 4 == 0)?;
+        passes = u32::from(spare < pair.map.spare).saturating_add(passes);
+        pair.compare_many(&rt, &mut draw, 20);
+    }
+    assert!(&rt; 2 < pair.map.more.len());
+    assert!(&rt; 5 < passes && passes < 50, "there were {passes} passes");
+    pair.compare_many(&rt, &mut draw, 2_000);
+    Ok(())
+}

@@ -13,3 +13,4 @@ at c d n =
 pub returns-else-set_runs-eq0 : goal.returns-else-set_runs-eq0
 returns-else-set_runs-eq0 c =
     set_kept c.args.runs.now c.args.value c.args.more.now.items c.args.place c.set_runs.new.block (omega arith) c.requires.filled c.set_runs.ensures.ascending (at c) (omega (arith, c.set_runs.ensures.len, c.if-set_runs-eq0.false))
+    (λ d. omega (arith, c.set_runs.ensures.room, ap (λ (b : SpansView). b.room) (c.index_mut.ensures.value ∙ get_or_default c.args.more.now.items c.args.place c.index_mut.result.now d (omega arith))))

@@ -2,7 +2,7 @@ use Rattle.std.proofs.Common.{◌≡◌, ◌∙◌, ℕ, ◌≤◌, ◌++◌, Bo
 use Rattle.base.specs.Pages.{PageRun, covers}
 use Rattle.spans.specs.Spans.{value_at, ascend}
 use Rattle.spans.specs.Blocks.{all_spans, AreStacked}
-use Rattle.spans.proofs.Blocks.{are_stacked, rest_ascends, first-ascends, first-at}
+use Rattle.spans.proofs.Blocks.{still_ready, are_stacked, rest_ascends, first-ascends, first-at}
 use Rattle.spans.proofs.Zones.{same_within}
 use Rattle.spans.proofs.page_map.edit.set_blocks.Goals as goal
 
@@ -51,3 +51,9 @@ returns-clause-at c = all_at c
 
 pub returns-clause-stack : goal.returns-clause-stack
 returns-clause-stack c = stacks c
+
+pub returns-clause-ready : goal.returns-clause-ready
+returns-clause-ready c = λ spare lists h.
+    let same : length c.deref.result.now ≡ length c.args.runs.now = omega (arith, ap length c.deref.ensures.value, c.sort-do_rise.ensures.len) in
+    still_ready spare lists (length c.args.runs.now) c.args.more.now.items c.set_more-end.new.more.items (omega (arith, c.requires.some)) h
+    (λ room k. rw (← same) (c.set_more-end.ensures.room room k))

@@ -3,7 +3,7 @@ use Rattle.base.specs.Pages.{covers}
 use Rattle.spans.specs.Spans.{SpansView, value_at, ascend, room_for}
 use Rattle.spans.specs.Search.{begins_at}
 use Rattle.spans.specs.Blocks.{all_spans, HaveRoom, IsSetAt}
-use Rattle.spans.proofs.Blocks.{step-above, step-ascends, step-from, step-at, step-before, step-room}
+use Rattle.spans.proofs.Blocks.{step-above, step-ascends, step-from, step-at, step-before, step-room, room_taken, room_in_all, less_room, all_taken, all_dropped}
 use Rattle.spans.proofs.Zones.{clipped_parts, clipped_more, same_within}
 use Rattle.spans.proofs.page_map.edit.set_more.Goals as goal
 
@@ -37,6 +37,13 @@ loop-place-preserved c =
       filled = is_set.filled;
       before = λ k d2 less. step-before old i new pieces value low high d inv.filled lt start begin above is_set inside k d2 less;
       room = step-room old i new pieces value low high d inv.filled lt start begin above is_set inside (λ b. room_for (length runs) ≤ b.room) room;
+      kept = λ room h. step-room old i new pieces value low high d inv.filled lt start begin above is_set inside (λ b. room ≤ b.room) (rw next (inv.kept room h));
+      left = λ room h.
+          is_set.room (room - room_for (length runs))
+          (λ d2.
+          let had : room ≤ (get_or old i d2).room = room_taken room (suc i) i old d2 (rw next (inv.kept room h)) (omega arith) lt in
+          omega (arith, had, c.clip.ensures.len, c.part_of.ensures.len))
+          (rw next (inv.left room h));
       ascending = λ e h. step-ascends old i new pieces value low high d inv.filled lt start begin above is_set inside e (inv.ascending e h);
       above = step-above old i new pieces value low high d inv.filled lt start begin above is_set inside;
       at = λ n.
@@ -47,3 +54,15 @@ loop-place-preserved c =
       behind = λ e n h t from. let le = step-from old i new pieces value low high d inv.filled lt start begin above is_set inside e (inv.ascending e h) in omega arith;
       capacity = c.clip.ensures.capacity ∙ inv.capacity;
     }
+
+pub returns-then-place-eq0-clause-room : goal.returns-then-place-eq0-clause-room
+returns-then-place-eq0-clause-room c = λ room h.
+    let inv = c.loop-place.invariant in
+    let k : ℕ = c.loop-place.place in
+    room_in_all (room - room_for (length c.args.runs.now)) k c.loop-place.more.items (less_room (room - room_for (length c.args.runs.now)) room (take k c.loop-place.more.items) (omega arith) (inv.kept room h)) (inv.left room h)
+
+pub returns-else-place-eq0-clause-room : goal.returns-else-place-eq0-clause-room
+returns-else-place-eq0-clause-room c = λ room h.
+    let inv = c.loop-place.invariant in
+    let k : ℕ = c.loop-place.place in
+    room_in_all (room - room_for (length c.args.runs.now)) k c.loop-place.more.items (less_room (room - room_for (length c.args.runs.now)) room (take k c.loop-place.more.items) (omega arith) (inv.kept room h)) (inv.left room h)
