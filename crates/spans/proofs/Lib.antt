@@ -9,3 +9,4 @@ mod Parts
 mod Places
 pub mod Segments
 mod Zones
+pub mod Between

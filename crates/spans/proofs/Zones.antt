@@ -12,7 +12,7 @@ use Rattle.spans.specs.Edits.{rise}
 
 -- ---- runs that rise
 
-first_at_least : (e j : ℕ) (runs : List PageRun) (d : PageRun) → rise e runs ≡ true → j < length runs → e ≤ (get_or runs j d).first
+pub first_at_least : (e j : ℕ) (runs : List PageRun) (d : PageRun) → rise e runs ≡ true → j < length runs → e ≤ (get_or runs j d).first
 first_at_least e j [] d h lt = absurd (omega arith)
 first_at_least e zero (run ∷ runs) d h lt = leb-true _ _ (and_parts (leb e run.first) (rise (end_of run) runs) h).0
 first_at_least e (suc j) (run ∷ runs) d h lt =

@@ -1,7 +1,7 @@
 -- Intervals in which the pages of a run get another number, or none.
-use Rattle.std.specs.Prelude.{◌≡◌, ℕ, ◌+◌, ◌-◌, ◌<◌, ◌≤◌, ◌==◌, Bool, true, ◌&&◌, nat_le, List, [], ◌∷◌, ◌++◌, Option, Some, None, length, slice_index_or, min, max, if◌then◌else◌}
+use Rattle.std.specs.Prelude.{◌≡◌, ℕ, ◌+◌, ◌-◌, ◌<◌, ◌≤◌, ◌==◌, Bool, true, ◌&&◌, nat_le, List, [], ◌∷◌, ◌++◌, Option, Some, None, length, slice_index_or, take, drop, min, max, if◌then◌else◌}
 use Rattle.base.specs.Pages.{PageRun}
-use Rattle.spans.specs.Spans.{Span, end_of}
+use Rattle.spans.specs.Spans.{Span, end_of, ascend, end_from}
 
 -- the pages of an interval from one page up to another
 abbrev pub part_of : ℕ → ℕ → Span → Span
@@ -64,3 +64,15 @@ pub record HasRunAt (ss : List Span) (i : ℕ) (run : PageRun) : Type 0 where
 -- the interval at a place, if there is one, begins where a run ends, or later
 pub record IsAheadOf (run : PageRun) (ss : List Span) (i : ℕ) : Type 0 where
   pub ahead : (d : Span) → i < length ss → end_of run ≤ (slice_index_or ss i d).run.first
+
+-- the runs stand between two neighbouring intervals: that before the place ends before them, and that at the place
+-- begins behind them
+pub record IsBetween (ss : List Span) (i : ℕ) (runs : List PageRun) : Type 0 where
+  pub inside : i ≤ length ss
+  pub rises : rise (end_from 0 (take i ss)) runs ≡ true
+  pub ahead : (k : ℕ) (d : PageRun) → k < length runs → ascend (end_of (slice_index_or runs k d)) (drop i ss) ≡ true
+
+-- the intervals from the place on have the pages of the runs, one for one
+pub record AreAt (ss : List Span) (i : ℕ) (runs : List PageRun) : Type 0 where
+  pub inside : i + length runs ≤ length ss
+  pub each : (k : ℕ) (d : PageRun) → k < length runs → HasRunAt ss (i + k) (slice_index_or runs k d)

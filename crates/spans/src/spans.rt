@@ -8,6 +8,7 @@ use std::alloc::Global;
 use std::marker::Model;
 use std::sync::ledger::Ledger;
 
+mod between;
 mod block;
 mod edit;
 mod join;
@@ -127,7 +128,7 @@ impl Spans {
         ensures room { self.old.room ≤ self.new.room + spec.room_for (length runs.now) }
     {
         if 1 < runs.len() && order::sort(&mut self.sorted, runs) {
-            pass::set_all(&mut self.spans, &self.sorted, Some(value), runs.len());
+            between::put_all(&mut self.spans, &self.sorted, value);
             return;
         }
         for run in runs {
@@ -153,7 +154,7 @@ impl Spans {
         ensures room { self.old.room ≤ self.new.room + spec.room_for (length runs.now) }
     {
         if 1 < runs.len() && order::sort(&mut self.sorted, runs) {
-            pass::set_all(&mut self.spans, &self.sorted, None, 0);
+            between::cut_all(&mut self.spans, &self.sorted);
             return;
         }
         let mut left = runs.len();

@@ -13,7 +13,7 @@ use base::Run;
 
 /// Whether an interval can stand at a place as it is: it shares no page with the next, and there is none
 /// beside it to be joined with.
-fn fits(spans: &[Span], place: usize, span: Span) -> bool
+pub(super) fn fits(spans: &[Span], place: usize, span: Span) -> bool
     requires { place ≤ length spans.now }
     ensures { IsTrue result → IsAheadOf span.run spans.now place }
 {

@@ -38,7 +38,7 @@ fn extend(spans: &mut Vec<Span>, places: usize)
 }
 
 /// Makes the gap wider by so many places.
-fn widen(spans: &mut Vec<Span>, gap: Gap, places: usize) -> Gap
+pub(super) fn widen(spans: &mut Vec<Span>, gap: Gap, places: usize) -> Gap
     requires gap { gap.front ≤ gap.back }
     requires inside { gap.back ≤ vec_len spans.old }
     requires room { vec_len spans.old + places ≤ vec_capacity spans.old }
@@ -60,7 +60,7 @@ fn widen(spans: &mut Vec<Span>, gap: Gap, places: usize) -> Gap
 }
 
 /// Closes the gap.
-fn close(spans: &mut Vec<Span>, gap: Gap)
+pub(super) fn close(spans: &mut Vec<Span>, gap: Gap)
     requires gap { gap.front ≤ gap.back }
     requires inside { gap.back ≤ vec_len spans.old }
     ensures items { spans.new.items ≡ around gap spans.old.items }

@@ -1,4 +1,7 @@
-use super::Spans;
+ghost use Rattle.std.specs.Prelude.{◌≤◌, length};
+ghost use Rattle.spans.specs.Spans.{room_for};
+
+use super::{Spans, order, pass};
 use base::{OutOfMemory, Page, Run};
 use std::process::Abort;
 use std::test::Fail;
@@ -92,5 +95,83 @@ fn run_is_put_inside_beside_and_over_intervals(rt: HostRuntime) -> Result<(), Fa
     assert_eq!(&rt; spans.get(Page::new(19)), Some(8));
     assert_eq!(&rt; spans.get(Page::new(20)), None);
     assert_eq!(&rt; spans.get(Page::new(25)), Some(8));
+    Ok(())
+}
+
+/// A drawn number below this one, the same each time; 0 below 0.
+fn draw(state: &mut u64, end: u32) -> u32 {
+    *state = state
+        .wrapping_mul(6_364_136_223_846_793_005)
+        .wrapping_add(1_442_695_040_888_963_407);
+    let number = u32::try_from(*state >> 33).unwrap_or(0);
+    number.checked_rem(end).unwrap_or(0)
+}
+
+/// Three runs upward, mostly with pages between them.
+fn drawn_runs(rt: &impl Abort, state: &mut u64) -> [Run; 3] {
+    let first = draw(state, 60);
+    let second = first.saturating_add(draw(state, 5)).saturating_add(1);
+    let third = second.saturating_add(draw(state, 20)).saturating_add(2);
+    let count = draw(state, 3).saturating_add(1);
+    [
+        pages(rt, first, 1),
+        pages(rt, second, 2),
+        pages(rt, third, count),
+    ]
+}
+
+impl Spans {
+    /// Sets the pages of runs with no shorter way than that over all intervals.
+    fn set_in_one_pass(&mut self, runs: &[Run], value: Option<u64>)
+        requires { room_for (length runs.now) ≤ self.old.room }
+    {
+        if order::sort(&mut self.sorted, runs) {
+            pass::set_all(&mut self.spans, &self.sorted, value, 0);
+        }
+    }
+
+    /// Sets the pages of runs in this map, and in one that goes over all intervals.
+    fn set_beside(
+        &mut self,
+        rt: &impl Abort,
+        other: &mut Spans,
+        runs: &[Run],
+        value: Option<u64>,
+    ) -> Result<(), OutOfMemory> {
+        self.ready(runs.len())?;
+        other.ready(runs.len())?;
+        match value {
+            Some(value) => self.put_all(runs, value),
+            None => self.cut_all(runs),
+        }
+        other.set_in_one_pass(runs, value);
+        assert_eq!(rt; self.spans.len(), other.spans.len());
+        for (span, same) in self.spans.iter().zip(&other.spans) {
+            assert_eq!(rt; span.run, same.run);
+            assert_eq!(rt; span.value, same.value);
+        }
+        Ok(())
+    }
+}
+
+#[test]
+fn shorter_ways_leave_what_one_pass_leaves(rt: HostRuntime) -> Result<(), Fail> {
+    let mut spans = Spans::new(rt.alloc());
+    let mut other = Spans::new(rt.alloc());
+    let mut state = 1;
+    for call in 0..400 {
+        if call % 4 == 0 {
+            spans.set_beside(&rt, &mut other, &[pages(&rt, 0, 99)], None)?;
+        }
+        let runs = drawn_runs(&rt, &mut state);
+        let value = u64::from(draw(&mut state, 3));
+        spans.set_beside(&rt, &mut other, &runs, Some(value))?;
+        let cut = if value == 0 {
+            runs
+        } else {
+            drawn_runs(&rt, &mut state)
+        };
+        spans.set_beside(&rt, &mut other, &cut, None)?;
+    }
     Ok(())
 }
