@@ -8,11 +8,11 @@ ghost use Rattle.audit.specs.Entries as listed;
 ghost use Rattle.audit.specs.Laws.{AreOfReached};
 
 use crate::entries::{TableEntry, table_entries};
-use crate::rebuilt::rebuild;
+use crate::rebuilt::rebuilt;
 use base::{OutOfMemory, PartitionId};
 use ledger::Ledger;
 use manifest::Manifest;
-use pool::{ListPool, TableMem};
+use pool::{RawPool, TableMem};
 use stage2::Tables;
 use std::alloc::Global;
 
@@ -30,7 +30,7 @@ pub fn audit_text<M: TableMem + Drop>(
     ensures { IfOk result (λ text. spec.IsAuditText (string_bytes text)
         (spec.HaveEntriesOf manifest.now ledger.now.donations ledger.now.live tables.now)) }
 {
-    let rebuilt = rebuild(alloc, manifest, ledger.donations(), ledger.live())?;
+    let rebuilt = rebuilt::<RawPool>(alloc, manifest, ledger.donations(), ledger.live())?;
     let same = have_same_entries(alloc, manifest, tables, &rebuilt)?;
     let mut text = String::new(alloc);
     if same {
@@ -46,7 +46,7 @@ fn have_same_entries<M: TableMem + Drop>(
     alloc: Global,
     manifest: &Manifest,
     tables: &Tables<M>,
-    others: &Tables<ListPool>,
+    others: &Tables<RawPool>,
 ) -> Result<bool, OutOfMemory>
     requires placed { tables.now.layout ≡ layout_of manifest.now }
     requires others_placed { others.now.layout ≡ layout_of manifest.now }
@@ -66,7 +66,7 @@ fn has_same_entries<M: TableMem + Drop>(
     alloc: Global,
     manifest: &Manifest,
     tables: &Tables<M>,
-    others: &Tables<ListPool>,
+    others: &Tables<RawPool>,
     p: PartitionId,
 ) -> Result<bool, OutOfMemory>
     requires placed { tables.now.layout ≡ layout_of manifest.now }

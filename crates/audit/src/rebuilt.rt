@@ -19,7 +19,7 @@ use crate::lists::Lists;
 use base::{Access, OutOfMemory, Page, PartitionId, Run};
 use ledger::{Donation, Live};
 use manifest::Manifest;
-use pool::ListPool;
+use pool::{ListPool, TableMem};
 use stage2::Tables;
 use std::alloc::Global;
 
@@ -37,6 +37,23 @@ pub fn rebuild(
         (λ t. AllWalksAre t.layout (rules.view manifest.now donations.now live.now) t.pool) }
     ensures canonical { IfOk result (λ t. AreCanonical t) }
 {
+    rebuilt(alloc, manifest, donations, live)
+}
+
+/// The same in table memory of any kind. An audit compares such tables and lets them go, so they need no
+/// memory whose words are all written when it is made.
+pub(crate) fn rebuilt<M: TableMem + Drop>(
+    alloc: Global,
+    manifest: &Manifest,
+    donations: &[Donation],
+    live: &[Live],
+) -> Result<Tables<M>, OutOfMemory>
+    requires reached { AreOfReached manifest.now donations.now live.now }
+    ensures layout { IfOk result (λ t. t.layout ≡ layout_of manifest.now) }
+    ensures agrees { IfOk result
+        (λ t. AllWalksAre t.layout (rules.view manifest.now donations.now live.now) t.pool) }
+    ensures canonical { IfOk result (λ t. AreCanonical t) }
+{
     let lists = Lists::new(alloc, manifest, donations, live)?;
     let mut tables = Tables::empty(alloc, manifest)?;
     for partition in manifest.partitions() {
@@ -46,8 +63,8 @@ pub fn rebuild(
 }
 
 /// Maps what a partition reaches, of which nothing is mapped.
-fn map_views(
-    tables: &mut Tables<ListPool>,
+fn map_views<M: TableMem + Drop>(
+    tables: &mut Tables<M>,
     lists: &Lists<'_>,
     p: PartitionId,
 ) -> Result<(), OutOfMemory>
@@ -89,8 +106,8 @@ fn is_alike(a: &Option<Access>, b: &Option<Access>) -> bool
 }
 
 /// Maps the pages from one up to another, where they are reached.
-fn map_pending(
-    tables: &mut Tables<ListPool>,
+fn map_pending<M: TableMem + Drop>(
+    tables: &mut Tables<M>,
     p: PartitionId,
     first: u32,
     end: u32,

@@ -5,19 +5,19 @@ use Rattle.audit.proofs.FillUpward.{fits-same}
 use Rattle.audit.proofs.rebuilt.map_pending.Goals as goal
 
 pub new-requires : goal.new-requires
-new-requires c = let can = c.requires.fits c.in-Some.access c.in-Some.is in let a = can.some in let b = can.inside in omega (arith, a, b)
+new-requires g c = let can = c.requires.fits c.in-Some.access c.in-Some.is in let a = can.some in let b = can.inside in omega (arith, a, b)
 
 pub overflow_sub-end : goal.overflow_sub-end
-overflow_sub-end c = let can = c.requires.fits c.in-Some.access c.in-Some.is in let a = can.some in omega (arith, a)
+overflow_sub-end g c = let can = c.requires.fits c.in-Some.access c.in-Some.is in let a = can.some in omega (arith, a)
 
 pub new-requires-in-Some-clause-some : goal.new-requires-in-Some-clause-some
-new-requires-in-Some-clause-some c = let can = c.requires.fits c.in-Some.access c.in-Some.is in let a = can.some in omega (arith, a)
+new-requires-in-Some-clause-some g c = let can = c.requires.fits c.in-Some.access c.in-Some.is in let a = can.some in omega (arith, a)
 
 pub new-requires-in-Some-clause-in_range : goal.new-requires-in-Some-clause-in_range
-new-requires-in-Some-clause-in_range c = let can = c.requires.fits c.in-Some.access c.in-Some.is in let a = can.some in let b = can.inside in let d = c.new.ensures in omega (arith, a, b, d)
+new-requires-in-Some-clause-in_range g c = let can = c.requires.fits c.in-Some.access c.in-Some.is in let a = can.some in let b = can.inside in let d = c.new.ensures in omega (arith, a, b, d)
 
 pub map-requires-clause-fits : goal.map-requires-clause-fits
-map-requires-clause-fits c =
+map-requires-clause-fits g c =
     let can = c.requires.fits c.in-Some.access c.in-Some.is in
     let run : c.new-in-Some.result ≡ record { first = c.args.first; count = c.args.end - c.args.first } = c.new-in-Some.ensures ∙ ap (λ (f : ℕ). record { first = f; count = c.args.end - c.args.first }) c.new.ensures in
     fits-same c.args.p (c.new-in-Some.result ∷ []) (Some c.in-Some.access) c.args.tables.now c.ready.new.self c.ready.ensures.layout c.ready.ensures.pool

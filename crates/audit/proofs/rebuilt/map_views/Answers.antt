@@ -11,7 +11,7 @@ use Rattle.audit.proofs.rebuilt.map_views.Goals as goal
 use Rattle.audit.proofs.rebuilt.map_views.Goals.{then-not-is_alike+in_ok-map_pending, else-not-is_alike}
 
 pub map_pending-requires-clause-fits : goal.map_pending-requires-clause-fits
-map_pending-requires-clause-fits c = λ a is.
+map_pending-requires-clause-fits g c = λ a is.
     let m = c.args.lists.now.manifest.now in
     let seen = views m c.args.lists.now.donations.now c.args.lists.now.live.now c.args.p in
     let l = c.loop-number in
@@ -22,7 +22,7 @@ map_pending-requires-clause-fits c = λ a is.
     (edge-between m seen c.args.p l.first l.number l.access l.tables l.invariant.filling unlike) (views-fit m c.args.lists.now.donations.now c.args.lists.now.live.now c.requires.reached c.args.p)
 
 pub map_pending-requires-2-clause-fits : goal.map_pending-requires-2-clause-fits
-map_pending-requires-2-clause-fits c = λ a is.
+map_pending-requires-2-clause-fits g c = λ a is.
     let m = c.args.lists.now.manifest.now in
     let all = view m c.args.lists.now.donations.now c.args.lists.now.live.now c.args.p in
     let seen = views m c.args.lists.now.donations.now c.args.lists.now.live.now c.args.p in
@@ -31,7 +31,7 @@ map_pending-requires-2-clause-fits c = λ a is.
     (edge-last m all c.args.p l.first l.number l.access a l.tables l.invariant.filling c.loop-number-test.false is) (views-fit m c.args.lists.now.donations.now c.args.lists.now.live.now c.requires.reached c.args.p)
 
 pub loop-number-preserved : goal.loop-number-preserved
-loop-number-preserved c =
+loop-number-preserved g c =
     let m = c.args.lists.now.manifest.now in
     let ds = c.args.lists.now.donations.now in
     let live = c.args.lists.now.live.now in
@@ -67,14 +67,14 @@ loop-number-preserved c =
     ]
 
 pub returns-clause-walks : goal.returns-clause-walks
-returns-clause-walks c =
+returns-clause-walks g c =
     let m = c.args.lists.now.manifest.now in
     let all = view m c.args.lists.now.donations.now c.args.lists.now.live.now c.args.p in
     let l = c.loop-number in
     on_ok_weaker _ (λ reach. filled m all c.args.p l.first l.number l.access l.tables c.map_pending-2.new.tables l.invariant.filling c.loop-number-test.false reach) c.map_pending-2.ensures.walks
 
 pub returns-clause-others : goal.returns-clause-others
-returns-clause-others c =
+returns-clause-others g c =
     let m = c.args.lists.now.manifest.now in
     let seen = views m c.args.lists.now.donations.now c.args.lists.now.live.now c.args.p in
     let l = c.loop-number in

@@ -3,22 +3,22 @@ use Rattle.base.specs.Manifest.{PartitionRow}
 use Rattle.manifest.proofs.Facts.{facts}
 use Rattle.stage2.specs.Slot.{layout_of}
 use Rattle.audit.proofs.FillViews.{filled-none, not-filled, filled-more, filled-all, filled-same, reached-same, all-apart}
-use Rattle.audit.proofs.rebuilt.rebuild.Goals as goal
+use Rattle.audit.proofs.rebuilt.rebuilt.Goals as goal
 
 pub new-requires : goal.new-requires
-new-requires c = all-apart c.args.manifest.now c.args.donations.now c.args.live.now c.requires.reached
+new-requires g c = all-apart c.args.manifest.now c.args.donations.now c.args.live.now c.requires.reached
 
 pub map_views-requires-clause-reached : goal.map_views-requires-clause-reached
-map_views-requires-clause-reached c =
+map_views-requires-clause-reached g c =
     let lists = c.in_ok-lists.lists in
     let so = c.in_ok-lists.ensures in
     reached-same c.args.manifest.now lists.manifest.now c.args.donations.now lists.donations.now c.args.live.now lists.live.now so.manifest so.donations so.live c.requires.reached
 
 pub loop-partition-init : goal.loop-partition-init
-loop-partition-init c = filled-none c.args.manifest.now c.args.donations.now c.args.live.now c.in_ok-tables.tables c.in_ok-tables.ensures.layout c.in_ok-tables.ensures.canonical c.in_ok-tables.ensures.unmapped
+loop-partition-init g c = filled-none c.args.manifest.now c.args.donations.now c.args.live.now c.in_ok-tables.tables c.in_ok-tables.ensures.layout c.in_ok-tables.ensures.canonical c.in_ok-tables.ensures.unmapped
 
 pub map_views-requires-clause-unmapped : goal.map_views-requires-clause-unmapped
-map_views-requires-clause-unmapped c =
+map_views-requires-clause-unmapped g c =
     let m = c.args.manifest.now in
     let i = c.loop-partition.partition-index in
     let item = c.partition-item.result in
@@ -29,7 +29,7 @@ map_views-requires-clause-unmapped c =
     not-filled m c.args.donations.now c.args.live.now i c.partition.inside.id item c.loop-partition.tables (facts m c.partitions-partition-items.ensures.valid) lt is id c.loop-partition.invariant
 
 pub loop-partition-preserved : goal.loop-partition-preserved
-loop-partition-preserved c =
+loop-partition-preserved g c =
     let m = c.args.manifest.now in
     let i = c.loop-partition.partition-index in
     let item = c.partition-item.result in
@@ -45,7 +45,7 @@ loop-partition-preserved c =
     (filled-same lists.manifest.now m lists.donations.now c.args.donations.now lists.live.now c.args.live.now c.partition.inside.id c.map_views.new.tables so.manifest so.donations so.live e.walks)
 
 pub returns-clause-agrees : goal.returns-clause-agrees
-returns-clause-agrees c =
+returns-clause-agrees g c =
     let m = c.args.manifest.now in
     let end : c.loop-partition.partition-index ≡ length m.partitions =
     omega (arith, c.loop-partition-test.false, c.loop-partition.auto.partition-index-end, ap (λ (xs : List PartitionRow). length xs) c.partitions-partition-items.ensures.same) in
