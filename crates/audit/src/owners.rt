@@ -121,43 +121,52 @@ fn owned_runs(
     let mut number = 0;
     while number < Page::COUNT {
         let page = Page::new(number);
-        let end = segment_until(manifest, ledger, page);
-        push_pages(&mut found, ledger, page, end)?;
+        let Stretch { ownership, end } = stretch_from(manifest, ledger, page);
+        push_pages(&mut found, ownership, page, end)?;
         number = end;
     }
     Ok(found)
 }
 
-/// The number of a page up to which all pages from a page on have its owner and home. In a region it is
-/// found by halving, and else by a look at each range that was donated.
-fn segment_until(manifest: &Manifest, ledger: &Ledger, page: Page) -> u32
+/// Pages that follow one another and have the same owner and home, or none.
+struct Stretch {
+    ownership: Option<Ownership>,
+    /// The number of the page after the last of them.
+    end: u32,
+}
+
+/// A page and those behind it that have its owner and home. One look, by halving, finds all of that for a page
+/// that has an owner. Behind one that has none the regions and each range that was donated are looked at.
+fn stretch_from(manifest: &Manifest, ledger: &Ledger, page: Page) -> Stretch
     requires manifest { ledger.now.manifest ≡ manifest.now }
-    ensures behind { page < result }
-    ensures in_range { result ≤ 2 ^ 27 }
-    ensures alike { (n : ℕ) → page ≤ n → n < result
-        → ownership manifest.now ledger.now.donations n
-        ≡ ownership manifest.now ledger.now.donations page }
+    ensures behind { page < result.end }
+    ensures in_range { result.end ≤ 2 ^ 27 }
+    ensures alike { (n : ℕ) → page ≤ n → n < result.end
+        → ownership manifest.now ledger.now.donations n ≡ result.ownership }
 {
-    if manifest.region_at(page).is_some() {
-        ledger.segment(page).end
+    let segment = ledger.segment(page);
+    let ownership = Ownership::of(segment.owner, segment.home);
+    let end = if segment.owner.is_some() {
+        segment.end
     } else {
         settled_end(manifest, ledger.donations(), page)
-    }
+    };
+    Stretch { ownership, end }
 }
 
 /// Appends the pages up to an end, which have one owner and one home, if they have an owner.
 fn push_pages(
     found: &mut Vec<Owned>,
-    ledger: &Ledger,
+    ownership: Option<Ownership>,
     page: Page,
     end: u32,
 ) -> Result<(), OutOfMemory>
     requires some { page < end }
     requires in_range { end ≤ 2 ^ 27 }
-    ensures { OnOk result (found.new.items ≡ runs.with_owned found.old.items page end
-        (ownership ledger.now.manifest ledger.now.donations page)) }
+    ensures { OnOk result
+        (found.new.items ≡ runs.with_owned found.old.items page end ownership) }
 {
-    match Ownership::of(ledger.owner(page), ledger.home(page)) {
+    match ownership {
         Some(ownership) => {
             let run = Run::new(page, end - page.number());
             push_run(found, Owned { run, ownership })

@@ -1,5 +1,4 @@
-use Rattle.std.proofs.Common.{ap, arith}
-use Rattle.base.specs.Manifest.{ManifestRows}
+use Rattle.std.proofs.Common.{◌≡◌, sym, ◌∙◌, arith}
 use Rattle.audit.specs.Runs.{maximal_runs, ownership}
 use Rattle.audit.proofs.OwnedRuns.{owned-more}
 use Rattle.audit.proofs.owners.owned_runs.Goals as goal
@@ -10,11 +9,13 @@ loop-number-init c = record { runs = c.new-found.ensures.items; inside = omega a
 
 pub loop-number-preserved : goal.loop-number-preserved
 loop-number-preserved c =
-    let ds = c.args.ledger.now.donations in
-    let end = c.segment_until-end.result in
+    let f = ownership c.args.manifest.now c.args.ledger.now.donations in
     let page = c.new-page.result in
+    let stretch = c.stretch_from-ownership.result in
+    let is = c.stretch_from-ownership.ensures in
+    let here : f page ≡ stretch.ownership = is.alike page (omega arith) is.behind in
     record {
-      runs = owned-more (ownership c.args.manifest.now ds) c.loop-number.number page end c.loop-number.found.items c.push_pages.new.found.items (ownership c.args.ledger.now.manifest ds page)
-          c.new-page.ensures (ap (λ (m : ManifestRows). ownership m ds page) c.requires.manifest) c.segment_until-end.ensures.behind c.segment_until-end.ensures.alike c.loop-number.invariant.runs c.in_ok-push_pages.ensures;
-      inside = c.segment_until-end.ensures.in_range;
+      runs = owned-more f c.loop-number.number page stretch.end c.loop-number.found.items c.push_pages.new.found.items stretch.ownership
+          c.new-page.ensures (sym here) is.behind (λ n le lt. is.alike n le lt ∙ sym here) c.loop-number.invariant.runs c.in_ok-push_pages.ensures;
+      inside = is.in_range;
     }
