@@ -161,13 +161,6 @@ filling-next m seen p number end new placed canonical walks edge behind inside a
   edge = edge;
 }
 
--- after a segment, by what became of the pending pages
-pub filling-after : (m : ManifestRows) (seen : ℕ → View) (p first number end : ℕ) (access : View) (t : TablesView) → IsFilling m seen p first end access t → (first_now : ℕ) → first_now ≡ first → (access_now : View) → access_now ≡ access → (t_now : TablesView) → t_now ≡ t → IsFilling m seen p first_now end access_now t_now
-filling-after m seen p first number end access t h first_now same_first access_now same_access t_now same_t =
-    subst (λ f. IsFilling m seen p f end access_now t_now) (sym same_first)
-    (subst (λ a. IsFilling m seen p first end a t_now) (sym same_access)
-    (subst (λ x. IsFilling m seen p first end access x) (sym same_t) h))
-
 -- the last of the pending pages: behind them nothing is reached
 pub edge-last : (m : ManifestRows) (all : ℕ → View) (p first number : ℕ) (access : View) (a : Access) (t : TablesView) → IsFilling m (view_below all (2 ^ 27)) p first number access t → 2 ^ 27 ≤ number → access ≡ Some a → IsEdge (view_below all (2 ^ 27)) number
 edge-last m all p first number access a t h past is = elim (cases_lt first number) [

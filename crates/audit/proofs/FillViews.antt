@@ -17,7 +17,7 @@ use Rattle.stage2.specs.Slot.{layout_of}
 use Rattle.stage2.specs.Tables.{TablesView, walk_in, AreCanonical}
 use Rattle.stage2.specs.Walk.{walked}
 use Rattle.stage2.specs.declared.walked.Walked.TheVariants.{None as Unmapped}
-use Rattle.audit.specs.Alike.{IsSegment}
+use Rattle.audit.specs.Alike.{IsSegment, view_by}
 use Rattle.audit.specs.Filling.{views, KeepsOthers, IsFilled, AreFilled}
 use Rattle.rules.specs.Laws.OneOwner.{AreAllApart}
 use Rattle.rules.proofs.Laws.OneOwner.{owned_once}
@@ -49,19 +49,13 @@ not-filled m ds live i id item t f lt is same so n small =
     so.walks id n small ∙ rw off refl
 
 module _ (m : ManifestRows) (ds : List Donation) (live : List Live) where
-  -- what a view is, by what covers the page
-  abbrev by : ℕ → Option RegionRow → Option Donation → Option Live → View
-  by p region donation transaction =
-      option_map_or (λ t. view_under t (option_map_or (λ (d : Donation). Some d.access) donation (option_and_then (λ (r : RegionRow). granted_in r r.owner) region)) p) transaction
-      (option_map_or (λ (d : Donation). cond (eqb d.taker p) (Some d.access) None) donation (option_and_then (λ (r : RegionRow). granted_in r p) region))
-
   pub views-alike : (p page end : ℕ) → IsSegment m ds live page end → (n : ℕ) → page ≤ n → n < end → views m ds live p n ≡ views m ds live p page
   views-alike p page end s n le lt =
       let inside = s.inside in
       below-in (view m ds live p) (2 ^ 27) n (omega (arith, inside, lt))
-      ∙ ap (λ r. by p r (donation_at ds n) (live_at live n)) (s.regions n le lt)
-      ∙ ap (λ d. by p (region_at m page) d (live_at live n)) (s.donations n le lt)
-      ∙ ap (λ t. by p (region_at m page) (donation_at ds page) t) (s.transactions n le lt)
+      ∙ ap (λ r. view_by p r (donation_at ds n) (live_at live n)) (s.regions n le lt)
+      ∙ ap (λ d. view_by p (region_at m page) d (live_at live n)) (s.donations n le lt)
+      ∙ ap (λ t. view_by p (region_at m page) (donation_at ds page) t) (s.transactions n le lt)
       ∙ sym (below-in (view m ds live p) (2 ^ 27) page (omega (arith, inside, le, lt)))
 
   module _ (r : AreOfReached m ds live) where

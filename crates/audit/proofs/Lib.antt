@@ -11,3 +11,4 @@ pub mod SameEntries
 pub mod SameTexts
 pub mod WordReads
 pub mod Quotas
+pub mod RegionPages

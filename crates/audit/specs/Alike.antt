@@ -1,9 +1,10 @@
 -- How far the pages behind a page are like it, by the lists of a state.
-use Rattle.std.specs.Prelude.{◌≡◌, ℕ, ◌<◌, ◌≤◌, ◌^◌, Bool, List, Option, slice_index_or}
+use Rattle.std.specs.Prelude.{◌≡◌, ◌==◌, ℕ, ◌<◌, ◌≤◌, ◌^◌, Bool, List, Option, Some, None, slice_index_or, if◌then◌else◌}
 use Rattle.std.specs.List.{slice_get}
-use Rattle.std.specs.Option.{option_and_then}
-use Rattle.base.specs.Ledger.{donation_at, live_at}
-use Rattle.base.specs.Manifest.{ManifestRows, region_at}
+use Rattle.std.specs.Option.{option_and_then, option_map_or}
+use Rattle.base.specs.Access.{View}
+use Rattle.base.specs.Ledger.{donation_at, live_at, view_under}
+use Rattle.base.specs.Manifest.{RegionRow, ManifestRows, region_at, granted_in}
 use Rattle.base.specs.Transactions.{Donation, Live}
 
 -- the same regions, donations and live transactions have the pages from one up to an end
@@ -24,3 +25,22 @@ pub record AreWhole {A : Type 0} (has : A → ℕ → Bool) (items : List A) (co
 -- what stands at a place of a list, if a place is named
 abbrev pub at_place : {A : Type 0} → List A → Option ℕ → Option A
 at_place items place = option_and_then (slice_get items) place
+
+-- ---- what is reached of a page, by what covers it
+
+-- what the page is to its owner
+abbrev pub home_by : Option RegionRow → Option Donation → View
+home_by region donation =
+    option_map_or (λ d. Some d.access) donation (option_and_then (λ r. granted_in r r.owner) region)
+
+-- what a partition reaches of the page, where no live transaction covers it
+abbrev pub settled_by : ℕ → Option RegionRow → Option Donation → View
+settled_by p region donation =
+    option_map_or (λ d. if d.taker == p then Some d.access else None) donation
+    (option_and_then (λ r. granted_in r p) region)
+
+-- what a partition reaches of the page
+abbrev pub view_by : ℕ → Option RegionRow → Option Donation → Option Live → View
+view_by p region donation transaction =
+    option_map_or (λ t. view_under t (home_by region donation) p) transaction
+    (settled_by p region donation)

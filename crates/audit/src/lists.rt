@@ -1,5 +1,5 @@
-//! What a page is by the lists of a state, and how far the pages behind it are like it. The lists are gone over
-//! once: two maps tell of a page at which places of them it stands.
+//! What a partition reaches of a page by the lists of a state, and how far it is the same behind the page. The
+//! lists are gone over once: two maps tell of a page at which places of them it stands.
 
 ghost use Rattle.std.specs.Prelude.{◌≡◌, ℕ, IfOk};
 ghost use Rattle.std.specs.Option.{option_map};
@@ -8,12 +8,19 @@ ghost use Rattle.rules.specs.Laws.OneOwner.{AreAllApart};
 ghost use Rattle.spans.specs.Spans.{value_at};
 ghost use Rattle.audit.specs.Alike as spec;
 
-use crate::alike::regions_until;
+use crate::alike::region_until;
 use base::{Access, Kind, OutOfMemory, Page, PartitionId};
 use ledger::{Donation, Live};
-use manifest::Manifest;
-use spans::Spans;
+use manifest::{Manifest, Region};
+use spans::PageMap;
 use std::alloc::Global;
+
+/// What a partition reaches of pages that follow one another.
+pub(crate) struct Stretch {
+    pub(crate) view: Option<Access>,
+    /// The number of the page after the last of them.
+    pub(crate) end: u32,
+}
 
 /// The lists of a state, and maps from a page to the place of the last donation that covers it, and of the live
 /// transaction that does.
@@ -22,8 +29,8 @@ pub(crate) struct Lists<'a> {
     manifest: &'a Manifest,
     donations: &'a [Donation],
     live: &'a [Live],
-    given: Spans,
-    shared: Spans,
+    given: PageMap,
+    shared: PageMap,
     ghost donations_placed: { (n : ℕ) → rules.donation_at donations.now n
         ≡ spec.at_place donations.now (value_at given.spans n) },
     ghost live_placed: { (n : ℕ) → rules.live_at live.now n
@@ -31,11 +38,11 @@ pub(crate) struct Lists<'a> {
 }
 
 /// A map from pages to the places of the last donations that cover them.
-fn places_of_donations(alloc: Global, donations: &[Donation]) -> Result<Spans, OutOfMemory>
+fn places_of_donations(alloc: Global, donations: &[Donation]) -> Result<PageMap, OutOfMemory>
     ensures { IfOk result (λ places. (n : ℕ) → rules.donation_at donations.now n
         ≡ spec.at_place donations.now (value_at places.spans n)) }
 {
-    let mut places = Spans::new(alloc);
+    let mut places = PageMap::new(alloc);
     for (place, donation) in donations.iter().enumerate() {
         places.ready(donation.ranges.len())?;
         places.put_all(&donation.ranges, place as u64);
@@ -44,12 +51,12 @@ fn places_of_donations(alloc: Global, donations: &[Donation]) -> Result<Spans, O
 }
 
 /// A map from pages to the places of the live transactions that cover them.
-fn places_of_live(alloc: Global, live: &[Live]) -> Result<Spans, OutOfMemory>
+fn places_of_live(alloc: Global, live: &[Live]) -> Result<PageMap, OutOfMemory>
     requires { AreAllApart live.now }
     ensures { IfOk result (λ places. (n : ℕ) → rules.live_at live.now n
         ≡ spec.at_place live.now (value_at places.spans n)) }
 {
-    let mut places = Spans::new(alloc);
+    let mut places = PageMap::new(alloc);
     for (place, transaction) in live.iter().enumerate() {
         places.ready(transaction.terms.ranges.len())?;
         places.put_all(&transaction.terms.ranges, place as u64);
@@ -81,71 +88,89 @@ impl<'a> Lists<'a> {
         })
     }
 
-    /// The number of a page up to which all pages from a page on have the same region, donation and live
-    /// transaction.
-    pub(crate) fn segment_end(&self, page: Page) -> u32
-        ensures { spec.IsSegment self.now.manifest.now self.now.donations.now self.now.live.now page result }
+    /// What a partition reaches of a page, and the number of a page up to which all pages from it on have its
+    /// region, donation and live transaction. One look in each map, by halving, gives both.
+    pub(crate) fn view_from(&self, p: PartitionId, page: Page) -> Stretch
+        ensures view { result.view
+            ≡ rules.view self.now.manifest.now self.now.donations.now self.now.live.now p page }
+        ensures segment { spec.IsSegment self.now.manifest.now self.now.donations.now
+            self.now.live.now page result.end }
     {
-        let end = regions_until(self.manifest.regions(), page, Page::COUNT);
+        let region = self.manifest.region_at(page);
         let given = self.given.segment_at(page);
         let shared = self.shared.segment_at(page);
-        end.min(given.end).min(shared.end)
-    }
-
-    /// What a partition reaches of a page, by the manifest, the completed donations and the live
-    /// transactions.
-    pub(crate) fn view_at(&self, p: PartitionId, page: Page) -> Option<Access>
-        ensures { result ≡ rules.view self.now.manifest.now self.now.donations.now self.now.live.now p page }
-    {
-        match self.live_at(page) {
-            Some(transaction) => view_under(transaction, self.home_at(page), p),
-            None => self.settled_view(p, page),
+        let donation = self.donation(given.value);
+        let transaction = self.transaction(shared.value);
+        let end = region_until(self.manifest, region, page);
+        Stretch {
+            view: view_by(p, region, donation, transaction),
+            end: end.min(given.end).min(shared.end),
         }
     }
 
-    /// What a partition reaches of a page that no live transaction covers.
-    fn settled_view(&self, p: PartitionId, page: Page) -> Option<Access>
-        ensures { result ≡ rules.settled_view self.now.manifest.now self.now.donations.now p page }
+    /// The donation at a place.
+    fn donation(&self, place: Option<u64>) -> Option<&Donation>
+        ensures { option_map (λ d. d.now) result ≡ spec.at_place self.now.donations.now place }
     {
-        match self.donation_at(page) {
-            Some(donation) => {
-                if donation.taker == p {
-                    Some(donation.access)
-                } else {
-                    None
-                }
+        self.donations.get(place? as usize)
+    }
+
+    /// The live transaction at a place.
+    fn transaction(&self, place: Option<u64>) -> Option<&Live>
+        ensures { option_map (λ t. t.now) result ≡ spec.at_place self.now.live.now place }
+    {
+        self.live.get(place? as usize)
+    }
+}
+
+/// What a partition reaches of a page, by what covers it.
+fn view_by(
+    p: PartitionId,
+    region: Option<&Region>,
+    donation: Option<&Donation>,
+    transaction: Option<&Live>,
+) -> Option<Access>
+    ensures { result ≡ spec.view_by p (option_map (λ r. r.now) region.entry)
+        (option_map (λ d. d.now) donation.entry) (option_map (λ t. t.now) transaction.entry) }
+{
+    match transaction {
+        Some(transaction) => view_under(transaction, home_by(region, donation), p),
+        None => settled_by(p, region, donation),
+    }
+}
+
+/// What a partition reaches of a page that no live transaction covers.
+fn settled_by(
+    p: PartitionId,
+    region: Option<&Region>,
+    donation: Option<&Donation>,
+) -> Option<Access>
+    ensures { result ≡ spec.settled_by p (option_map (λ r. r.now) region.entry)
+        (option_map (λ d. d.now) donation.entry) }
+{
+    match donation {
+        Some(donation) => {
+            if donation.taker == p {
+                Some(donation.access)
+            } else {
+                None
             }
-            None => self.manifest.grant(p, page),
         }
+        None => region?.access(p),
     }
+}
 
-    /// What a page is to its owner.
-    fn home_at(&self, page: Page) -> Option<Access>
-        ensures { result ≡ rules.home self.now.manifest.now self.now.donations.now page }
-    {
-        match self.donation_at(page) {
-            Some(donation) => Some(donation.access),
-            None => {
-                let region = self.manifest.region_at(page)?;
-                region.access(region.owner())
-            }
+/// What a page is to its owner.
+fn home_by(region: Option<&Region>, donation: Option<&Donation>) -> Option<Access>
+    ensures { result ≡ spec.home_by (option_map (λ r. r.now) region.entry)
+        (option_map (λ d. d.now) donation.entry) }
+{
+    match donation {
+        Some(donation) => Some(donation.access),
+        None => {
+            let region = region?;
+            region.access(region.owner())
         }
-    }
-
-    /// The last donation that covers a page.
-    fn donation_at(&self, page: Page) -> Option<&Donation>
-        ensures { option_map (λ d. d.now) result ≡ rules.donation_at self.now.donations.now page }
-    {
-        let place = self.given.get(page)?;
-        self.donations.get(place as usize)
-    }
-
-    /// The live transaction that covers a page.
-    fn live_at(&self, page: Page) -> Option<&Live>
-        ensures { option_map (λ t. t.now) result ≡ rules.live_at self.now.live.now page }
-    {
-        let place = self.shared.get(page)?;
-        self.live.get(place as usize)
     }
 }
 

@@ -15,7 +15,7 @@ ghost use Rattle.audit.specs.Filling as spec;
 ghost use Rattle.audit.specs.Laws.{AreOfReached};
 
 use crate::alike::is_same;
-use crate::lists::Lists;
+use crate::lists::{Lists, Stretch};
 use base::{Access, OutOfMemory, Page, PartitionId, Run};
 use ledger::{Donation, Live};
 use manifest::Manifest;
@@ -83,13 +83,13 @@ fn map_views<M: TableMem + Drop>(
     let mut number = 0;
     while number < Page::COUNT {
         let page = Page::new(number);
-        let next = lists.view_at(p, page);
+        let Stretch { view: next, end } = lists.view_from(p, page);
         if !is_alike(&access, &next) {
             map_pending(tables, p, first, number, access)?;
             first = number;
             access = next;
         }
-        number = lists.segment_end(page);
+        number = end;
     }
     map_pending(tables, p, first, number, access)
 }
