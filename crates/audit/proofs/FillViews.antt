@@ -1,12 +1,12 @@
 -- The views of a reached state, as the tables are filled with them.
-use Rattle.std.proofs.Common.{◌≡◌, ◌≢◌, ℕ, ◌+◌, ◌^◌, ◌<◌, ◌≤◌, true, false, cond, eqb, ltb, List, length, get_or, [], ◌∷◌, not, suc, find, Option, Some, None, refl, sym, ap, subst, ◌∙◌, arith, inl, inr}
-use Rattle.std.specs.Option.{option_map_or, option_and_then}
+use Rattle.std.proofs.Common.{◌≡◌, ◌≢◌, ℕ, ◌+◌, ◌^◌, ◌<◌, ◌≤◌, true, false, cond, eqb, ltb, List, length, get_or, [], ◌∷◌, not, suc, find, Some, None, refl, sym, ap, subst, ◌∙◌, arith, inl, inr}
+use Rattle.std.specs.Option.{option_map_or}
 use Rattle.std.proofs.lemmas.Bool.{cases_lt, cases_eq}
 use Rattle.std.proofs.lemmas.Bool.Decides.{nat_tests}
 use Rattle.std.proofs.lemmas.List.{length-map}
 use Rattle.base.specs.Access.{View}
-use Rattle.base.specs.Ledger.{donation_at, live_at, view, view_under}
-use Rattle.base.specs.Manifest.{PartitionRow, RegionRow, ManifestRows, region_at, granted_in, ids_of, row_of}
+use Rattle.base.specs.Ledger.{donation_at, live_at, view}
+use Rattle.base.specs.Manifest.{PartitionRow, ManifestRows, region_at, ids_of, row_of}
 use Rattle.base.specs.Need.{need}
 use Rattle.base.specs.Transactions.{Donation, Live}
 use Rattle.manifest.specs.Valid.{quota_of}

@@ -1,34 +1,16 @@
-//! How far the pages behind a page are like it, by a look at all regions and donations.
-//!
-//! Pages change only where a region, or a range of a donation, begins or ends.
+//! How far the pages behind a page have its region, and whether they are alike.
 
 ghost use Rattle.std.specs.Prelude.{◌≡◌, ◌<◌, ◌≤◌, ◌^◌, ℕ};
 ghost use Rattle.std.specs.List.{find};
 ghost use Rattle.std.specs.Option.{option_map};
 ghost use Rattle.base.specs.Access.{is_same};
-ghost use Rattle.base.specs.Ledger as rules;
 ghost use Rattle.base.specs.Manifest as rows;
-ghost use Rattle.base.specs.Pages as pages;
 ghost use Rattle.base.specs.Pages.{in_run};
 ghost use Rattle.spans.specs.Alike.{IsAlikeUntil};
 
-use base::{Access, Page, Run};
-use ledger::Donation;
+use base::{Access, Page};
 use manifest::{Manifest, Region};
 use spans::run_until;
-
-/// The number of a page up to which all pages from a page on have the same region and donation.
-pub(crate) fn settled_end(manifest: &Manifest, donations: &[Donation], page: Page) -> u32
-    ensures behind { page < result }
-    ensures inside { result ≤ 2 ^ 27 }
-    ensures regions { (n : ℕ) → page ≤ n → n < result
-        → rows.region_at manifest.now n ≡ rows.region_at manifest.now page }
-    ensures donations { (n : ℕ) → page ≤ n → n < result
-        → rules.donation_at donations.now n ≡ rules.donation_at donations.now page }
-{
-    let end = regions_until(manifest.regions(), page, Page::COUNT);
-    donations_until(donations, page, end)
-}
 
 /// The number of a page up to which all pages from a page on have its region. It is the end of that region, and
 /// behind a page outside all regions it is found by a look at each.
@@ -53,28 +35,6 @@ fn regions_until(regions: &[Region], page: Page, limit: u32) -> u32
     let mut end = limit;
     for region in regions {
         end = run_until(region.pages(), page, end);
-    }
-    end
-}
-
-fn donations_until(donations: &[Donation], page: Page, limit: u32) -> u32
-    requires { page < limit }
-    ensures { IsAlikeUntil (rules.donation_at donations.now) page limit result }
-{
-    let mut end = limit;
-    for donation in donations {
-        end = ranges_until(&donation.ranges, page, end);
-    }
-    end
-}
-
-fn ranges_until(ranges: &[Run], page: Page, limit: u32) -> u32
-    requires { page < limit }
-    ensures { IsAlikeUntil (pages.covers ranges.now) page limit result }
-{
-    let mut end = limit;
-    for run in ranges {
-        end = run_until(*run, page, end);
     }
     end
 }

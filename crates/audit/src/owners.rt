@@ -5,7 +5,7 @@ ghost use Rattle.audit.specs.Runs as runs;
 ghost use Rattle.audit.specs.Runs.{ownership, ownership_of, is_same_ownership};
 ghost use Rattle.audit.specs.Texts as spec;
 
-use crate::alike::{is_same, settled_end};
+use crate::alike::{is_same, region_until};
 use crate::digits::push_decimal;
 use crate::text::{access_text, kind_text, write_address, write_id};
 use base::{Access, OutOfMemory, Page, PartitionId, Run};
@@ -136,7 +136,7 @@ struct Stretch {
 }
 
 /// A page and those behind it that have its owner and home. One look, by halving, finds all of that for a page
-/// that has an owner. Behind one that has none the regions and each range that was donated are looked at.
+/// that has an owner and that no live transaction covers.
 fn stretch_from(manifest: &Manifest, ledger: &Ledger, page: Page) -> Stretch
     requires manifest { ledger.now.manifest ≡ manifest.now }
     ensures behind { page < result.end }
@@ -146,12 +146,26 @@ fn stretch_from(manifest: &Manifest, ledger: &Ledger, page: Page) -> Stretch
 {
     let segment = ledger.segment(page);
     let ownership = Ownership::of(segment.owner, segment.home);
-    let end = if segment.owner.is_some() {
+    let end = if segment.owner.is_some() && !segment.is_live {
         segment.end
     } else {
-        settled_end(manifest, ledger.donations(), page)
+        owned_until(manifest, ledger, page)
     };
     Stretch { ownership, end }
+}
+
+/// The number of a page up to which all pages from a page on have its owner and home. A segment ends where a live
+/// transaction does, and outside all regions with its page; here neither counts.
+fn owned_until(manifest: &Manifest, ledger: &Ledger, page: Page) -> u32
+    requires manifest { ledger.now.manifest ≡ manifest.now }
+    ensures behind { page < result }
+    ensures in_range { result ≤ 2 ^ 27 }
+    ensures alike { (n : ℕ) → page ≤ n → n < result
+        → ownership manifest.now ledger.now.donations n
+        ≡ ownership manifest.now ledger.now.donations page }
+{
+    let end = region_until(manifest, manifest.region_at(page), page);
+    end.min(ledger.given_until(page))
 }
 
 /// Appends the pages up to an end, which have one owner and one home, if they have an owner.

@@ -2,6 +2,7 @@ ghost use Rattle.std.specs.Prelude.{◌≡◌, ◌==◌, ◌++◌, ◌∷◌, []
 ghost use Rattle.std.specs.Option.{option_map};
 ghost use Rattle.base.specs.Pages.{in_run, covers};
 ghost use Rattle.base.specs.Ledger as rules;
+ghost use Rattle.base.specs.Manifest as rows;
 ghost use Rattle.base.specs.declared.transaction.Kind.TheVariants.{Donate};
 ghost use Rattle.spans.specs.Spans.{room_for};
 ghost use Rattle.ledger.specs.Ledger as spec;
@@ -134,6 +135,23 @@ impl Ledger {
         ensures { result ≡ rules.home self.now.manifest self.now.donations page }
     {
         home_by(self.gift_at(page), self.manifest.region_at(page))
+    }
+
+    /// The number of a page up to which all pages from a page on that have its region have its owner, and are the
+    /// same to it. It is found by halving, and says nothing of live transactions.
+    pub fn given_until(&self, page: Page) -> u32
+        ensures behind { page < result }
+        ensures in_range { result ≤ 2 ^ 27 }
+        ensures owner { (n : ℕ) → page ≤ n → n < result
+            → rows.region_at self.now.manifest n ≡ rows.region_at self.now.manifest page
+            → rules.owner self.now.manifest self.now.donations n
+            ≡ rules.owner self.now.manifest self.now.donations page }
+        ensures home { (n : ℕ) → page ≤ n → n < result
+            → rows.region_at self.now.manifest n ≡ rows.region_at self.now.manifest page
+            → rules.home self.now.manifest self.now.donations n
+            ≡ rules.home self.now.manifest self.now.donations page }
+    {
+        self.given.segment_at(page).end
     }
 
     /// What the donations and the live transactions say of a page, and up to which page they say the
