@@ -23,6 +23,9 @@ struct Size {
     audited: bool,
 }
 
+/// How many states there are of each size.
+const ROUNDS: u64 = 5;
+
 const SIZES: [Size; 12] = [
     Size {
         partitions: 4,
@@ -223,32 +226,41 @@ impl State {
     }
 }
 
-/// The texts of states of several sizes.
+/// The texts of one state.
+fn show_state(alloc: Global, size: Size, drawn: u64, part: Part) -> Result<u64, Fault> {
+    let house = House {
+        partitions: size.partitions,
+        pages: u32::try_from(GIGABYTE).unwrap_or(0),
+        quota: 900,
+    };
+    let mut state = State {
+        alloc,
+        house,
+        spm: booted(alloc, house)?,
+        draw: Draw::new(drawn),
+        digest: Digest::new(),
+        ends: Vec::new(alloc),
+    };
+    state.fill(Size {
+        ranges: part.of(size.ranges),
+        ..size
+    })?;
+    state.show(size)?;
+    Ok(state.digest.value())
+}
+
+/// The texts of several states of each size.
 pub(crate) fn show_states(alloc: Global, seed: u64, part: Part) -> Result<u64, Fault> {
     let mut all = Digest::new();
-    for size in SIZES {
-        let house = House {
-            partitions: size.partitions,
-            pages: u32::try_from(GIGABYTE).unwrap_or(0),
-            quota: 900,
-        };
-        let drawn = seed
-            .wrapping_mul(0x10_0000)
-            .wrapping_add(u64::from(size.ranges));
-        let mut state = State {
-            alloc,
-            house,
-            spm: booted(alloc, house)?,
-            draw: Draw::new(drawn.wrapping_add(u64::from(size.partitions) << 32)),
-            digest: Digest::new(),
-            ends: Vec::new(alloc),
-        };
-        state.fill(Size {
-            ranges: part.of(size.ranges),
-            ..size
-        })?;
-        state.show(size)?;
-        all.number(state.digest.value());
+    for round in 0..ROUNDS {
+        for size in SIZES {
+            let drawn = seed
+                .wrapping_mul(0x10_0000)
+                .wrapping_add(u64::from(size.ranges))
+                .wrapping_add(u64::from(size.partitions) << 32)
+                .wrapping_add(round << 56);
+            all.number(show_state(alloc, size, drawn, part)?);
+        }
     }
     Ok(all.value())
 }
