@@ -59,7 +59,9 @@ pub(super) fn widen(spans: &mut Vec<Span>, gap: Gap, places: usize) -> Gap
     }
 }
 
-/// Closes the gap.
+/// Closes the gap. Where it is inlined into a short function, it is compiled to a loop over single intervals, which
+/// takes twice as many instructions.
+#[inline(never)]
 pub(super) fn close(spans: &mut Vec<Span>, gap: Gap)
     requires gap { gap.front ≤ gap.back }
     requires inside { gap.back ≤ vec_len spans.old }
