@@ -13,8 +13,8 @@ pub(crate) const WORDS: u32 = 512;
 /// How many words are looked at, at most, before they are written.
 const MOST: u32 = 64;
 
-/// Fewer words than these are written one by one.
-const FEW: u32 = 8;
+/// Fewer words than these are written one by one: to look at them all before takes longer.
+const FEW: u32 = 12;
 
 /// Words of a page from one index up to another: the first is this word, and each other a step more
 /// than the one before.
