@@ -137,8 +137,8 @@ pub(crate) fn write_others<S: WordStore>(
     (operations, count)
 }
 
-/// The same for words that are looked at first: where all of them are 0, or none is, it is known which are
-/// not there.
+/// The same for words that are looked at first, where the count of the page lets all of them be 0, or none: then
+/// it is known which are not there.
 #[inline(always)]
 fn write_part<S: WordStore>(
     store: &mut S,
@@ -168,10 +168,14 @@ fn write_part<S: WordStore>(
         ..
     } = stretch;
     let written = end - first;
-    if stretch.word > 0 && store.are_zeros(page, first, end) {
+    if stretch.word > 0 && count <= WORDS - written && store.are_zeros(page, first, end) {
         return (write_all(store, operations, stretch), count + written);
     }
-    if stretch.word == 0 && stretch.step == 0 && store.are_others(page, first, end) {
+    if stretch.word == 0
+        && stretch.step == 0
+        && written <= count
+        && store.are_others(page, first, end)
+    {
         return (write_all(store, operations, stretch), count - written);
     }
     write_others(store, operations, count, stretch)
