@@ -1,9 +1,10 @@
 -- Intervals that stand in blocks.
-use Rattle.std.specs.Prelude.{◌≡◌, ℕ, ◌-◌, ◌<◌, ◌≤◌, suc, Bool, true, ◌&&◌, nat_le, nat_lt, List, [], ◌∷◌, ◌++◌, Option, length, slice_index_or, take, drop, min, if◌then◌else◌}
+use Rattle.std.specs.Prelude.{◌≡◌, ℕ, ◌-◌, ◌<◌, ◌≤◌, suc, Bool, true, ◌&&◌, nat_le, nat_lt, List, [], ◌∷◌, ◌++◌, Option, Some, length, slice_index_or, take, drop, min, if◌then◌else◌}
 use Rattle.std.specs.List.{AllByRecursion}
 use Rattle.base.specs.Pages.{PageRun, covers}
 use Rattle.spans.specs.declared.page_map.runs.Zone.{Zone}
 use Rattle.spans.specs.Spans.{Span, SpansView, value_at, ascend, room_for}
+use Rattle.spans.specs.Edits.{joined}
 
 -- the page is in the zone
 abbrev pub in_zone : Zone → ℕ → Bool
@@ -74,3 +75,21 @@ pub record IsParted (whole front rest : List Span) : Type 0 where
   pub joined : front ++ rest ≡ whole
   pub lower : 0 < length front
   pub upper : 0 < length rest
+
+-- the last interval of a block and the first of the next touch and have the same number: this is both
+pub record IsSeam (lower upper : List Span) (whole : Span) : Type 0 where
+  pub before : List Span
+  pub last : Span
+  pub first : Span
+  pub behind : List Span
+  pub ends : lower ≡ before ++ last ∷ []
+  pub begins : upper ≡ first ∷ behind
+  pub joins : joined last first ≡ Some whole
+
+-- blocks that say the same, also behind others, with no less room
+pub record AreAlike (old new : List SpansView) : Type 0 where
+  pub at : (front : List Span) (n : ℕ) → value_at (front ++ all_spans new) n ≡ value_at (front ++ all_spans old) n
+  pub ascending : (front : List Span) (e : ℕ) → ascend e (front ++ all_spans old) ≡ true
+      → ascend e (front ++ all_spans new) ≡ true
+  pub filled : AreFilled old → AreFilled new
+  pub room : (room limit : ℕ) → room ≤ least_room limit old → room ≤ least_room limit new

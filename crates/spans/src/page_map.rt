@@ -8,6 +8,7 @@ use base::{OutOfMemory, Page, Run};
 use std::alloc::Global;
 use std::marker::Model;
 
+mod borders;
 mod edit;
 mod place;
 mod room;
@@ -15,15 +16,17 @@ mod runs;
 #[cfg(test)]
 mod tests;
 
+use borders::join_borders;
 use edit::set_blocks;
 use place::{get_in_blocks, segment_in_blocks};
 use room::{LIMIT, ready_blocks};
+use runs::reach_of;
 
 /// A map from pages to numbers as `Spans` is, whose intervals stand in blocks, so that an edit moves only those
-/// of the blocks that it touches. All intervals of a block end before the next block begins. A map of few
-/// intervals has one block. Beside the blocks is memory in which the runs of an edit are put in order, and cut to
-/// what a block has of them. Each block behind the first has room for so many runs at least as `spare` says, and so
-/// have both lists.
+/// of the blocks that it touches. All intervals of a block end before the next block begins; runs that are put make
+/// one interval with those that they touch in other blocks too. A map of few intervals has one block. Beside the
+/// blocks is memory in which the runs of an edit are put in order, and cut to what a block has of them. Each block
+/// behind the first has room for so many runs at least as `spare` says, and so have both lists.
 #[derive(Drop)]
 pub struct PageMap {
     first: Spans,
@@ -129,6 +132,7 @@ impl PageMap {
             runs,
             Some(value),
         );
+        join_borders(&mut self.first, &mut self.more, reach_of(runs));
         self.spare = self.spare.saturating_sub(runs.len());
     }
 

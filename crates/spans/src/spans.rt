@@ -22,7 +22,7 @@ pub(crate) use order::sort;
 
 /// The pages of a run, and the number that each of them has.
 #[derive(Clone, Copy)]
-struct Span {
+pub(crate) struct Span {
     run: Run,
     value: u64,
 }

@@ -141,6 +141,14 @@ impl Pair {
         );
     }
 
+    /// How many intervals the blocks have.
+    fn len_in_blocks(&self) -> usize {
+        self.map.more.iter().fold(
+            self.map.first.len(),
+            |len, block| len.saturating_add(block.len()),
+        )
+    }
+
     /// The same of many pages.
     fn compare_many(&self, rt: &impl Abort, draw: &mut Draw, count: u32) {
         for _ in 0..count {
@@ -202,6 +210,7 @@ fn many_edits_leave_what_they_leave_in_one_list(rt: HostRuntime) -> Result<(), F
     for _ in 0..150 {
         edit(&rt, &mut pair, &mut draw)?;
         pair.compare_many(&rt, &mut draw, 20);
+        assert_eq!(&rt; pair.len_in_blocks(), pair.list.len());
         most = most.max(pair.map.more.len());
     }
     assert!(&rt; 2 < most, "there were {most} more blocks");
@@ -284,5 +293,49 @@ fn edits_between_two_passes_find_room(rt: HostRuntime) -> Result<(), Fail> {
     assert!(&rt; 2 < pair.map.more.len());
     assert!(&rt; 5 < passes && passes < 50, "there were {passes} passes");
     pair.compare_many(&rt, &mut draw, 2_000);
+    Ok(())
+}
+
+/// Puts each other page of many from this one on, or cuts it.
+fn set_each_other(
+    rt: &impl Abort,
+    pair: &mut Pair,
+    first: u32,
+    value: Option<u64>,
+    goes_down: bool,
+) -> Result<(), OutOfMemory> {
+    for call in 0..9_u32 {
+        let call = if goes_down { 8 - call } else { call };
+        let shape = Shape {
+            first: first.wrapping_add(call.wrapping_mul(1_024)),
+            count: 512,
+            step: 2,
+            pages: 1,
+        };
+        pair.shape(rt, shape, value, goes_down)?;
+        assert_eq!(rt; pair.len_in_blocks(), pair.list.len());
+    }
+    Ok(())
+}
+
+#[test]
+fn borders_of_blocks_part_nothing_that_came_back(rt: HostRuntime) -> Result<(), Fail> {
+    let mut pair = Pair::new(rt.alloc());
+    let mut draw = Draw { state: 6 };
+    let all = Shape {
+        first: 10_000,
+        count: 1,
+        step: 0,
+        pages: 20_000,
+    };
+    pair.shape(&rt, all, Some(7), false)?;
+    for round in 0..6_u32 {
+        let first = 10_001 + 301 * round;
+        set_each_other(&rt, &mut pair, first, None, round % 2 == 0)?;
+        assert!(&rt; 1 < pair.map.more.len());
+        set_each_other(&rt, &mut pair, first, Some(7), round % 3 == 0)?;
+        assert_eq!(&rt; pair.len_in_blocks(), 1);
+        pair.compare_many(&rt, &mut draw, 200);
+    }
     Ok(())
 }

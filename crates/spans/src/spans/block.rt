@@ -1,9 +1,9 @@
 //! What a map of one block among others needs.
 
-ghost use Rattle.std.specs.Prelude.{◌≡◌, ◌≤◌, ◌<◌, ◌++◌, true, false, length, IsTrue, IfSome, IfNone, OnOk};
+ghost use Rattle.std.specs.Prelude.{◌≡◌, ◌-◌, ◌≤◌, ◌<◌, ◌∷◌, ◌++◌, true, false, length, take, drop, IsTrue, IfSome, IfNone, OnOk};
 ghost use Rattle.spans.specs.Spans as spec;
 ghost use Rattle.spans.specs.Search.{begins_at};
-ghost use Rattle.spans.specs.Blocks.{IsParted};
+ghost use Rattle.spans.specs.Blocks.{IsParted, IsSeam};
 
 use super::{Span, Spans};
 use base::{OutOfMemory, Page};
@@ -69,5 +69,38 @@ impl Spans {
             return false;
         }
         self.spans.extend_from_slice(&next.spans).is_ok()
+    }
+
+    /// Its last interval and the first of the next block as one, where they touch and have the same number.
+    pub(crate) fn over_border(&self, next: &Spans) -> Option<Span>
+        ensures seam { IfSome result (λ whole. IsSeam self.now.spans next.now.spans whole) }
+        ensures ascending { IfSome result
+            (λ whole. spec.ascend 0 (whole ∷ drop 1 next.now.spans) ≡ true) }
+    {
+        if self.spans.is_empty() || next.spans.is_empty() {
+            return None;
+        }
+        let last = self.spans[self.spans.len() - 1];
+        last.joined(next.spans[0])
+    }
+
+    /// Puts an interval in the place of the first.
+    pub(crate) fn set_first(&mut self, span: Span)
+        requires some { 0 < length self.old.spans }
+        requires ascending { spec.ascend 0 (span ∷ drop 1 self.old.spans) ≡ true }
+        ensures spans { self.new.spans ≡ span ∷ drop 1 self.old.spans }
+        ensures room { self.new.room ≡ self.old.room }
+    {
+        self.spans[0] = span;
+    }
+
+    /// Takes the last interval out, and answers how many there are then.
+    pub(crate) fn drop_last(&mut self) -> usize
+        ensures spans { self.new.spans ≡ take (length self.old.spans - 1) self.old.spans }
+        ensures room { self.old.room ≤ self.new.room }
+        ensures len { result ≡ length self.new.spans }
+    {
+        let _ = self.spans.pop();
+        self.spans.len()
     }
 }
