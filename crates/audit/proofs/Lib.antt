@@ -3,12 +3,15 @@ pub mod EachBelow
 pub mod EntryRuns
 pub mod FillUpward
 pub mod FillViews
+pub mod FilledLines
 pub mod HexDigits
+pub mod LineText
 pub mod ListPlaces
 pub mod MaximalRuns
 pub mod OwnedRuns
 pub mod SameEntries
 pub mod SameTexts
+pub mod TableLines
 pub mod WordReads
 pub mod Quotas
 pub mod RegionPages

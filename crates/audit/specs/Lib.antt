@@ -5,4 +5,5 @@ pub mod Filling
 pub mod Laws
 pub mod Reads
 pub mod Runs
+pub mod TableLines
 pub mod Texts

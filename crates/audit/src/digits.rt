@@ -8,6 +8,9 @@ use itoa::Buffer;
 use std::alloc::AllocError;
 use std::str;
 
+/// The digits by their values.
+const DIGITS: &[u8; 16] = b"0123456789abcdef";
+
 /// Writes a number in as many lower-case hexadecimal digits as there is room for.
 pub fn fill_digits(number: u64, out: &mut [u8])
     requires some { 0 < length out.old }
@@ -27,11 +30,7 @@ fn digit(value: u8) -> u8
     requires { value < 16 }
     ensures { result ≡ digit_glyph false value }
 {
-    if value < 10 {
-        b'0' + value
-    } else {
-        b'a' - 10 + value
-    }
+    DIGITS[value as usize]
 }
 
 /// Appends a number in N lower-case hexadecimal digits.

@@ -16,13 +16,13 @@ use std::marker::Model;
 use words::{Entry, read_entry};
 
 /// How many words a table has.
-const WORDS: u32 = 512;
+pub(crate) const WORDS: u32 = 512;
 
 /// How many pages a chunk has, which a level 3 table maps.
-const CHUNK: u32 = WORDS;
+pub(crate) const CHUNK: u32 = WORDS;
 
 /// How many pages a gigabyte has, which a level 2 table maps.
-const GIGABYTE: u32 = WORDS * CHUNK;
+pub(crate) const GIGABYTE: u32 = WORDS * CHUNK;
 
 /// A valid entry: a table, or a block or page with its access.
 #[derive(Clone, Copy, Debug, PartialEq, Eq)]
@@ -130,7 +130,7 @@ fn next_table<M: TableMem + Drop>(
 }
 
 /// The pool page of the level 2 table of a gigabyte of a partition, where one of its pages is reached.
-fn level2_table<M: TableMem + Drop>(
+pub(crate) fn level2_table<M: TableMem + Drop>(
     manifest: &Manifest,
     tables: &Tables<M>,
     p: PartitionId,
@@ -147,7 +147,7 @@ fn level2_table<M: TableMem + Drop>(
 
 /// The pool page of the level 3 table of a chunk, where its pages are not all reached alike, as its
 /// word in the level 2 table of its gigabyte says.
-fn level3_table<M: TableMem + Drop>(
+pub(crate) fn level3_table<M: TableMem + Drop>(
     manifest: &Manifest,
     tables: &Tables<M>,
     p: PartitionId,

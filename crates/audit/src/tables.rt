@@ -1,25 +1,23 @@
 //! The text of a partition's translation tables.
 
-ghost use Rattle.std.specs.Prelude.{◌≡◌, ◌++◌, ◌%◌, IfOk, OnOk, string_bytes};
+ghost use Rattle.std.specs.Prelude.{◌≡◌, ◌++◌, IfOk, OnOk, string_bytes};
 ghost use Rattle.stage2.specs.Slot.{layout_of};
 ghost use Rattle.stage2.specs.Tables.{view_of};
 ghost use Rattle.audit.specs.Texts as spec;
 
-use crate::digits::push_decimal;
-use crate::entries::{TableEntry, table_entries};
-use crate::text::{write_address, write_id, write_word};
+use crate::table_lines::push_lines;
+use crate::text::write_id;
 use base::{OutOfMemory, PartitionId};
 use manifest::Manifest;
 use pool::TableMem;
 use stage2::Tables;
 use std::alloc::Global;
-use words::leaf_word;
 
 /// `tables ID USED`, where USED is how many table pages the partition's tables take, its root apart,
 /// and then each valid entry in address order, those of a table right after its own: `L1`, `L2` or
 /// `L3`, the address where the entry begins, and `table` or its word. For a partition that has no row
 /// it is the first line alone, with 0.
-#[tactic(auto, unfolding(crate::specs::Texts::tables_text))]
+#[tactic(auto, unfolding(crate::specs::Texts::tables_text, crate::specs::TableLines::lines_of))]
 pub fn tables_text<M: TableMem + Drop>(
     alloc: Global,
     manifest: &Manifest,
@@ -30,13 +28,14 @@ pub fn tables_text<M: TableMem + Drop>(
     ensures { IfOk result
         (λ text. string_bytes text ≡ spec.tables_text p (view_of tables.now p)) }
 {
-    let entries = table_entries(alloc, manifest, tables, p)?;
     let mut text = String::new(alloc);
     write_header(&mut text, p, tables.used(p))?;
-    for entry in &entries {
-        write_entry(&mut text, *entry)?;
+    let mut bytes = text.into_bytes();
+    push_lines(manifest, tables, p, &mut bytes)?;
+    match String::from_utf8(bytes) {
+        Ok(text) => Ok(text),
+        Err(_) => unreachable!(),
     }
-    Ok(text)
 }
 
 fn write_header(text: &mut String, p: PartitionId, used: u32) -> Result<(), OutOfMemory>
@@ -47,29 +46,4 @@ fn write_header(text: &mut String, p: PartitionId, used: u32) -> Result<(), OutO
     write_id(text, p)?;
     writeln!(text, " {used}")?;
     Ok(())
-}
-
-fn write_entry(text: &mut String, entry: TableEntry) -> Result<(), OutOfMemory>
-    ensures { OnOk result (string_bytes text.new ≡ string_bytes text.old ++ spec.entry_line entry) }
-{
-    text.push_str("L")?;
-    push_decimal(text, u64::from(entry.level()))?;
-    text.push_str(" ")?;
-    write_address(text, entry.first())?;
-    text.push_str(" ")?;
-    write_content(text, entry)?;
-    Ok(text.push_str("\n")?)
-}
-
-fn write_content(text: &mut String, entry: TableEntry) -> Result<(), OutOfMemory>
-    ensures { OnOk result (string_bytes text.new
-        ≡ string_bytes text.old ++ spec.content_text entry.level entry.first entry.leaf) }
-{
-    match entry.leaf() {
-        Some(access) => {
-            let word = leaf_word(entry.first(), access, entry.level() == 2);
-            write_word(text, word)
-        }
-        None => Ok(text.push_str("table")?),
-    }
 }

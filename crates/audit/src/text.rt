@@ -50,10 +50,3 @@ pub(crate) fn write_address(text: &mut String, page: Page) -> Result<(), OutOfMe
 {
     Ok(push_hex::<10>(text, address_of(page))?)
 }
-
-/// Appends a word in sixteen hexadecimal digits.
-pub(crate) fn write_word(text: &mut String, word: u64) -> Result<(), OutOfMemory>
-    ensures { OnOk result (string_bytes text.new ≡ string_bytes text.old ++ spec.hex 16 word) }
-{
-    Ok(push_hex::<16>(text, word)?)
-}

@@ -1,0 +1,44 @@
+-- Lines of entries are text.
+use Rattle.std.proofs.Common.{◌≡◌, ℕ, ◌*◌, ◌^◌, ◌<◌, ◌≤◌, List, ◌++◌, codes, refl, sym, ap, subst, ◌∙◌, arith}
+use Rattle.std.specs.Fmt.{decimal}
+use Rattle.std.specs.Str.{IsUtf8, is_utf8, chars}
+use Rattle.std.proofs.lemmas.Fmt.{IsAscii-decimal}
+use Rattle.std.proofs.lemmas.Str.{IsUtf8-append, IsUtf8-from_ascii, IsUtf8-from_is_utf8}
+use Rattle.audit.specs.Texts.{hex, address_text}
+use Rattle.audit.specs.TableLines.{leaf_line, table_line}
+use Rattle.audit.proofs.HexDigits.{hex_text}
+use lib.Utf8.{encode}
+
+line-text : (digit address content : List ℕ) → IsUtf8 digit → IsUtf8 address → IsUtf8 content → IsUtf8 (codes "L" ++ digit ++ codes " " ++ address ++ codes " " ++ content ++ codes "\n")
+unfolding is_utf8 chars encode
+line-text digit address content d a c =
+    let blank : IsUtf8 (codes " ") = IsUtf8-from_is_utf8 (codes " ") refl in
+    let front : IsUtf8 (codes "L" ++ digit) = IsUtf8-append (codes "L") digit (IsUtf8-from_is_utf8 (codes "L") refl) d in
+    let page : IsUtf8 (codes "L" ++ digit ++ codes " " ++ address) = IsUtf8-append (codes "L" ++ digit ++ codes " ") address (IsUtf8-append (codes "L" ++ digit) (codes " ") front blank) a in
+    let whole : IsUtf8 (codes "L" ++ digit ++ codes " " ++ address ++ codes " " ++ content) = IsUtf8-append (codes "L" ++ digit ++ codes " " ++ address ++ codes " ") content (IsUtf8-append (codes "L" ++ digit ++ codes " " ++ address) (codes " ") page blank) c in
+    IsUtf8-append (codes "L" ++ digit ++ codes " " ++ address ++ codes " " ++ content) (codes "\n") whole (IsUtf8-from_is_utf8 (codes "\n") refl)
+
+level-text : (level : ℕ) → level ≤ 3 → IsUtf8 (decimal level)
+level-text level most = IsUtf8-from_ascii (decimal level) (IsAscii-decimal level (omega arith))
+
+address-text : (first : ℕ) → first < 2 ^ 27 → IsUtf8 (address_text first)
+address-text first small = hex_text 10 (4096 * first) (omega arith) (omega arith) (omega arith)
+
+leaf-utf8 : (level first word : ℕ) → level ≤ 3 → first < 2 ^ 27 → word < 2 ^ 64 → IsUtf8 (leaf_line level first word)
+unfolding leaf_line
+leaf-utf8 level first word most small fits =
+    line-text (decimal level) (address_text first) (hex 16 word) (level-text level most) (address-text first small) (hex_text 16 word (omega arith) (omega arith) fits)
+
+table-utf8 : (level first : ℕ) → level ≤ 3 → first < 2 ^ 27 → IsUtf8 (table_line level first)
+unfolding table_line is_utf8 chars encode
+table-utf8 level first most small =
+    line-text (decimal level) (address_text first) (codes "table") (level-text level most) (address-text first small) (IsUtf8-from_is_utf8 (codes "table") refl)
+
+-- and a text with them too
+pub leaf-behind : (text line new : List ℕ) (level first word : ℕ) → IsUtf8 text → level ≤ 3 → first < 2 ^ 27 → word < 2 ^ 64 → line ≡ leaf_line level first word → new ≡ text ++ line → IsUtf8 new
+leaf-behind text line new level first word utf8 most small fits is so =
+    subst IsUtf8 (sym (so ∙ ap (λ t. text ++ t) is)) (IsUtf8-append text (leaf_line level first word) utf8 (leaf-utf8 level first word most small fits))
+
+pub table-behind : (text line new : List ℕ) (level first : ℕ) → IsUtf8 text → level ≤ 3 → first < 2 ^ 27 → line ≡ table_line level first → new ≡ text ++ line → IsUtf8 new
+table-behind text line new level first utf8 most small is so =
+    subst IsUtf8 (sym (so ∙ ap (λ t. text ++ t) is)) (IsUtf8-append text (table_line level first) utf8 (table-utf8 level first most small))
