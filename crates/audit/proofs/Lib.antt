@@ -1,6 +1,7 @@
 pub mod AlikePages
+pub mod AlikeWords
 pub mod EachBelow
-pub mod EntryRuns
+pub mod ReachedRuns
 pub mod FillUpward
 pub mod FillViews
 pub mod FilledLines

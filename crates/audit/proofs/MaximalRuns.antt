@@ -1,7 +1,8 @@
 -- Maximal runs, made run by run.
-use Rattle.std.proofs.Common.{◌≡◌, ℕ, zero, suc, ◌+◌, ◌-◌, ◌<◌, ◌≤◌, Bool, true, false, cond, eqb, List, [], ◌∷◌, ◌++◌, length, take, Option, Some, None, refl, sym, ap, ap₂, ◌∙◌, arith, eq-eqb, append_assoc}
+use Rattle.std.proofs.Common.{◌≡◌, ℕ, zero, suc, ◌+◌, ◌-◌, ◌<◌, ◌≤◌, Bool, true, false, cond, eqb, List, [], ◌∷◌, ◌++◌, length, take, set, get_or, Option, Some, None, refl, sym, ap, ap₂, subst, ◌∙◌, arith, eq-eqb, append_assoc}
 use Rattle.std.specs.Option.{option_map_or}
 use Rattle.std.proofs.lemmas.Bool.{eqb-true}
+use Rattle.std.proofs.lemmas.List.{set_at, take_all, take_more, length-take-le}
 use Rattle.base.proofs.Booleans.{both}
 use Rattle.audit.specs.Runs.{ValuedRun, valued, is_followed_by, joined, with_next, maximal_runs}
 
@@ -118,3 +119,36 @@ pushed-first same found front new next n none left was now =
     let empty : front ≡ [] = left ∙ ap (λ k. take k found) zero_is in
     let nothing : found ≡ [] = was ∙ ap (λ t. t ++ []) empty in
     now ∙ ap (λ t. t ++ next ∷ []) empty ∙ ap (λ t. with_next same t next) (sym nothing)
+
+-- ---- where the last run is changed in its place
+
+split-last : {A : Type 0} (found : List (ValuedRun A)) (last : ValuedRun A) → 0 < length found → last ≡ get_or found (length found - 1) last → found ≡ take (length found - 1) found ++ last ∷ []
+split-last found last some is =
+    let all : length found - 1 + 1 ≡ length found = omega (arith, some) in
+    sym (take_all (length found - 1 + 1) found (omega (arith, all))) ∙ take_more found (length found - 1) last (omega (arith, all))
+    ∙ ap (λ x. take (length found - 1) found ++ x ∷ []) (sym is)
+
+grown : {A : Type 0} (same : A → A → Bool) (found : List (ValuedRun A)) (last next both : ValuedRun A) → 0 < length found → last ≡ get_or found (length found - 1) last → is_followed_by same last next ≡ true → both ≡ joined last next → set found (length found - 1) both ≡ with_next same found next
+grown same found last next both some is follows so =
+    let was = split-last found last some is in
+    let front = take (length found - 1) found in
+    let place : length front ≡ length found - 1 = length-take-le (length found - 1) found (omega arith) in
+    ap (λ t. set t (length found - 1) both) was ∙ set_at front last [] both (length found - 1) place
+    ∙ ap (λ x. front ++ x ∷ []) so
+    ∙ ap (λ c. front ++ cond c (joined last next ∷ []) (last ∷ next ∷ [])) (sym follows)
+    ∙ sym (with_next-last same front last next) ∙ ap (λ t. with_next same t next) (sym was)
+
+pub grown-last : {A : Type 0} (same : A → A → Bool) (found list : List (ValuedRun A)) (n : ℕ) (last next both : ValuedRun A) → list ≡ found → n ≡ length found → 0 < length list → last ≡ get_or list (length list - 1) last → is_followed_by same last next ≡ true → both ≡ joined last next → set found (n - 1) both ≡ with_next same found next
+grown-last same found list n last next both read size some is follows so =
+    ap (λ k. set found (k - 1) both) size
+    ∙ subst (λ (t : List (ValuedRun _)). set t (length t - 1) both ≡ with_next same t next) read (grown same list last next both some is follows so)
+
+pub put-behind : {A : Type 0} (same : A → A → Bool) (found list new : List (ValuedRun A)) (last next : ValuedRun A) → list ≡ found → 0 < length list → last ≡ get_or list (length list - 1) last → is_followed_by same last next ≡ false → new ≡ found ++ next ∷ [] → new ≡ with_next same found next
+put-behind same found list new last next read some is apart now =
+    let was = split-last list last some is in
+    pushed-next same found (take (length list - 1) list) found new last next false (sym read ∙ was) (sym apart) refl (sym read ∙ was) now
+
+pub put-first : {A : Type 0} (same : A → A → Bool) (found list new : List (ValuedRun A)) (next : ValuedRun A) → list ≡ found → length list ≤ 0 → new ≡ found ++ next ∷ [] → new ≡ with_next same found next
+unfolding with_next
+put-first same [] list new next read none now = now
+put-first same (r ∷ runs) list new next read none now = let size = ap length read in absurd (omega (arith, none, size))

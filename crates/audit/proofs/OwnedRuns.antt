@@ -3,7 +3,7 @@ use Rattle.std.proofs.Common.{◌≡◌, ℕ, ◌<◌, ◌≤◌, true, eqb, Lis
 use Rattle.base.specs.Access.{is_same}
 use Rattle.base.proofs.Booleans.{and_true}
 use Rattle.audit.specs.Runs.{Ownership, OwnedRun, maximal_runs, is_same_ownership, with_owned}
-use Rattle.audit.proofs.EntryRuns.{same-self}
+use Rattle.audit.proofs.ReachedRuns.{same-self}
 use Rattle.audit.proofs.MaximalRuns.{none-until, some-until}
 
 ownership-self : (o : Ownership) → is_same_ownership o o ≡ true

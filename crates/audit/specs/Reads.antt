@@ -1,6 +1,6 @@
 -- What a read of the tables finds of the places where tables hang.
-use Rattle.std.specs.Prelude.{◌≡◌, ℕ, ◌<◌, Bool, Option, Some, None, length}
-use Rattle.base.specs.Access.{View}
+use Rattle.std.specs.Prelude.{◌≡◌, ℕ, ◌+◌, ◌*◌, ◌/◌, ◌<◌, ◌≤◌, Bool, List, Option, Some, None, length}
+use Rattle.base.specs.Access.{View, is_same}
 use Rattle.base.specs.Manifest.{row_of}
 use Rattle.base.specs.Need.{is_mixed, is_reached}
 use Rattle.pool.specs.Pool.{words_of}
@@ -10,6 +10,7 @@ use Rattle.words.specs.Words.{entry_of}
 use Rattle.stage2.specs.Slot.{slot}
 use Rattle.stage2.specs.Tables.{TablesView, view_of}
 use Rattle.stage2.specs.Walk.{Gigabyte, Chunk, next_page, table_at}
+use Rattle.audit.specs.Runs.{ReachedRun, maximal_runs}
 
 -- the pool page of the table that a word points at
 abbrev pub next_in : TablesView → ℕ → ℕ → ℕ → Option ℕ
@@ -48,3 +49,13 @@ is_reached_in t p g = is_reached (view_of t p) g
 -- the pages of the chunk are not all reached alike
 abbrev pub is_mixed_in : TablesView → ℕ → ℕ → Bool
 is_mixed_in t p c = is_mixed (view_of t p) c
+
+-- the maximal runs of the first pages that are reached alike
+abbrev pub runs_below : TablesView → ℕ → ℕ → List ReachedRun
+runs_below t p n = maximal_runs is_same (view_of t p) n
+
+-- these are the maximal runs before a chunk that is behind this one, no further than its gigabyte's end
+pub record AreRunsBefore (t : TablesView) (p chunk next : ℕ) (found : List ReachedRun) : Type 0 where
+  pub behind : chunk < next
+  pub inside : next ≤ 512 * (chunk / 512) + 512
+  pub are : found ≡ runs_below t p (512 * next)

@@ -1,12 +1,11 @@
 -- Maximal runs of pages that have one value.
-use Rattle.std.specs.Prelude.{ℕ, zero, suc, ◌+◌, ◌-◌, ◌^◌, Bool, ◌&&◌, ◌==◌, List, [], ◌∷◌, Option, Some, None, if◌then◌else◌}
+use Rattle.std.specs.Prelude.{ℕ, zero, suc, ◌+◌, ◌-◌, ◌*◌, ◌^◌, Bool, ◌&&◌, ◌==◌, List, [], ◌∷◌, Option, Some, None, if◌then◌else◌}
 use Rattle.std.specs.Option.{option_map_or}
 use Rattle.base.specs.Access.{Access, View, is_same}
 use Rattle.base.specs.Ledger.{owner, home}
 use Rattle.base.specs.Manifest.{ManifestRows}
 use Rattle.base.specs.Pages.{PageRun}
 use Rattle.base.specs.Transactions.{Donation}
-use Rattle.audit.specs.Entries.{TableEntry}
 
 -- pages in a row, and the value of each of them
 pub record ValuedRun (A : Type 0) : Type 0 where
@@ -83,19 +82,13 @@ abbrev pub with_owned : List OwnedRun → ℕ → ℕ → Option Ownership → L
 with_owned runs first end value =
     option_map_or (λ a. with_next is_same_ownership runs (valued first (end - first) a)) value runs
 
--- ---- entries
+-- ---- pages that are reached
 
--- how many pages a block or a page stands for
-abbrev pub pages_at : ℕ → ℕ
-pages_at level = if level == 2 then 512 else 1
+-- these runs and so many pages from one on, where they are reached
+abbrev pub with_reached : List ReachedRun → ℕ → ℕ → View → List ReachedRun
+with_reached runs first count view =
+    option_map_or (λ a. with_next is_same runs (valued first count a)) view runs
 
--- these runs and the pages of an entry
-abbrev pub with_entry : List (ValuedRun Access) → TableEntry → List (ValuedRun Access)
-with_entry runs entry =
-    option_map_or (λ a. with_next is_same runs (valued entry.first (pages_at entry.level) a))
-    entry.leaf runs
-
--- the same of several entries
-abbrev pub with_entries : List (ValuedRun Access) → List TableEntry → List (ValuedRun Access)
-with_entries runs [] = runs
-with_entries runs (entry ∷ entries) = with_entries (with_entry runs entry) entries
+-- how much more a word is than this one, where it is that of pages so far behind which are reached alike
+abbrev pub step_from : ℕ → ℕ → ℕ
+step_from word pages = if word == 0 then 0 else 4096 * pages

@@ -1,6 +1,7 @@
 //! The valid entries of a partition's tables, in address order.
 
-ghost use Rattle.std.specs.Prelude.{◌≡◌, ◌==◌, ◌<◌, ◌≤◌, ◌++◌, ◌∷◌, [], ◌/◌, ◌+◌, ◌%◌, ◌^◌, ℕ, Some, is_some, position, IfOk, OnOk};
+ghost use Rattle.std.specs.Prelude.{◌≡◌, ◌==◌, ◌<◌, ◌≤◌, ◌++◌, ◌∷◌, [], ◌/◌, ◌+◌, ◌*◌, ◌%◌, ◌^◌, ℕ, false, true, Some, is_some, position, IfOk, OnOk};
+ghost use Rattle.stage2.specs.Entries.{leaf_for};
 ghost use Rattle.stage2.specs.Slot.{layout_of, slot_from};
 ghost use Rattle.stage2.specs.Walk.{next_page};
 ghost use Rattle.stage2.specs.Tables.{view_of, AreCanonical};
@@ -43,31 +44,6 @@ impl Model for TableEntry {
     ghost invariant = { λ e. e.level ≡ 2 → e.first % 512 ≡ 0 };
 
     ghost inverse = { λ e. record { level = e.level; first = e.first; leaf = e.leaf } };
-}
-
-impl TableEntry {
-    /// The level of the table that it stands in.
-    pub(crate) fn level(self) -> u8
-        ensures same { result ≡ self.level }
-        ensures aligned { self.level ≡ 2 → self.first % 512 ≡ 0 }
-    {
-        self.level
-    }
-
-    /// The first page that it stands for.
-    pub(crate) fn first(self) -> Page
-        ensures same { result ≡ self.first }
-        ensures aligned { self.level ≡ 2 → self.first % 512 ≡ 0 }
-    {
-        self.first
-    }
-
-    /// The access of a block or a page; None for a table.
-    pub(crate) fn leaf(self) -> Option<Access>
-        ensures { result ≡ self.leaf }
-    {
-        self.leaf
-    }
 }
 
 /// The row of a partition.
@@ -165,7 +141,7 @@ pub(crate) fn level3_table<M: TableMem + Drop>(
 }
 
 /// What is reached by the block or page at an index of a table.
-fn leaf_at<M: TableMem + Drop>(
+pub(crate) fn leaf_at<M: TableMem + Drop>(
     tables: &Tables<M>,
     level: u8,
     table: u32,
@@ -182,6 +158,40 @@ fn leaf_at<M: TableMem + Drop>(
         Entry::Leaf(_, access) => Some(access),
         Entry::Invalid | Entry::Table(_) | Entry::Wrong => None,
     }
+}
+
+/// The word of a chunk that has no table, in the level 2 table of its gigabyte.
+pub(crate) fn block_word<M: TableMem + Drop>(
+    tables: &Tables<M>,
+    p: PartitionId,
+    table: u32,
+    chunk: u32,
+) -> u64
+    requires chunk { chunk < 262144 }
+    requires level2 { reads.IsLevel2 tables.now p (chunk / 512) table }
+    requires alike { reads.is_mixed_in tables.now p chunk ≡ false }
+    ensures { result ≡ leaf_for true (512 * chunk) (view_of tables.now p (512 * chunk)) }
+{
+    let _p = p;
+    tables.memory().word(table, chunk % WORDS)
+}
+
+/// The word of a page in the level 3 table of its chunk.
+pub(crate) fn page_word<M: TableMem + Drop>(
+    tables: &Tables<M>,
+    p: PartitionId,
+    chunk: u32,
+    third: u32,
+    index: u32,
+) -> u64
+    requires chunk { chunk < 262144 }
+    requires level3 { reads.IsLevel3 tables.now p chunk third }
+    requires index { index < 512 }
+    ensures { result
+        ≡ leaf_for false (512 * chunk + index) (view_of tables.now p (512 * chunk + index)) }
+{
+    let (_p, _chunk) = (p, chunk);
+    tables.memory().word(third, index)
 }
 
 /// The valid entries of a partition's tables in address order, those of a table right after its own.

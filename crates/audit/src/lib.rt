@@ -12,6 +12,7 @@ mod lists;
 mod maps;
 mod owners;
 mod rebuilt;
+mod runs;
 mod table_lines;
 mod tables;
 mod text;

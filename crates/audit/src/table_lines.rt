@@ -2,9 +2,8 @@
 //!
 //! A word of canonical tables is the one that its line shows, so it is written as it stands there.
 
-ghost use Rattle.std.specs.Prelude.{◌≡◌, ◌<◌, ◌≤◌, ◌++◌, ◌+◌, ◌*◌, ◌/◌, ◌^◌, false, true, OnOk};
+ghost use Rattle.std.specs.Prelude.{◌≡◌, ◌<◌, ◌≤◌, ◌++◌, ◌+◌, ◌*◌, ◌/◌, ◌^◌, OnOk};
 ghost use Rattle.std.specs.Str.{IsUtf8};
-ghost use Rattle.stage2.specs.Entries.{leaf_for};
 ghost use Rattle.stage2.specs.Slot.{layout_of};
 ghost use Rattle.stage2.specs.Tables.{view_of};
 ghost use Rattle.audit.specs.Entries as listed;
@@ -12,7 +11,7 @@ ghost use Rattle.audit.specs.Reads as reads;
 ghost use Rattle.audit.specs.TableLines as spec;
 
 use crate::digits::fill_digits;
-use crate::entries::{CHUNK, GIGABYTE, WORDS, level2_table, level3_table};
+use crate::entries::{CHUNK, GIGABYTE, WORDS, block_word, level2_table, level3_table, page_word};
 use base::{OutOfMemory, PartitionId};
 use manifest::Manifest;
 use pool::TableMem;
@@ -125,35 +124,6 @@ fn push_pages<M: TableMem + Drop>(
         last = word;
     }
     Ok(())
-}
-
-/// The word of a chunk that has no table, in the level 2 table of its gigabyte.
-fn block_word<M: TableMem + Drop>(tables: &Tables<M>, p: PartitionId, table: u32, chunk: u32) -> u64
-    requires chunk { chunk < 262144 }
-    requires level2 { reads.IsLevel2 tables.now p (chunk / 512) table }
-    requires alike { reads.is_mixed_in tables.now p chunk ≡ false }
-    ensures { result ≡ leaf_for true (512 * chunk) (view_of tables.now p (512 * chunk)) }
-{
-    let _p = p;
-    tables.memory().word(table, chunk % WORDS)
-}
-
-/// The word of a page in the level 3 table of its chunk.
-fn page_word<M: TableMem + Drop>(
-    tables: &Tables<M>,
-    p: PartitionId,
-    chunk: u32,
-    third: u32,
-    index: u32,
-) -> u64
-    requires chunk { chunk < 262144 }
-    requires level3 { reads.IsLevel3 tables.now p chunk third }
-    requires index { index < 512 }
-    ensures { result
-        ≡ leaf_for false (512 * chunk + index) (view_of tables.now p (512 * chunk + index)) }
-{
-    let (_p, _chunk) = (p, chunk);
-    tables.memory().word(third, index)
 }
 
 /// Appends the line of a table that begins at a page. An address ends in three zeros.

@@ -1,7 +1,7 @@
 use Rattle.std.proofs.Common.{ap, ◌∙◌}
 use Rattle.pool.specs.Pool.{Pool, words_of}
 use Rattle.audit.proofs.TableLines.{page-word}
-use Rattle.audit.proofs.table_lines.page_word.Goals as goal
+use Rattle.audit.proofs.entries.page_word.Goals as goal
 
 pub returns : goal.returns
 returns g c =

@@ -1,7 +1,7 @@
 use Rattle.std.proofs.Common.{◌%◌, ap, ◌∙◌}
 use Rattle.pool.specs.Pool.{Pool, words_of}
 use Rattle.audit.proofs.TableLines.{block-word}
-use Rattle.audit.proofs.table_lines.block_word.Goals as goal
+use Rattle.audit.proofs.entries.block_word.Goals as goal
 
 pub returns : goal.returns
 returns g c =
