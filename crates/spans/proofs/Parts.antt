@@ -3,8 +3,8 @@ use Rattle.std.proofs.Common.{◌≡◌, ℕ, zero, suc, ◌+◌, ◌<◌, ◌�
 use Rattle.std.specs.List.{insert, remove}
 use Rattle.std.proofs.Math.ListN.{set}
 use Rattle.std.proofs.lemmas.List.{set_split, take_more_set, drop-set, drop-set-lt}
-use Rattle.spans.specs.Spans.{SpansView, ascend, end_from}
-use Rattle.spans.specs.Blocks.{all_spans, HaveRoom, AreFilled}
+use Rattle.spans.specs.Spans.{Span, SpansView, ascend, end_from}
+use Rattle.spans.specs.Blocks.{all_spans, HaveRoom, AreFilled, AreStacked}
 use Rattle.spans.proofs.Ascending.{far, ascend-left, ascend-right}
 use Rattle.spans.proofs.Blocks.{all-append, all-parted, all-next, all_at, all_taken, all_dropped, all_joined}
 
@@ -46,6 +46,12 @@ pub filled_at : (bs : List SpansView) (i : ℕ) (block d : SpansView) → i < le
 filled_at bs i block d lt filled e = rw e (all_at (λ b. 0 < length b.spans) bs i d filled lt)
 
 -- ---- two blocks that are joined
+
+pub first_two : (first : List Span) (more : List SpansView) (next : SpansView) → AreStacked first more → 0 < length more → next ≡ get_or more 0 next → ascend 0 (first ++ next.spans) ≡ true
+first_two first [] next h some is = absurd (omega arith)
+first_two first (b ∷ bs) next h some is =
+    ap (λ (n : SpansView). ascend 0 (first ++ n.spans)) is
+    ∙ ascend-left 0 (first ++ b.spans) (all_spans bs) (ap (ascend 0) (append_assoc first b.spans (all_spans bs)) ∙ h.ascending)
 
 pair_ascends : (e i : ℕ) (bs : List SpansView) (d f : SpansView) → suc i < length bs → ascend e (all_spans bs) ≡ true → ascend 0 ((get_or bs i d).spans ++ (get_or bs (suc i) f).spans) ≡ true
 pair_ascends e i [] d f lt h = absurd (omega arith)

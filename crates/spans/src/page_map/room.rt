@@ -30,6 +30,30 @@ fn ready_lists(
     Ok(())
 }
 
+/// Makes the next block the first where that has no interval, and one block of both where they are short. This takes
+/// no memory: where the first has none for both, they stay as they are.
+fn join_first(first: &mut Spans, more: &mut Vec<Spans>)
+    requires { AreStacked first.old.spans more.old.items }
+    ensures spans { first.new.spans ++ all_spans more.new.items
+        ≡ first.old.spans ++ all_spans more.old.items }
+    ensures stack { AreStacked first.new.spans more.new.items }
+{
+    if more.is_empty() {
+        return;
+    }
+    if first.is_empty() {
+        *first = more.remove(0);
+        return;
+    }
+    if LIMIT / 4 < first.len().saturating_add(more[0].len()) {
+        return;
+    }
+    let next = more.remove(0);
+    if !first.join(&next, 0) {
+        let _ = more.insert(0, next);
+    }
+}
+
 /// Parts the first block, if it is long. Where there is no memory for that, it stays as it is.
 fn part_first(
     first: &mut Spans,
@@ -128,6 +152,7 @@ fn ready_each(
     ensures ready { OnOk result (AreReady runs more.new.items
         (min (vec_capacity sorted.new) (vec_capacity clipped.new))) }
 {
+    join_first(first, more);
     part_first(first, more, sorted, clipped, runs);
     if more.is_empty() {
         return Ok(());

@@ -336,6 +336,9 @@ fn borders_of_blocks_part_nothing_that_came_back(rt: HostRuntime) -> Result<(), 
         set_each_other(&rt, &mut pair, first, Some(7), round % 3 == 0)?;
         assert_eq!(&rt; pair.len_in_blocks(), 1);
         pair.compare_many(&rt, &mut draw, 200);
+        pair.ready(600)?;
+        assert_eq!(&rt; pair.map.more.len(), 0);
+        pair.compare_many(&rt, &mut draw, 20);
     }
     Ok(())
 }
