@@ -1,12 +1,12 @@
 -- Intervals in blocks: what an edit of one block does to all of them.
-use Rattle.std.proofs.Common.{◌≡◌, ℕ, zero, suc, ◌+◌, ◌-◌, ◌<◌, ◌≤◌, Bool, true, false, ◌&&◌, cond, leb, ltb, List, [], ◌∷◌, ◌++◌, length, get_or, take, drop, Option, Some, None, max, length-append, refl, sym, ap, subst, ◌∙◌, append_assoc, arith}
+use Rattle.std.proofs.Common.{◌≡◌, ℕ, zero, suc, ◌+◌, ◌-◌, ◌<◌, ◌≤◌, Bool, true, false, ◌&&◌, cond, leb, ltb, List, [], ◌∷◌, ◌++◌, length, get_or, take, drop, filter, inl, inr, Option, Some, None, max, length-append, refl, sym, ap, subst, ◌∙◌, append_assoc, arith}
 use Rattle.std.specs.Option.{option_map_or}
-use Rattle.std.specs.List.{AllByRecursion, remove}
+use Rattle.std.specs.List.{AllByRecursion}
 use Rattle.std.specs.List.Sorted.{IsNonDecreasingBy}
 use Rattle.std.proofs.Math.ListN.{set}
-use Rattle.std.proofs.Math.Seq.{drop-cons, take-append_seam, drop-append_seam}
-use Rattle.std.proofs.lemmas.List.{take-append-drop, length-take, set_split, get_or-take, get_or_default, take-take}
-use Rattle.std.proofs.lemmas.Bool.{and_parts, leb-true, ltb-true}
+use Rattle.std.proofs.Math.Seq.{drop-cons}
+use Rattle.std.proofs.lemmas.List.{take-append-drop, length-take, length-set, take-set-le, drop-set, get_or-take, get_or_default, take-take}
+use Rattle.std.proofs.lemmas.Bool.{and_parts, cases_Bool, leb-true, ltb-true}
 use Rattle.std.proofs.lemmas.Bool.Decides.{nat_tests}
 use Rattle.base.specs.Pages.{PageRun, in_run, covers}
 use Rattle.spans.specs.Spans.{Span, SpansView, value_at, end_of, ascend, end_from, room_for}
@@ -147,6 +147,45 @@ begins-filled e (s ∷ ss) ys some h =
     let x = begins e s (ss ++ ys) h in
     (x.from, ascend-cons s.run.first s (ss ++ ys) (omega arith) x.some x.rest)
 
+-- ---- blocks that have an interval
+
+abbrev pub has_spans : SpansView → Bool
+has_spans b = ltb 0 (length b.spans)
+
+pub no_spans : (ss : List Span) → ltb 0 (length ss) ≡ false → ss ≡ []
+no_spans [] h = refl
+no_spans (s ∷ ss) h = let some : ltb 0 (length (s ∷ ss)) ≡ true = grind (arith, nat_tests) in absurd cc
+
+pub left-all : (bs : List SpansView) → all_spans (filter has_spans bs) ≡ all_spans bs
+left-all [] = refl
+left-all (b ∷ bs) = elim (cases_Bool (ltb 0 (length b.spans))) [
+  | inl some ↦ rw some (ap (λ l. b.spans ++ l) (left-all bs))
+  | inr none ↦ rw none (left-all bs ∙ ap (λ l. l ++ all_spans bs) (sym (no_spans b.spans none)))
+]
+
+pub left-filled : (bs : List SpansView) → AreFilled (filter has_spans bs)
+left-filled [] = tt
+left-filled (b ∷ bs) = elim (cases_Bool (ltb 0 (length b.spans))) [
+  | inl some ↦ rw some (ltb-true _ _ some, left-filled bs)
+  | inr none ↦ rw none (left-filled bs)
+]
+
+pub left-room : (room : ℕ) (bs : List SpansView) → HaveRoom room bs → HaveRoom room (filter has_spans bs)
+left-room room [] h = tt
+left-room room (b ∷ bs) h = elim (cases_Bool (ltb 0 (length b.spans))) [
+  | inl some ↦ rw some (h.0, left-room room bs h.1)
+  | inr none ↦ rw none (left-room room bs h.1)
+]
+
+pub left-least : (room limit : ℕ) (bs : List SpansView) → room ≤ least_room limit bs → room ≤ least_room limit (filter has_spans bs)
+left-least room limit [] h = h
+left-least room limit (b ∷ bs) h =
+    let rest = left-least room limit bs (omega (arith, h)) in
+    elim (cases_Bool (ltb 0 (length b.spans))) [
+      | inl some ↦ rw some (omega (arith, h, rest))
+      | inr none ↦ rw none rest
+    ]
+
 -- ---- the place of a page among blocks
 
 begins_at_least : (e j : ℕ) (bs : List SpansView) (d : SpansView) → AreFilled bs → ascend e (all_spans bs) ≡ true → j < length bs → e ≤ begins_at (get_or bs j d).spans
@@ -173,38 +212,37 @@ above_page e page (suc i) (b ∷ bs) f h le = above_page (end_from e b.spans) pa
 
 -- ---- one block gets other intervals
 
-module _ (runs : List PageRun) (value : Option ℕ) (old : List SpansView) (i : ℕ) (block : SpansView) (lt : i < length old) (filled : AreFilled old) (ascending : ascend 0 block.spans ≡ true)
+module _ (runs : List PageRun) (value : Option ℕ) (old : List SpansView) (i : ℕ) (block : SpansView) (lt : i < length old) (ascending : ascend 0 block.spans ≡ true)
     (at : (d : SpansView) (n : ℕ) → value_at block.spans n ≡ cond (covers runs n) value (value_at (get_or old i d).spans n)) where
-  in_place : (tail : List SpansView) → all_spans tail ≡ block.spans ++ all_spans (drop (suc i) old) → AreFilled tail
-      → ((room : ℕ) → ((d : SpansView) → room ≤ (get_or old i d).room - room_for (length runs)) → HaveRoom room (drop (suc i) old) → HaveRoom room tail)
-      → IsSetAt runs value old i (take i old ++ tail)
-  in_place tail rest some rooms =
-      let long : i ≡ length (take i old) = let l = length-take i old in omega arith in
+  pub set_kept : ((d : SpansView) → (get_or old i d).room ≤ block.room + room_for (length runs)) → IsSetAt runs value old i (set old i block)
+  set_kept left =
+      let behind : drop i (set old i block) ≡ block ∷ drop (suc i) old = drop-set old i block lt ∙ ap (λ (k : ℕ). block ∷ drop k old) (add-one-is i) in
       record {
         spans = block.spans;
         ascending = ascending;
         at = at;
-        before = ap (λ (k : ℕ). take k (take i old ++ tail)) long ∙ take-append_seam (take i old) tail;
-        rest = ap all_spans (ap (λ (k : ℕ). drop k (take i old ++ tail)) long ∙ drop-append_seam (take i old) tail) ∙ rest;
-        filled = all_joined (λ b. 0 < length b.spans) (take i old) tail (all_taken (λ b. 0 < length b.spans) i old filled) some;
-        room = λ room here behind. subst (HaveRoom room) (sym (ap (λ (k : ℕ). drop k (take i old ++ tail)) long ∙ drop-append_seam (take i old) tail)) (rooms room here behind);
-        inside = let l = length-append (take i old) tail in omega arith;
+        before = take-set-le i old i block (omega arith);
+        rest = ap all_spans behind;
+        room = λ room here rest. subst (HaveRoom room) (sym behind) (omega (arith, here block, left block), rest);
+        inside = let l = length-set old i block in omega arith;
       }
+    where
+      add-one-is : (k : ℕ) → k + 1 ≡ suc k
+      add-one-is k = omega arith
 
-  pub set_kept : 0 < length block.spans → ((d : SpansView) → (get_or old i d).room ≤ block.room + room_for (length runs)) → IsSetAt runs value old i (set old i block)
-  set_kept some left =
-      rw (set_split old i block lt) (in_place (block ∷ drop (suc i) old) refl (some, all_dropped (λ b. 0 < length b.spans) (suc i) old filled)
-      (λ room here behind. (omega (arith, here block, left block), behind)))
+-- the first blocks and the others
+pub filled_in_all : (i : ℕ) (bs : List SpansView) → AreFilled (take i bs) → AreFilled (drop i bs) → AreFilled bs
+filled_in_all i bs front rest =
+    subst (λ (l : List SpansView). AreFilled l) (take-append-drop i bs) (all_joined (λ b. 0 < length b.spans) (take i bs) (drop i bs) front rest)
 
-  pub set_removed : block.spans ≡ [] → IsSetAt runs value old i (remove old i)
-  set_removed none =
-      in_place (drop (suc i) old) (ap (λ l. l ++ all_spans (drop (suc i) old)) (sym none)) (all_dropped (λ b. 0 < length b.spans) (suc i) old filled)
-      (λ room here behind. behind)
+-- a block that has an interval, and those behind it
+pub filled_from : (old : List SpansView) (i : ℕ) (block : SpansView) → i < length old → 0 < length block.spans → AreFilled (drop (i + 1) old) → AreFilled (drop i (set old i block))
+filled_from old i block lt some rest = rw (drop-set old i block lt) (some, rest)
 
 -- ---- a step: the block before those that are done
 
 module _ (old : List SpansView) (i : ℕ) (new : List SpansView) (clipped : List PageRun) (value : Option ℕ) (low high : ℕ) (d : SpansView)
-    (filled : AreFilled old) (lt : i < length old) (h : ascend 0 (all_spans old) ≡ true) (begin : low ≡ begins_at (get_or old i d).spans) (above : ascend high (all_spans (drop (suc i) old)) ≡ true)
+    (filled : AreFilled (take (suc i) old)) (lt : i < length old) (h : ascend 0 (all_spans old) ≡ true) (begin : low ≡ begins_at (get_or old i d).spans) (above : ascend high (all_spans (drop (suc i) old)) ≡ true)
     (is_set : IsSetAt clipped value old i new) (inside : (n : ℕ) → covers clipped n ≡ true → (low ≤ n) × (n < high)) where
   front : List Span
   front = all_spans (take i old)
@@ -223,11 +261,17 @@ module _ (old : List SpansView) (i : ℕ) (new : List SpansView) (clipped : List
   unfolding front rest
   new_parted = all-parted i new ∙ rw (is_set.before, is_set.rest) refl
 
+  some : 0 < length block
+  unfolding block
+  some =
+      let long : i < length (take (suc i) old) = let l = length-take (suc i) old in omega (arith, l) in
+      subst (λ (b : SpansView). 0 < length b.spans) (get_or-take (suc i) old i d (omega arith)) (all_at (λ b. 0 < length b.spans) (take (suc i) old) i d filled long)
+
   begun : (e : ℕ) → ascend e (all_spans old) ≡ true → (end_from e front ≤ low) × (ascend low (block ++ rest) ≡ true)
   unfolding block
   begun e k =
       subst (λ (page : ℕ). (end_from e front ≤ page) × (ascend page (block ++ rest) ≡ true)) (sym begin)
-      (begins-filled (end_from e front) block rest (all_at (λ b. 0 < length b.spans) old i d filled lt) (ascend-right e front (block ++ rest) (ap (ascend e) (sym parted) ∙ k)))
+      (begins-filled (end_from e front) block rest some (ascend-right e front (block ++ rest) (ap (ascend e) (sym parted) ∙ k)))
 
   new_above : ascend low (is_set.spans ++ rest) ≡ true
   unfolding block rest
@@ -257,7 +301,10 @@ module _ (old : List SpansView) (i : ℕ) (new : List SpansView) (clipped : List
   step-before k d2 less =
       let same : get_or new k d2 ≡ get_or old k d2 = sym (get_or-take i new k d2 less) ∙ ap (λ (l : List SpansView). get_or l k d2) is_set.before ∙ get_or-take i old k d2 less in
       let at : begins_at (get_or old i d2).spans ≡ low = ap (λ (b : SpansView). begins_at b.spans) (get_or_default old i d2 d lt) ∙ sym begin in
-      let le : begins_at (get_or old k d2).spans ≤ begins_at (get_or old i d2).spans = begins_ascend 0 old filled h k i d2 (omega arith) lt in
+      let long : i < length (take (suc i) old) = let l = length-take (suc i) old in omega (arith, l) in
+      let upward : ascend 0 (all_spans (take (suc i) old)) ≡ true = ascend-left 0 (all_spans (take (suc i) old)) (all_spans (drop (suc i) old)) (ap (ascend 0) (sym (all-parted (suc i) old)) ∙ h) in
+      let taken : begins_at (get_or (take (suc i) old) k d2).spans ≤ begins_at (get_or (take (suc i) old) i d2).spans = begins_ascend 0 (take (suc i) old) filled upward k i d2 (omega arith) long in
+      let le : begins_at (get_or old k d2).spans ≤ begins_at (get_or old i d2).spans = rw (← get_or-take (suc i) old k d2 (omega arith), ← get_or-take (suc i) old i d2 (omega arith)) taken in
       rw same (omega arith)
 
   pub step-room : (P : SpansView → Type 0) → AllByRecursion P (take (suc i) old) → AllByRecursion P (take i new)

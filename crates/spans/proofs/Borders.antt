@@ -1,11 +1,11 @@
 -- Two intervals that touch over a border of blocks become one.
 use Rattle.std.proofs.Common.{◌≡◌, ℕ, zero, suc, ◌+◌, ◌-◌, ◌<◌, ◌≤◌, true, List, [], ◌∷◌, ◌++◌, length, get_or, take, drop, length-append, refl, sym, ap, subst, ◌∙◌, append_assoc, arith}
-use Rattle.std.specs.List.{remove}
 use Rattle.std.proofs.Math.ListN.{set}
 use Rattle.std.proofs.Math.Seq.{take-append_seam}
-use Rattle.std.proofs.lemmas.List.{get_or_default, get_or-set_other}
+use Rattle.std.proofs.lemmas.List.{get_or_default, get_or-set_other, length-set}
 use Rattle.spans.specs.Spans.{Span, SpansView, value_at, ascend}
 use Rattle.spans.specs.Blocks.{all_spans, least_room, AreFilled, AreAlike, IsSeam, IsStack, AreStacked, AreReady}
+use Rattle.spans.proofs.Parts.{set_filled}
 use Rattle.spans.proofs.Joining.{AreOne, are_one, value_at-one_behind, ascend-one_behind}
 
 -- ---- the intervals at the border
@@ -56,7 +56,7 @@ module _ (lower upper new_lower new_upper : List Span) (whole : Span) (seam : Is
 -- ---- blocks that say the same
 
 pub alike_itself : (bs : List SpansView) → AreAlike bs bs
-alike_itself bs = record { at = λ front n. refl; ascending = λ front e h. h; filled = λ h. h; room = λ room limit le. le }
+alike_itself bs = record { at = λ front n. refl; ascending = λ front e h. h; room = λ room limit le. le }
 
 alike_behind : (b : SpansView) (old new : List SpansView) → AreAlike old new → AreAlike (b ∷ old) (b ∷ new)
 alike_behind b old new alike = record {
@@ -67,7 +67,6 @@ alike_behind b old new alike = record {
   ascending = λ front e h.
       ap (ascend e) (sym (append_assoc front b.spans (all_spans new)))
       ∙ alike.ascending (front ++ b.spans) e (ap (ascend e) (append_assoc front b.spans (all_spans old)) ∙ h);
-  filled = λ h. (h.0, alike.filled h.1);
   room = λ room limit le. let r = alike.room room limit (omega (arith, le)) in omega (arith, le, r);
 }
 
@@ -100,36 +99,22 @@ is_joined bs i here next second first lower upper whole lt is_here is_next seam 
       upper_room = omega (arith, upper_room, ap (λ (b : SpansView). b.room) next_again);
     })
 
-pub both_kept : (i : ℕ) (bs : List SpansView) (lower upper d f : SpansView) → suc i < length bs → IsJoined (get_or bs i d) lower upper (get_or bs (suc i) f) → 0 < length lower.spans → AreAlike bs (set (set bs (suc i) upper) i lower)
-both_kept i [] lower upper d f lt j some = absurd (omega arith)
-both_kept zero (b ∷ []) lower upper d f lt j some = absurd (omega arith)
-both_kept zero (b ∷ c ∷ bs) lower upper d f lt j some = record {
+pub both_alike : (i : ℕ) (bs : List SpansView) (lower upper d f : SpansView) → suc i < length bs → IsJoined (get_or bs i d) lower upper (get_or bs (suc i) f) → AreAlike bs (set (set bs (suc i) upper) i lower)
+both_alike i [] lower upper d f lt j = absurd (omega arith)
+both_alike zero (b ∷ []) lower upper d f lt j = absurd (omega arith)
+both_alike zero (b ∷ c ∷ bs) lower upper d f lt j = record {
   at = λ front n. border-at b.spans c.spans lower.spans upper.spans j.whole j.seam j.lower_spans j.upper_spans front (all_spans bs) n;
   ascending = λ front e h. border-ascends b.spans c.spans lower.spans upper.spans j.whole j.seam j.lower_spans j.upper_spans front (all_spans bs) e h;
-  filled = λ h. (some, (upper-some b.spans c.spans lower.spans upper.spans j.whole j.seam j.lower_spans j.upper_spans, h.1.1));
   room = λ room limit le. omega (arith, le, j.lower_room, j.upper_room);
 }
-both_kept (suc i) (b ∷ bs) lower upper d f lt j some = alike_behind b bs _ (both_kept i bs lower upper d f (omega arith) j some)
+both_alike (suc i) (b ∷ bs) lower upper d f lt j = alike_behind b bs _ (both_alike i bs lower upper d f (omega arith) j)
 
-pub lower_removed : (i : ℕ) (bs : List SpansView) (lower upper d f : SpansView) → suc i < length bs → IsJoined (get_or bs i d) lower upper (get_or bs (suc i) f) → lower.spans ≡ [] → AreAlike bs (remove (set (set bs (suc i) upper) i lower) i)
-lower_removed i [] lower upper d f lt j none = absurd (omega arith)
-lower_removed zero (b ∷ []) lower upper d f lt j none = absurd (omega arith)
-lower_removed zero (b ∷ c ∷ bs) lower upper d f lt j none = record {
-  at = λ front n.
-      ap (λ (l : List Span). value_at (front ++ (l ++ (upper.spans ++ all_spans bs))) n) (sym none)
-      ∙ border-at b.spans c.spans lower.spans upper.spans j.whole j.seam j.lower_spans j.upper_spans front (all_spans bs) n;
-  ascending = λ front e h.
-      ap (λ (l : List Span). ascend e (front ++ (l ++ (upper.spans ++ all_spans bs)))) (sym none)
-      ∙ border-ascends b.spans c.spans lower.spans upper.spans j.whole j.seam j.lower_spans j.upper_spans front (all_spans bs) e h;
-  filled = λ h. (upper-some b.spans c.spans lower.spans upper.spans j.whole j.seam j.lower_spans j.upper_spans, h.1.1);
-  room = λ room limit le. omega (arith, le, j.upper_room);
-}
-lower_removed (suc i) (b ∷ bs) lower upper d f lt j none = alike_behind b bs _ (lower_removed i bs lower upper d f (omega arith) j none)
+pub both_filled : (i : ℕ) (bs : List SpansView) (lower upper d f : SpansView) → suc i < length bs → IsJoined (get_or bs i d) lower upper (get_or bs (suc i) f) → 0 < length lower.spans → AreFilled bs → AreFilled (set (set bs (suc i) upper) i lower)
+both_filled i bs lower upper d f lt j some filled =
+    let above = upper-some (get_or bs i d).spans (get_or bs (suc i) f).spans lower.spans upper.spans j.whole j.seam j.lower_spans j.upper_spans in
+    set_filled (set bs (suc i) upper) i lower (let l = length-set bs (suc i) upper in omega (arith, l, lt)) (set_filled bs (suc i) upper lt filled above) some
 
 -- ---- behind the first block
-
-pub alike_stack : (first : List Span) (old new : List SpansView) → AreAlike old new → IsStack first old → IsStack first new
-alike_stack first old new alike h = record { ascending = alike.ascending first 0 h.ascending; filled = alike.filled h.filled }
 
 pub stack_is : (first : List Span) (more : List SpansView) → IsStack first more → AreStacked first more
 stack_is first [] h = tt
@@ -144,21 +129,17 @@ still_so_ready (b ∷ bs) (c ∷ cs) spare lists some rooms h = rooms _ _ h
 pub record IsFirstJoined (first lower : List Span) (old new : List SpansView) : Type 0 where
   pub at : (n : ℕ) → value_at (lower ++ all_spans new) n ≡ value_at (first ++ all_spans old) n
   pub ascending : ascend 0 (lower ++ all_spans new) ≡ true
-  pub filled : AreFilled new
+  pub filled : AreFilled old → AreFilled new
 
 pub firsts_joined : (first lower : List Span) (old : List SpansView) (next again upper : SpansView) (whole : Span) → 0 < length old → next ≡ get_or old 0 next → again ≡ get_or old 0 again → IsSeam first next.spans whole
-    → lower ≡ take (length first - 1) first → upper.spans ≡ whole ∷ drop 1 again.spans → again.room ≤ upper.room → IsStack first old
+    → lower ≡ take (length first - 1) first → upper.spans ≡ whole ∷ drop 1 again.spans → ascend 0 (first ++ all_spans old) ≡ true
     → IsFirstJoined first lower old (set old 0 upper)
-firsts_joined first lower [] next again upper whole some is is_again seam is_lower is_upper room h = absurd (omega arith)
-firsts_joined first lower (b ∷ bs) next again upper whole some is is_again seam is_lower is_upper room h =
+firsts_joined first lower [] next again upper whole some is is_again seam is_lower is_upper h = absurd (omega arith)
+firsts_joined first lower (b ∷ bs) next again upper whole some is is_again seam is_lower is_upper h =
     let here = subst (λ (n : SpansView). IsSeam first n.spans whole) is seam in
     let up : upper.spans ≡ whole ∷ drop 1 b.spans = is_upper ∙ ap (λ (n : SpansView). whole ∷ drop 1 n.spans) is_again in
     record {
       at = λ n. border-at first b.spans lower upper.spans whole here is_lower up [] (all_spans bs) n;
-      ascending = border-ascends first b.spans lower upper.spans whole here is_lower up [] (all_spans bs) 0 h.ascending;
-      filled = (upper-some first b.spans lower upper.spans whole here is_lower up, h.filled.1);
+      ascending = border-ascends first b.spans lower upper.spans whole here is_lower up [] (all_spans bs) 0 h;
+      filled = λ filled. (upper-some first b.spans lower upper.spans whole here is_lower up, filled.1);
     }
-
-pub no_spans : (ss : List Span) → length ss ≡ 0 → ss ≡ []
-no_spans [] h = refl
-no_spans (s ∷ ss) h = absurd (omega (arith, h))

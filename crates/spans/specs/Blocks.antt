@@ -57,7 +57,7 @@ pub record AreBlocks (first : List Span) (more : List SpansView) (spare lists : 
 abbrev pub block_before : SpansView → List SpansView → ℕ → SpansView
 block_before first more i = slice_index_or (first ∷ more) i first
 
--- the block at a place gives the pages of the runs this number, or none; where it has no interval left, it is not kept
+-- the block at a place gives the pages of the runs this number, or none
 pub record IsSetAt (runs : List PageRun) (value : Option ℕ) (old : List SpansView) (i : ℕ) (new : List SpansView) : Type 0 where
   pub spans : List Span
   pub ascending : ascend 0 spans ≡ true
@@ -65,7 +65,6 @@ pub record IsSetAt (runs : List PageRun) (value : Option ℕ) (old : List SpansV
       ≡ (if covers runs n then value else value_at (slice_index_or old i d).spans n)
   pub before : take i new ≡ take i old
   pub rest : all_spans (drop i new) ≡ spans ++ all_spans (drop (suc i) old)
-  pub filled : AreFilled new
   pub room : (room : ℕ) → ((d : SpansView) → room ≤ (slice_index_or old i d).room - room_for (length runs))
       → HaveRoom room (drop (suc i) old) → HaveRoom room (drop i new)
   pub inside : i ≤ length new
@@ -91,5 +90,4 @@ pub record AreAlike (old new : List SpansView) : Type 0 where
   pub at : (front : List Span) (n : ℕ) → value_at (front ++ all_spans new) n ≡ value_at (front ++ all_spans old) n
   pub ascending : (front : List Span) (e : ℕ) → ascend e (front ++ all_spans old) ≡ true
       → ascend e (front ++ all_spans new) ≡ true
-  pub filled : AreFilled old → AreFilled new
   pub room : (room limit : ℕ) → room ≤ least_room limit old → room ≤ least_room limit new

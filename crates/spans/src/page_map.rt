@@ -24,9 +24,9 @@ use runs::reach_of;
 
 /// A map from pages to numbers as `Spans` is, whose intervals stand in blocks, so that an edit moves only those
 /// of the blocks that it touches. All intervals of a block end before the next block begins; runs that are put make
-/// one interval with those that they touch in other blocks too. A map of few intervals has one block. Beside the
-/// blocks is memory in which the runs of an edit are put in order, and cut to what a block has of them. Each block
-/// behind the first has room for so many runs at least as `spare` says, and so have both lists.
+/// one interval with those of their number that they touch, in other blocks too. A map of few intervals has one
+/// block. Beside the blocks is memory in which the runs of an edit are put in order, and cut to what a block has of
+/// them. Each block behind the first has room for so many runs at least as `spare` says, and so have both lists.
 #[derive(Drop)]
 pub struct PageMap {
     first: Spans,

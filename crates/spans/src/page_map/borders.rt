@@ -1,42 +1,41 @@
 //! Joins intervals over the borders of blocks.
 
-ghost use Rattle.std.specs.Prelude.{◌≡◌, ◌≤◌, ◌++◌, ℕ};
+ghost use Rattle.std.specs.Prelude.{◌≡◌, ◌+◌, ◌≤◌, ◌<◌, ◌++◌, ℕ, true, vec_len};
 ghost use Rattle.spans.specs.Spans as spec;
-ghost use Rattle.spans.specs.Blocks.{all_spans, least_room, AreAlike, IsStack, AreReady, AreStacked};
+ghost use Rattle.spans.specs.Blocks.{all_spans, least_room, AreAlike, AreFilled, AreReady, AreStacked};
 
+use super::edit::drop_empty;
 use super::place::place_of;
 use super::runs::Zone;
 use crate::spans::Spans;
 
 /// Makes one interval of the last of the block at a place and the first of the next, where they touch and have the
-/// same number. A block that has no interval then is taken out.
-fn join_next(more: &mut Vec<Spans>, place: usize)
-    ensures { AreAlike more.old.items more.new.items }
+/// same number. It answers no where the first of the two blocks has no interval any more.
+fn join_next(more: &mut Vec<Spans>, place: usize) -> bool
+    requires inside { place + 1 < vec_len more.old }
+    ensures alike { AreAlike more.old.items more.new.items }
+    ensures filled { result ≡ true → AreFilled more.old.items → AreFilled more.new.items }
+    ensures len { vec_len more.new ≡ vec_len more.old }
 {
-    if more.len().saturating_sub(place) < 2 {
-        return;
-    }
     let Some(span) = more[place].over_border(&more[place + 1]) else {
-        return;
+        return true;
     };
     more[place + 1].set_first(span);
-    if more[place].drop_last() == 0 {
-        let _ = more.remove(place);
-    }
+    0 < more[place].drop_last()
 }
 
-/// The same of the first block and the next. The first stays, also where it has no interval then.
+/// The same of the first block and the next, where the first may be left without an interval.
 fn join_first(first: &mut Spans, more: &mut Vec<Spans>)
-    requires { IsStack first.old.spans more.old.items }
+    requires some { 0 < vec_len more.old }
+    requires ascending { spec.ascend 0 (first.old.spans ++ all_spans more.old.items) ≡ true }
     ensures at { (n : ℕ) → spec.value_at (first.new.spans ++ all_spans more.new.items) n
         ≡ spec.value_at (first.old.spans ++ all_spans more.old.items) n }
-    ensures stack { IsStack first.new.spans more.new.items }
+    ensures ascending { spec.ascend 0 (first.new.spans ++ all_spans more.new.items) ≡ true }
+    ensures filled { AreFilled more.old.items → AreFilled more.new.items }
     ensures room { (room limit : ℕ) → room ≤ least_room limit more.old.items
         → room ≤ least_room limit more.new.items }
+    ensures len { vec_len more.new ≡ vec_len more.old }
 {
-    if more.is_empty() {
-        return;
-    }
     let Some(span) = first.over_border(&more[0]) else {
         return;
     };
@@ -44,24 +43,28 @@ fn join_first(first: &mut Spans, more: &mut Vec<Spans>)
     let _ = first.drop_last();
 }
 
-/// The same of the block at a place among those behind the first and the one before it.
-fn join_border(first: &mut Spans, more: &mut Vec<Spans>, place: usize)
-    requires { IsStack first.old.spans more.old.items }
+/// The same of the block at a place behind the first and the one before it.
+fn join_border(first: &mut Spans, more: &mut Vec<Spans>, place: usize) -> bool
+    requires inside { place < vec_len more.old }
+    requires ascending { spec.ascend 0 (first.old.spans ++ all_spans more.old.items) ≡ true }
     ensures at { (n : ℕ) → spec.value_at (first.new.spans ++ all_spans more.new.items) n
         ≡ spec.value_at (first.old.spans ++ all_spans more.old.items) n }
-    ensures stack { IsStack first.new.spans more.new.items }
+    ensures ascending { spec.ascend 0 (first.new.spans ++ all_spans more.new.items) ≡ true }
+    ensures filled { result ≡ true → AreFilled more.old.items → AreFilled more.new.items }
     ensures room { (room limit : ℕ) → room ≤ least_room limit more.old.items
         → room ≤ least_room limit more.new.items }
+    ensures len { vec_len more.new ≡ vec_len more.old }
 {
     if place == 0 {
         join_first(first, more);
-    } else {
-        join_next(more, place - 1);
+        return true;
     }
+    join_next(more, place - 1)
 }
 
 /// Makes one interval of two over each border of blocks in a zone or at an end of it, where they touch and have the
-/// same number. This takes no memory.
+/// same number. This takes no memory. Upward, so that of a pair the second block always has an interval; those that
+/// have none at the end are taken out in one pass.
 #[inline(never)]
 pub(super) fn join_borders(first: &mut Spans, more: &mut Vec<Spans>, zone: Zone)
     requires { AreStacked first.old.spans more.old.items }
@@ -75,9 +78,12 @@ pub(super) fn join_borders(first: &mut Spans, more: &mut Vec<Spans>, zone: Zone)
         return;
     }
     let from = place_of(more, zone.first);
-    let mut place = place_of(more, zone.end.saturating_add(1));
-    while from < place {
-        place -= 1;
-        join_border(first, more, place);
+    let end = place_of(more, zone.end.saturating_add(1));
+    let mut are_filled = true;
+    for place in from..end {
+        are_filled &= join_border(first, more, place);
+    }
+    if !are_filled {
+        drop_empty(more);
     }
 }

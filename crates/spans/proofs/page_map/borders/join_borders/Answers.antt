@@ -13,12 +13,17 @@ place_of-from-requires-clause-ascending c =
     let some : 0 < length c.args.more.now.items = search rules in
     ascends c.args.first.now.spans c.args.more.now.items c.deref.result.now c.requires some c.deref.ensures.value
 
-pub place_of-place-requires-clause-ascending : goal.place_of-place-requires-clause-ascending
-place_of-place-requires-clause-ascending c =
+pub place_of-end-requires-clause-ascending : goal.place_of-end-requires-clause-ascending
+place_of-end-requires-clause-ascending c =
     let some : 0 < length c.args.more.now.items = search rules in
     ascends c.args.first.now.spans c.args.more.now.items c.deref-2.result.now c.requires some c.deref-2.ensures.value
 
-pub returns-clause-ready : goal.returns-clause-ready
-returns-clause-ready c =
+pub returns-then-not-are_filled-clause-ready : goal.returns-then-not-are_filled-clause-ready
+returns-then-not-are_filled-clause-ready c =
+    let some : 0 < length c.args.more.now.items = search rules in
+    λ spare lists h. still_so_ready c.args.more.now.items c.drop_empty.new.more.items spare lists some (λ room limit le. c.drop_empty.ensures.least room limit (c.loop-place.invariant.room room limit le)) h
+
+pub returns-else-not-are_filled-clause-ready : goal.returns-else-not-are_filled-clause-ready
+returns-else-not-are_filled-clause-ready c =
     let some : 0 < length c.args.more.now.items = search rules in
     λ spare lists h. still_so_ready c.args.more.now.items c.loop-place.more.items spare lists some c.loop-place.invariant.room h

@@ -3,13 +3,14 @@ use Rattle.base.specs.Pages.{covers}
 use Rattle.spans.specs.Spans.{SpansView, value_at, ascend, room_for}
 use Rattle.spans.specs.Search.{begins_at}
 use Rattle.spans.specs.Blocks.{all_spans, AreFilled, HaveRoom}
-use Rattle.spans.proofs.page_map.edit.set_more.Given as goal
+use Rattle.spans.proofs.page_map.edit.set_each.Given as goal
 
 -- the blocks from `place` on are done
 abbrev pub invariant-loop-place : goal.invariant-loop-place
 invariant-loop-place l = record {
   inside : l.place ≤ length l.more.items;
-  filled : AreFilled l.more.items;
+  filled : AreFilled (take l.place l.more.items);
+  left_filled : l.are_filled ≡ true → AreFilled (drop l.place l.more.items);
   before : (i : ℕ) (d : SpansView) → i < l.place → begins_at (get_or l.more.items i d).spans ≤ l.end;
   room : HaveRoom (room_for (length l.runs)) (take l.place l.more.items);
   kept : (room : ℕ) → HaveRoom room l.fn.more.items → HaveRoom room (take l.place l.more.items);
