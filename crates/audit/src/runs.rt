@@ -162,7 +162,7 @@ fn push_blocks<M: TableMem + Drop>(
     Ok(next)
 }
 
-/// The number of a chunk up to which the chunks of a gigabyte are reached as one of them is that has no table.
+/// From a chunk that has no table on, the first of its gigabyte that is not reached as it is, or the gigabyte's end.
 fn blocks_until<M: TableMem + Drop>(
     tables: &Tables<M>,
     p: PartitionId,
@@ -221,7 +221,7 @@ fn push_pages<M: TableMem + Drop>(
     Ok(())
 }
 
-/// The index up to which the pages of a chunk that has a table are reached as the one at an index is.
+/// From an index on, the first of a page of a chunk with a table that is not reached as the page there is, or 512.
 fn pages_until<M: TableMem + Drop>(
     tables: &Tables<M>,
     p: PartitionId,
@@ -246,7 +246,7 @@ fn pages_until<M: TableMem + Drop>(
     WORDS
 }
 
-/// How much more a word is than this one, where it is that of pages so far behind which are reached alike.
+/// By how much the word of a page so many pages on is more than this one, where both are reached alike.
 fn step_from(word: u64, pages: u32) -> u64
     ensures { result ≡ runs.step_from word pages }
 {

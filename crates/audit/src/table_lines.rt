@@ -172,7 +172,7 @@ fn fill_leaf(level: u8, first: u32, word: u64, line: &mut [u8; LINE])
 }
 
 /// Turns the line of a page of a chunk into that of another one. Where pages are reached alike their words
-/// differ in the page alone, and so do six digits of their lines.
+/// differ in the page alone, so their lines differ in six digits alone.
 fn turn_page(first: u32, last: u64, word: u64, line: &mut [u8; LINE])
     requires in_range { first < 2 ^ 27 }
     requires near { spec.IsPageLine (first / 512) last line.old }
