@@ -79,7 +79,8 @@ impl PageMap {
         self.ready_all(runs)
     }
 
-    /// The same where there are more blocks, or the first is long.
+    /// The same where there are more blocks, or the first is long. What serves several blocks is compiled apart, so that
+    /// a map of one block costs a test more than a `Spans`.
     #[inline(never)]
     fn ready_all(&mut self, runs: usize) -> Result<(), OutOfMemory>
         ensures spans { self.new.spans ≡ self.old.spans }

@@ -11,13 +11,13 @@ use crate::spans::Spans;
 
 /// Makes one interval of the last of the block at a place and the first of the next, where they touch and have the
 /// same number. It answers no where the first of the two blocks has no interval any more.
-fn join_next(more: &mut Vec<Spans>, place: usize) -> bool
+fn join_over_next(more: &mut Vec<Spans>, place: usize) -> bool
     requires inside { place + 1 < vec_len more.old }
     ensures alike { AreAlike more.old.items more.new.items }
     ensures filled { result ≡ true → AreFilled more.old.items → AreFilled more.new.items }
     ensures len { vec_len more.new ≡ vec_len more.old }
 {
-    let Some(span) = more[place].over_border(&more[place + 1]) else {
+    let Some(span) = more[place].seam_with(&more[place + 1]) else {
         return true;
     };
     more[place + 1].set_first(span);
@@ -25,7 +25,7 @@ fn join_next(more: &mut Vec<Spans>, place: usize) -> bool
 }
 
 /// The same of the first block and the next, where the first may be left without an interval.
-fn join_first(first: &mut Spans, more: &mut Vec<Spans>)
+fn join_over_first(first: &mut Spans, more: &mut Vec<Spans>)
     requires some { 0 < vec_len more.old }
     requires ascending { spec.ascend 0 (first.old.spans ++ all_spans more.old.items) ≡ true }
     ensures at { (n : ℕ) → spec.value_at (first.new.spans ++ all_spans more.new.items) n
@@ -36,7 +36,7 @@ fn join_first(first: &mut Spans, more: &mut Vec<Spans>)
         → room ≤ least_room limit more.new.items }
     ensures len { vec_len more.new ≡ vec_len more.old }
 {
-    let Some(span) = first.over_border(&more[0]) else {
+    let Some(span) = first.seam_with(&more[0]) else {
         return;
     };
     more[0].set_first(span);
@@ -44,7 +44,7 @@ fn join_first(first: &mut Spans, more: &mut Vec<Spans>)
 }
 
 /// The same of the block at a place behind the first and the one before it.
-fn join_border(first: &mut Spans, more: &mut Vec<Spans>, place: usize) -> bool
+fn join_over_border(first: &mut Spans, more: &mut Vec<Spans>, place: usize) -> bool
     requires inside { place < vec_len more.old }
     requires ascending { spec.ascend 0 (first.old.spans ++ all_spans more.old.items) ≡ true }
     ensures at { (n : ℕ) → spec.value_at (first.new.spans ++ all_spans more.new.items) n
@@ -56,10 +56,10 @@ fn join_border(first: &mut Spans, more: &mut Vec<Spans>, place: usize) -> bool
     ensures len { vec_len more.new ≡ vec_len more.old }
 {
     if place == 0 {
-        join_first(first, more);
+        join_over_first(first, more);
         return true;
     }
-    join_next(more, place - 1)
+    join_over_next(more, place - 1)
 }
 
 /// Makes one interval of two over each border of blocks in a zone or at an end of it, where they touch and have the
@@ -81,7 +81,7 @@ pub(super) fn join_borders(first: &mut Spans, more: &mut Vec<Spans>, zone: Zone)
     let end = place_of(more, zone.end.saturating_add(1));
     let mut are_filled = true;
     for place in from..end {
-        are_filled &= join_border(first, more, place);
+        are_filled &= join_over_border(first, more, place);
     }
     if !are_filled {
         drop_empty(more);

@@ -1,11 +1,12 @@
 //! Makes room in each block, and parts those that have grown long.
 
-ghost use Rattle.std.specs.Prelude.{◌≡◌, ◌≤◌, ◌<◌, ◌+◌, ◌++◌, min, true, drop, vec_len, vec_capacity, OnOk, IfOk};
+ghost use Rattle.std.specs.Prelude.{◌≡◌, ◌≤◌, ◌<◌, ◌+◌, ◌++◌, min, true, drop, vec_len, vec_capacity, OnOk, IfOk, length, [], ◌∷◌, if◌then◌else◌};
 ghost use Rattle.spans.specs.Spans as spec;
 ghost use Rattle.spans.specs.Blocks.{all_spans, AreFilled, HaveRoom, IsStack, AreReady, AreStacked};
 
 use crate::spans::Spans;
 use base::{OutOfMemory, Run};
+use std::mem;
 
 /// A block that has more intervals is parted when all blocks get room. Between two such passes an edit may make
 /// one longer, by no more than the room that it got.
@@ -30,9 +31,9 @@ fn ready_lists(
     Ok(())
 }
 
-/// Makes the next block the first where that has no interval, and one block of both where they are short. This takes
-/// no memory: where the first has none for both, they stay as they are.
-fn join_first(first: &mut Spans, more: &mut Vec<Spans>)
+/// Makes the next block the first where that has no interval, and one block of both where they are short, if there is
+/// memory for that.
+fn gather_first(first: &mut Spans, more: &mut Vec<Spans>)
     requires { AreStacked first.old.spans more.old.items }
     ensures spans { first.new.spans ++ all_spans more.new.items
         ≡ first.old.spans ++ all_spans more.old.items }
@@ -49,7 +50,7 @@ fn join_first(first: &mut Spans, more: &mut Vec<Spans>)
         return;
     }
     let next = more.remove(0);
-    if !first.join(&next, 0) {
+    if !first.join(&next) {
         let _ = more.insert(0, next);
     }
 }
@@ -78,47 +79,80 @@ fn part_first(
     }
 }
 
-/// Parts the block at a place, if it is long. Where there is no memory for that, it stays as it is.
-fn part_at(more: &mut Vec<Spans>, place: usize, calls: usize)
-    requires filled { AreFilled more.old.items }
-    requires inside { place < vec_len more.old }
-    requires room { HaveRoom (spec.room_for calls) (drop (place + 1) more.old.items) }
-    ensures spans { all_spans more.new.items ≡ all_spans more.old.items }
-    ensures filled { AreFilled more.new.items }
-    ensures inside { place < vec_len more.new }
-    ensures room { HaveRoom (spec.room_for calls) (drop (place + 1) more.new.items) }
-{
-    if more[place].len() <= LIMIT || more.reserve(1).is_err() {
-        return;
+/// Whether a block is long, or two that stand side by side are short.
+fn are_uneven(blocks: &[Spans]) -> bool {
+    let mut before = LIMIT;
+    for block in blocks {
+        let len = block.len();
+        if LIMIT < len || before.saturating_add(len) <= LIMIT / 4 {
+            return true;
+        }
+        before = len;
     }
-    if let Some(rest) = more[place].split(calls) {
-        let _ = more.insert(place + 1, rest);
-    }
+    false
 }
 
-/// Makes one block of that at a place and the next, if they are short. This takes no memory: where the first has
-/// none for both, they stay as they are.
-fn join_at(more: &mut Vec<Spans>, place: usize, calls: usize)
+/// Puts the intervals of a block in the last of these, if both are short. Where there is no memory for that, it
+/// answers no.
+fn join_last(blocks: &mut Vec<Spans>, next: &Spans) -> bool
+    requires ascending { spec.ascend 0 (all_spans blocks.old.items ++ next.now.spans) ≡ true }
+    requires filled { AreFilled blocks.old.items }
+    ensures spans { all_spans blocks.new.items
+        ≡ (if result then all_spans blocks.old.items ++ next.now.spans else all_spans blocks.old.items) }
+    ensures filled { AreFilled blocks.new.items }
+    ensures len { vec_len blocks.new ≡ vec_len blocks.old }
+    ensures capacity { vec_capacity blocks.new ≡ vec_capacity blocks.old }
+{
+    let Some(last) = blocks.last_mut() else {
+        return false;
+    };
+    last.len().saturating_add(next.len()) <= LIMIT / 4 && last.join(next)
+}
+
+/// Puts a block behind the others, in places that they have: in two halves, if it is long and there is memory for
+/// that.
+fn push_parts(blocks: &mut Vec<Spans>, mut block: Spans, calls: usize)
+    requires places { vec_len blocks.old + 2 ≤ vec_capacity blocks.old }
+    requires filled { AreFilled blocks.old.items }
+    requires some { 0 < length block.spans }
+    ensures spans { all_spans blocks.new.items ≡ all_spans blocks.old.items ++ block.spans }
+    ensures filled { AreFilled blocks.new.items }
+    ensures len { vec_len blocks.new ≤ vec_len blocks.old + 2 }
+    ensures capacity { vec_capacity blocks.new ≡ vec_capacity blocks.old }
+{
+    if LIMIT < block.len() {
+        if let Some(upper) = block.split(calls) {
+            blocks.push_reserved(block);
+            blocks.push_reserved(upper);
+            return;
+        }
+    }
+    blocks.push_reserved(block);
+}
+
+/// Parts long blocks and joins short ones, in one pass over the list. Where there are none, or no memory for that, all
+/// stay as they are.
+fn gather(more: &mut Vec<Spans>, calls: usize)
     requires ascending { spec.ascend 0 (all_spans more.old.items) ≡ true }
     requires filled { AreFilled more.old.items }
-    requires inside { place < vec_len more.old }
-    requires room { HaveRoom (spec.room_for calls) (drop place more.old.items) }
     ensures spans { all_spans more.new.items ≡ all_spans more.old.items }
     ensures filled { AreFilled more.new.items }
-    ensures inside { place < vec_len more.new }
-    ensures room { HaveRoom (spec.room_for calls) (drop place more.new.items) }
 {
-    let next = place + 1;
-    if more.len() <= next || LIMIT / 4 < more[place].len().saturating_add(more[next].len()) {
+    let alloc = *more.allocator();
+    let mut gathered = Vec::new(alloc);
+    if !are_uneven(more) || gathered.reserve(more.len().saturating_mul(2)).is_err() {
         return;
     }
-    let block = more.remove(next);
-    if !more[place].join(&block, calls) {
-        let _ = more.insert(next, block);
+    let mut blocks = mem::replace(more, Vec::new(alloc)).into_iter();
+    while let Some(block) = blocks.next() {
+        if !join_last(&mut gathered, &block) {
+            push_parts(&mut gathered, block, calls);
+        }
     }
+    *more = gathered;
 }
 
-/// Makes room in each block for so many calls, parts long blocks, and joins short ones.
+/// Parts long blocks, joins short ones, and makes room in each for so many calls.
 fn ready_more(more: &mut Vec<Spans>, calls: usize) -> Result<(), OutOfMemory>
     requires ascending { spec.ascend 0 (all_spans more.old.items) ≡ true }
     requires filled { AreFilled more.old.items }
@@ -126,12 +160,11 @@ fn ready_more(more: &mut Vec<Spans>, calls: usize) -> Result<(), OutOfMemory>
     ensures filled { AreFilled more.new.items }
     ensures room { OnOk result (HaveRoom (spec.room_for calls) more.new.items) }
 {
+    gather(more, calls);
     let mut place = more.len();
     while 0 < place {
         place -= 1;
-        part_at(more, place, calls);
         more[place].ready(calls)?;
-        join_at(more, place, calls);
     }
     Ok(())
 }
@@ -152,7 +185,7 @@ fn ready_each(
     ensures ready { OnOk result (AreReady runs more.new.items
         (min (vec_capacity sorted.new) (vec_capacity clipped.new))) }
 {
-    join_first(first, more);
+    gather_first(first, more);
     part_first(first, more, sorted, clipped, runs);
     if more.is_empty() {
         return Ok(());

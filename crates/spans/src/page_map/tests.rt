@@ -1,7 +1,7 @@
 ghost use Rattle.std.specs.Prelude.{◌≤◌, OnOk};
 ghost use Rattle.spans.specs.Spans.{room_for};
 
-use super::PageMap;
+use super::{LIMIT, PageMap};
 use crate::spans::Spans;
 use base::{OutOfMemory, Page, Run};
 use std::alloc::Global;
@@ -340,5 +340,45 @@ fn borders_of_blocks_part_nothing_that_came_back(rt: HostRuntime) -> Result<(), 
         assert_eq!(&rt; pair.map.more.len(), 0);
         pair.compare_many(&rt, &mut draw, 20);
     }
+    Ok(())
+}
+
+#[test]
+fn many_blocks_are_parted_and_joined_in_one_pass(rt: HostRuntime) -> Result<(), Fail> {
+    let mut pair = Pair::new(rt.alloc());
+    let mut draw = Draw { state: 7 };
+    fill(&rt, &mut pair, 16)?;
+    pair.ready(1)?;
+    let between = Shape {
+        first: 1,
+        count: 8_000,
+        step: 2,
+        pages: 1,
+    };
+    pair.shape(&rt, between, Some(8), false)?;
+    let before = pair.map.more.len();
+    assert!(&rt;
+        2 < pair
+            .map
+            .more
+            .iter()
+            .filter(|block| LIMIT < block.len())
+            .count()
+    );
+    pair.ready(600)?;
+    assert!(&rt; before + 3 <= pair.map.more.len());
+    assert_eq!(&rt; pair.len_in_blocks(), pair.list.len());
+    pair.compare_many(&rt, &mut draw, 2_000);
+    let most = Shape {
+        first: 1,
+        count: 250,
+        step: 64,
+        pages: 63,
+    };
+    pair.shape(&rt, most, None, true)?;
+    pair.ready(600)?;
+    assert!(&rt; pair.map.more.len() < 2);
+    assert_eq!(&rt; pair.len_in_blocks(), pair.list.len());
+    pair.compare_many(&rt, &mut draw, 2_000);
     Ok(())
 }

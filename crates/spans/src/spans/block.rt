@@ -55,24 +55,17 @@ impl Spans {
         Ok(())
     }
 
-    /// Takes the intervals of the next block in behind its own, where there is room for them, and for this many calls
-    /// then. This takes no memory.
-    pub(crate) fn join(&mut self, next: &Spans, calls: usize) -> bool
-        requires ascending { spec.ascend 0 (self.old.spans ++ next.now.spans) ≡ true }
-        requires room { spec.room_for calls ≤ self.old.room }
+    /// Takes the intervals of the next block in behind its own, if there is memory for that.
+    pub(crate) fn join(&mut self, next: &Spans) -> bool
+        requires { spec.ascend 0 (self.old.spans ++ next.now.spans) ≡ true }
         ensures joined { IsTrue result → self.new.spans ≡ self.old.spans ++ next.now.spans }
         ensures kept { result ≡ false → self.new.spans ≡ self.old.spans }
-        ensures room { spec.room_for calls ≤ self.new.room }
     {
-        let free = self.spans.capacity() - self.spans.len();
-        if free < next.spans.len() || (free - next.spans.len()) / 3 < calls {
-            return false;
-        }
         self.spans.extend_from_slice(&next.spans).is_ok()
     }
 
     /// Its last interval and the first of the next block as one, where they touch and have the same number.
-    pub(crate) fn over_border(&self, next: &Spans) -> Option<Span>
+    pub(crate) fn seam_with(&self, next: &Spans) -> Option<Span>
         ensures seam { IfSome result (λ whole. IsSeam self.now.spans next.now.spans whole) }
         ensures ascending { IfSome result
             (λ whole. spec.ascend 0 (whole ∷ drop 1 next.now.spans) ≡ true) }

@@ -1,4 +1,4 @@
-use Rattle.std.proofs.Common.{ℕ, ◌<◌, ◌≤◌, length, min, vec_capacity, ap, rules, arith}
+use Rattle.std.proofs.Common.{ℕ, ◌<◌, length, min, vec_capacity, ap, rules, arith}
 use Rattle.spans.specs.Spans.{SpansView, room_for}
 use Rattle.spans.proofs.Blocks.{has_rooms}
 use Rattle.spans.proofs.page_map.PageMap.put_all.Goals as goal

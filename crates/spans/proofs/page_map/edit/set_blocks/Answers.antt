@@ -1,4 +1,4 @@
-use Rattle.std.proofs.Common.{◌≡◌, ◌∙◌, ℕ, ◌≤◌, ◌++◌, Bool, true, ◌&&◌, cond, leb, ltb, List, length, ap, rules, arith}
+use Rattle.std.proofs.Common.{◌≡◌, ◌∙◌, ℕ, ◌≤◌, ◌++◌, Bool, true, ◌&&◌, cond, leb, ltb, List, length, ap, arith}
 use Rattle.base.specs.Pages.{PageRun, covers}
 use Rattle.spans.specs.Spans.{value_at, ascend}
 use Rattle.spans.specs.Blocks.{all_spans, AreStacked}

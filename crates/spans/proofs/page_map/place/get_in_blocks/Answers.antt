@@ -1,6 +1,5 @@
-use Rattle.std.proofs.Common.{◌≡◌, ℕ, ◌∙◌, ◌+◌, ◌<◌, true, List, ◌∷◌, length, get_or, drop, sym, ap, rules, arith}
+use Rattle.std.proofs.Common.{◌≡◌, ℕ, ◌∙◌, ◌+◌, true, drop, sym, ap, arith}
 use Rattle.spans.specs.Spans.{SpansView, value_at, ascend}
-use Rattle.spans.specs.Search.{begins_at}
 use Rattle.spans.specs.Blocks.{all_spans}
 use Rattle.spans.proofs.Ascending.{value_at-ahead}
 use Rattle.spans.proofs.Blocks.{rest_ascends, at_block}

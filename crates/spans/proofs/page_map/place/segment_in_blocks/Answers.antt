@@ -1,4 +1,4 @@
-use Rattle.std.proofs.Common.{◌≡◌, ◌∙◌, ℕ, ◌+◌, ◌<◌, ◌≤◌, length, get_or, sym, ap, rules, arith}
+use Rattle.std.proofs.Common.{◌≡◌, ◌∙◌, ℕ, ◌+◌, ◌<◌, length, get_or, sym, ap, rules, arith}
 use Rattle.spans.specs.Spans.{SpansView, value_at}
 use Rattle.spans.specs.Search.{begins_at}
 use Rattle.spans.proofs.Blocks.{rest_ascends, at_block, none_before_next, none_at_end}

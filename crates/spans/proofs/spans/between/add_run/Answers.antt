@@ -1,6 +1,6 @@
 use Rattle.std.proofs.Common.{ℕ, ◌-◌, arith}
 use Rattle.spans.specs.Spans.{Span}
-use Rattle.spans.proofs.Between.{added-at, added-ascends, added-above}
+use Rattle.spans.proofs.Between.{added-at, added-ascends}
 use Rattle.spans.proofs.spans.between.add_run.Goals as goal
 
 pub returns-clause-at : goal.returns-clause-at

@@ -1,5 +1,4 @@
-use Rattle.std.proofs.Common.{ℕ, suc, ◌≡◌, ◌+◌, ◌-◌, ◌<◌, ◌≤◌, length, get_or, rules, arith}
-use Rattle.base.specs.Pages.{PageRun}
+use Rattle.std.proofs.Common.{ℕ, suc, ◌≡◌, ◌+◌, ◌-◌, rules, arith}
 use Rattle.spans.specs.Edits.{HasRunAt}
 use Rattle.spans.proofs.Between.{more_at}
 use Rattle.spans.proofs.spans.between.are_at.Goals as goal

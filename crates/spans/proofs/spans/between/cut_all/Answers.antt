@@ -1,4 +1,4 @@
-use Rattle.std.proofs.Common.{◌≡◌, ap, ◌∙◌, rules}
+use Rattle.std.proofs.Common.{ap, ◌∙◌, rules}
 use Rattle.spans.specs.Spans.{ascend, value_at}
 use Rattle.spans.specs.Edits.{AreAt}
 use Rattle.spans.proofs.Between.{cut_between}

@@ -1,5 +1,4 @@
-use Rattle.std.proofs.Common.{ℕ, ◌≡◌, ◌+◌, ◌-◌, ◌<◌, length, ap, ◌∙◌, rules, arith}
-use Rattle.base.specs.Pages.{PageRun}
+use Rattle.std.proofs.Common.{◌≡◌, ◌-◌, length, ap, ◌∙◌, rules, arith}
 use Rattle.spans.specs.Spans.{end_of}
 use Rattle.spans.specs.Edits.{IsAheadOf}
 use Rattle.spans.proofs.Between.{ends_behind, between_from}

@@ -1,7 +1,7 @@
 use Rattle.std.proofs.Common.{◌≡◌, ◌+◌, suc, get_or, arith}
 use Rattle.std.proofs.lemmas.Bool.{ltb-true}
 use Rattle.spans.proofs.Borders.{IsJoined, is_joined, both_alike, both_filled}
-use Rattle.spans.proofs.page_map.borders.join_next.Goals as goal
+use Rattle.spans.proofs.page_map.borders.join_over_next.Goals as goal
 
 joined : (c : goal.After-more-2-1) → IsJoined (get_or c.args.more.now.items c.args.place c.index.result.now) c.drop_last.new.self c.set_first.new.self (get_or c.args.more.now.items (suc c.args.place) c.index-2.result.now)
 joined c =

@@ -1,8 +1,8 @@
 use Rattle.std.proofs.Common.{arith}
 use Rattle.std.proofs.Math.ListN.{set}
 use Rattle.spans.proofs.Borders.{IsFirstJoined, firsts_joined}
-use Rattle.spans.proofs.page_map.borders.join_first.Goals.{After-drop_last}
-use Rattle.spans.proofs.page_map.borders.join_first.Goals as goal
+use Rattle.spans.proofs.page_map.borders.join_over_first.Goals.{After-drop_last}
+use Rattle.spans.proofs.page_map.borders.join_over_first.Goals as goal
 
 joined : (c : goal.After-drop_last) → IsFirstJoined c.args.first.now.spans c.drop_last.new.self.spans c.args.more.now.items (set c.args.more.now.items 0 c.set_first.new.self)
 joined c =
