@@ -188,6 +188,29 @@ nonzero-cleared words page first (suc n) room small others =
     ap (λ w. nonzero_in (words_of (slice_set set (512 * page + (first + n)) w)) page) zero_next ∙ ap (λ w. nonzero_in w page) written in
     omega (arith, new, less, rest)
 
+-- zeros that are to be 0 stay, and nothing is recorded
+pub zeros-stay : (words : List ℕ) (page first n : ℕ) → 512 * page + 512 ≤ length words → first + n ≤ 512 → ((x : ℕ) → x < n → words_of words page (first + x) ≡ 0)
+    → words_set words page first n 0 0 ≡ words
+unfolding words_set
+zeros-stay words page first zero room small zeros = refl
+zeros-stay words page first (suc n) room small zeros =
+    let same = zeros-stay words page first n room (omega (arith, small)) (λ x lt. zeros x (omega (arith, lt))) in
+    let zero_next : 0 + 0 * n ≡ 0 = omega arith in
+    let read : slice_index words (512 * page + (first + n)) ≡ 0 = word-read words page (first + n) (slice_index words (512 * page + (first + n))) (omega (arith, small)) refl ∙ zeros n (omega arith) in
+    rw (same, zero_next) (set-same words (512 * page + (first + n)) 0 (omega (arith, small, room)) read)
+
+pub zeros-make_none : (words : List ℕ) (page first n : ℕ) → 512 * page + 512 ≤ length words → first + n ≤ 512 → ((x : ℕ) → x < n → words_of words page (first + x) ≡ 0)
+    → sets_of words page first n 0 0 ≡ []
+unfolding sets_of
+zeros-make_none words page first zero room small zeros = refl
+zeros-make_none words page first (suc n) room small zeros =
+    let same = zeros-stay words page first n room (omega (arith, small)) (λ x lt. zeros x (omega (arith, lt))) in
+    let none = zeros-make_none words page first n room (omega (arith, small)) (λ x lt. zeros x (omega (arith, lt))) in
+    let zero_next : 0 + 0 * n ≡ 0 = omega arith in
+    let read : slice_index words (512 * page + (first + n)) ≡ 0 = word-read words page (first + n) (slice_index words (512 * page + (first + n))) (omega (arith, small)) refl ∙ zeros n (omega arith) in
+    let test : (slice_index words (512 * page + (first + n)) == 0) ≡ true = grind (arith, nat_tests, read) in
+    rw (same, zero_next, none, test) refl
+
 -- what is not there where a stretch begins is not there once the words before it are written
 pub differ-next : (words : List ℕ) (page first n m word step index next : ℕ) → 512 * page + 512 ≤ length words → first + m ≤ 512 → n < m → first + n ≡ index → word + step * n ≡ next → AllDiffer words page first m word step
     → slice_index (words_set words page first n word step) (512 * page + index) ≢ next

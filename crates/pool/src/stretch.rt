@@ -137,8 +137,51 @@ pub(crate) fn write_others<S: WordStore>(
     (operations, count)
 }
 
-/// The same for words that are looked at first, where the count of the page lets all of them be 0, or none: then
-/// it is known which are not there.
+/// Writes 0 where another word is there, and records each write behind these operations. It answers these, and how
+/// many words of the page are not 0. A part of a table that is emptied has mostly zeros alone, or none: its first word
+/// tells which it is looked at for.
+fn clear_part<S: WordStore>(
+    store: &mut S,
+    operations: Vec<Op>,
+    count: u32,
+    stretch: Stretch,
+) -> (Vec<Op>, u32)
+    requires some { stretch.first < stretch.end }
+    requires index_in { stretch.end ≤ 512 }
+    requires inside { 512 * stretch.page + 512 ≤ length (S.words store.old) }
+    requires zero { stretch.word ≡ 0 }
+    requires same { stretch.step ≡ 0 }
+    requires counted { count ≡ nonzero_in (words_of (S.words store.old)) stretch.page }
+    requires ready { vec_len operations + stretch.end
+        ≤ vec_capacity operations + stretch.first }
+    ensures words { S.words store.new ≡ words_set (S.words store.old) stretch.page stretch.first
+        (stretch.end - stretch.first) stretch.word stretch.step }
+    ensures made { reverse result.0.items ≡ sets_of (S.words store.old) stretch.page stretch.first
+        (stretch.end - stretch.first) stretch.word stretch.step ++ reverse operations.items }
+    ensures counted { result.1 ≡ nonzero_in (words_of (S.words store.new)) stretch.page }
+    ensures capacity { vec_capacity result.0 ≡ vec_capacity operations }
+    ensures len { vec_len result.0 + stretch.first ≤ vec_len operations + stretch.end }
+{
+    let Stretch {
+        page,
+        first,
+        end,
+        ..
+    } = stretch;
+    let written = end - first;
+    if store.word(page, first) == 0 {
+        if store.are_zeros(page, first, end) {
+            return (operations, count);
+        }
+    } else if written <= count && store.are_others(page, first, end) {
+        return (write_all(store, operations, stretch), count - written);
+    }
+    write_others(store, operations, count, stretch)
+}
+
+/// Writes the words of a part that are not there, and records each write behind these operations. It answers these,
+/// and how many words of the page are not 0. Where the count of the page lets all words of the part be 0, they are
+/// looked at together first: if they are, none is there.
 #[inline(always)]
 fn write_part<S: WordStore>(
     store: &mut S,
@@ -146,7 +189,7 @@ fn write_part<S: WordStore>(
     count: u32,
     stretch: Stretch,
 ) -> (Vec<Op>, u32)
-    requires ordered { stretch.first ≤ stretch.end }
+    requires some { stretch.first < stretch.end }
     requires index_in { stretch.end ≤ 512 }
     requires inside { 512 * stretch.page + 512 ≤ length (S.words store.old) }
     requires in_range { stretch.word + stretch.step * (stretch.end - stretch.first) < 2 ^ 64 }
@@ -171,17 +214,13 @@ fn write_part<S: WordStore>(
     if stretch.word > 0 && count <= WORDS - written && store.are_zeros(page, first, end) {
         return (write_all(store, operations, stretch), count + written);
     }
-    if stretch.word == 0
-        && stretch.step == 0
-        && written <= count
-        && store.are_others(page, first, end)
-    {
-        return (write_all(store, operations, stretch), count - written);
+    if stretch.word == 0 && stretch.step == 0 {
+        return clear_part(store, operations, count, stretch);
     }
     write_others(store, operations, count, stretch)
 }
 
-/// The same for many words, part by part.
+/// Writes many words, part by part.
 fn write_parts<S: WordStore>(
     store: &mut S,
     mut operations: Vec<Op>,
@@ -227,7 +266,8 @@ fn write_parts<S: WordStore>(
     (operations, count)
 }
 
-/// The same: where all words of the page are 0, or none is, their count tells which are not there.
+/// Writes many words. Where all words of the page are 0, or none is, their count tells which are not there, and none is
+/// looked at.
 fn write_many<S: WordStore>(
     store: &mut S,
     operations: Vec<Op>,
