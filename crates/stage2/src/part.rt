@@ -56,12 +56,17 @@ pub(crate) fn runs_past(runs: &[Run], first: u32) -> &[Run]
     &runs[ended(runs, first)..]
 }
 
-/// Those of the runs that have a page from one up to another.
+/// Those of the runs that have a page from one up to another. One run alone is told by its bounds.
 pub(crate) fn runs_between(runs: &[Run], first: u32, end: u32) -> &[Run]
     requires { are_normal runs.now ≡ true }
     ensures same { result.now ≡ parts.runs_between first end runs.now }
     ensures normal { are_normal result.now ≡ true }
 {
+    if runs.len() == 1 {
+        let run = runs[0];
+        let is_between = first < run.end() && run.first().number() < end;
+        return &runs[..usize::from(is_between)];
+    }
     let rest = runs_past(runs, first);
     &rest[..begun(rest, end)]
 }
