@@ -139,7 +139,8 @@ pub(crate) fn write_others<S: WordStore>(
 
 /// Writes 0 where another word is there, and records each write behind these operations. It answers these, and how
 /// many words of the page are not 0. A part of a table that is emptied has mostly zeros alone, or none: its first word
-/// tells which it is looked at for.
+/// tells which it is looked at for. It is inlined where it is known that the word and the step are 0.
+#[inline(always)]
 fn clear_part<S: WordStore>(
     store: &mut S,
     operations: Vec<Op>,
