@@ -44,6 +44,11 @@ address-digits first small =
     ap (λ t. t ++ codes "000") (hex_fits 7 first (omega arith) (omega arith) (omega arith))
     ∙ sym (hex_fits 10 (4096 * first) (omega arith) (omega arith) (omega arith) ∙ spelled ∙ append_assoc (page ++ one) one one ∙ append_assoc page one (one ++ one))
 
+-- an address whose digits are filled in, and a space
+pub filled-address : (first : ℕ) (page : List ℕ) → first < 2 ^ 27 → page ≡ hex 7 first → put_mid 0 7 (codes "0000000000 ") page ≡ address_text first ++ codes " "
+filled-address first page small is =
+    ap (λ a. a ++ codes "000 ") is ∙ sym (append_assoc (hex 7 first) (codes "000") (codes " ")) ∙ ap (λ a. a ++ codes " ") (address-digits first small)
+
 -- a line with zeros in place of its digits
 abbrev pub blank_leaf : ℕ → List ℕ
 blank_leaf level = 76 ∷ (48 + level) ∷ codes " 0000000000 0000000000000000\n"

@@ -42,3 +42,13 @@ leaf-behind text line new level first word utf8 most small fits is so =
 pub table-behind : (text line new : List ℕ) (level first : ℕ) → IsUtf8 text → level ≤ 3 → first < 2 ^ 27 → line ≡ table_line level first → new ≡ text ++ line → IsUtf8 new
 table-behind text line new level first utf8 most small is so =
     subst IsUtf8 (sym (so ∙ ap (λ t. text ++ t) is)) (IsUtf8-append text (table_line level first) utf8 (table-utf8 level first most small))
+
+-- pieces behind one another
+pub text-behind : (text more new : List ℕ) → IsUtf8 text → IsUtf8 more → new ≡ text ++ more → IsUtf8 new
+text-behind text more new utf8 also so = subst IsUtf8 (sym so) (IsUtf8-append text more utf8 also)
+
+pub address-behind : (text head new : List ℕ) (first : ℕ) → IsUtf8 text → first < 2 ^ 27 → head ≡ address_text first ++ codes " " → new ≡ text ++ head → IsUtf8 new
+unfolding is_utf8 chars encode
+address-behind text head new first utf8 small is so =
+    let whole : IsUtf8 (address_text first ++ codes " ") = IsUtf8-append (address_text first) (codes " ") (address-text first small) (IsUtf8-from_is_utf8 (codes " ") refl) in
+    text-behind text head new utf8 (subst IsUtf8 (sym is) whole) so

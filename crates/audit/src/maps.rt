@@ -1,13 +1,14 @@
 //! The text of what a partition reaches.
 
 ghost use Rattle.std.specs.Prelude.{◌≡◌, ◌++◌, IfOk, OnOk, string_bytes};
+ghost use Rattle.std.specs.Str.{IsUtf8};
 ghost use Rattle.stage2.specs.Slot.{layout_of};
 ghost use Rattle.stage2.specs.Tables.{view_of};
 ghost use Rattle.audit.specs.Texts as spec;
 
 use crate::digits::push_decimal;
 use crate::runs::{Reached, reached_runs};
-use crate::text::{access_text, kind_text, write_address, write_id};
+use crate::text::{push_access, push_extent, write_id};
 use base::{OutOfMemory, PartitionId};
 use manifest::Manifest;
 use pool::TableMem;
@@ -30,10 +31,14 @@ pub fn maps_text<M: TableMem + Drop>(
     let runs = reached_runs(alloc, manifest, tables, p)?;
     let mut text = String::new(alloc);
     write_header(&mut text, p, runs.len())?;
+    let mut bytes = text.into_bytes();
     for reached in &runs {
-        write_line(&mut text, *reached)?;
+        push_line(&mut bytes, *reached)?;
     }
-    Ok(text)
+    match String::from_utf8(bytes) {
+        Ok(text) => Ok(text),
+        Err(_) => unreachable!(),
+    }
 }
 
 fn write_header(text: &mut String, p: PartitionId, count: usize) -> Result<(), OutOfMemory>
@@ -47,16 +52,11 @@ fn write_header(text: &mut String, p: PartitionId, count: usize) -> Result<(), O
     Ok(text.push_str("\n")?)
 }
 
-fn write_line(text: &mut String, reached: Reached) -> Result<(), OutOfMemory>
-    ensures { OnOk result
-        (string_bytes text.new ≡ string_bytes text.old ++ spec.maps_line reached) }
+fn push_line(text: &mut Vec<u8>, reached: Reached) -> Result<(), OutOfMemory>
+    requires utf8 { IsUtf8 text.old.items }
+    ensures line { OnOk result (text.new.items ≡ text.old.items ++ spec.maps_line reached) }
+    ensures utf8 { OnOk result (IsUtf8 text.new.items) }
 {
-    write_address(text, reached.run().first())?;
-    text.push_str(" ")?;
-    push_decimal(text, u64::from(reached.run().count()))?;
-    text.push_str(" ")?;
-    text.push_str(access_text(reached.access()))?;
-    text.push_str(" ")?;
-    text.push_str(kind_text(reached.access()))?;
-    Ok(text.push_str("\n")?)
+    push_extent(text, reached.run())?;
+    push_access(text, reached.access())
 }
