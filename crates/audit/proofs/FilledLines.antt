@@ -49,6 +49,10 @@ pub filled-address : (first : ℕ) (page : List ℕ) → first < 2 ^ 27 → page
 filled-address first page small is =
     ap (λ a. a ++ codes "000 ") is ∙ sym (append_assoc (hex 7 first) (codes "000") (codes " ")) ∙ ap (λ a. a ++ codes " ") (address-digits first small)
 
+-- a space, and an identifier whose digits are filled in
+pub filled-id : (id : ℕ) (digits : List ℕ) → digits ≡ hex 4 id → put_mid 1 4 (codes " 0000") digits ≡ codes " " ++ hex 4 id
+filled-id id digits is = ap (λ d. codes " " ++ d) (append-nil digits ∙ is)
+
 -- a line with zeros in place of its digits
 abbrev pub blank_leaf : ℕ → List ℕ
 blank_leaf level = 76 ∷ (48 + level) ∷ codes " 0000000000 0000000000000000\n"

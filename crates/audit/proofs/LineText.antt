@@ -1,10 +1,12 @@
 -- Lines of entries are text.
-use Rattle.std.proofs.Common.{◌≡◌, ℕ, ◌*◌, ◌^◌, ◌<◌, ◌≤◌, List, ◌++◌, codes, refl, sym, ap, subst, ◌∙◌, arith}
+use Rattle.std.proofs.Common.{◌≡◌, ℕ, ◌*◌, ◌^◌, ◌<◌, ◌≤◌, List, ◌++◌, codes, refl, sym, ap, subst, ◌∙◌, append_assoc, arith}
 use Rattle.std.specs.Fmt.{decimal}
 use Rattle.std.specs.Str.{IsUtf8, is_utf8, chars}
 use Rattle.std.proofs.lemmas.Fmt.{IsAscii-decimal}
 use Rattle.std.proofs.lemmas.Str.{IsUtf8-append, IsUtf8-from_ascii, IsUtf8-from_is_utf8}
-use Rattle.audit.specs.Texts.{hex, address_text}
+use Rattle.base.specs.Access.{Access}
+use Rattle.base.specs.Pages.{PageRun}
+use Rattle.audit.specs.Texts.{hex, address_text, access_text, kind_text, owners_line}
 use Rattle.audit.specs.TableLines.{leaf_line, table_line}
 use Rattle.audit.proofs.HexDigits.{hex_text}
 use lib.Utf8.{encode}
@@ -52,3 +54,19 @@ unfolding is_utf8 chars encode
 address-behind text head new first utf8 small is so =
     let whole : IsUtf8 (address_text first ++ codes " ") = IsUtf8-append (address_text first) (codes " ") (address-text first small) (IsUtf8-from_is_utf8 (codes " ") refl) in
     text-behind text head new utf8 (subst IsUtf8 (sym is) whole) so
+
+pub id-behind : (text piece new : List ℕ) (id : ℕ) → IsUtf8 text → id < 2 ^ 16 → piece ≡ codes " " ++ hex 4 id → new ≡ text ++ piece → IsUtf8 new
+unfolding is_utf8 chars encode
+id-behind text piece new id utf8 small is so =
+    let whole : IsUtf8 (codes " " ++ hex 4 id) = IsUtf8-append (codes " ") (hex 4 id) (IsUtf8-from_is_utf8 (codes " ") refl) (hex_text 4 id (omega arith) (omega arith) (omega arith)) in
+    text-behind text piece new utf8 (subst IsUtf8 (sym is) whole) so
+
+-- ---- the pieces of a line of owners
+
+regroup : (text address blank count owner access kind end : List ℕ) → text ++ address ++ blank ++ count ++ blank ++ owner ++ blank ++ access ++ blank ++ kind ++ end ≡ text ++ (address ++ blank ++ count ++ blank ++ (owner ++ blank ++ access ++ blank ++ kind) ++ end)
+regroup text address blank count owner access kind end = simp append_assoc
+
+pub owner-line : (text extent piece new : List ℕ) (run : PageRun) (owner : ℕ) (home : Access) → extent ≡ text ++ address_text run.first ++ codes " " ++ decimal run.count → piece ≡ extent ++ codes " " ++ hex 4 owner → new ≡ piece ++ codes " " ++ access_text home ++ codes " " ++ kind_text home ++ codes "\n" → new ≡ text ++ owners_line (record { run = run; value = record { owner = owner; home = home } })
+owner-line text extent piece new run owner home front middle end =
+    end ∙ ap (λ t. t ++ codes " " ++ access_text home ++ codes " " ++ kind_text home ++ codes "\n") (middle ∙ ap (λ t. t ++ codes " " ++ hex 4 owner) front)
+    ∙ regroup text (address_text run.first) (codes " ") (decimal run.count) (hex 4 owner) (access_text home) (kind_text home) (codes "\n")

@@ -1,13 +1,14 @@
 //! The text of who owns which pages.
 
-ghost use Rattle.std.specs.Prelude.{◌≡◌, ◌++◌, ℕ, ◌<◌, ◌≤◌, ◌^◌, true, length, IfOk, OnOk, string_bytes};
+ghost use Rattle.std.specs.Prelude.{◌≡◌, ◌++◌, ℕ, ◌<◌, ◌≤◌, ◌^◌, true, length, codes, IfOk, OnOk, string_bytes};
+ghost use Rattle.std.specs.Str.{IsUtf8};
 ghost use Rattle.audit.specs.Runs as runs;
 ghost use Rattle.audit.specs.Runs.{ownership, ownership_of, is_same_ownership};
 ghost use Rattle.audit.specs.Texts as spec;
 
 use crate::alike::{is_same, region_until};
-use crate::digits::push_decimal;
-use crate::text::{access_text, kind_text, write_address, write_id};
+use crate::digits::{fill_digits, push_decimal};
+use crate::text::{push_access, push_extent};
 use base::{Access, OutOfMemory, Page, PartitionId, Run};
 use ledger::Ledger;
 use manifest::Manifest;
@@ -101,10 +102,14 @@ pub fn owners_text(
     let runs = owned_runs(alloc, manifest, ledger)?;
     let mut text = String::new(alloc);
     write_header(&mut text, runs.len())?;
+    let mut bytes = text.into_bytes();
     for owned in &runs {
-        write_line(&mut text, *owned)?;
+        push_line(&mut bytes, *owned)?;
     }
-    Ok(text)
+    match String::from_utf8(bytes) {
+        Ok(text) => Ok(text),
+        Err(_) => unreachable!(),
+    }
 }
 
 /// The maximal runs of pages with one owner and one home, upward.
@@ -212,29 +217,31 @@ fn write_header(text: &mut String, count: usize) -> Result<(), OutOfMemory>
     ensures { OnOk result
         (string_bytes text.new ≡ string_bytes text.old ++ spec.owners_header count) }
 {
-    writeln!(text, "owners {count}")?;
-    Ok(())
-}
-
-fn write_line(text: &mut String, owned: Owned) -> Result<(), OutOfMemory>
-    ensures { OnOk result
-        (string_bytes text.new ≡ string_bytes text.old ++ spec.owners_line owned) }
-{
-    write_address(text, owned.run.first())?;
-    text.push_str(" ")?;
-    push_decimal(text, u64::from(owned.run.count()))?;
-    text.push_str(" ")?;
-    write_ownership(text, owned.ownership)?;
+    text.push_str("owners ")?;
+    push_decimal(text, count as u64)?;
     Ok(text.push_str("\n")?)
 }
 
-fn write_ownership(text: &mut String, ownership: Ownership) -> Result<(), OutOfMemory>
-    ensures { OnOk result
-        (string_bytes text.new ≡ string_bytes text.old ++ spec.ownership_text ownership) }
+fn push_line(text: &mut Vec<u8>, owned: Owned) -> Result<(), OutOfMemory>
+    requires utf8 { IsUtf8 text.old.items }
+    ensures line { OnOk result (text.new.items ≡ text.old.items ++ spec.owners_line owned) }
+    ensures utf8 { OnOk result (IsUtf8 text.new.items) }
 {
-    write_id(text, ownership.owner)?;
-    text.push_str(" ")?;
-    text.push_str(access_text(ownership.home))?;
-    text.push_str(" ")?;
-    Ok(text.push_str(kind_text(ownership.home))?)
+    let Owned { run, ownership } = owned;
+    push_extent(text, run)?;
+    push_owner(text, ownership.owner)?;
+    push_access(text, ownership.home)?;
+    Ok(())
+}
+
+/// Appends ` OWNER`.
+fn push_owner(text: &mut Vec<u8>, owner: PartitionId) -> Result<(), OutOfMemory>
+    requires utf8 { IsUtf8 text.old.items }
+    ensures owner { OnOk result
+        (text.new.items ≡ text.old.items ++ codes " " ++ spec.hex 4 owner) }
+    ensures utf8 { OnOk result (IsUtf8 text.new.items) }
+{
+    let mut digits = *b" 0000";
+    fill_digits(u64::from(owner.number()), &mut digits[1..5]);
+    Ok(text.extend_from_slice(&digits)?)
 }
