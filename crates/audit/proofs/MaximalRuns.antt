@@ -98,29 +98,7 @@ runs-same same f g (suc n) alike =
     let here = alike n (omega arith) in
     ap₂ (λ (o : Option _) (runs : List (ValuedRun _)). option_map_or (λ a. with_next same runs (valued n 1 a)) o runs) here (runs-same same f g n (λ i lt. alike i (omega (arith, lt))))
 
--- ---- where the last run is taken out and put back
-
-pub pushed-joined : {A : Type 0} (same : A → A → Bool) (found front new : List (ValuedRun A)) (last next both : ValuedRun A) (b : Bool) → found ≡ front ++ last ∷ [] → b ≡ is_followed_by same last next → b ≡ true → both ≡ joined last next → new ≡ front ++ both ∷ [] → new ≡ with_next same found next
-pushed-joined same found front new last next both b was test true_is is now =
-    now ∙ ap (λ x. front ++ x ∷ []) is
-    ∙ ap (λ c. front ++ cond c (joined last next ∷ []) (last ∷ next ∷ [])) (sym true_is ∙ test)
-    ∙ sym (with_next-last same front last next) ∙ ap (λ t. with_next same t next) (sym was)
-
-pub pushed-next : {A : Type 0} (same : A → A → Bool) (found front middle new : List (ValuedRun A)) (last next : ValuedRun A) (b : Bool) → found ≡ front ++ last ∷ [] → b ≡ is_followed_by same last next → b ≡ false → middle ≡ front ++ last ∷ [] → new ≡ middle ++ next ∷ [] → new ≡ with_next same found next
-pushed-next same found front middle new last next b was test false_is half now =
-    now ∙ ap (λ t. t ++ next ∷ []) half ∙ append_assoc front (last ∷ []) (next ∷ [])
-    ∙ ap (λ c. front ++ cond c (joined last next ∷ []) (last ∷ next ∷ [])) (sym false_is ∙ test)
-    ∙ sym (with_next-last same front last next) ∙ ap (λ t. with_next same t next) (sym was)
-
-pub pushed-first : {A : Type 0} (same : A → A → Bool) (found front new : List (ValuedRun A)) (next : ValuedRun A) (n : ℕ) → n ≡ 0 → front ≡ take (n - 1) found → found ≡ front ++ [] → new ≡ front ++ next ∷ [] → new ≡ with_next same found next
-unfolding with_next
-pushed-first same found front new next n none left was now =
-    let zero_is : n - 1 ≡ 0 = omega (arith, none) in
-    let empty : front ≡ [] = left ∙ ap (λ k. take k found) zero_is in
-    let nothing : found ≡ [] = was ∙ ap (λ t. t ++ []) empty in
-    now ∙ ap (λ t. t ++ next ∷ []) empty ∙ ap (λ t. with_next same t next) (sym nothing)
-
--- ---- where the last run is changed in its place
+-- ---- where the last run is changed in its place, or one is put behind it
 
 split-last : {A : Type 0} (found : List (ValuedRun A)) (last : ValuedRun A) → 0 < length found → last ≡ get_or found (length found - 1) last → found ≡ take (length found - 1) found ++ last ∷ []
 split-last found last some is =
@@ -145,8 +123,11 @@ grown-last same found list n last next both read size some is follows so =
 
 pub put-behind : {A : Type 0} (same : A → A → Bool) (found list new : List (ValuedRun A)) (last next : ValuedRun A) → list ≡ found → 0 < length list → last ≡ get_or list (length list - 1) last → is_followed_by same last next ≡ false → new ≡ found ++ next ∷ [] → new ≡ with_next same found next
 put-behind same found list new last next read some is apart now =
-    let was = split-last list last some is in
-    pushed-next same found (take (length list - 1) list) found new last next false (sym read ∙ was) (sym apart) refl (sym read ∙ was) now
+    let front = take (length list - 1) list in
+    let was : found ≡ front ++ last ∷ [] = sym read ∙ split-last list last some is in
+    now ∙ ap (λ t. t ++ next ∷ []) was ∙ append_assoc front (last ∷ []) (next ∷ [])
+    ∙ ap (λ c. front ++ cond c (joined last next ∷ []) (last ∷ next ∷ [])) (sym apart)
+    ∙ sym (with_next-last same front last next) ∙ ap (λ t. with_next same t next) (sym was)
 
 pub put-first : {A : Type 0} (same : A → A → Bool) (found list new : List (ValuedRun A)) (next : ValuedRun A) → list ≡ found → length list ≤ 0 → new ≡ found ++ next ∷ [] → new ≡ with_next same found next
 unfolding with_next

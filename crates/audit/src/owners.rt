@@ -199,16 +199,13 @@ fn push_run(found: &mut Vec<Owned>, next: Owned) -> Result<(), OutOfMemory>
     ensures { OnOk result
         (found.new.items ≡ runs.with_next is_same_ownership found.old.items next) }
 {
-    match found.pop() {
-        Some(last) => {
-            if last.is_followed_by(next) {
-                found.push(last.joined(next))?;
-            } else {
-                found.push(last)?;
-                found.push(next)?;
-            }
+    match found.last() {
+        Some(last) if last.is_followed_by(next) => {
+            let both = last.joined(next);
+            let place = found.len() - 1;
+            found[place] = both;
         }
-        None => found.push(next)?,
+        _ => found.push(next)?,
     }
     Ok(())
 }

@@ -287,8 +287,7 @@ fn push_run(found: &mut Vec<Reached>, next: Reached) -> Result<(), OutOfMemory>
             let place = found.len() - 1;
             found[place] = both;
         }
-        Some(_) => found.push(next)?,
-        None => found.push(next)?,
+        _ => found.push(next)?,
     }
     Ok(())
 }

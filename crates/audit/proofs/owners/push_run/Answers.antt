@@ -1,16 +1,21 @@
-use Rattle.std.proofs.Common.{vec_len}
+use Rattle.std.proofs.Common.{sym, ◌∙◌}
 use Rattle.audit.specs.Runs.{is_same_ownership}
-use Rattle.audit.proofs.MaximalRuns.{pushed-joined, pushed-next, pushed-first}
+use Rattle.audit.proofs.MaximalRuns.{grown-last, put-behind, put-first}
 use Rattle.audit.proofs.owners.push_run.Goals as goal
+use Rattle.audit.proofs.owners.push_run.Goals.{in_default-via-in-Some+else-is_followed_by, in_default-via-in_default}
 
-pub returns-in_ok-push-in-Some : goal.returns-in_ok-push-in-Some
-returns-in_ok-push-in-Some c =
-    pushed-joined is_same_ownership c.args.found.now.items c.pop.new.self.items c.push.new.self.items c.in-Some.last c.args.next c.joined.result c.is_followed_by.result c.in-Some.ensures.items c.is_followed_by.ensures c.if-is_followed_by.true c.joined.ensures c.in_ok-push-in-Some.ensures.items
+pub returns-in-Some : goal.returns-in-Some
+returns-in-Some c =
+    let found = c.args.found.now in
+    let last = c.in-Some.ensures.item in
+    grown-last is_same_ownership found.items c.deref.result.now c.len-place.result c.in-Some.last.now c.args.next c.joined-both.result c.deref.ensures.value (c.len-place.ensures ∙ found.ok.0) last.3.0 last.1 (sym c.is_followed_by.ensures ∙ c.if-is_followed_by.true) c.joined-both.ensures
 
-pub returns-in_ok-push-in-Some-3 : goal.returns-in_ok-push-in-Some-3
-returns-in_ok-push-in-Some-3 c =
-    pushed-next is_same_ownership c.args.found.now.items c.pop.new.self.items c.push-else-is_followed_by.new.self.items c.push-else-is_followed_by-2.new.self.items c.in-Some.last c.args.next c.is_followed_by.result c.in-Some.ensures.items c.is_followed_by.ensures c.if-is_followed_by.false c.in_ok-push-in-Some-2.ensures.items c.in_ok-push-in-Some-3.ensures.items
-
-pub returns-in_ok-push-in-None : goal.returns-in_ok-push-in-None
-returns-in_ok-push-in-None c =
-    pushed-first is_same_ownership c.args.found.now.items c.pop.new.self.items c.push-in-None.new.self.items c.args.next (vec_len c.args.found.now) c.in-None.ensures.cases.0 c.in-None.ensures.rest c.in-None.ensures.items c.in_ok-push-in-None.ensures.items
+pub returns-in_ok-push-in_default : goal.returns-in_ok-push-in_default
+returns-in_ok-push-in_default c =
+    let new = c.in_ok-push-in_default.ensures.items in
+    elim c.in_default.branch [
+      | in_default-via-in-Some+else-is_followed_by w ↦
+          let last = w.in-Some.ensures.item in
+          put-behind is_same_ownership c.args.found.now.items c.deref.result.now c.push.new.self.items w.in-Some.last.now c.args.next c.deref.ensures.value last.3.0 last.1 (sym w.is_followed_by.ensures ∙ w.if-is_followed_by.false) new
+      | in_default-via-in_default w ↦ put-first is_same_ownership c.args.found.now.items c.deref.result.now c.push.new.self.items c.args.next c.deref.ensures.value w.in_default.ensures.item.3 new
+    ]
