@@ -1,6 +1,7 @@
 //! The valid entries of a partition's tables, in address order.
 
 ghost use Rattle.std.specs.Prelude.{◌≡◌, ◌==◌, ◌<◌, ◌≤◌, ◌++◌, ◌∷◌, [], ◌/◌, ◌+◌, ◌*◌, ◌%◌, ◌^◌, ℕ, false, true, Some, is_some, position, IfOk, OnOk};
+ghost use Rattle.pool.specs.Pool.{words_of};
 ghost use Rattle.stage2.specs.Entries.{leaf_for};
 ghost use Rattle.stage2.specs.Slot.{layout_of, slot_from};
 ghost use Rattle.stage2.specs.Walk.{next_page};
@@ -160,8 +161,8 @@ pub(crate) fn leaf_at<M: TableMem + Drop>(
     }
 }
 
-/// The word of a chunk that has no table, in the level 2 table of its gigabyte.
-pub(crate) fn block_word<M: TableMem + Drop>(
+/// The word of a chunk in the level 2 table of its gigabyte: that of its block, where the chunk has no table.
+pub(crate) fn chunk_word<M: TableMem + Drop>(
     tables: &Tables<M>,
     p: PartitionId,
     table: u32,
@@ -169,8 +170,10 @@ pub(crate) fn block_word<M: TableMem + Drop>(
 ) -> u64
     requires chunk { chunk < 262144 }
     requires level2 { reads.IsLevel2 tables.now p (chunk / 512) table }
-    requires alike { reads.is_mixed_in tables.now p chunk ≡ false }
-    ensures { result ≡ leaf_for true (512 * chunk) (view_of tables.now p (512 * chunk)) }
+    ensures same { result ≡ words_of tables.now.pool.memory.words table (chunk % 512) }
+    ensures block { reads.is_mixed_in tables.now p chunk ≡ false
+        → result ≡ leaf_for true (512 * chunk) (view_of tables.now p (512 * chunk)) }
+    ensures canonical { AreCanonical tables.now }
 {
     let _p = p;
     tables.memory().word(table, chunk % WORDS)

@@ -3,17 +3,16 @@
 //! The words of pages behind one another that are reached alike differ in the address alone, and those of pages
 //! that are not reached are all 0. So words are compared, and only the first of such words is decoded.
 
-ghost use Rattle.std.specs.Prelude.{◌≡◌, ◌<◌, ◌≤◌, ◌+◌, ◌*◌, ◌/◌, ◌%◌, ◌^◌, false, true, IfOk, OnOk};
+ghost use Rattle.std.specs.Prelude.{◌≡◌, ◌<◌, ◌≤◌, ◌+◌, ◌*◌, ◌/◌, ◌^◌, false, true, IfOk, OnOk};
 ghost use Rattle.base.specs.Access.{is_same};
 ghost use Rattle.spans.specs.Alike.{IsAlikeUntil};
-ghost use Rattle.pool.specs.Pool.{words_of};
 ghost use Rattle.stage2.specs.Slot.{layout_of};
-ghost use Rattle.stage2.specs.Tables.{view_of, AreCanonical};
+ghost use Rattle.stage2.specs.Tables.{view_of};
 ghost use Rattle.audit.specs.Reads as reads;
 ghost use Rattle.audit.specs.Runs as runs;
 
 use crate::alike::is_same;
-use crate::entries::{CHUNK, WORDS, block_word, leaf_at, level2_table, level3_table, page_word};
+use crate::entries::{CHUNK, WORDS, chunk_word, leaf_at, level2_table, level3_table, page_word};
 use base::{Access, OutOfMemory, Page, PartitionId, Run};
 use manifest::Manifest;
 use pool::TableMem;
@@ -174,7 +173,7 @@ fn blocks_until<M: TableMem + Drop>(
     requires alike { reads.is_mixed_in tables.now p chunk ≡ false }
     ensures { IsAlikeUntil (view_of tables.now p) (512 * chunk) (262144 * (chunk / 512) + 262144) (512 * result) }
 {
-    let mut word = block_word(tables, p, table, chunk);
+    let mut word = chunk_word(tables, p, table, chunk);
     let step = step_from(word, CHUNK);
     let end = WORDS * (chunk / WORDS + 1);
     for next in chunk + 1..end {
@@ -185,17 +184,6 @@ fn blocks_until<M: TableMem + Drop>(
         word = other;
     }
     end
-}
-
-/// The word of a chunk in the level 2 table of its gigabyte.
-fn chunk_word<M: TableMem + Drop>(tables: &Tables<M>, p: PartitionId, table: u32, chunk: u32) -> u64
-    requires chunk { chunk < 262144 }
-    requires level2 { reads.IsLevel2 tables.now p (chunk / 512) table }
-    ensures same { result ≡ words_of tables.now.pool.memory.words table (chunk % 512) }
-    ensures canonical { AreCanonical tables.now }
-{
-    let _p = p;
-    tables.memory().word(table, chunk % WORDS)
 }
 
 /// Appends the pages of a chunk that has a table, where they are reached.

@@ -11,7 +11,7 @@ ghost use Rattle.audit.specs.Reads as reads;
 ghost use Rattle.audit.specs.TableLines as spec;
 
 use crate::digits::fill_digits;
-use crate::entries::{CHUNK, GIGABYTE, WORDS, block_word, level2_table, level3_table, page_word};
+use crate::entries::{CHUNK, GIGABYTE, WORDS, chunk_word, level2_table, level3_table, page_word};
 use base::{OutOfMemory, PartitionId};
 use manifest::Manifest;
 use pool::TableMem;
@@ -89,7 +89,7 @@ fn push_chunk<M: TableMem + Drop>(
             Ok(())
         }
         None => {
-            let word = block_word(tables, p, table, chunk);
+            let word = chunk_word(tables, p, table, chunk);
             push_leaf(2, CHUNK * chunk, word, text)?;
             Ok(())
         }

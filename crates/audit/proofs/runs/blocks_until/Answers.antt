@@ -2,7 +2,6 @@ use Rattle.std.proofs.Common.{◌≡◌, ◌+◌, ◌-◌, ◌*◌, ◌/◌, ◌
 use Rattle.stage2.specs.Entries.{leaf_for}
 use Rattle.stage2.specs.Tables.{view_of}
 use Rattle.audit.specs.Reads.{IsLevel2, is_mixed_in}
-use Rattle.audit.proofs.TableLines.{block-word}
 use Rattle.audit.proofs.AlikeWords.{word-small, step-small, alike-word, next-alike}
 use Rattle.audit.proofs.ReachedRuns.{chunk-alike, alike-chunk, alike-more}
 use Rattle.audit.proofs.runs.blocks_until.Goals as goal
@@ -14,7 +13,7 @@ loop-next-init g c =
     let same : 512 * chunk ≡ 512 * (chunk + 1 - 1) = omega arith in
     record {
       alike = alike-chunk view chunk (262144 * (chunk / 512) + 262144) (omega arith) c.requires.alike;
-      word = c.block_word-word.ensures ∙ ap (λ n. leaf_for true n (view (512 * chunk))) same;
+      word = c.chunk_word-word.ensures.block c.requires.alike ∙ ap (λ n. leaf_for true n (view (512 * chunk))) same;
     }
 
 pub overflow_add-word : goal.overflow_add-word
@@ -22,7 +21,7 @@ overflow_add-word g c =
     let o = view_of c.args.tables.now c.args.p (512 * c.args.chunk) in
     let small = word-small true (512 * (c.loop-next.next - 1)) o (omega (arith, c.requires.chunk, c.loop-next-test.true)) in
     let is = c.loop-next.invariant.word in
-    let step = step-small c.block_word-word.result 512 in
+    let step = step-small c.chunk_word-word.result 512 in
     let from = c.step_from-step.ensures in
     omega (arith, small, is, step, from)
 
@@ -41,9 +40,9 @@ loop-next-preserved g c =
     let more = c.if-other-word.false ∙ ap (λ n. c.loop-next.word + n) c.step_from-step.ensures in
     let canonical = c.chunk_word-other.ensures.canonical in
     let inside : next < 262144 = omega (arith, c.requires.chunk, c.loop-next-test.true) in
-    let unmixed : is_mixed_in t p next ≡ false = next-alike t p next c.args.table (512 * chunk) last c.block_word-word.result c.loop-next.word c.chunk_word-other.result (view (512 * chunk)) canonical inside level2 c.block_word-word.ensures c.loop-next.invariant.word more c.chunk_word-other.ensures.same in
-    let at = c.chunk_word-other.ensures.same ∙ block-word t p next c.args.table canonical inside level2 unmixed in
-    let same : view (512 * next) ≡ view (512 * chunk) = alike-word true (512 * chunk) last 512 c.block_word-word.result c.loop-next.word c.chunk_word-other.result (view (512 * chunk)) (view (512 * next)) c.block_word-word.ensures c.loop-next.invariant.word more (at ∙ ap (λ n. leaf_for true n (view (512 * next))) behind) in
+    let unmixed : is_mixed_in t p next ≡ false = next-alike t p next c.args.table (512 * chunk) last c.chunk_word-word.result c.loop-next.word c.chunk_word-other.result (view (512 * chunk)) canonical inside level2 (c.chunk_word-word.ensures.block c.requires.alike) c.loop-next.invariant.word more c.chunk_word-other.ensures.same in
+    let at = c.chunk_word-other.ensures.block unmixed in
+    let same : view (512 * next) ≡ view (512 * chunk) = alike-word true (512 * chunk) last 512 c.chunk_word-word.result c.loop-next.word c.chunk_word-other.result (view (512 * chunk)) (view (512 * next)) (c.chunk_word-word.ensures.block c.requires.alike) c.loop-next.invariant.word more (at ∙ ap (λ n. leaf_for true n (view (512 * next))) behind) in
     let place : 512 * next ≡ 512 * (next + 1 - 1) = omega arith in
     record {
       alike = alike-more view (512 * chunk) (262144 * (chunk / 512) + 262144) (512 * next) (512 * (next + 1)) (omega arith) (omega (arith, c.loop-next-test.true)) (λ n le lt. chunk-alike view next n unmixed le (omega (arith, lt)) ∙ same) c.loop-next.invariant.alike;

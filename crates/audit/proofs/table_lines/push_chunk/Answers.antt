@@ -1,3 +1,4 @@
+use Rattle.std.proofs.Common.{sym}
 use Rattle.stage2.specs.Tables.{view_of}
 use Rattle.audit.proofs.TableLines.{chunk-mixed, chunk-alike}
 use Rattle.audit.proofs.table_lines.push_chunk.Goals as goal
@@ -8,4 +9,4 @@ returns-in_ok-push_pages-in-Some-clause-lines g c =
 
 pub returns-in_ok-push_leaf-in-None-clause-lines : goal.returns-in_ok-push_leaf-in-None-clause-lines
 returns-in_ok-push_leaf-in-None-clause-lines g c =
-    chunk-alike (view_of c.args.tables.now c.args.p) c.args.chunk c.block_word-word.result c.args.text.now.items c.push_leaf.new.text.items c.in-None.ensures.mixed c.block_word-word.ensures c.in_ok-push_leaf-in-None.ensures.lines
+    chunk-alike (view_of c.args.tables.now c.args.p) c.args.chunk c.chunk_word-word.result c.args.text.now.items c.push_leaf.new.text.items c.in-None.ensures.mixed (c.chunk_word-word.ensures.block (sym c.in-None.ensures.mixed)) c.in_ok-push_leaf-in-None.ensures.lines
