@@ -35,14 +35,11 @@ pub(crate) struct TableEntry {
 }
 
 impl Model for TableEntry {
-    ghost use Rattle.std.specs.Prelude.{◌≡◌, ◌%◌};
     ghost use Rattle.audit.specs.Entries as spec;
 
     ghost Value = { spec.TableEntry };
 
     ghost view = { λ e. record { level = e.level; first = e.first; leaf = e.leaf } };
-
-    ghost invariant = { λ e. e.level ≡ 2 → e.first % 512 ≡ 0 };
 
     ghost inverse = { λ e. record { level = e.level; first = e.first; leaf = e.leaf } };
 }
@@ -300,7 +297,6 @@ fn push_pages<M: TableMem + Drop>(
 /// Appends a table that begins at a page.
 fn push_table(level: u8, first: u32, entries: &mut Vec<TableEntry>) -> Result<(), OutOfMemory>
     requires in_range { first < 2 ^ 27 }
-    requires aligned { level ≡ 2 → first % 512 ≡ 0 }
     ensures { OnOk result
         (entries.new.items ≡ entries.old.items ++ spec.table_entry level first ∷ []) }
 {
@@ -320,7 +316,6 @@ fn push_leaf(
     entries: &mut Vec<TableEntry>,
 ) -> Result<(), OutOfMemory>
     requires in_range { first < 2 ^ 27 }
-    requires aligned { level ≡ 2 → first % 512 ≡ 0 }
     ensures { OnOk result (entries.new.items
         ≡ entries.old.items ++ spec.leaf_entries level first leaf) }
 {
