@@ -168,8 +168,8 @@ front-length first = ap (λ n. 3 + n) (last-length 4 (first / 4096))
 middle-length : (word : ℕ) → length (line_middle word) ≡ 14
 middle-length word = ap (λ n. 4 + n) (last-length 10 (word / 4096 / 4096))
 
-pub turned : (page first last word : ℕ) (line low high : List ℕ) → page < 2 ^ 27 → first < 2 ^ 27 → last < 2 ^ 64 → word < 2 ^ 64 → page / 4096 ≡ first / 512 / 8 → word / 2 ^ 24 ≡ last / 2 ^ 24 → word % 4096 ≡ last % 4096 → line ≡ leaf_line 3 page last → low ≡ hex (length (mid_of 7 3 line)) (first % 4096) → high ≡ hex (length (mid_of 24 3 (put_mid 7 3 line low))) (word / 4096 % 4096) → put_mid 24 3 (put_mid 7 3 line low) high ≡ leaf_line 3 first word
-turned page first last word line low high inside small before fits near top fields is new_low new_high =
+pub exchanged : (page first last word : ℕ) (line low high : List ℕ) → page < 2 ^ 27 → first < 2 ^ 27 → last < 2 ^ 64 → word < 2 ^ 64 → page / 4096 ≡ first / 512 / 8 → word / 2 ^ 24 ≡ last / 2 ^ 24 → word % 4096 ≡ last % 4096 → line ≡ leaf_line 3 page last → low ≡ hex (length (mid_of 7 3 line)) (first % 4096) → high ≡ hex (length (mid_of 24 3 (put_mid 7 3 line low))) (word / 4096 % 4096) → put_mid 24 3 (put_mid 7 3 line low) high ≡ leaf_line 3 first word
+exchanged page first last word line low high inside small before fits near top fields is new_low new_high =
     let front = line_front page in
     let old_low = last_digits 3 (page % 4096) in
     let old_high = last_digits 3 (last / 4096 % 4096) in

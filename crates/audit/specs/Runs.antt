@@ -89,6 +89,7 @@ abbrev pub with_reached : List ReachedRun → ℕ → ℕ → View → List Reac
 with_reached runs first count view =
     option_map_or (λ a. with_next is_same runs (valued first count a)) view runs
 
--- how much more a word is than this one, where it is that of pages so far behind which are reached alike
+-- how much more the word of a page so many pages on is, where both pages are reached alike: the address field grows,
+-- by 4,096 for each page; a word 0 stays 0
 abbrev pub step_from : ℕ → ℕ → ℕ
 step_from word pages = if word == 0 then 0 else 4096 * pages

@@ -20,7 +20,7 @@ use stage2::Tables;
 use std::alloc::Global;
 use std::marker::Model;
 
-/// How much more the word of a page is than that of the page before, where both are reached alike.
+/// By how much the address in a word grows with each page.
 const PAGE_STEP: u64 = 4096;
 
 /// Pages that a partition reaches alike.
@@ -234,7 +234,8 @@ fn pages_until<M: TableMem + Drop>(
     WORDS
 }
 
-/// By how much the word of a page so many pages on is more than this one, where both are reached alike.
+/// How much more the word of a page so many pages on is, where both pages are reached alike: the address grows
+/// with each page. A word 0 stays 0.
 fn step_from(word: u64, pages: u32) -> u64
     ensures { result ≡ runs.step_from word pages }
 {

@@ -16,9 +16,22 @@ use base::{OutOfMemory, PartitionId};
 use manifest::Manifest;
 use pool::TableMem;
 use stage2::Tables;
+use std::ops::Range;
 
 /// How many bytes the line of a block or a page has.
 const LINE: usize = 31;
+
+/// Where a line has the number of its page, in front of three zeros.
+const PAGE: Range<usize> = 3..10;
+
+/// Where the line of a block or a page has its word.
+const WORD: Range<usize> = 14..30;
+
+/// Where it has the last three digits of its page.
+const LAST_OF_PAGE: Range<usize> = 7..10;
+
+/// Where it has those of the page that its word names.
+const LAST_IN_WORD: Range<usize> = 24..27;
 
 /// Appends the lines of all entries, those of a table right after its own. A partition that has no row
 /// has none.
@@ -119,7 +132,7 @@ fn push_pages<M: TableMem + Drop>(
         if word == 0 {
             continue;
         }
-        turn_page(CHUNK * chunk + index, last, word, &mut line);
+        set_page_line(CHUNK * chunk + index, last, word, &mut line);
         text.extend_from_slice(&line)?;
         last = word;
     }
@@ -136,7 +149,7 @@ fn push_table(level: u8, first: u32, text: &mut Vec<u8>) -> Result<(), OutOfMemo
 {
     let mut line = *b"L0 0000000000 table\n";
     line[1] = b'0' + level;
-    fill_digits(u64::from(first), &mut line[3..10]);
+    fill_digits(u64::from(first), &mut line[PAGE]);
     Ok(text.extend_from_slice(&line)?)
 }
 
@@ -167,20 +180,20 @@ fn fill_leaf(level: u8, first: u32, word: u64, line: &mut [u8; LINE])
 {
     *line = *b"L0 0000000000 0000000000000000\n";
     line[1] = b'0' + level;
-    fill_digits(u64::from(first), &mut line[3..10]);
-    fill_digits(word, &mut line[14..30]);
+    fill_digits(u64::from(first), &mut line[PAGE]);
+    fill_digits(word, &mut line[WORD]);
 }
 
-/// Turns the line of a page of a chunk into that of another one. Where pages are reached alike their words
+/// Makes the line of a page of a chunk that of another one. Where pages are reached alike their words
 /// differ in the page alone, so their lines differ in six digits alone.
-fn turn_page(first: u32, last: u64, word: u64, line: &mut [u8; LINE])
+fn set_page_line(first: u32, last: u64, word: u64, line: &mut [u8; LINE])
     requires in_range { first < 2 ^ 27 }
     requires near { spec.IsPageLine (first / 512) last line.old }
     ensures { line.new ≡ spec.leaf_line 3 first word }
 {
     if word >> 24 == last >> 24 && word % 4096 == last % 4096 {
-        fill_digits(u64::from(first) % 4096, &mut line[7..10]);
-        fill_digits((word >> 12) % 4096, &mut line[24..27]);
+        fill_digits(u64::from(first) % 4096, &mut line[LAST_OF_PAGE]);
+        fill_digits((word >> 12) % 4096, &mut line[LAST_IN_WORD]);
     } else {
         fill_leaf(3, first, word, line);
     }

@@ -25,12 +25,12 @@ loop-index-preserved g c =
     let word = c.page_word-word.result in
     let old = c.loop-index.text.items in
     let new = c.extend_from_slice.new.self.items in
-    let line = some-line 3 page word old c.turn_page.new.line new c.if-word-eq0.false c.turn_page.ensures c.in_ok-extend_from_slice.ensures.items in
+    let line = some-line 3 page word old c.set_page_line.new.line new c.if-word-eq0.false c.set_page_line.ensures c.in_ok-extend_from_slice.ensures.items in
     let lines = word-lines false page word (view_of c.args.tables.now c.args.p page) old new c.page_word-word.ensures line in
     record {
       lines = lines-more _ _ _ _ _ c.loop-index.invariant.lines lines;
-      utf8 = leaf-behind old c.turn_page.new.line new 3 page word c.loop-index.invariant.utf8 (omega arith) (omega (arith, c.requires.chunk, c.loop-index-test.true)) (omega arith) c.turn_page.ensures c.in_ok-extend_from_slice.ensures.items;
-      line = record { page = page; inside = omega (arith, c.requires.chunk, c.loop-index-test.true); near = omega (arith, c.loop-index-test.true); spelled = c.turn_page.ensures };
+      utf8 = leaf-behind old c.set_page_line.new.line new 3 page word c.loop-index.invariant.utf8 (omega arith) (omega (arith, c.requires.chunk, c.loop-index-test.true)) (omega arith) c.set_page_line.ensures c.in_ok-extend_from_slice.ensures.items;
+      line = record { page = page; inside = omega (arith, c.requires.chunk, c.loop-index-test.true); near = omega (arith, c.loop-index-test.true); spelled = c.set_page_line.ensures };
     }
 
 pub returns-clause-lines : goal.returns-clause-lines
