@@ -1,4 +1,4 @@
-use Rattle.std.proofs.Common.{◌-◌, ◌++◌, ◌∙◌, List, ℕ, length, drop, ap, arith, append-nil, drop_of_length-le}
+use Rattle.std.proofs.Common.{◌-◌, ◌++◌, ◌∙◌, List, ℕ, length, ap, arith, append-nil, drop_of_length-le}
 use Rattle.std.proofs.Math.ListN.{length-set}
 use Rattle.audit.proofs.HexDigits.{last_digits, last_step, hex_fits, all_written}
 use Rattle.audit.proofs.digits.fill_digits.Goals as goal

@@ -1,4 +1,4 @@
-use Rattle.std.proofs.Common.{◌≡◌, ℕ, cond, List, Some, ap, ◌∙◌}
+use Rattle.std.proofs.Common.{cond, List, Some, ap, ◌∙◌}
 use Rattle.base.specs.Pages.{PageRun, covers}
 use Rattle.base.specs.Transactions.{Donation}
 use Rattle.spans.specs.Spans.{Span, value_at}
