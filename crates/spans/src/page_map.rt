@@ -19,7 +19,7 @@ mod tests;
 use borders::join_borders;
 use edit::set_blocks;
 use place::{get_in_blocks, segment_in_blocks};
-use room::{LIMIT, ready_blocks};
+use room::{LIMIT, WIDE, gather_all, ready_blocks};
 use runs::reach_of;
 
 /// A map from pages to numbers as `Spans` is, whose intervals stand in blocks, so that an edit moves only those
@@ -66,8 +66,9 @@ impl PageMap {
         }
     }
 
-    /// Makes room for one call of `put`, or for one of `put_all` or `cut_all` with this many runs. A refusal changes
-    /// no number. Of a block of many intervals the upper half becomes a block of its own, if there is memory for it.
+    /// Makes room for one call of `put_all` or `cut_all` with this many runs, or of `put` for one. A refusal changes
+    /// no number. Of a block of many intervals the upper half becomes a block of its own, if there is memory for it;
+    /// for more than 512 runs all blocks become one.
     #[inline]
     pub fn ready(&mut self, runs: usize) -> Result<(), OutOfMemory>
         ensures spans { self.new.spans ≡ self.old.spans }
@@ -86,7 +87,10 @@ impl PageMap {
         ensures spans { self.new.spans ≡ self.old.spans }
         ensures room { OnOk result (spec.room_for runs ≤ self.new.room) }
     {
-        if self.spare < runs || LIMIT < self.first.len() {
+        if WIDE < runs {
+            self.spare = 0;
+            gather_all(&mut self.first, &mut self.more, runs)?;
+        } else if self.spare < runs || LIMIT < self.first.len() {
             self.spare = 0;
             self.spare = ready_blocks(
                 &mut self.first,

@@ -9,11 +9,18 @@ use base::{OutOfMemory, Run};
 use std::mem;
 
 /// A block that has more intervals is parted when all blocks get room. Between two such passes an edit may make
-/// one longer, by no more than the room that it got.
+/// one longer, by no more than the room that it got. So many take 32 KB, what a processor has close at hand.
 pub(super) const LIMIT: usize = 2048;
 
-/// For at least so many runs blocks get room, so that most edits find it there.
+/// Two blocks side by side that have no more together become one, far from being parted again.
+const SHORT: usize = LIMIT / 2;
+
+/// Blocks get room for at least so many runs, so that most edits find it there.
 const AHEAD: usize = 64;
+
+/// For more runs than these, one send's at most, all blocks become one, as room for so many in each of them could take
+/// many times the memory of the intervals.
+pub(super) const WIDE: usize = 512;
 
 /// Makes room in both lists for so many runs. What stood in them is dropped.
 fn ready_lists(
@@ -46,13 +53,33 @@ fn gather_first(first: &mut Spans, more: &mut Vec<Spans>)
         *first = more.remove(0);
         return;
     }
-    if LIMIT / 4 < first.len().saturating_add(more[0].len()) {
+    if SHORT < first.len().saturating_add(more[0].len()) {
         return;
     }
     let next = more.remove(0);
     if !first.join(&next) {
         let _ = more.insert(0, next);
     }
+}
+
+/// Makes one block of all, with place for the intervals of so many runs. A refusal leaves all as they are.
+pub(super) fn gather_all(
+    first: &mut Spans,
+    more: &mut Vec<Spans>,
+    runs: usize,
+) -> Result<(), OutOfMemory>
+    requires { AreStacked first.old.spans more.old.items }
+    ensures spans { first.new.spans ++ all_spans more.new.items
+        ≡ first.old.spans ++ all_spans more.old.items }
+    ensures stack { AreStacked first.new.spans more.new.items }
+    ensures one { OnOk result (more.new.items ≡ []) }
+{
+    if more.is_empty() {
+        return Ok(());
+    }
+    first.take_in(more, runs)?;
+    more.clear();
+    Ok(())
 }
 
 /// Parts the first block, if it is long. Where there is no memory for that, it stays as it is.
@@ -84,7 +111,7 @@ fn are_uneven(blocks: &[Spans]) -> bool {
     let mut before = LIMIT;
     for block in blocks {
         let len = block.len();
-        if LIMIT < len || before.saturating_add(len) <= LIMIT / 4 {
+        if LIMIT < len || before.saturating_add(len) <= SHORT {
             return true;
         }
         before = len;
@@ -106,7 +133,7 @@ fn join_last(blocks: &mut Vec<Spans>, next: &Spans) -> bool
     let Some(last) = blocks.last_mut() else {
         return false;
     };
-    last.len().saturating_add(next.len()) <= LIMIT / 4 && last.join(next)
+    last.len().saturating_add(next.len()) <= SHORT && last.join(next)
 }
 
 /// Puts a block behind the others, in places that they have: in two halves, if it is long and there is memory for

@@ -1,7 +1,7 @@
 ghost use Rattle.std.specs.Prelude.{◌≤◌, OnOk};
 ghost use Rattle.spans.specs.Spans.{room_for};
 
-use super::{LIMIT, PageMap};
+use super::{PageMap, WIDE};
 use crate::spans::Spans;
 use base::{OutOfMemory, Page, Run};
 use std::alloc::Global;
@@ -210,7 +210,7 @@ fn many_edits_leave_what_they_leave_in_one_list(rt: HostRuntime) -> Result<(), F
     for _ in 0..150 {
         edit(&rt, &mut pair, &mut draw)?;
         pair.compare_many(&rt, &mut draw, 20);
-        assert_eq!(&rt; pair.len_in_blocks(), pair.list.len());
+        assert!(&rt; pair.len_in_blocks() <= pair.list.len());
         most = most.max(pair.map.more.len());
     }
     assert!(&rt; 2 < most, "there were {most} more blocks");
@@ -336,7 +336,7 @@ fn borders_of_blocks_part_nothing_that_came_back(rt: HostRuntime) -> Result<(), 
         set_each_other(&rt, &mut pair, first, Some(7), round % 3 == 0)?;
         assert_eq!(&rt; pair.len_in_blocks(), 1);
         pair.compare_many(&rt, &mut draw, 200);
-        pair.ready(600)?;
+        pair.ready(WIDE)?;
         assert_eq!(&rt; pair.map.more.len(), 0);
         pair.compare_many(&rt, &mut draw, 20);
     }
@@ -344,11 +344,12 @@ fn borders_of_blocks_part_nothing_that_came_back(rt: HostRuntime) -> Result<(), 
 }
 
 #[test]
-fn many_blocks_are_parted_and_joined_in_one_pass(rt: HostRuntime) -> Result<(), Fail> {
+fn wide_call_makes_one_block_that_is_parted_again(rt: HostRuntime) -> Result<(), Fail> {
     let mut pair = Pair::new(rt.alloc());
     let mut draw = Draw { state: 7 };
     fill(&rt, &mut pair, 16)?;
     pair.ready(1)?;
+    assert!(&rt; 3 < pair.map.more.len());
     let between = Shape {
         first: 1,
         count: 8_000,
@@ -356,27 +357,31 @@ fn many_blocks_are_parted_and_joined_in_one_pass(rt: HostRuntime) -> Result<(), 
         pages: 1,
     };
     pair.shape(&rt, between, Some(8), false)?;
-    let before = pair.map.more.len();
-    assert!(&rt;
-        2 < pair
-            .map
-            .more
-            .iter()
-            .filter(|block| LIMIT < block.len())
-            .count()
-    );
-    pair.ready(600)?;
-    assert!(&rt; before + 3 <= pair.map.more.len());
-    assert_eq!(&rt; pair.len_in_blocks(), pair.list.len());
-    pair.compare_many(&rt, &mut draw, 2_000);
+    assert_eq!(&rt; pair.map.more.len(), 0);
+    for more in [2, 6, 7] {
+        pair.ready(WIDE)?;
+        assert_eq!(&rt; pair.map.more.len(), more);
+        assert_eq!(&rt; pair.len_in_blocks(), pair.list.len());
+        pair.compare_many(&rt, &mut draw, 1_000);
+    }
+    Ok(())
+}
+
+#[test]
+fn blocks_that_become_short_are_joined_in_one_pass(rt: HostRuntime) -> Result<(), Fail> {
+    let mut pair = Pair::new(rt.alloc());
+    let mut draw = Draw { state: 8 };
+    fill(&rt, &mut pair, 32)?;
+    assert!(&rt; 7 < pair.map.more.len());
     let most = Shape {
         first: 1,
-        count: 250,
+        count: 500,
         step: 64,
         pages: 63,
     };
     pair.shape(&rt, most, None, true)?;
-    pair.ready(600)?;
+    assert!(&rt; 7 < pair.map.more.len());
+    pair.ready(WIDE)?;
     assert!(&rt; pair.map.more.len() < 2);
     assert_eq!(&rt; pair.len_in_blocks(), pair.list.len());
     pair.compare_many(&rt, &mut draw, 2_000);

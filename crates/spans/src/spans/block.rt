@@ -1,12 +1,17 @@
 //! What a map of one block among others needs.
 
-ghost use Rattle.std.specs.Prelude.{◌≡◌, ◌-◌, ◌≤◌, ◌<◌, ◌∷◌, ◌++◌, true, false, length, take, drop, IsTrue, IfSome, IfNone, OnOk};
+ghost use Rattle.std.specs.Prelude.{◌≡◌, ◌-◌, ◌≤◌, ◌<◌, ◌∷◌, ◌++◌, true, false, length, take, drop, IsTrue, IfSome, IfNone, OnOk, OnErr};
 ghost use Rattle.spans.specs.Spans as spec;
 ghost use Rattle.spans.specs.Search.{begins_at};
-ghost use Rattle.spans.specs.Blocks.{IsParted, IsSeam};
+ghost use Rattle.spans.specs.Blocks.{all_spans, IsParted, IsSeam};
 
 use super::{Span, Spans};
 use base::{OutOfMemory, Page};
+
+/// How many intervals blocks have.
+fn len_of(blocks: &[Spans]) -> usize {
+    blocks.iter().fold(0_usize, |len, block| len.saturating_add(block.spans.len()))
+}
 
 impl Spans {
     /// The first page that has a number; without one, the number of pages.
@@ -21,7 +26,7 @@ impl Spans {
     }
 
     /// Takes the upper half of its intervals out, as a map of their own that is ready for this many calls. Where
-    /// there is no memory for it, all stay.
+    /// there is no memory for it, all stay. It keeps no more memory than it needs for as many.
     pub(crate) fn split(&mut self, calls: usize) -> Option<Spans>
         requires { 1 < length self.old.spans }
         ensures some { IfSome result (λ upper. IsParted self.old.spans self.new.spans upper.spans) }
@@ -32,6 +37,8 @@ impl Spans {
         let mut upper = Spans::new(*self.spans.allocator());
         upper.fill(&self.spans[place..], calls).ok()?;
         self.spans.truncate(place);
+        self.spans
+            .shrink_to(calls.saturating_mul(3).saturating_add(place));
         Some(upper)
     }
 
@@ -62,6 +69,24 @@ impl Spans {
         ensures kept { result ≡ false → self.new.spans ≡ self.old.spans }
     {
         self.spans.extend_from_slice(&next.spans).is_ok()
+    }
+
+    /// Takes the intervals of all these blocks in behind its own, and has place for those of this many calls then. A
+    /// refusal leaves its own as they are.
+    pub(crate) fn take_in(&mut self, blocks: &[Spans], calls: usize) -> Result<(), OutOfMemory>
+        requires { spec.ascend 0 (self.old.spans ++ all_spans blocks.now) ≡ true }
+        ensures spans { OnOk result (self.new.spans ≡ self.old.spans ++ all_spans blocks.now) }
+        ensures kept { OnErr result (self.new.spans ≡ self.old.spans) }
+    {
+        let mut spans = Vec::new(*self.spans.allocator());
+        let places = calls.saturating_mul(3).saturating_add(self.spans.len());
+        spans.reserve(places.saturating_add(len_of(blocks)))?;
+        spans.extend_from_slice(&self.spans)?;
+        for block in blocks {
+            spans.extend_from_slice(&block.spans)?;
+        }
+        self.spans = spans;
+        Ok(())
     }
 
     /// Its last interval and the first of the next block as one, where they touch and have the same number.

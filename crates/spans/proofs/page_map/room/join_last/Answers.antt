@@ -15,8 +15,8 @@ join-requires c =
     ap (λ (b : SpansView). ascend 0 (b.spans ++ next)) c.in-Some.ensures.value
     ∙ last_ascends 0 (vec_len c.args.blocks.now - 1) bs last next is c.requires.ascending
 
-pub returns-then-saturating_add-clause-spans : goal.returns-then-saturating_add-clause-spans
-returns-then-saturating_add-clause-spans c =
+pub returns-then-saturating_add-le-SHORT-clause-spans : goal.returns-then-saturating_add-le-SHORT-clause-spans
+returns-then-saturating_add-le-SHORT-clause-spans c =
     let bs = c.args.blocks.now.items in
     let last = c.in-Some.last.now in
     let next = c.args.next.now.spans in

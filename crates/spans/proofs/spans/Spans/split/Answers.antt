@@ -12,4 +12,4 @@ fill-requires c =
     rw (take_all (length items - i) (drop i items) (omega (arith, length-drop i items))) (record { ascending = ascend-dropped i items ascends })
 
 pub invariant_of-self : goal.invariant_of-self
-invariant_of-self c = rw c.truncate.ensures.items (ascend-taken (c.len-place.result / 2) c.self.inside.spans.items c.self.invariant)
+invariant_of-self c = rw (c.shrink_to.ensures.items, c.truncate.ensures.items) (ascend-taken (c.len-place.result / 2) c.self.inside.spans.items c.self.invariant)
