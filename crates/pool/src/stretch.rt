@@ -10,7 +10,7 @@ use crate::word_store::WordStore;
 /// How many words a page has.
 pub(crate) const WORDS: u32 = 512;
 
-/// How many words are looked at, at most, before they are written.
+/// How many words are looked at, at most, before they are written: 512 bytes, which are close at hand then.
 const MOST: u32 = 64;
 
 /// Fewer words than these are written one by one: to look at them all before takes longer.

@@ -19,7 +19,7 @@ use std::mem::replace;
 #[cfg(test)]
 mod tests;
 
-/// How many marks of pages are looked at at once.
+/// How many marks of pages, of one byte each, are looked at at once: two registers hold them.
 const AT_ONCE: u32 = 32;
 
 /// Table memory whose words stand in a store, 512 for each page, page by page. `taken` has a mark for
