@@ -7,7 +7,7 @@ ghost use Rattle.stage2.specs.Parts as parts;
 use crate::place::{Chunk, Gigabyte};
 use base::{Page, Run};
 
-/// How many runs are looked at one by one before they are halved.
+/// How many runs are looked at one by one before they are halved: from chunk to chunk mostly one ends, or none.
 const LOOKS: usize = 2;
 
 /// Pages of a chunk that follow one another, all of which the runs have, or none.
