@@ -12,6 +12,7 @@ pub mod MaximalRuns
 pub mod OwnedRuns
 pub mod SameEntries
 pub mod SameTexts
+pub mod SameWords
 pub mod TableLines
 pub mod WordReads
 pub mod Quotas

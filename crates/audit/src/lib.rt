@@ -13,6 +13,7 @@ mod maps;
 mod owners;
 mod rebuilt;
 mod runs;
+mod same_words;
 mod table_lines;
 mod tables;
 mod text;
