@@ -4,6 +4,7 @@ ghost use Rattle.spans.specs.Spans as spec;
 
 use crate::find::Segment;
 use crate::spans::Spans;
+use base::limits::MOST_RANGES;
 use base::{OutOfMemory, Page, Run};
 use std::alloc::Global;
 use std::marker::Model;
@@ -19,14 +20,16 @@ mod tests;
 use borders::join_borders;
 use edit::set_blocks;
 use place::{get_in_blocks, segment_in_blocks};
-use room::{LIMIT, WIDE, gather_all, ready_blocks};
+use room::{LIMIT, gather_all, ready_blocks};
 use runs::reach_of;
 
 /// A map from pages to numbers as `Spans` is, whose intervals stand in blocks, so that an edit moves only those
 /// of the blocks that it touches. All intervals of a block end before the next block begins; runs that are put make
 /// one interval with those of their number that they touch, in other blocks too. A map of few intervals has one
 /// block. Beside the blocks is memory in which the runs of an edit are put in order, and cut to what a block has of
-/// them. Each block behind the first has room for so many runs at least as `spare` says, and so have both lists.
+/// them. Each block behind the first has room for so many runs at least as `spare` says, and so have both lists. For
+/// more runs than a send has, all blocks become one, since room for so many in each could take many times the memory
+/// of the intervals; it is not parted in the next `whole` calls, which pay for that.
 #[derive(Drop)]
 pub struct PageMap {
     first: Spans,
@@ -34,6 +37,7 @@ pub struct PageMap {
     sorted: Vec<Run>,
     clipped: Vec<Run>,
     spare: usize,
+    whole: usize,
 }
 
 impl Model for PageMap {
@@ -63,12 +67,13 @@ impl PageMap {
             sorted: Vec::new(alloc),
             clipped: Vec::new(alloc),
             spare: 0,
+            whole: 0,
         }
     }
 
     /// Makes room for one call of `put_all` or `cut_all` with this many runs, or of `put` for one. A refusal changes
-    /// no number. Of a block of many intervals the upper half becomes a block of its own, if there is memory for it;
-    /// for more than 512 runs all blocks become one.
+    /// no number. For up to 512 runs the upper half of a block of many intervals becomes a block of its own, if there is
+    /// memory for it; for more, all blocks become one.
     #[inline]
     pub fn ready(&mut self, runs: usize) -> Result<(), OutOfMemory>
         ensures spans { self.new.spans ≡ self.old.spans }
@@ -87,9 +92,10 @@ impl PageMap {
         ensures spans { self.new.spans ≡ self.old.spans }
         ensures room { OnOk result (spec.room_for runs ≤ self.new.room) }
     {
-        if WIDE < runs {
-            self.spare = 0;
-            gather_all(&mut self.first, &mut self.more, runs)?;
+        if MOST_RANGES < runs && gather_all(&mut self.first, &mut self.more, runs).is_ok() {
+            self.whole = self.first.len();
+        } else if self.more.is_empty() && 0 < self.whole {
+            self.whole -= 1;
         } else if self.spare < runs || LIMIT < self.first.len() {
             self.spare = 0;
             self.spare = ready_blocks(

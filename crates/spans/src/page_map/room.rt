@@ -1,6 +1,6 @@
-//! Makes room in each block, and parts those that have grown long.
+//! Makes room in each block, parts those that have grown long, and joins short ones.
 
-ghost use Rattle.std.specs.Prelude.{◌≡◌, ◌≤◌, ◌<◌, ◌+◌, ◌++◌, min, true, drop, vec_len, vec_capacity, OnOk, IfOk, length, [], ◌∷◌, if◌then◌else◌};
+ghost use Rattle.std.specs.Prelude.{◌≡◌, ◌≤◌, ◌<◌, ◌+◌, ◌++◌, min, true, drop, vec_len, vec_capacity, OnOk, OnErr, IfOk, length, [], ◌∷◌, if◌then◌else◌};
 ghost use Rattle.spans.specs.Spans as spec;
 ghost use Rattle.spans.specs.Blocks.{all_spans, AreFilled, HaveRoom, IsStack, AreReady, AreStacked};
 
@@ -8,8 +8,8 @@ use crate::spans::Spans;
 use base::{OutOfMemory, Run};
 use std::mem;
 
-/// A block that has more intervals is parted when all blocks get room. Between two such passes an edit may make
-/// one longer, by no more than the room that it got. So many take 32 KB, what a processor has close at hand.
+/// A block that has more intervals is parted when all blocks get room. So many take 32 KB, what a processor has close
+/// at hand. Between two such passes an edit may make one longer, by no more than the room that it got.
 pub(super) const LIMIT: usize = 2048;
 
 /// Two blocks side by side that have no more together become one, far from being parted again.
@@ -17,10 +17,6 @@ const SHORT: usize = LIMIT / 2;
 
 /// Blocks get room for at least so many runs, so that most edits find it there.
 const AHEAD: usize = 64;
-
-/// For more runs than these, one send's at most, all blocks become one, as room for so many in each of them could take
-/// many times the memory of the intervals.
-pub(super) const WIDE: usize = 512;
 
 /// Makes room in both lists for so many runs. What stood in them is dropped.
 fn ready_lists(
@@ -62,7 +58,7 @@ fn gather_first(first: &mut Spans, more: &mut Vec<Spans>)
     }
 }
 
-/// Makes one block of all, with place for the intervals of so many runs. A refusal leaves all as they are.
+/// Makes one block of all, with place for the intervals of so many runs.
 pub(super) fn gather_all(
     first: &mut Spans,
     more: &mut Vec<Spans>,
@@ -73,6 +69,7 @@ pub(super) fn gather_all(
         ≡ first.old.spans ++ all_spans more.old.items }
     ensures stack { AreStacked first.new.spans more.new.items }
     ensures one { OnOk result (more.new.items ≡ []) }
+    ensures kept { OnErr result (more.new.items ≡ more.old.items) }
 {
     if more.is_empty() {
         return Ok(());

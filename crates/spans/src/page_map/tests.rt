@@ -1,7 +1,7 @@
 ghost use Rattle.std.specs.Prelude.{◌≤◌, OnOk};
 ghost use Rattle.spans.specs.Spans.{room_for};
 
-use super::{PageMap, WIDE};
+use super::{MOST_RANGES, PageMap};
 use crate::spans::Spans;
 use base::{OutOfMemory, Page, Run};
 use std::alloc::Global;
@@ -210,6 +210,7 @@ fn many_edits_leave_what_they_leave_in_one_list(rt: HostRuntime) -> Result<(), F
     for _ in 0..150 {
         edit(&rt, &mut pair, &mut draw)?;
         pair.compare_many(&rt, &mut draw, 20);
+        // Where runs share pages one list may leave two that touch, and blocks join them over a border.
         assert!(&rt; pair.len_in_blocks() <= pair.list.len());
         most = most.max(pair.map.more.len());
     }
@@ -336,7 +337,7 @@ fn borders_of_blocks_part_nothing_that_came_back(rt: HostRuntime) -> Result<(), 
         set_each_other(&rt, &mut pair, first, Some(7), round % 3 == 0)?;
         assert_eq!(&rt; pair.len_in_blocks(), 1);
         pair.compare_many(&rt, &mut draw, 200);
-        pair.ready(WIDE)?;
+        pair.ready(MOST_RANGES)?;
         assert_eq!(&rt; pair.map.more.len(), 0);
         pair.compare_many(&rt, &mut draw, 20);
     }
@@ -344,7 +345,7 @@ fn borders_of_blocks_part_nothing_that_came_back(rt: HostRuntime) -> Result<(), 
 }
 
 #[test]
-fn wide_call_makes_one_block_that_is_parted_again(rt: HostRuntime) -> Result<(), Fail> {
+fn one_block_of_a_wide_call_is_parted_after_as_many_calls(rt: HostRuntime) -> Result<(), Fail> {
     let mut pair = Pair::new(rt.alloc());
     let mut draw = Draw { state: 7 };
     fill(&rt, &mut pair, 16)?;
@@ -358,8 +359,16 @@ fn wide_call_makes_one_block_that_is_parted_again(rt: HostRuntime) -> Result<(),
     };
     pair.shape(&rt, between, Some(8), false)?;
     assert_eq!(&rt; pair.map.more.len(), 0);
+    let len = pair.len_in_blocks();
+    for _ in 0..2 {
+        pair.ready(MOST_RANGES + 1)?;
+        for _ in 0..len {
+            assert_eq!(&rt; pair.map.more.len(), 0);
+            pair.ready(1)?;
+        }
+    }
     for more in [2, 6, 7] {
-        pair.ready(WIDE)?;
+        pair.ready(MOST_RANGES)?;
         assert_eq!(&rt; pair.map.more.len(), more);
         assert_eq!(&rt; pair.len_in_blocks(), pair.list.len());
         pair.compare_many(&rt, &mut draw, 1_000);
@@ -381,7 +390,7 @@ fn blocks_that_become_short_are_joined_in_one_pass(rt: HostRuntime) -> Result<()
     };
     pair.shape(&rt, most, None, true)?;
     assert!(&rt; 7 < pair.map.more.len());
-    pair.ready(WIDE)?;
+    pair.ready(MOST_RANGES)?;
     assert!(&rt; pair.map.more.len() < 2);
     assert_eq!(&rt; pair.len_in_blocks(), pair.list.len());
     pair.compare_many(&rt, &mut draw, 2_000);

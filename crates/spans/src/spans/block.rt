@@ -26,7 +26,7 @@ impl Spans {
     }
 
     /// Takes the upper half of its intervals out, as a map of their own that is ready for this many calls. Where
-    /// there is no memory for it, all stay. It keeps no more memory than it needs for as many.
+    /// there is no memory for it, all stay. What its own then do not need goes back, if it can.
     pub(crate) fn split(&mut self, calls: usize) -> Option<Spans>
         requires { 1 < length self.old.spans }
         ensures some { IfSome result (λ upper. IsParted self.old.spans self.new.spans upper.spans) }
