@@ -47,6 +47,28 @@ pub roots-new : (roots shares row : ℕ) → row < roots → taken_of (replicate
 unfolding taken_of
 roots-new roots shares row below = grind (arith, common_steps)
 
+-- ---- pages that are taken stand in memory
+
+-- a page that stands may be taken, and one may be given back
+pub standing-mark : (taken : List Bool) (stood stands : ℕ → Bool) (page : ℕ) (is : Bool) → page < length taken → (is ≡ true → stands page ≡ true) → ((q : ℕ) → stood q ≡ true → stands q ≡ true)
+    → ((q : ℕ) → taken_of taken q ≡ true → stood q ≡ true)
+    → (q : ℕ) → taken_of (slice_set taken page is) q ≡ true → stands q ≡ true
+unfolding mark
+standing-mark taken stood stands page is inside here kept old q held =
+    let marked = rw (taken_of-set taken page is inside) at held in
+    elim (cases_eq q page) [
+      | inl same ↦ rw same (here (grind (arith, nat_tests, same, marked)))
+      | inr other ↦ kept q (old q (grind (arith, nat_tests, other, marked)))
+    ]
+
+-- at first the roots alone are taken
+pub taken_of-new : (roots shares page : ℕ) → taken_of (replicate roots true ++ replicate shares false) page ≡ true → page < roots
+unfolding taken_of
+taken_of-new roots shares page held = elim (cases_lt page roots) [
+  | inl root ↦ root
+  | inr share ↦ absurd (grind (arith, common_steps, share, held))
+]
+
 -- ---- the search for a free page
 
 pub taken_of-read : (items : List Bool) (page : ℕ) (is : Bool) → is ≡ slice_index_or items page is → page < length items → taken_of items page ≡ is

@@ -1,4 +1,4 @@
-ghost use Rattle.std.specs.Prelude.{◌≡◌, ◌≢◌, ℕ, ◌+◌, ◌-◌, ◌*◌, ◌/◌, ◌^◌, ◌<◌, ◌≤◌, List, Bool, None, true, false, length, replicate, slice_index, slice_index_or};
+ghost use Rattle.std.specs.Prelude.{◌≡◌, ◌≢◌, ℕ, ◌+◌, ◌-◌, ◌*◌, ◌/◌, ◌^◌, ◌<◌, ◌≤◌, List, Bool, None, true, false, length, replicate, slice_index, slice_index_or, IfOk};
 ghost use Rattle.pool.specs.Cells.{held, with_zeros, IsPageFilled, IsPageEmpty, AreMarked};
 ghost use Rattle.pool.specs.Pool.{words_of, words_set};
 
@@ -30,6 +30,13 @@ pub struct Block {
     ghost counted: { length cells.slots ≡ count },
     ghost sized: { count < 512 * length marks.items + 512 },
     ghost marked: { AreMarked marks.items cells.slots },
+}
+
+/// The marks of so many pages, none of which has one.
+fn unmarked(alloc: Global, pages: usize) -> Result<Vec<bool>, OutOfMemory>
+    ensures { IfOk result (λ marks. marks.items ≡ replicate pages false) }
+{
+    Ok(vec![in alloc; false; pages]?)
 }
 
 /// Whether the page of a place has a mark.
@@ -149,8 +156,9 @@ impl Block {
     fn hold(&mut self, page: u32)
         requires { 512 * page + 512 ≤ self.old.count }
         ensures words { held self.new.cells.slots ≡ held self.old.cells.slots }
-        ensures count { self.new.count ≡ self.old.count }
-        ensures filled { IsPageFilled self.new.cells.slots page }
+        ensures filled { slice_index_or self.new.marks.items page false ≡ true }
+        ensures kept { (q : ℕ) → slice_index_or self.old.marks.items q false ≡ true
+            → slice_index_or self.new.marks.items q false ≡ true }
     {
         if !self.marks[page as usize] {
             fill_page(self.base, &mut self.cells, page);
@@ -189,20 +197,27 @@ impl Drop for Block {
 impl WordStore for Block {
     ghost words = { λ b. held b.cells.slots };
 
+    ghost stands = { λ b page. slice_index_or b.marks.items page false };
+
     fn zeroed(alloc: Global, count: usize) -> Result<Self, OutOfMemory> {
         if !may_hold::<u64>(count) {
             return Err(OutOfMemory);
         }
-        let marks = vec![in alloc; false; count / PAGE]?;
         let (base, cells, deed) = allocate(&alloc, count)?;
-        Ok(Block {
-            base,
-            count,
-            cells,
-            marks,
-            deed,
-            alloc,
-        })
+        match unmarked(alloc, count / PAGE) {
+            Ok(marks) => Ok(Block {
+                base,
+                count,
+                cells,
+                marks,
+                deed,
+                alloc,
+            }),
+            Err(error) => {
+                deallocate(&alloc, base, count, cells, deed);
+                Err(error)
+            }
+        }
     }
 
     fn fill(&mut self, page: u32) {
@@ -219,24 +234,28 @@ impl WordStore for Block {
         }
     }
 
+    fn standing_word(&self, page: u32, index: u32) -> u64 {
+        *self
+            .cells
+            .get(self.base, PAGE * page as usize + index as usize)
+    }
+
     fn set_word(&mut self, page: u32, index: u32, word: u64) {
-        self.hold(page);
         let place = PAGE * page as usize + index as usize;
         let _old = self.cells.read(self.base, place);
         self.cells.write(self.base, place, word);
     }
 
     fn set_words(&mut self, page: u32, first: u32, end: u32, word: u64, step: u64) {
-        self.hold(page);
         put_words(self.base, &mut self.cells, page, first, end, word, step);
     }
 
     fn are_zeros(&self, page: u32, first: u32, end: u32) -> bool {
-        !self.marks[page as usize] || are_zeros(self.base, &self.cells, page, first, end)
+        are_zeros(self.base, &self.cells, page, first, end)
     }
 
     fn are_others(&self, page: u32, first: u32, end: u32) -> bool {
-        self.marks[page as usize] && are_others(self.base, &self.cells, page, first, end)
+        are_others(self.base, &self.cells, page, first, end)
     }
 
     fn copy(&self, alloc: Global) -> Result<Vec<u64>, OutOfMemory> {

@@ -1,3 +1,5 @@
+ghost use Rattle.std.specs.Prelude.{true};
+
 use crate::table_pool::TablePool;
 use crate::word_store::WordStore;
 use base::OutOfMemory;
@@ -9,6 +11,8 @@ pub type ListPool = TablePool<Vec<u64>>;
 impl WordStore for Vec<u64> {
     ghost words = { λ v. v.items };
 
+    ghost stands = { λ _ _. true };
+
     fn zeroed(alloc: Global, count: usize) -> Result<Self, OutOfMemory> {
         Ok(vec![in alloc; 0; count]?)
     }
@@ -16,6 +20,10 @@ impl WordStore for Vec<u64> {
     fn fill(&mut self, _page: u32) {}
 
     fn word(&self, page: u32, index: u32) -> u64 {
+        self[512 * page as usize + index as usize]
+    }
+
+    fn standing_word(&self, page: u32, index: u32) -> u64 {
         self[512 * page as usize + index as usize]
     }
 

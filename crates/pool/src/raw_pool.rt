@@ -1,5 +1,5 @@
 ghost use Rattle.std.specs.Prelude.{◌≡◌};
-ghost use Rattle.pool.specs.Address.{address_of};
+ghost use Rattle.pool.specs.Address.{address_of, AreTakenWritten};
 
 use crate::block::Block;
 use crate::table_pool::TablePool;
@@ -17,9 +17,16 @@ pub type RawPool = TablePool<Block>;
 
 impl TablePool<Block> {
     /// Where the word of page 0 at index 0 lies. The pointer is good as long as the memory is, and
-    /// gives no right to read or write there.
+    /// gives no right to read or write there. Each root and each page that is taken is written there; a page
+    /// that was never taken holds what was there before.
+    ///
+    /// No processor walks the block while a call changes the memory. What is proved of walkers is said of the
+    /// list of operations, done one by one; here words that follow one another are written together once all
+    /// their operations are recorded, in any order, and not by one store of 64 bits each. Tables that are walked
+    /// meanwhile are others, on which the operations are replayed.
     pub fn address(&self) -> *const u64
-        ensures { result ≡ address_of self.now }
+        ensures place { result ≡ address_of self.now }
+        ensures written { AreTakenWritten self.now }
     {
         self.store.address()
     }

@@ -1,6 +1,6 @@
 //! Words that are replaced, one after another: what stands there is broken first.
 
-ghost use Rattle.std.specs.Prelude.{◌≡◌, ◌≢◌, ◌+◌, ◌-◌, ◌*◌, ◌^◌, ◌<◌, ◌≤◌, ◌++◌, ◌∷◌, [], length, vec_len, vec_capacity};
+ghost use Rattle.std.specs.Prelude.{◌≡◌, ◌≢◌, ◌+◌, ◌-◌, ◌*◌, ◌^◌, ◌<◌, ◌≤◌, ◌++◌, ◌∷◌, [], length, true, vec_len, vec_capacity};
 ghost use Rattle.pool.specs.Pool.{Pool, words_of, nonzero_in, after_set, after_break, after_make, after_replaces};
 ghost use Rattle.pool.specs.Shown.{IsShown};
 ghost use Rattle.pool.specs.declared.operation.Op.TheVariants.{Invalidate};
@@ -52,17 +52,19 @@ fn break_word<S: WordStore>(
 ) -> u32
     requires index_in { index < 512 }
     requires inside { 512 * page + 512 ≤ length (S.words store.old) }
+    requires standing { S.stands store.old page ≡ true }
     requires counted { count ≡ nonzero_in (words_of (S.words store.old)) page }
     requires ready { vec_len operations.old + 2 ≤ vec_capacity operations.old }
     ensures shown { (pool : Pool) → IsShown (S.words store.old) operations.old.items pool
         → IsShown (S.words store.new) operations.new.items (after_break who page index run pool) }
     ensures zero { words_of (S.words store.new) page index ≡ 0 }
+    ensures standing { S.stands store.new ≡ S.stands store.old }
     ensures whole { length (S.words store.new) ≡ length (S.words store.old) }
     ensures counted { result ≡ nonzero_in (words_of (S.words store.new)) page }
     ensures capacity { vec_capacity operations.new ≡ vec_capacity operations.old }
     ensures len { vec_len operations.new ≤ vec_len operations.old + 2 }
 {
-    let before = store.word(page, index);
+    let before = store.standing_word(page, index);
     if before == 0 {
         return count;
     }
@@ -87,11 +89,13 @@ fn make_word<S: WordStore>(
 ) -> u32
     requires index_in { index < 512 }
     requires inside { 512 * page + 512 ≤ length (S.words store.old) }
+    requires standing { S.stands store.old page ≡ true }
     requires zero { words_of (S.words store.old) page index ≡ 0 }
     requires counted { count ≡ nonzero_in (words_of (S.words store.old)) page }
     requires ready { vec_len operations.old < vec_capacity operations.old }
     ensures shown { (pool : Pool) → IsShown (S.words store.old) operations.old.items pool
         → IsShown (S.words store.new) operations.new.items (after_make page index word pool) }
+    ensures standing { S.stands store.new ≡ S.stands store.old }
     ensures whole { length (S.words store.new) ≡ length (S.words store.old) }
     ensures counted { result ≡ nonzero_in (words_of (S.words store.new)) page }
     ensures capacity { vec_capacity operations.new ≡ vec_capacity operations.old }
@@ -111,6 +115,7 @@ fn make_all<S: WordStore>(store: &mut S, operations: Vec<Op>, with: Replacement)
     requires ordered { with.first ≤ with.end }
     requires index_in { with.end ≤ 512 }
     requires inside { 512 * with.page + 512 ≤ length (S.words store.old) }
+    requires standing { S.stands store.old with.page ≡ true }
     requires in_range { with.word + with.step * (with.end - with.first) < 2 ^ 64 }
     requires none { nonzero_in (words_of (S.words store.old)) with.page ≡ 0 }
     requires some { 0 < with.word }
@@ -119,6 +124,7 @@ fn make_all<S: WordStore>(store: &mut S, operations: Vec<Op>, with: Replacement)
     ensures shown { (pool : Pool) → IsShown (S.words store.old) operations.items pool
         → IsShown (S.words store.new) result.0.items (after_replaces with.who with.page with.first
         (with.end - with.first) with.word with.step with.start pool) }
+    ensures standing { S.stands store.new ≡ S.stands store.old }
     ensures whole { length (S.words store.new) ≡ length (S.words store.old) }
     ensures counted { result.1 ≡ nonzero_in (words_of (S.words store.new)) with.page }
     ensures capacity { vec_capacity result.0 ≡ vec_capacity operations }
@@ -144,6 +150,7 @@ fn break_all<S: WordStore>(
     requires ordered { with.first ≤ with.end }
     requires index_in { with.end ≤ 512 }
     requires inside { 512 * with.page + 512 ≤ length (S.words store.old) }
+    requires standing { S.stands store.old with.page ≡ true }
     requires pages_in { with.start + 512 * (with.end - with.first) ≤ 2 ^ 27 }
     requires all { nonzero_in (words_of (S.words store.old)) with.page ≡ 512 }
     requires zero { with.word ≡ 0 }
@@ -153,6 +160,7 @@ fn break_all<S: WordStore>(
     ensures shown { (pool : Pool) → IsShown (S.words store.old) operations.items pool
         → IsShown (S.words store.new) result.0.items (after_replaces with.who with.page with.first
         (with.end - with.first) with.word with.step with.start pool) }
+    ensures standing { S.stands store.new ≡ S.stands store.old }
     ensures whole { length (S.words store.new) ≡ length (S.words store.old) }
     ensures counted { result.1 ≡ nonzero_in (words_of (S.words store.new)) with.page }
     ensures capacity { vec_capacity result.0 ≡ vec_capacity operations }
@@ -182,6 +190,7 @@ fn replace_others<S: WordStore>(
     requires ordered { with.first ≤ with.end }
     requires index_in { with.end ≤ 512 }
     requires inside { 512 * with.page + 512 ≤ length (S.words store.old) }
+    requires standing { S.stands store.old with.page ≡ true }
     requires in_range { with.word + with.step * (with.end - with.first) < 2 ^ 64 }
     requires pages_in { with.start + 512 * (with.end - with.first) ≤ 2 ^ 27 }
     requires counted { count ≡ nonzero_in (words_of (S.words store.old)) with.page }
@@ -190,6 +199,7 @@ fn replace_others<S: WordStore>(
     ensures shown { (pool : Pool) → IsShown (S.words store.old) operations.items pool
         → IsShown (S.words store.new) result.0.items (after_replaces with.who with.page with.first
         (with.end - with.first) with.word with.step with.start pool) }
+    ensures standing { S.stands store.new ≡ S.stands store.old }
     ensures whole { length (S.words store.new) ≡ length (S.words store.old) }
     ensures counted { result.1 ≡ nonzero_in (words_of (S.words store.new)) with.page }
     ensures capacity { vec_capacity result.0 ≡ vec_capacity operations }
@@ -225,6 +235,7 @@ fn replace_all<S: WordStore>(
     requires ordered { with.first ≤ with.end }
     requires index_in { with.end ≤ 512 }
     requires inside { 512 * with.page + 512 ≤ length (S.words store.old) }
+    requires standing { S.stands store.old with.page ≡ true }
     requires in_range { with.word + with.step * (with.end - with.first) < 2 ^ 64 }
     requires pages_in { with.start + 512 * (with.end - with.first) ≤ 2 ^ 27 }
     requires counted { count ≡ nonzero_in (words_of (S.words store.old)) with.page }
@@ -233,6 +244,7 @@ fn replace_all<S: WordStore>(
     ensures shown { (pool : Pool) → IsShown (S.words store.old) operations.items pool
         → IsShown (S.words store.new) result.0.items (after_replaces with.who with.page with.first
         (with.end - with.first) with.word with.step with.start pool) }
+    ensures standing { S.stands store.new ≡ S.stands store.old }
     ensures whole { length (S.words store.new) ≡ length (S.words store.old) }
     ensures counted { result.1 ≡ nonzero_in (words_of (S.words store.new)) with.page }
     ensures capacity { vec_capacity result.0 ≡ vec_capacity operations }
@@ -258,12 +270,14 @@ fn replace_one<S: WordStore>(
     requires one { with.end ≡ with.first + 1 }
     requires index_in { with.end ≤ 512 }
     requires inside { 512 * with.page + 512 ≤ length (S.words store.old) }
+    requires standing { S.stands store.old with.page ≡ true }
     requires pages_in { with.start + 512 ≤ 2 ^ 27 }
     requires counted { count ≡ nonzero_in (words_of (S.words store.old)) with.page }
     requires ready { vec_len operations.old + 3 ≤ vec_capacity operations.old }
     ensures shown { (pool : Pool) → IsShown (S.words store.old) operations.old.items pool
         → IsShown (S.words store.new) operations.new.items (after_replaces with.who with.page
         with.first 1 with.word with.step with.start pool) }
+    ensures standing { S.stands store.new ≡ S.stands store.old }
     ensures whole { length (S.words store.new) ≡ length (S.words store.old) }
     ensures counted { result ≡ nonzero_in (words_of (S.words store.new)) with.page }
     ensures capacity { vec_capacity operations.new ≡ vec_capacity operations.old }
@@ -291,6 +305,7 @@ pub(crate) fn replace_words<S: WordStore>(
     requires ordered { with.first ≤ with.end }
     requires index_in { with.end ≤ 512 }
     requires inside { 512 * with.page + 512 ≤ length (S.words store.old) }
+    requires standing { S.stands store.old with.page ≡ true }
     requires in_range { with.word + with.step * (with.end - with.first) < 2 ^ 64 }
     requires pages_in { with.start + 512 * (with.end - with.first) ≤ 2 ^ 27 }
     requires counted { count ≡ nonzero_in (words_of (S.words store.old)) with.page }
@@ -299,6 +314,7 @@ pub(crate) fn replace_words<S: WordStore>(
     ensures shown { (pool : Pool) → IsShown (S.words store.old) operations.old.items pool
         → IsShown (S.words store.new) operations.new.items (after_replaces with.who with.page
         with.first (with.end - with.first) with.word with.step with.start pool) }
+    ensures standing { S.stands store.new ≡ S.stands store.old }
     ensures whole { length (S.words store.new) ≡ length (S.words store.old) }
     ensures counted { result ≡ nonzero_in (words_of (S.words store.new)) with.page }
     ensures capacity { vec_capacity operations.new ≡ vec_capacity operations.old }

@@ -65,6 +65,7 @@ fn write_run<S: WordStore>(
     with: RunWords,
 ) -> (Vec<Op>, u32)
     requires inside { 512 * with.page + 512 ≤ length (S.words store.old) }
+    requires standing { S.stands store.old with.page ≡ true }
     requires start_in { with.start < 2 ^ 27 }
     requires in_range { with.word + with.step * 512 < 2 ^ 64 }
     requires counted { count ≡ nonzero_in (words_of (S.words store.old)) with.page }
@@ -73,6 +74,7 @@ fn write_run<S: WordStore>(
     ensures shown { (pool : Pool) → IsShown (S.words store.old) operations.items pool
         → IsShown (S.words store.new) result.0.items
         (after_run with.page with.start with.word with.step run pool) }
+    ensures standing { S.stands store.new ≡ S.stands store.old }
     ensures whole { length (S.words store.new) ≡ length (S.words store.old) }
     ensures counted { result.1 ≡ nonzero_in (words_of (S.words store.new)) with.page }
     ensures capacity { vec_capacity result.0 ≡ vec_capacity operations }
@@ -103,6 +105,7 @@ fn write_runs<S: WordStore>(
     with: RunWords,
 ) -> (Vec<Op>, u32)
     requires inside { 512 * with.page + 512 ≤ length (S.words store.old) }
+    requires standing { S.stands store.old with.page ≡ true }
     requires start_in { with.start < 2 ^ 27 }
     requires normal { are_normal runs.now ≡ true }
     requires in_range { with.word + with.step * 512 < 2 ^ 64 }
@@ -111,6 +114,7 @@ fn write_runs<S: WordStore>(
     ensures shown { (pool : Pool) → IsShown (S.words store.old) operations.items pool
         → IsShown (S.words store.new) result.0.items
         (after_runs with.page with.start with.word with.step runs.now pool) }
+    ensures standing { S.stands store.new ≡ S.stands store.old }
     ensures whole { length (S.words store.new) ≡ length (S.words store.old) }
     ensures counted { result.1 ≡ nonzero_in (words_of (S.words store.new)) with.page }
     ensures capacity { vec_capacity result.0 ≡ vec_capacity operations }
@@ -133,6 +137,7 @@ fn set_one<S: WordStore>(
     with: RunWords,
 ) -> u32
     requires inside { 512 * with.page + 512 ≤ length (S.words store.old) }
+    requires standing { S.stands store.old with.page ≡ true }
     requires start_in { with.start < 2 ^ 27 }
     requires in_range { with.word + with.step * 512 < 2 ^ 64 }
     requires counted { count ≡ nonzero_in (words_of (S.words store.old)) with.page }
@@ -140,6 +145,7 @@ fn set_one<S: WordStore>(
     ensures shown { (pool : Pool) → IsShown (S.words store.old) operations.old.items pool
         → IsShown (S.words store.new) operations.new.items (after_run with.page with.start
         with.word with.step (record { first = page; count = 1 }) pool) }
+    ensures standing { S.stands store.new ≡ S.stands store.old }
     ensures whole { length (S.words store.new) ≡ length (S.words store.old) }
     ensures counted { result ≡ nonzero_in (words_of (S.words store.new)) with.page }
     ensures capacity { vec_capacity operations.new ≡ vec_capacity operations.old }
@@ -150,7 +156,7 @@ fn set_one<S: WordStore>(
         return count;
     }
     let word = with.word + with.step * u64::from(index);
-    let before = store.word(with.page, index);
+    let before = store.standing_word(with.page, index);
     if before == word {
         return count;
     }
@@ -174,6 +180,7 @@ pub(crate) fn set_runs<S: WordStore>(
     with: RunWords,
 ) -> u32
     requires inside { 512 * with.page + 512 ≤ length (S.words store.old) }
+    requires standing { S.stands store.old with.page ≡ true }
     requires start_in { with.start < 2 ^ 27 }
     requires normal { are_normal runs.now ≡ true }
     requires in_range { with.word + with.step * 512 < 2 ^ 64 }
@@ -182,6 +189,7 @@ pub(crate) fn set_runs<S: WordStore>(
     ensures shown { (pool : Pool) → IsShown (S.words store.old) operations.old.items pool
         → IsShown (S.words store.new) operations.new.items
         (after_runs with.page with.start with.word with.step runs.now pool) }
+    ensures standing { S.stands store.new ≡ S.stands store.old }
     ensures whole { length (S.words store.new) ≡ length (S.words store.old) }
     ensures counted { result ≡ nonzero_in (words_of (S.words store.new)) with.page }
     ensures capacity { vec_capacity operations.new ≡ vec_capacity operations.old }

@@ -72,6 +72,7 @@ fn write_all<S: WordStore>(store: &mut S, operations: Vec<Op>, stretch: Stretch)
     requires ordered { stretch.first ≤ stretch.end }
     requires index_in { stretch.end ≤ 512 }
     requires inside { 512 * stretch.page + 512 ≤ length (S.words store.old) }
+    requires standing { S.stands store.old stretch.page ≡ true }
     requires in_range { stretch.word + stretch.step * (stretch.end - stretch.first) < 2 ^ 64 }
     requires differ { AllDiffer (S.words store.old) stretch.page stretch.first
         (stretch.end - stretch.first) stretch.word stretch.step }
@@ -79,6 +80,7 @@ fn write_all<S: WordStore>(store: &mut S, operations: Vec<Op>, stretch: Stretch)
         ≤ vec_capacity operations + stretch.first }
     ensures words { S.words store.new ≡ words_set (S.words store.old) stretch.page stretch.first
         (stretch.end - stretch.first) stretch.word stretch.step }
+    ensures standing { S.stands store.new ≡ S.stands store.old }
     ensures made { reverse result.items ≡ sets_of (S.words store.old) stretch.page stretch.first
         (stretch.end - stretch.first) stretch.word stretch.step ++ reverse operations.items }
     ensures capacity { vec_capacity result ≡ vec_capacity operations }
@@ -108,12 +110,14 @@ pub(crate) fn write_others<S: WordStore>(
     requires ordered { stretch.first ≤ stretch.end }
     requires index_in { stretch.end ≤ 512 }
     requires inside { 512 * stretch.page + 512 ≤ length (S.words store.old) }
+    requires standing { S.stands store.old stretch.page ≡ true }
     requires in_range { stretch.word + stretch.step * (stretch.end - stretch.first) < 2 ^ 64 }
     requires counted { count ≡ nonzero_in (words_of (S.words store.old)) stretch.page }
     requires ready { vec_len operations + stretch.end
         ≤ vec_capacity operations + stretch.first }
     ensures words { S.words store.new ≡ words_set (S.words store.old) stretch.page stretch.first
         (stretch.end - stretch.first) stretch.word stretch.step }
+    ensures standing { S.stands store.new ≡ S.stands store.old }
     ensures made { reverse result.0.items ≡ sets_of (S.words store.old) stretch.page stretch.first
         (stretch.end - stretch.first) stretch.word stretch.step ++ reverse operations.items }
     ensures counted { result.1 ≡ nonzero_in (words_of (S.words store.new)) stretch.page }
@@ -122,7 +126,7 @@ pub(crate) fn write_others<S: WordStore>(
 {
     let mut word = stretch.word;
     for index in stretch.first..stretch.end {
-        let before = store.word(stretch.page, index);
+        let before = store.standing_word(stretch.page, index);
         if before != word {
             store.set_word(stretch.page, index, word);
             count = recounted(count, before, word);
@@ -150,6 +154,7 @@ fn clear_part<S: WordStore>(
     requires some { stretch.first < stretch.end }
     requires index_in { stretch.end ≤ 512 }
     requires inside { 512 * stretch.page + 512 ≤ length (S.words store.old) }
+    requires standing { S.stands store.old stretch.page ≡ true }
     requires zero { stretch.word ≡ 0 }
     requires same { stretch.step ≡ 0 }
     requires counted { count ≡ nonzero_in (words_of (S.words store.old)) stretch.page }
@@ -157,6 +162,7 @@ fn clear_part<S: WordStore>(
         ≤ vec_capacity operations + stretch.first }
     ensures words { S.words store.new ≡ words_set (S.words store.old) stretch.page stretch.first
         (stretch.end - stretch.first) stretch.word stretch.step }
+    ensures standing { S.stands store.new ≡ S.stands store.old }
     ensures made { reverse result.0.items ≡ sets_of (S.words store.old) stretch.page stretch.first
         (stretch.end - stretch.first) stretch.word stretch.step ++ reverse operations.items }
     ensures counted { result.1 ≡ nonzero_in (words_of (S.words store.new)) stretch.page }
@@ -170,7 +176,7 @@ fn clear_part<S: WordStore>(
         ..
     } = stretch;
     let written = end - first;
-    if store.word(page, first) == 0 {
+    if store.standing_word(page, first) == 0 {
         if store.are_zeros(page, first, end) {
             return (operations, count);
         }
@@ -193,12 +199,14 @@ fn write_part<S: WordStore>(
     requires some { stretch.first < stretch.end }
     requires index_in { stretch.end ≤ 512 }
     requires inside { 512 * stretch.page + 512 ≤ length (S.words store.old) }
+    requires standing { S.stands store.old stretch.page ≡ true }
     requires in_range { stretch.word + stretch.step * (stretch.end - stretch.first) < 2 ^ 64 }
     requires counted { count ≡ nonzero_in (words_of (S.words store.old)) stretch.page }
     requires ready { vec_len operations + stretch.end
         ≤ vec_capacity operations + stretch.first }
     ensures words { S.words store.new ≡ words_set (S.words store.old) stretch.page stretch.first
         (stretch.end - stretch.first) stretch.word stretch.step }
+    ensures standing { S.stands store.new ≡ S.stands store.old }
     ensures made { reverse result.0.items ≡ sets_of (S.words store.old) stretch.page stretch.first
         (stretch.end - stretch.first) stretch.word stretch.step ++ reverse operations.items }
     ensures counted { result.1 ≡ nonzero_in (words_of (S.words store.new)) stretch.page }
@@ -231,12 +239,14 @@ fn write_parts<S: WordStore>(
     requires ordered { stretch.first ≤ stretch.end }
     requires index_in { stretch.end ≤ 512 }
     requires inside { 512 * stretch.page + 512 ≤ length (S.words store.old) }
+    requires standing { S.stands store.old stretch.page ≡ true }
     requires in_range { stretch.word + stretch.step * (stretch.end - stretch.first) < 2 ^ 64 }
     requires counted { count ≡ nonzero_in (words_of (S.words store.old)) stretch.page }
     requires ready { vec_len operations + stretch.end
         ≤ vec_capacity operations + stretch.first }
     ensures words { S.words store.new ≡ words_set (S.words store.old) stretch.page stretch.first
         (stretch.end - stretch.first) stretch.word stretch.step }
+    ensures standing { S.stands store.new ≡ S.stands store.old }
     ensures made { reverse result.0.items ≡ sets_of (S.words store.old) stretch.page stretch.first
         (stretch.end - stretch.first) stretch.word stretch.step ++ reverse operations.items }
     ensures counted { result.1 ≡ nonzero_in (words_of (S.words store.new)) stretch.page }
@@ -278,12 +288,14 @@ fn write_many<S: WordStore>(
     requires ordered { stretch.first ≤ stretch.end }
     requires index_in { stretch.end ≤ 512 }
     requires inside { 512 * stretch.page + 512 ≤ length (S.words store.old) }
+    requires standing { S.stands store.old stretch.page ≡ true }
     requires in_range { stretch.word + stretch.step * (stretch.end - stretch.first) < 2 ^ 64 }
     requires counted { count ≡ nonzero_in (words_of (S.words store.old)) stretch.page }
     requires ready { vec_len operations + stretch.end
         ≤ vec_capacity operations + stretch.first }
     ensures words { S.words store.new ≡ words_set (S.words store.old) stretch.page stretch.first
         (stretch.end - stretch.first) stretch.word stretch.step }
+    ensures standing { S.stands store.new ≡ S.stands store.old }
     ensures made { reverse result.0.items ≡ sets_of (S.words store.old) stretch.page stretch.first
         (stretch.end - stretch.first) stretch.word stretch.step ++ reverse operations.items }
     ensures counted { result.1 ≡ nonzero_in (words_of (S.words store.new)) stretch.page }
@@ -313,12 +325,14 @@ pub(crate) fn write_words<S: WordStore>(
     requires ordered { stretch.first ≤ stretch.end }
     requires index_in { stretch.end ≤ 512 }
     requires inside { 512 * stretch.page + 512 ≤ length (S.words store.old) }
+    requires standing { S.stands store.old stretch.page ≡ true }
     requires in_range { stretch.word + stretch.step * (stretch.end - stretch.first) < 2 ^ 64 }
     requires counted { count ≡ nonzero_in (words_of (S.words store.old)) stretch.page }
     requires ready { vec_len operations + stretch.end
         ≤ vec_capacity operations + stretch.first }
     ensures words { S.words store.new ≡ words_set (S.words store.old) stretch.page stretch.first
         (stretch.end - stretch.first) stretch.word stretch.step }
+    ensures standing { S.stands store.new ≡ S.stands store.old }
     ensures made { reverse result.0.items ≡ sets_of (S.words store.old) stretch.page stretch.first
         (stretch.end - stretch.first) stretch.word stretch.step ++ reverse operations.items }
     ensures counted { result.1 ≡ nonzero_in (words_of (S.words store.new)) stretch.page }

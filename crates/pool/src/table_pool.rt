@@ -25,7 +25,7 @@ const AT_ONCE: u32 = 32;
 /// Table memory whose words stand in a store, 512 for each page, page by page. `taken` has a mark for
 /// each page, `free` says for each row how many pages of its share are free, `nonzero` for each page how
 /// many of its words are not 0, and `made_before` how many operations were made before those that are
-/// listed, modulo 2^64.
+/// listed, modulo 2^64. Each root, and each page that is taken, stands in memory.
 #[derive(Drop)]
 pub struct TablePool<S: WordStore> {
     ids: Vec<PartitionId>,
@@ -45,6 +45,8 @@ pub struct TablePool<S: WordStore> {
     ghost roots: { (row : ℕ) → row < length quotas.items → taken_of taken.items row ≡ true },
     ghost free_zero: { (page index : ℕ) → taken_of taken.items page ≡ false
         → words_of (S.words store) page index ≡ 0 },
+    ghost standing: { (page : ℕ) → taken_of taken.items page ≡ true
+        → S.stands store page ≡ true },
 }
 
 /// The identifiers of the partitions.
@@ -78,11 +80,12 @@ fn zeros(alloc: Global, pages: usize) -> Result<Vec<u32>, OutOfMemory>
     Ok(vec![in alloc; 0; pages]?)
 }
 
-/// So many pages of words, all of them 0, of which the first are filled.
+/// So many pages of words, all of them 0, of which the first stand in memory.
 fn filled<S: WordStore>(alloc: Global, pages: usize, first: usize) -> Result<S, OutOfMemory>
     requires inside { first ≤ pages }
     requires fits { pages ≤ 2 ^ 27 }
-    ensures { IfOk result (λ store. S.words store ≡ replicate (512 * pages) 0) }
+    ensures { IfOk result (λ store. (S.words store ≡ replicate (512 * pages) 0)
+        × ((page : ℕ) → page < first → S.stands store page ≡ true)) }
 {
     let mut store = S::zeroed(alloc, 512 * pages)?;
     for page in 0..first {
@@ -195,7 +198,7 @@ impl<S: WordStore> TableMem for TablePool<S> {
     }
 
     fn set_word(&mut self, page: u32, index: u32, word: u64) {
-        let before = self.store.word(page, index);
+        let before = self.store.standing_word(page, index);
         self.store.set_word(page, index, word);
         let count = self.nonzero[page as usize];
         self.nonzero[page as usize] = recounted(count, before, word);

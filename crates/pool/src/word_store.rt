@@ -1,4 +1,4 @@
-ghost use Rattle.std.specs.Prelude.{◌≡◌, ◌≢◌, ℕ, ◌+◌, ◌-◌, ◌*◌, ◌^◌, ◌<◌, ◌≤◌, List, true, length, replicate, slice_index, slice_set, IfOk};
+ghost use Rattle.std.specs.Prelude.{◌≡◌, ◌≢◌, ℕ, ◌+◌, ◌-◌, ◌*◌, ◌^◌, ◌<◌, ◌≤◌, List, Bool, true, length, replicate, slice_index, slice_set, IfOk};
 ghost use Rattle.pool.specs.Pool.{words_of, words_set};
 
 use base::OutOfMemory;
@@ -9,16 +9,22 @@ pub trait WordStore: Drop {
     /// The words, in order.
     ghost words: { Self → List ℕ };
 
+    /// Whether a page stands in memory: a processor that reads there finds its words. Of another page the words
+    /// are 0, and what lies there is what was there before.
+    ghost stands: { Self → ℕ → Bool };
+
     /// So many words, all of them 0.
     fn zeroed(alloc: Global, count: usize) -> Result<Self, OutOfMemory>
     where
         Self: Sized,
         ensures { IfOk result (λ store. words store ≡ replicate count 0) };
 
-    /// Fills a page with the words that it has, where they do not stand in memory yet.
+    /// Writes the words of a page to memory, where they do not stand there yet.
     fn fill(&mut self, page: u32)
         requires { 512 * page + 512 ≤ length (words self.old) }
-        ensures { words self.new ≡ words self.old };
+        ensures words { words self.new ≡ words self.old }
+        ensures filled { stands self.new page ≡ true }
+        ensures kept { (q : ℕ) → stands self.old q ≡ true → stands self.new q ≡ true };
 
     /// The word of a page at an index.
     fn word(&self, page: u32, index: u32) -> u64
@@ -26,11 +32,20 @@ pub trait WordStore: Drop {
         requires inside { 512 * page + 512 ≤ length (words self.now) }
         ensures { result ≡ slice_index (words self.now) (512 * page + index) };
 
+    /// The same of a page that stands in memory.
+    fn standing_word(&self, page: u32, index: u32) -> u64
+        requires index_in { index < 512 }
+        requires inside { 512 * page + 512 ≤ length (words self.now) }
+        requires standing { stands self.now page ≡ true }
+        ensures { result ≡ slice_index (words self.now) (512 * page + index) };
+
     /// Writes the word of a page at an index.
     fn set_word(&mut self, page: u32, index: u32, word: u64)
         requires index_in { index < 512 }
         requires inside { 512 * page + 512 ≤ length (words self.old) }
-        ensures { words self.new ≡ slice_set (words self.old) (512 * page + index) word };
+        requires standing { stands self.old page ≡ true }
+        ensures words { words self.new ≡ slice_set (words self.old) (512 * page + index) word }
+        ensures standing { stands self.new ≡ stands self.old };
 
     /// Writes words of a page from one index up to another: the first is this word, and each other a step more
     /// than the one before.
@@ -38,20 +53,24 @@ pub trait WordStore: Drop {
         requires ordered { first ≤ end }
         requires index_in { end ≤ 512 }
         requires inside { 512 * page + 512 ≤ length (words self.old) }
+        requires standing { stands self.old page ≡ true }
         requires in_range { word + step * (end - first) < 2 ^ 64 }
-        ensures { words self.new ≡ words_set (words self.old) page first (end - first) word step };
+        ensures words { words self.new ≡ words_set (words self.old) page first (end - first) word step }
+        ensures standing { stands self.new ≡ stands self.old };
 
     /// Whether the words of a page from one index up to another are all 0.
     fn are_zeros(&self, page: u32, first: u32, end: u32) -> bool
         requires index_in { end ≤ 512 }
         requires inside { 512 * page + 512 ≤ length (words self.now) }
+        requires standing { stands self.now page ≡ true }
         ensures { result ≡ true → (x : ℕ) → x < end - first
             → words_of (words self.now) page (first + x) ≡ 0 };
 
-    /// Whether none of them is 0. It may answer no where that is not seen at once.
+    /// Whether none of them is 0.
     fn are_others(&self, page: u32, first: u32, end: u32) -> bool
         requires index_in { end ≤ 512 }
         requires inside { 512 * page + 512 ≤ length (words self.now) }
+        requires standing { stands self.now page ≡ true }
         ensures { result ≡ true → (x : ℕ) → x < end - first
             → words_of (words self.now) page (first + x) ≢ 0 };
 

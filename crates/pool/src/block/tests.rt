@@ -24,15 +24,20 @@ const LARGE: &str = "pool = 0x40000000\n\
     owner = 0x8001\n\
     grants = [ { id = 0x8001, data = \"rw\", exec = false } ]\n";
 
-/// How much memory the process holds, in KB.
-fn resident(rt: &HostRuntime) -> io::Result<u64> {
+/// What a row of the process's status says of its memory, in KB.
+fn memory_in(rt: &HostRuntime, name: &str) -> io::Result<u64> {
     let mut text = String::new(rt.alloc());
     File::open(rt, "/proc/self/status")?
         .take(65_536)
         .read_to_string(&mut text)?;
-    let row = text.lines().find(|line| line.starts_with("VmRSS:"));
+    let row = text.lines().find(|line| line.starts_with(name));
     let number = row.and_then(|row| row.split_whitespace().nth(1));
     Ok(number.and_then(|number| number.parse().ok()).unwrap_or(0))
+}
+
+/// How much memory the process holds, in KB.
+fn resident(rt: &HostRuntime) -> io::Result<u64> {
+    memory_in(rt, "VmRSS:")
 }
 
 /// Takes all pages of a partition's share, which are written then.
@@ -64,6 +69,17 @@ fn gives_its_block_back(rt: HostRuntime) -> Result<(), Fail> {
 fn holds_no_words(rt: HostRuntime) -> Result<(), Fail> {
     let block = Block::zeroed(rt.alloc(), 0)?;
     assert!(rt; block.copy(rt.alloc())?.is_empty());
+    Ok(())
+}
+
+/// A block of 512 GB, which few machines have, is refused before its marks are written, which are 131,072 KB.
+#[test]
+fn is_refused_before_its_marks(rt: HostRuntime) -> Result<(), Fail> {
+    let before = memory_in(&rt, "VmHWM:")?;
+    assert!(rt; before > 0);
+    if Block::zeroed(rt.alloc(), 512 << 27).is_err() {
+        assert!(rt; memory_in(&rt, "VmHWM:")? < before.saturating_add(50_000));
+    }
     Ok(())
 }
 

@@ -15,12 +15,13 @@ loop-index-init g c =
     record {
       shown = λ pool shown. rw (none, replaces-none w.who w.page w.first w.word w.step w.start pool) shown;
       words = rw none (sym (words_set-none (g.S.WordStore.words c.args.store.now) w.page w.first 0 0));
+      standing = λ i. g.S.WordStore.stands c.args.store.now;
       capacity = λ i. vec_capacity c.args.operations;
       len = omega arith;
     }
 
-pub set_word-requires : goal.set_word-requires
-set_word-requires g c =
+pub set_word-requires-clause-inside : goal.set_word-requires-clause-inside
+set_word-requires-clause-inside g c =
     let w = c.args.with in
     let long = ap length c.loop-index.invariant.words ∙ length-words_set (g.S.WordStore.words c.args.store.now) w.page w.first (c.loop-index.index - w.first) 0 0 in
     omega (arith, long, c.requires.inside, c.requires.index_in, c.loop-index-test.true)
@@ -48,11 +49,12 @@ loop-index-preserved g c =
     λ pool shown.
     let mid = after_replaces w.who w.page w.first n w.word w.step w.start pool in
     subst (λ (r : PageRun). IsShown (g.S.WordStore.words c.set_word.new.self) c.push_invalidate.new.operations.items (after_break w.who w.page i r mid)) run
-    (shown-broken words (g.S.WordStore.words c.set_word.new.self) c.loop-index.operations.items c.push_invalidate.new.operations.items w.who w.page i c.new.result mid isnt c.set_word.ensures
+    (shown-broken words (g.S.WordStore.words c.set_word.new.self) c.loop-index.operations.items c.push_invalidate.new.operations.items w.who w.page i c.new.result mid isnt c.set_word.ensures.words
     (c.push_invalidate.ensures.items ∙ ap (λ l. l ++ Invalidate w.who c.new.result ∷ []) c.push_reserved.ensures.items) (before.shown pool shown)) in
     rw more record {
       shown = λ pool shown. rw (replaces-more w.who w.page w.first n w.word w.step w.start i 0 (w.start + 512 * n) pool index next refl) (broken pool shown);
-      words = c.set_word.ensures ∙ ap (λ items. slice_set items (512 * w.page + i) 0) before.words ∙ sym (words_set-next start w.page w.first n 0 0 i 0 index zero);
+      words = c.set_word.ensures.words ∙ ap (λ items. slice_set items (512 * w.page + i) 0) before.words ∙ sym (words_set-next start w.page w.first n 0 0 i 0 index zero);
+      standing = c.set_word.ensures.standing ∙ before.standing;
       capacity = c.push_invalidate.ensures.capacity ∙ c.push_reserved.ensures.capacity ∙ before.capacity;
       len = omega (arith, before.len, c.push_reserved.ensures.len, c.push_invalidate.ensures.len);
     }

@@ -9,6 +9,7 @@ invariant-loop-index g l = record {
   shown : (pool : Pool) → IsShown (g.S.WordStore.words l.fn.store) l.fn.operations.items pool
       → IsShown (g.S.WordStore.words l.store) l.operations.items (after_replaces l.fn.with.who l.fn.with.page l.fn.with.first (l.index - l.fn.with.first) l.fn.with.word l.fn.with.step l.fn.with.start pool);
   words : g.S.WordStore.words l.store ≡ words_set (g.S.WordStore.words l.fn.store) l.fn.with.page l.fn.with.first (l.index - l.fn.with.first) 0 0;
+  standing : g.S.WordStore.stands l.store ≡ g.S.WordStore.stands l.fn.store;
   capacity : vec_capacity l.operations ≡ vec_capacity l.fn.operations;
   len : vec_len l.operations + 2 * l.fn.with.first ≤ vec_len l.fn.operations + 2 * l.index;
 }

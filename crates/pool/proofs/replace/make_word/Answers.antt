@@ -13,7 +13,7 @@ recounted-requires-clause-most g c =
 pub returns-clause-counted : goal.returns-clause-counted
 returns-clause-counted g c =
     let words = g.S.WordStore.words c.args.store.now in
-    let written = ap words_of c.set_word.ensures ∙ words_of-set_at words c.args.page c.args.index c.args.word c.requires.index_in (let below = c.requires.index_in in omega (arith, below, c.requires.inside)) in
+    let written = ap words_of c.set_word.ensures.words ∙ words_of-set_at words c.args.page c.args.index c.args.word c.requires.index_in (let below = c.requires.index_in in omega (arith, below, c.requires.inside)) in
     let now = nonzero-put (words_of words) c.args.page c.args.index c.args.word c.requires.index_in in
     let there = rw c.requires.zero at now in
     let recounted = c.recounted.ensures in

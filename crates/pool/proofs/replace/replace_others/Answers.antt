@@ -15,6 +15,7 @@ loop-index-init g c =
       word = rw none (omega arith);
       start = rw none (omega arith);
       counted = c.requires.counted;
+      standing = λ i. g.S.WordStore.stands c.args.store.now;
       capacity = λ i. vec_capacity c.args.operations;
       len = omega arith;
     }
@@ -43,6 +44,7 @@ loop-index-preserved g c =
       word = omega (arith, next);
       start = omega (arith, at);
       counted = c.make_word-count.ensures.counted;
+      standing = c.make_word-count.ensures.standing ∙ c.break_word-count.ensures.standing ∙ before.standing;
       capacity = c.make_word-count.ensures.capacity ∙ c.break_word-count.ensures.capacity ∙ before.capacity;
       len = omega (arith, before.len, c.make_word-count.ensures.len, c.break_word-count.ensures.len);
     }

@@ -12,6 +12,7 @@ invariant-loop-index g l = record {
   word : l.word ≡ l.fn.with.word + l.fn.with.step * (l.index - l.fn.with.first);
   start : l.start ≡ l.fn.with.start + 512 * (l.index - l.fn.with.first);
   counted : l.count ≡ nonzero_in (words_of (g.S.WordStore.words l.store)) l.fn.with.page;
+  standing : g.S.WordStore.stands l.store ≡ g.S.WordStore.stands l.fn.store;
   capacity : vec_capacity l.operations ≡ vec_capacity l.fn.operations;
   len : vec_len l.operations + 3 * l.fn.with.first ≤ vec_len l.fn.operations + 3 * l.index;
 }

@@ -22,17 +22,17 @@ returns-then-before-word-clause-shown g c = λ pool shown.
     let i = (c.number.result + (2 ^ 32 - w.start)) % 2 ^ 32 in
     let inside : c.number.result < 2 ^ 27 = omega (arith, c.number.ensures.same, c.number.ensures.in_range) in
     let at = page-index w.start c.number.result i c.requires.start_in inside refl c.if-index-ge-WORDS.false in
-    let is : w.word + w.step * i ≡ c.word-before.result = sym (c.if-before-word.true ∙ ap (λ k. w.word + w.step * k) c.from.ensures) in
+    let is : w.word + w.step * i ≡ c.standing_word-before.result = sym (c.if-before-word.true ∙ ap (λ k. w.word + w.step * k) c.from.ensures) in
     let stands : 512 * w.page + i < length (g.S.WordStore.words c.args.store.now) = omega (arith, c.requires.inside, c.if-index-ge-WORDS.false) in
-    page-there w.page w.start w.word w.step c.args.page i c.word-before.result (g.S.WordStore.words c.args.store.now) c.args.operations.now.items pool
-    (at.0 ∙ ap (λ n. index_from w.start n) c.number.ensures.same) (at.1 ∙ ap (λ n. index_from w.start (n + 1)) c.number.ensures.same) is stands (sym c.word-before.ensures) shown
+    page-there w.page w.start w.word w.step c.args.page i c.standing_word-before.result (g.S.WordStore.words c.args.store.now) c.args.operations.now.items pool
+    (at.0 ∙ ap (λ n. index_from w.start n) c.number.ensures.same) (at.1 ∙ ap (λ n. index_from w.start (n + 1)) c.number.ensures.same) is stands (sym c.standing_word-before.ensures) shown
 
 pub recounted-requires-clause-counted : goal.recounted-requires-clause-counted
 recounted-requires-clause-counted g c =
     let words = g.S.WordStore.words c.args.store.now in
     let i = (c.number.result + (2 ^ 32 - c.args.with.start)) % 2 ^ 32 in
-    let read : c.word-before.result ≡ words_of words c.args.with.page i = word-read words c.args.with.page i c.word-before.result c.if-index-ge-WORDS.false c.word-before.ensures in
-    elim (cases_eq c.word-before.result 0) [
+    let read : c.standing_word-before.result ≡ words_of words c.args.with.page i = word-read words c.args.with.page i c.standing_word-before.result c.if-index-ge-WORDS.false c.standing_word-before.ensures in
+    elim (cases_eq c.standing_word-before.result 0) [
       | inl zero ↦ inr zero
       | inr some ↦
           let least = nonzero-some (words_of words) c.args.with.page i c.if-index-ge-WORDS.false (λ is. some (read ∙ is)) in
@@ -54,8 +54,8 @@ returns-clause-shown g c = λ pool shown.
     let inside : c.number.result < 2 ^ 27 = omega (arith, c.number.ensures.same, c.number.ensures.in_range) in
     let at = page-index w.start c.number.result i c.requires.start_in inside refl c.if-index-ge-WORDS.false in
     let is : w.word + w.step * i ≡ next = ap (λ k. w.word + w.step * k) (sym c.from.ensures) in
-    let differs : slice_index words (512 * w.page + i) ≢ next = λ same. c.if-before-word.false (c.word-before.ensures ∙ same) in
-    rw (c.set_word.ensures, c.push_reserved.ensures.items) (page-written w.page w.start w.word w.step c.args.page i next words c.args.operations.now.items pool
+    let differs : slice_index words (512 * w.page + i) ≢ next = λ same. c.if-before-word.false (c.standing_word-before.ensures ∙ same) in
+    rw (c.set_word.ensures.words, c.push_reserved.ensures.items) (page-written w.page w.start w.word w.step c.args.page i next words c.args.operations.now.items pool
     (at.0 ∙ ap (λ n. index_from w.start n) c.number.ensures.same) (at.1 ∙ ap (λ n. index_from w.start (n + 1)) c.number.ensures.same) is differs shown)
 
 pub returns-clause-counted : goal.returns-clause-counted
@@ -65,9 +65,9 @@ returns-clause-counted g c =
     let i = (c.number.result + (2 ^ 32 - c.args.with.start)) % 2 ^ 32 in
     let next = c.args.with.word + c.args.with.step * c.from.result in
     let below = c.if-index-ge-WORDS.false in
-    let written = ap words_of c.set_word.ensures ∙ words_of-set_at words page i next below (omega (arith, below, c.requires.inside)) in
+    let written = ap words_of c.set_word.ensures.words ∙ words_of-set_at words page i next below (omega (arith, below, c.requires.inside)) in
     let now = nonzero-put (words_of words) page i next below in
-    let read : c.word-before.result ≡ words_of words page i = word-read words page i c.word-before.result below c.word-before.ensures in
+    let read : c.standing_word-before.result ≡ words_of words page i = word-read words page i c.standing_word-before.result below c.standing_word-before.ensures in
     let recounted = rw read at c.recounted.ensures in
     let counted = c.requires.counted in
     let right : c.recounted.result ≡ nonzero_in (put page i next (words_of words)) page = omega (arith, now, recounted, counted) in

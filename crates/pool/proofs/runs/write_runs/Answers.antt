@@ -11,6 +11,7 @@ loop-run-init g c =
       shown = λ pool shown. (pool, shown, refl);
       whole = λ i. length (g.S.WordStore.words c.args.store.now);
       counted = c.requires.counted;
+      standing = λ i. g.S.WordStore.stands c.args.store.now;
       capacity = λ i. vec_capacity c.args.operations;
       len = omega (arith, few);
     }
@@ -32,6 +33,7 @@ loop-run-preserved g c =
           );
       whole = c.write_run.ensures.whole ∙ before.whole;
       counted = c.write_run.ensures.counted;
+      standing = c.write_run.ensures.standing ∙ before.standing;
       capacity = c.write_run.ensures.capacity ∙ before.capacity;
       len = omega (arith, before.len, c.write_run.ensures.len, left);
     }

@@ -12,6 +12,7 @@ invariant-loop-run g l = record {
       × (after_runs l.with.page l.with.start l.with.word l.with.step (drop l.run-index l.runs) now ≡ after_runs l.with.page l.with.start l.with.word l.with.step l.runs pool);
   whole : length (g.S.WordStore.words l.store) ≡ length (g.S.WordStore.words l.fn.store);
   counted : l.count ≡ nonzero_in (words_of (g.S.WordStore.words l.store)) l.with.page;
+  standing : g.S.WordStore.stands l.store ≡ g.S.WordStore.stands l.fn.store;
   capacity : vec_capacity l.operations ≡ vec_capacity l.fn.operations;
   len : vec_len l.operations + words_in l.with.start (drop l.run-index l.runs) ≤ vec_len l.fn.operations + 512;
 }

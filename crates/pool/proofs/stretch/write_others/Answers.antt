@@ -19,17 +19,18 @@ loop-index-init g c =
       made = rw (none, sets_of-none words s.page s.first s.word s.step) refl;
       word = rw none (omega arith);
       counted = c.requires.counted;
+      standing = λ i. g.S.WordStore.stands c.args.store.now;
       capacity = refl;
       len = omega arith;
     }
 
-pub word-before-requires : goal.word-before-requires
-word-before-requires g c =
+pub standing_word-before-requires-clause-inside : goal.standing_word-before-requires-clause-inside
+standing_word-before-requires-clause-inside g c =
     let long = ap length c.loop-index.invariant.words ∙ length-words_set (g.S.WordStore.words c.args.store.now) c.args.stretch.page c.args.stretch.first (c.loop-index.index - c.args.stretch.first) c.args.stretch.word c.args.stretch.step in
     omega (arith, long, c.requires.inside, c.requires.index_in, c.loop-index-test.true)
 
-pub set_word-requires : goal.set_word-requires
-set_word-requires g c =
+pub set_word-requires-clause-inside : goal.set_word-requires-clause-inside
+set_word-requires-clause-inside g c =
     let long = ap length c.loop-index.invariant.words ∙ length-words_set (g.S.WordStore.words c.args.store.now) c.args.stretch.page c.args.stretch.first (c.loop-index.index - c.args.stretch.first) c.args.stretch.word c.args.stretch.step in
     omega (arith, long, c.requires.inside, c.requires.index_in, c.loop-index-test.true)
 
@@ -37,9 +38,9 @@ pub recounted-count-requires-clause-counted : goal.recounted-count-requires-clau
 recounted-count-requires-clause-counted g c =
     let words = g.S.WordStore.words c.loop-index.store in
     let below : c.loop-index.index < 512 = omega (arith, c.requires.index_in, c.loop-index-test.true) in
-    let read : c.word-before.result ≡ words_of words c.args.stretch.page c.loop-index.index =
-    word-read words c.args.stretch.page c.loop-index.index c.word-before.result below c.word-before.ensures in
-    elim (cases_eq c.word-before.result 0) [
+    let read : c.standing_word-before.result ≡ words_of words c.args.stretch.page c.loop-index.index =
+    word-read words c.args.stretch.page c.loop-index.index c.standing_word-before.result below c.standing_word-before.ensures in
+    elim (cases_eq c.standing_word-before.result 0) [
       | inl zero ↦ inr zero
       | inr some ↦
           let least = nonzero-some (words_of words) c.args.stretch.page c.loop-index.index below (λ is. some (read ∙ is)) in
@@ -68,15 +69,15 @@ loop-index-preserved g c =
     let below : c.loop-index.index < 512 = omega (arith, c.requires.index_in, c.loop-index-test.true) in
     let long = ap length before.words ∙ length-words_set start s.page s.first n s.word s.step in
     let inside : 512 * s.page + i < length words = omega (arith, long, c.requires.inside, c.requires.index_in, c.loop-index-test.true) in
-    let read : c.word-before.result ≡ words_of words s.page i = word-read words s.page i c.word-before.result below c.word-before.ensures in
+    let read : c.standing_word-before.result ≡ words_of words s.page i = word-read words s.page i c.standing_word-before.result below c.standing_word-before.ensures in
     let set = words_set start s.page s.first n s.word s.step in
     let place = 512 * s.page + i in
-    let stands : c.word-before.result ≡ slice_index set place = c.word-before.ensures ∙ ap (λ items. slice_index items place) before.words in
+    let stands : c.standing_word-before.result ≡ slice_index set place = c.standing_word-before.ensures ∙ ap (λ items. slice_index items place) before.words in
     let inside-set : place < length set = omega (arith, inside, ap length before.words) in
     elim c.if-before-word.branch [
       | then-before-word w ↦
           let differs : slice_index set place ≢ c.loop-index.word = λ is. w.if-before-word.true (stands ∙ is) in
-          let written : g.S.WordStore.words w.set_word.new.self ≡ slice_set words place c.loop-index.word = w.set_word.ensures in
+          let written : g.S.WordStore.words w.set_word.new.self ≡ slice_set words place c.loop-index.word = w.set_word.ensures.words in
           let changed : words_of (g.S.WordStore.words w.set_word.new.self) ≡ put s.page i c.loop-index.word (words_of words) = ap words_of written ∙ words_of-set_at words s.page i c.loop-index.word below inside in
           let now = nonzero-put (words_of words) s.page i c.loop-index.word below in
           let recounted = rw read at w.recounted-count.ensures in
@@ -88,6 +89,7 @@ loop-index-preserved g c =
                 ∙ ap (λ ops. ops ++ reverse c.args.operations.items) (sym (sets_of-write start s.page s.first n s.word s.step i c.loop-index.word index next differs));
             word = further;
             counted = right ∙ ap (λ w. nonzero_in w s.page) (sym changed);
+            standing = w.set_word.ensures.standing ∙ before.standing;
             capacity = w.push_reserved.ensures.capacity ∙ before.capacity;
             len = omega (arith, before.len, w.push_reserved.ensures.len);
           }
@@ -98,6 +100,7 @@ loop-index-preserved g c =
             made = rw (sets_of-pass start s.page s.first n s.word s.step i c.loop-index.word index next same) before.made;
             word = further;
             counted = before.counted;
+            standing = before.standing;
             capacity = before.capacity;
             len = omega (arith, before.len);
           }

@@ -25,6 +25,7 @@ loop-first-init g c =
       made = rw (none, sets_of-none words s.page s.first s.word s.step) (λ i. reverse c.args.operations.items);
       word = rw none (omega arith);
       counted = c.requires.counted;
+      standing = λ i. g.S.WordStore.stands c.args.store.now;
       capacity = λ i. vec_capacity c.args.operations;
       len = omega arith;
     }
@@ -81,6 +82,7 @@ loop-first-preserved g c =
           ∙ joined start s.page s.first n k (n + k) s.word s.step c.loop-first.first c.loop-first.word (reverse c.args.operations.items) index next refl;
       word = omega (arith, next);
       counted = c.write_part.ensures.counted;
+      standing = c.write_part.ensures.standing ∙ before.standing;
       capacity = c.write_part.ensures.capacity ∙ before.capacity;
       len = omega (arith, before.len, c.write_part.ensures.len);
     }

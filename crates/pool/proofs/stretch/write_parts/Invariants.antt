@@ -11,6 +11,7 @@ invariant-loop-first g l = record {
   made : reverse l.operations.items ≡ sets_of (g.S.WordStore.words l.fn.store) l.fn.stretch.page l.fn.stretch.first (l.first - l.fn.stretch.first) l.fn.stretch.word l.fn.stretch.step ++ reverse l.fn.operations.items;
   word : l.word ≡ l.fn.stretch.word + l.fn.stretch.step * (l.first - l.fn.stretch.first);
   counted : l.count ≡ nonzero_in (words_of (g.S.WordStore.words l.store)) l.fn.stretch.page;
+  standing : g.S.WordStore.stands l.store ≡ g.S.WordStore.stands l.fn.store;
   capacity : vec_capacity l.operations ≡ vec_capacity l.fn.operations;
   len : vec_len l.operations + l.fn.stretch.first ≤ vec_len l.fn.operations + l.first;
 }

@@ -3,5 +3,5 @@ use Rattle.pool.specs.Cells.{held}
 use Rattle.pool.proofs.Held.{held-new}
 use Rattle.pool.proofs.block.BlockWordStore.zeroed.Goals as goal
 
-pub returns : goal.returns
-returns c = ap held c.in_ok-base.ensures.1 ∙ held-new c.args.count
+pub returns-in-Ok : goal.returns-in-Ok
+returns-in-Ok c = ap held c.in_ok-base.ensures.1 ∙ held-new c.args.count

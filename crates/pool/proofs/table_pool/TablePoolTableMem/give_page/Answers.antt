@@ -5,7 +5,7 @@ use Rattle.std.proofs.Math.ListN.{length-set}
 use Rattle.pool.proofs.Words.{words_of-beyond}
 use Rattle.pool.proofs.Shares.{share_inside, share_end}
 use Rattle.pool.specs.Pool.{InShare}
-use Rattle.pool.proofs.Kept.{free_zero-mark, roots-mark, position-found, row_of-found, memory_in, counts-give, counts-below}
+use Rattle.pool.proofs.Kept.{free_zero-mark, roots-mark, standing-mark, position-found, row_of-found, memory_in, counts-give, counts-below}
 use Rattle.pool.proofs.table_pool.TablePoolTableMem.give_page.Goals as goal
 
 pub invariant_of-self-clause-taken_whole : goal.invariant_of-self-clause-taken_whole
@@ -16,6 +16,13 @@ invariant_of-self-clause-free_zero g c =
     let old = c.args.self.now in
     let inside : c.args.page < length old.taken.items = omega (arith, old.taken_whole, share_inside _ _ _ c.requires.inside) in
     free_zero-mark (g.S.WordStore.words old.store) old.taken.items c.args.page _ inside (words_of-beyond (g.S.WordStore.words old.store) c.args.page c.requires.empty) old.free_zero
+
+pub invariant_of-self-clause-standing : goal.invariant_of-self-clause-standing
+invariant_of-self-clause-standing g c =
+    let old = c.args.self.now in
+    let inside : c.args.page < length old.taken.items = omega (arith, old.taken_whole, share_inside _ _ _ c.requires.inside) in
+    let stands = g.S.WordStore.stands old.store in
+    standing-mark old.taken.items stands stands c.args.page _ inside (λ is. old.standing c.args.page c.requires.taken) (λ q stood. stood) old.standing
 
 pub invariant_of-self-clause-roots : goal.invariant_of-self-clause-roots
 invariant_of-self-clause-roots g c =

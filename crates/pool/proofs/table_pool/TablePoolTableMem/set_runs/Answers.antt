@@ -1,4 +1,4 @@
-use Rattle.std.proofs.Common.{◌≡◌, ◌+◌, ◌*◌, ◌%◌, ◌^◌, ◌≤◌, ◌∙◌, length, reverse, true≢false, subst, sym, ap, arith}
+use Rattle.std.proofs.Common.{◌≡◌, ℕ, Bool, ◌+◌, ◌*◌, ◌%◌, ◌^◌, ◌≤◌, ◌∙◌, length, reverse, true≢false, subst, sym, ap, arith}
 use Rattle.std.proofs.lemmas.List.{length-reverse}
 use Rattle.pool.specs.Pool.{Pool, taken_of, after_runs}
 use Rattle.pool.specs.Shown.{IsShown}
@@ -23,6 +23,7 @@ invariant_of-self g c =
       fits = old.fits;
       roots = old.roots;
       free_zero = λ q i free. others q i (λ is. true≢false (sym c.requires.taken ∙ ap (taken_of old.taken.items) (sym is) ∙ free)) ∙ old.free_zero q i free;
+      standing = λ q held. ap (λ (s : ℕ → Bool). s q) c.set_runs-count.ensures.standing ∙ old.standing q held;
     }
 
 pub returns-clause-state : goal.returns-clause-state

@@ -9,12 +9,12 @@ use Rattle.pool.proofs.Nonzero.{word-read, nonzero-le, nonzero-some, counts_nonz
 use Rattle.pool.proofs.table_pool.TablePoolTableMem.set_word.Goals as goal
 
 pub invariant_of-self-clause-words_whole : goal.invariant_of-self-clause-words_whole
-invariant_of-self-clause-words_whole g c = rw c.set_word.ensures (length-set (g.S.WordStore.words c.args.self.now.store) _ _ ∙ c.args.self.now.words_whole)
+invariant_of-self-clause-words_whole g c = rw c.set_word.ensures.words (length-set (g.S.WordStore.words c.args.self.now.store) _ _ ∙ c.args.self.now.words_whole)
 
 pub invariant_of-self-clause-free_zero : goal.invariant_of-self-clause-free_zero
 invariant_of-self-clause-free_zero g c =
     let old = c.args.self.now in
-    rw c.set_word.ensures
+    rw c.set_word.ensures.words
     (free_zero-set (g.S.WordStore.words old.store) old.taken.items (page_count old.quotas.items) c.args.page c.args.index c.args.word old.words_whole c.requires.page_in c.requires.index_in c.requires.taken old.free_zero)
 
 pub recounted-requires-clause-most : goal.recounted-requires-clause-most
@@ -32,9 +32,9 @@ recounted-requires-clause-counted g c =
     let counted = old.nonzero_counted.each c.args.page c.requires.page_in in
     let pages = old.nonzero_counted.pages in
     let here = get_or_read old.nonzero.items _ _ (omega (arith, pages, c.requires.page_in)) c.index-count.ensures 0 in
-    let read : c.word-before.result ≡ words_of (g.S.WordStore.words old.store) c.args.page c.args.index =
-    word-read (g.S.WordStore.words old.store) c.args.page c.args.index c.word-before.result c.requires.index_in c.word-before.ensures in
-    elim (cases_eq c.word-before.result 0) [
+    let read : c.standing_word-before.result ≡ words_of (g.S.WordStore.words old.store) c.args.page c.args.index =
+    word-read (g.S.WordStore.words old.store) c.args.page c.args.index c.standing_word-before.result c.requires.index_in c.standing_word-before.ensures in
+    elim (cases_eq c.standing_word-before.result 0) [
       | inl zero ↦ inr zero
       | inr some ↦
           let least = nonzero-some (words_of (g.S.WordStore.words old.store)) c.args.page c.args.index c.requires.index_in (λ is. some (read ∙ is)) in
@@ -46,8 +46,8 @@ invariant_of-self-clause-nonzero_counted g c =
     let old = c.args.self.now in
     let pages = old.nonzero_counted.pages in
     let here = get_or_read old.nonzero.items _ _ (omega (arith, pages, c.requires.page_in)) c.index-count.ensures 0 in
-    let read : c.word-before.result ≡ words_of (g.S.WordStore.words old.store) c.args.page c.args.index =
-    word-read (g.S.WordStore.words old.store) c.args.page c.args.index c.word-before.result c.requires.index_in c.word-before.ensures in
-    rw c.set_word.ensures
+    let read : c.standing_word-before.result ≡ words_of (g.S.WordStore.words old.store) c.args.page c.args.index =
+    word-read (g.S.WordStore.words old.store) c.args.page c.args.index c.standing_word-before.result c.requires.index_in c.standing_word-before.ensures in
+    rw c.set_word.ensures.words
     (counts_nonzero-set old.quotas.items (g.S.WordStore.words old.store) old.nonzero.items c.args.page c.args.index c.args.word c.recounted.result old.nonzero_counted old.words_whole c.requires.page_in c.requires.index_in
     (rw (← read, ← here) c.recounted.ensures))

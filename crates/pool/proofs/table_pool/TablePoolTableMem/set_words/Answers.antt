@@ -1,4 +1,4 @@
-use Rattle.std.proofs.Common.{◌≡◌, ◌+◌, ◌-◌, ◌*◌, ◌≤◌, ◌++◌, ◌∙◌, arith, length, reverse, refl, ap, Vec, Global}
+use Rattle.std.proofs.Common.{◌≡◌, ℕ, Bool, ◌+◌, ◌-◌, ◌*◌, ◌≤◌, ◌++◌, ◌∙◌, arith, length, reverse, refl, ap, Vec, Global}
 use Rattle.pool.specs.Pool.{sets_of}
 use Rattle.pool.specs.declared.operation.Op.{Op}
 use Rattle.pool.proofs.Stretches.{length-words_set, counted-made, free_zero-stretch, counts_nonzero-stretch}
@@ -23,6 +23,7 @@ invariant_of-self g c =
       fits = old.fits;
       roots = old.roots;
       free_zero = rw words (free_zero-stretch start old.taken.items c.args.page c.args.first n c.args.word c.args.step whole small c.requires.taken old.free_zero);
+      standing = λ q held. ap (λ (s : ℕ → Bool). s q) c.write_words-operations.ensures.standing ∙ old.standing q held;
     }
 
 pub returns-clause-state : goal.returns-clause-state

@@ -5,7 +5,7 @@ use Rattle.std.specs.List.{position}
 use Rattle.base.specs.Manifest.{row_of}
 use Rattle.pool.specs.Pool.{InShare, share_start}
 use Rattle.pool.proofs.Shares.{share_inside}
-use Rattle.pool.proofs.Kept.{memory_in, pages_in, free_zero-mark, roots-mark, taken_of-read, IsSearched, searched-first, searched-next, searched-past, searched-within, searched-found, position-found, row_of-within, row_of-found, counts-take, counts-free}
+use Rattle.pool.proofs.Kept.{memory_in, pages_in, free_zero-mark, roots-mark, standing-mark, taken_of-read, IsSearched, searched-first, searched-next, searched-past, searched-within, searched-found, position-found, row_of-within, row_of-found, counts-take, counts-free}
 use Rattle.pool.proofs.table_pool.TablePoolTableMem.take_page.Goals as goal
 
 pub unwrap-row-requires : goal.unwrap-row-requires
@@ -59,7 +59,13 @@ invariant_of-self-clause-free_zero g c =
     let old = c.args.self.now in
     let inside = searched-within old _ _ c.loop-page.invariant in
     let free = taken_of-read old.taken.items _ _ c.index.ensures inside ∙ c.loop-page-test.false in
-    rw c.fill.ensures (free_zero-mark (g.S.WordStore.words old.store) old.taken.items c.loop-page.page _ inside (λ i. old.free_zero c.loop-page.page i free) old.free_zero)
+    rw c.fill.ensures.words (free_zero-mark (g.S.WordStore.words old.store) old.taken.items c.loop-page.page _ inside (λ i. old.free_zero c.loop-page.page i free) old.free_zero)
+
+pub invariant_of-self-clause-standing : goal.invariant_of-self-clause-standing
+invariant_of-self-clause-standing g c =
+    let old = c.args.self.now in
+    let inside = searched-within old _ _ c.loop-page.invariant in
+    standing-mark old.taken.items (g.S.WordStore.stands old.store) (g.S.WordStore.stands c.fill.new.self) c.loop-page.page _ inside (λ is. c.fill.ensures.filled) c.fill.ensures.kept old.standing
 
 pub invariant_of-self-clause-roots : goal.invariant_of-self-clause-roots
 invariant_of-self-clause-roots g c =
