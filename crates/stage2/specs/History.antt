@@ -1,9 +1,9 @@
 -- Which operations an edit makes (the order of break before make).
-use Rattle.std.specs.Prelude.{◌≡◌, ℕ, ◌+◌, ◌*◌, ◌%◌, ◌<◌, ◌==◌, if◌then◌else◌, List, [], ◌∷◌, ◌++◌, Option, Some}
+use Rattle.std.specs.Prelude.{◌≡◌, ◌≢◌, ℕ, ◌+◌, ◌*◌, ◌%◌, ◌<◌, ◌==◌, if◌then◌else◌, List, [], ◌∷◌, ◌++◌, Option, Some}
 use Rattle.base.specs.Access.{View}
 use Rattle.pool.specs.declared.operation.Op.{Op}
 use Rattle.pool.specs.declared.operation.Op.TheVariants.{Set, Invalidate, Clear}
-use Rattle.pool.specs.Pool.{Pool, words_of, counted}
+use Rattle.pool.specs.Pool.{Pool, Words, words_of, counted}
 use Rattle.stage2.specs.Chunks.{IsWordFor}
 use Rattle.stage2.specs.Moments.{words_after}
 
@@ -33,8 +33,17 @@ AreSets k c plan b (Set q i word ∷ ops) =
 AreSets k c plan b (Invalidate p run ∷ ops) = ⊥
 AreSets k c plan b (Clear run ∷ ops) = ⊥
 
--- the operations that fill a table, or write some of its words
+-- each write changes its word: another one stood there, over the words that were there before them all
+abbrev pub AllChange : Words → List Op → Type 0
+AllChange before [] = Unit {0}
+AllChange before (Set page index word ∷ past) =
+    (words_after past before page index ≢ word) × AllChange before past
+AllChange before (Invalidate who run ∷ past) = AllChange before past
+AllChange before (Clear run ∷ past) = AllChange before past
+
+-- the operations that fill a table, or write some of its words: each as it is planned, upward, and each changes its word
 pub record Filled (k c b : ℕ) (plan : ℕ → Option View) (old new : Pool) : Type 0 where
   pub ops : List Op
   pub made : Made ops old new
   pub sets : AreSets k c plan b ops
+  pub changes : AllChange (words_of old.memory.words) ops

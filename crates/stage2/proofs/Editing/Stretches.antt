@@ -7,13 +7,13 @@ use Rattle.base.specs.Manifest.{page_count}
 use Rattle.words.specs.declared.word.Entry.TheVariants.{Leaf}
 use Rattle.words.specs.Words.{leaf_word_of, entry_of, IsLeafWord}
 use Rattle.words.proofs.RoundTrip.{entry-zero, entry-page, word-leaf}
-use Rattle.pool.specs.Pool.{Pool, IsWhole, words_of, put, words_set, sets_of, after_sets}
+use Rattle.pool.specs.Pool.{Pool, Words, IsWhole, words_of, put, words_set, sets_of, after_sets}
 use Rattle.pool.proofs.Words.{words_of-set_at}
 use Rattle.pool.proofs.Stretches.{length-words_set, set-same, words_set-other, words_set-beside, words_set-at}
 use Rattle.stage2.specs.Change.{entry_for, step_for}
 use Rattle.stage2.specs.Chunks.{IsWordFor}
 use Rattle.stage2.specs.Clauses.{some_pages, WritesPlan}
-use Rattle.stage2.specs.History.{AreSets, Filled}
+use Rattle.stage2.specs.History.{AreSets, AllChange, Filled}
 use Rattle.stage2.proofs.Editing.LeafWords.{word-small}
 use Rattle.stage2.specs.Moments.{words_after}
 use Rattle.stage2.proofs.Editing.PlannedWords.{some-in, some-before, some-after}
@@ -79,6 +79,30 @@ after-sets words k first (suc n) word step whole small =
       | inr differs ↦
           let test : (slice_index set place == next) ≡ false = grind (arith, nat_tests, differs) in
           rw test (words_of-set_at set k (first + n) next (omega (arith, small)) inside ∙ ap (put k (first + n) next) rest)
+    ]
+
+-- the word that stands in the list at a place
+word-in : (words : List ℕ) (k i : ℕ) → i < 512 → words_of words k i ≡ slice_index words (512 * k + i)
+unfolding words_of
+word-in words k i small = grind (arith, nat_tests, small)
+
+-- each write changes its word
+sets-change : (words : List ℕ) (k first n word step : ℕ) → 512 * k + 512 ≤ length words → first + n ≤ 512 → AllChange (words_of words) (sets_of words k first n word step)
+unfolding sets_of
+sets-change words k first zero word step whole small = tt
+sets-change words k first (suc n) word step whole small =
+    let set = words_set words k first n word step in
+    let next = word + step * n in
+    let index : first + n < 512 = omega (arith, small) in
+    let before = after-sets words k first n word step whole (omega (arith, small)) in
+    let rest = sets-change words k first n word step whole (omega (arith, small)) in
+    elim (cases_eq (slice_index set (512 * k + (first + n))) next) [
+      | inl same ↦
+          let test : (slice_index set (512 * k + (first + n)) == next) ≡ true = grind (arith, nat_tests, same) in
+          rw test rest
+      | inr differs ↦
+          let test : (slice_index set (512 * k + (first + n)) == next) ≡ false = grind (arith, nat_tests, differs) in
+          rw test (λ there. differs (sym (word-in set k (first + n) index) ∙ ap (λ (w : Words). w k (first + n)) before ∙ there), rest)
     ]
 
 -- each is planned
@@ -148,4 +172,5 @@ module _ (k c first end word step : ℕ) (answer : View) (s : Pool) (whole : IsW
     sets = let last : first + (end - first) ≡ end = omega (arith, ordered) in
         subst (λ b. AreSets k c (some_pages c first end answer) b (sets_of s.memory.words k first (end - first) word step)) last
         (sets-planned s.memory.words k c first (end - first) word step end answer (omega (arith, ordered)) is);
+    changes = sets-change s.memory.words k first (end - first) word step room small;
   }

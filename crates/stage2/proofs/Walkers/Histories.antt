@@ -1,12 +1,12 @@
 -- Operations, one after another.
-use Rattle.std.proofs.Common.{◌≡◌, ℕ, ◌+◌, ◌*◌, ◌%◌, ◌^◌, ◌≤◌, List, [], ◌∷◌, ◌++◌, refl, ap, sym, ◌∙◌, arith, append_assoc, Option, Some}
+use Rattle.std.proofs.Common.{◌≡◌, ℕ, ◌+◌, ◌*◌, ◌%◌, ◌^◌, ◌≤◌, List, [], ◌∷◌, ◌++◌, refl, ap, sym, subst, ◌∙◌, arith, append_assoc, Option, Some}
 use Rattle.base.specs.Access.{View}
 use Rattle.pool.specs.declared.operation.Op.{Op}
 use Rattle.pool.specs.declared.operation.Op.TheVariants.{Set, Invalidate, Clear}
 use Rattle.pool.specs.Pool.{Words, Pool, words_of, put, after_set}
 use Rattle.stage2.specs.Moments.{words_after}
 use Rattle.pool.specs.Pool.{counted}
-use Rattle.stage2.specs.History.{Made, AreSets, Filled}
+use Rattle.stage2.specs.History.{Made, AreSets, AllChange, Filled}
 
 after-append : (b a : List Op) (w : Words) → words_after (b ++ a) w ≡ words_after b (words_after a w)
 after-append [] a w = refl
@@ -41,10 +41,17 @@ sets-wider k c i b plan (Set q x w ∷ ops) le s = let lt = s.1 in (s.0, omega a
 sets-wider k c i b plan (Invalidate p r ∷ ops) le s = absurd s
 sets-wider k c i b plan (Clear r ∷ ops) le s = absurd s
 
+-- operations that each change their word, after others that do
+pub changes-append : (w : Words) (b a : List Op) → AllChange (words_after a w) b → AllChange w a → AllChange w (b ++ a)
+changes-append w [] a h so = so
+changes-append w (Set page index word ∷ b) a h so = (λ same. h.0 (ap (λ (x : Words). x page index) (sym (after-append b a w)) ∙ same), changes-append w b a h.1 so)
+changes-append w (Invalidate p run ∷ b) a h so = changes-append w b a h so
+changes-append w (Clear run ∷ b) a h so = changes-append w b a h so
+
 -- ---- a table is filled
 
 pub filled-none : (k c b : ℕ) (plan : ℕ → Option View) (s : Pool) → Filled k c b plan s s
-filled-none k c b plan s = record { ops = []; made = made-none s; sets = tt }
+filled-none k c b plan s = record { ops = []; made = made-none s; sets = tt; changes = tt }
 
 -- writes as they are planned, after those of words below the i-th
 sets-over : (k c i b : ℕ) (plan part : ℕ → Option View) (ops so : List Op) → i ≤ b → ((x : ℕ) (v : View) → part (512 * c + x) ≡ Some v → (i ≤ x) × (plan (512 * c + x) ≡ Some v)) → AreSets k c part b ops → AreSets k c plan i so
@@ -62,10 +69,11 @@ filled-over k c i j plan part a b e le over so next = record {
   ops = next.ops ++ so.ops;
   made = made-more so.ops next.ops a b e so.made next.made;
   sets = sets-over k c i j plan part next.ops so.ops le over next.sets so.sets;
+  changes = changes-append (words_of a.memory.words) next.ops so.ops (subst (λ (w : Words). AllChange w next.ops) so.made.words next.changes) so.changes;
 }
 
 pub filled-wider : (k c i b : ℕ) (plan : ℕ → Option View) (a e : Pool) → i ≤ b → Filled k c i plan a e → Filled k c b plan a e
-filled-wider k c i b plan a e le h = record { ops = h.ops; made = h.made; sets = sets-wider k c i b plan h.ops le h.sets }
+filled-wider k c i b plan a e le h = record { ops = h.ops; made = h.made; sets = sets-wider k c i b plan h.ops le h.sets; changes = h.changes }
 
 -- what is planned may be part of another plan
 sets-more : (k c b : ℕ) (plan more : ℕ → Option View) (ops : List Op) → ((n : ℕ) (answer : View) → plan n ≡ Some answer → more n ≡ Some answer) → AreSets k c plan b ops → AreSets k c more b ops
@@ -75,6 +83,6 @@ sets-more k c b plan more (Invalidate p r ∷ ops) all s = absurd s
 sets-more k c b plan more (Clear r ∷ ops) all s = absurd s
 
 pub filled-more : (k c b : ℕ) (plan more : ℕ → Option View) (a e : Pool) → ((n : ℕ) (answer : View) → plan n ≡ Some answer → more n ≡ Some answer) → Filled k c b plan a e → Filled k c b more a e
-filled-more k c b plan more a e all h = record { ops = h.ops; made = h.made; sets = sets-more k c b plan more h.ops all h.sets }
+filled-more k c b plan more a e all h = record { ops = h.ops; made = h.made; sets = sets-more k c b plan more h.ops all h.sets; changes = h.changes }
 
 -- ---- break before make
