@@ -21,7 +21,9 @@ module _ (c i j : ℕ) (answer : View) (x : ℕ) where
   pub some-after : j ≤ x → some_pages c i j answer (512 * c + x) ≡ None
   some-after from = let f : (leb (512 * c + i) (512 * c + x) && ltb (512 * c + x) (512 * c + j)) ≡ false = grind (arith, nat_tests, from) in rw f refl
 
--- pages whose words are written, after those before them
+-- ---- after the pages before the i-th, those up to the j-th
+
+-- their words are written
 pub writes-join : (k c i j : ℕ) (plan : ℕ → Option View) (answer : View) (a b e : Pages) → i ≤ j → ((x : ℕ) → i ≤ x → x < j → plan (512 * c + x) ≡ Some answer)
     → Writes k c (below (512 * c + i) plan) a b → Writes k c (some_pages c i j answer) b e → Writes k c (below (512 * c + j) plan) a e
 writes-join k c i j plan answer a b e le there so next = writes-over k c i j plan (some_pages c i j answer) a b e le
@@ -30,6 +32,7 @@ writes-join k c i j plan answer a b e le there so next = writes-over k c i j pla
     (λ x from. some-after c i j answer x from)
     so next
 
+-- and these are the operations
 pub filled-join : (k c i j : ℕ) (plan : ℕ → Option View) (answer : View) (a b e : Pool) → i ≤ j → ((x : ℕ) → i ≤ x → x < j → plan (512 * c + x) ≡ Some answer) → Filled k c i plan a b → Filled k c j (some_pages c i j answer) b e → Filled k c j plan a e
 filled-join k c i j plan answer a b e le there so next = filled-over k c i j plan (some_pages c i j answer) a b e le this so next
   where
