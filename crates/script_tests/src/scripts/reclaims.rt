@@ -53,6 +53,45 @@ fn merges_a_block(rt: HostRuntime) -> Result<(), Fail> {
     expect(&rt, alloc, lines, &wanted)
 }
 
+/// Ranges of the first block are lent and reclaimed, which are the pages at these indexes: by break before make the
+/// block is a block again, and then the valid words of its table, which are those of the other pages, become 0, upward.
+fn expect_merge(
+    rt: &impl Abort,
+    alloc: Global,
+    ranges: &str,
+    lent: &[u32],
+    made: u32,
+) -> Result<(), Fail> {
+    let mut zeros = String::new(alloc);
+    for index in 0..512_u32 {
+        if !lent.contains(&index) {
+            writeln!(&mut zeros, "set 9 {index} 0000000000000000")?;
+        }
+    }
+    let lines = format!(in alloc;
+        "lend 8001 0 8002:02 {ranges}\nreclaim 8001 800100000001\nops\n"
+    )?;
+    let wanted = format!(in alloc;
+        "reply 84000061 00000000 00000001 00008001 00000000 00000000 00000000 00000000\n\
+        {SUCCESS}\
+        ops {made}\n\
+        set 5 0 0000000000000000\n\
+        inv 8001 0080000000 512\n\
+        set 5 0 00000000800007fd\n\
+        {zeros}"
+    )?;
+    expect(rt, alloc, &lines, &wanted)
+}
+
+/// The pages at the ends of a block come back: their words are 0, and no operation sets them to 0 once more.
+#[test]
+fn merges_a_block_whose_ends_come_back(rt: HostRuntime) -> Result<(), Fail> {
+    let alloc = rt.alloc();
+    expect_merge(&rt, alloc, "80000000+1", &[0], 514)?;
+    expect_merge(&rt, alloc, "801ff000+1", &[511], 514)?;
+    expect_merge(&rt, alloc, "80000000+1,801ff000+1", &[0, 511], 513)
+}
+
 /// A partition has 32 live transactions at most, and a reclaim makes room for another.
 #[test]
 fn makes_room_for_a_transaction(rt: HostRuntime) -> Result<(), Fail> {
