@@ -141,7 +141,7 @@ struct Stretch {
 }
 
 /// A page and those behind it that have its owner and home. One look, by halving, finds all of that for a page
-/// that has an owner and that no live transaction covers.
+/// of a region that has an owner and that no live transaction covers.
 fn stretch_from(manifest: &Manifest, ledger: &Ledger, page: Page) -> Stretch
     requires manifest { ledger.now.manifest ≡ manifest.now }
     ensures behind { page < result.end }
@@ -151,7 +151,9 @@ fn stretch_from(manifest: &Manifest, ledger: &Ledger, page: Page) -> Stretch
 {
     let segment = ledger.segment(page);
     let ownership = Ownership::of(segment.owner, segment.home);
-    let end = if segment.owner.is_some() && !segment.is_live {
+    // Outside all regions a segment ends with its page, which is not sharable.
+    let is_cut = !segment.is_sharable && segment.end == page.number() + 1;
+    let end = if segment.owner.is_some() && !segment.is_live && !is_cut {
         segment.end
     } else {
         owned_until(manifest, ledger, page)
