@@ -1,9 +1,10 @@
-ghost use Rattle.std.specs.Prelude.{◌≡◌, []};
+ghost use Rattle.std.specs.Prelude.{◌≡◌, [], OnOk};
 ghost use Rattle.stage2.specs.Slot.{layout_of};
 
+use arrayvec::ArrayVec;
 use audit::{audit_text, check_text, maps_text, owners_text, tables_text};
-use base::{OutOfMemory, PartitionId};
-use ledger::Ledger;
+use base::{Access, Handle, Kind, OutOfMemory, Page, PartitionId, Rights, Run};
+use ledger::{Ledger, Live, Terms};
 use manifest::{Manifest, common_manifest};
 use pool::ListPool;
 use stage2::Tables;
@@ -74,6 +75,68 @@ fn writes_owners(rt: HostRuntime) -> Result<(), Fail> {
         00c0000000 2 8003 rw- normal\n\
         00d0000000 1 8001 rw- normal\n";
     assert_eq!(rt; text.as_str(), wanted);
+    Ok(())
+}
+
+/// Half of all pages, outside all regions, were donated together: they are one run, which few looks find. A look at
+/// each page would take minutes here.
+#[test]
+fn writes_owners_outside_all_regions(rt: HostRuntime) -> Result<(), Fail> {
+    let alloc = rt.alloc();
+    let manifest = common_manifest(alloc)?;
+    let mut ledger = Ledger::new(alloc, common_manifest(alloc)?);
+    let half = Page::COUNT / 2;
+    donate(&mut ledger, alloc, Run::new(Page::new(half), half))?;
+    let wanted = "owners 8\n\
+        0009000000 1 8001 rw- device\n\
+        0080000000 1024 8001 rwx normal\n\
+        0090000000 2 8001 rw- normal\n\
+        00a0000000 512 8002 rw- normal\n\
+        00b0000000 2 8002 rw- normal\n\
+        00c0000000 2 8003 rw- normal\n\
+        00d0000000 1 8001 rw- normal\n\
+        4000000000 67108864 8002 rw- normal\n";
+    for _ in 0..100 {
+        let text = owners_text(alloc, &manifest, &ledger)?;
+        assert_eq!(rt; text.as_str(), wanted);
+    }
+    Ok(())
+}
+
+/// Pages are given from 0x8001 to 0x8002, as data.
+fn donate(ledger: &mut Ledger, alloc: Global, run: Run) -> Result<(), OutOfMemory>
+    ensures { OnOk result (ledger.new.manifest ≡ ledger.old.manifest) }
+{
+    let data = Access::normal(Rights::Rw, false);
+    let giver = PartitionId::new(0x8001);
+    let handle = Handle::new(giver, 1);
+    let terms = Terms {
+        kind: Kind::Donate,
+        sender: giver,
+        tag: 0,
+        ranges: vec![in alloc; run]?,
+        receivers: ArrayVec::new(),
+        home: data,
+    };
+    let terms = Box::new(alloc, terms)?;
+    open(ledger, Live { handle, terms })?;
+    if let Some(transaction) = ledger.find(handle) {
+        let runs = transaction.terms.ranges.len();
+        ledger.ready(runs)?;
+        ledger.retrieve(PartitionId::new(0x8002), handle, data);
+    }
+    Ok(())
+}
+
+/// Opens a transaction with a handle of its sender's, where none is live.
+fn open(ledger: &mut Ledger, transaction: Live) -> Result<(), OutOfMemory>
+    ensures { OnOk result (ledger.new.manifest ≡ ledger.old.manifest) }
+{
+    ledger.ready(transaction.terms.ranges.len())?;
+    let named = transaction.handle.high() == u32::from(transaction.terms.sender.number());
+    if named && ledger.live().is_empty() {
+        ledger.open(transaction);
+    }
     Ok(())
 }
 
