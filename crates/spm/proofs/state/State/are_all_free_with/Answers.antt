@@ -1,4 +1,4 @@
-use Rattle.std.proofs.Common.{◌≡◌, ◌≤◌, true, false, sym, ◌∙◌, arith}
+use Rattle.std.proofs.Common.{◌≡◌, ◌≤◌, ◌<◌, ℕ, true, false, sym, ◌∙◌, arith, inl, inr}
 use Rattle.base.specs.State.{is_free_with}
 use Rattle.spm.proofs.SegmentLemmas.{each_page-known, each_page-done, next-range}
 use Rattle.spm.proofs.state.State.are_all_free_with.Goals as goal
@@ -7,27 +7,32 @@ pub returns-in-None-free_until : goal.returns-in-None-free_until
 returns-in-None-free_until c =
     let f = is_free_with c.args.self.now c.args.p c.args.home in
     let end = c.end-then-first-end in
-    let decided = each_page-known f c.in-Some.run' c.past-first.result end.result end.ensures.same c.past-first.ensures.behind c.past-first.ensures.inside
-    (λ n from to. let known = c.past-first.ensures.known n from to in c.loop-run.invariant.known n known.0 known.1) in
-    next-range f _ _ c.in-Some.run' false _ c.in-Some.ensures.steps (sym c.in-None-free_until.ensures.none ∙ decided) c.loop-run.invariant.rest
+    let known = c.loop-run.invariant in
+    let passed : (n : ℕ) → c.in-Some.run'.first ≤ n → n < c.past-first.result → f n ≡ true = λ n from to. elim (c.past-first.ensures.known n from to) [ inl a ↦ known.first n a.0 a.1 | inr b ↦ known.last n b.0 b.1 ] in
+    let decided = each_page-known f c.in-Some.run' c.past-first.result end.result end.ensures.same c.past-first.ensures.behind c.past-first.ensures.inside passed in
+    next-range f _ _ c.in-Some.run' false _ c.in-Some.ensures.steps (sym c.in-None-free_until.ensures.none ∙ decided) known.rest
 
 pub loop-run-preserved-then-first-end : goal.loop-run-preserved-then-first-end
 loop-run-preserved-then-first-end c =
     let f = is_free_with c.args.self.now c.args.p c.args.home in
     let end = c.end-then-first-end in
-    let decided = each_page-known f c.in-Some.run' c.past-first.result end.result end.ensures.same c.past-first.ensures.behind c.past-first.ensures.inside
-    (λ n from to. let known = c.past-first.ensures.known n from to in c.loop-run.invariant.known n known.0 known.1) in
+    let known = c.loop-run.invariant in
+    let passed : (n : ℕ) → c.in-Some.run'.first ≤ n → n < c.past-first.result → f n ≡ true = λ n from to. elim (c.past-first.ensures.known n from to) [ inl a ↦ known.first n a.0 a.1 | inr b ↦ known.last n b.0 b.1 ] in
+    let decided = each_page-known f c.in-Some.run' c.past-first.result end.result end.ensures.same c.past-first.ensures.behind c.past-first.ensures.inside passed in
     record {
-      rest = next-range f _ _ c.in-Some.run' true _ c.in-Some.ensures.steps (sym c.in-Some-free_until.ensures.some ∙ decided) c.loop-run.invariant.rest;
-      known = c.in-Some-free_until.ensures.known;
+      rest = next-range f _ _ c.in-Some.run' true _ c.in-Some.ensures.steps (sym c.in-Some-free_until.ensures.some ∙ decided) known.rest;
+      first = known.first;
+      last = c.in-Some-free_until.ensures.known;
     }
 
 pub loop-run-preserved : goal.loop-run-preserved
 loop-run-preserved c =
     let f = is_free_with c.args.self.now c.args.p c.args.home in
-    let decided = each_page-known f c.in-Some.run' c.past-first.result c.end.result c.end.ensures.same c.past-first.ensures.behind c.past-first.ensures.inside
-    (λ n from to. let known = c.past-first.ensures.known n from to in c.loop-run.invariant.known n known.0 known.1) in
+    let known = c.loop-run.invariant in
+    let passed : (n : ℕ) → c.in-Some.run'.first ≤ n → n < c.past-first.result → f n ≡ true = λ n from to. elim (c.past-first.ensures.known n from to) [ inl a ↦ known.first n a.0 a.1 | inr b ↦ known.last n b.0 b.1 ] in
+    let decided = each_page-known f c.in-Some.run' c.past-first.result c.end.result c.end.ensures.same c.past-first.ensures.behind c.past-first.ensures.inside passed in
     record {
-      rest = next-range f _ _ c.in-Some.run' true _ c.in-Some.ensures.steps (sym (each_page-done f c.end.result c.past-first.result c.if-first-end.false) ∙ decided) c.loop-run.invariant.rest;
-      known = c.loop-run.invariant.known;
+      rest = next-range f _ _ c.in-Some.run' true _ c.in-Some.ensures.steps (sym (each_page-done f c.end.result c.past-first.result c.if-first-end.false) ∙ decided) known.rest;
+      first = known.first;
+      last = known.last;
     }
