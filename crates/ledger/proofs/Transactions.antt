@@ -1,8 +1,8 @@
 -- Live transactions that come and go.
 use Rattle.std.proofs.Common.{◌≡◌, ℕ, ◌<◌, Bool, true, false, cond, eqb, ltb, List, [], ◌∷◌, Option, Some, None, refl, sym, ap, subst, ◌∙◌, arith}
 use Rattle.std.specs.List.{AllByRecursion}
-use Rattle.std.specs.Option.{option_map}
-use Rattle.std.proofs.lemmas.Bool.{ltb-true}
+use Rattle.std.specs.Option.{option_map, option_map_or}
+use Rattle.std.proofs.lemmas.Bool.{eqb-true, ltb-true}
 use Rattle.std.proofs.lemmas.Bool.Decides.{nat_tests}
 use Rattle.base.specs.Access.{View}
 use Rattle.base.specs.Transactions.{Live, AreAscending}
@@ -82,6 +82,48 @@ AreAllSeparate-open (u ∷ us) t all none new =
         AreAllSeparate-open us t all.1 (λ n is. (first_not (covers u.ranges n) u (live_at us n) (none n is)).1) fresh.1,
       )
     ] refl
+
+-- ---- the pages of a handle
+
+no_handle : (live : List Live) (h low n : ℕ) → AllByRecursion (λ v. low < v.handle) live → h ≡ low → option_map_or (λ k. eqb k h) (handle_at live n) false ≡ false
+no_handle [] h low n all e = refl
+no_handle (u ∷ us) h low n all e =
+    let less = all.0 in
+    let other : eqb u.handle h ≡ false = grind (arith, nat_tests) in
+    elim (covers u.ranges n) as (λ b. option_map_or (λ k. eqb k h) (option_map (λ (v : Live). v.handle) (cond b (Some u) (live_at us n))) false ≡ false) [
+      | true ↦ other
+      | false ↦ no_handle us h low n all.1 e
+    ]
+
+-- none has the handle of a transaction that is not live
+pub no_number : (live : List Live) (h n : ℕ) → found live h ≡ None → option_map_or (λ k. eqb k h) (handle_at live n) false ≡ false
+no_number [] h n none = refl
+no_number (u ∷ us) h n none =
+    let fresh = first_not (eqb u.handle h) u (found us h) none in
+    elim (covers u.ranges n) as (λ b. option_map_or (λ k. eqb k h) (option_map (λ (v : Live). v.handle) (cond b (Some u) (live_at us n))) false ≡ false) [
+      | true ↦ fresh.0
+      | false ↦ no_number us h n fresh.1
+    ]
+
+-- the live transaction that covers a page has this handle just where the one of this handle covers it
+pub has_handle : (live : List Live) (h n : ℕ) (t : Live) → AreAllSeparate live → found live h ≡ Some t → option_map_or (λ k. eqb k h) (handle_at live n) false ≡ covers t.ranges n
+has_handle [] h n t all e = absurd cc
+has_handle (u ∷ us) h n t all e =
+    elim (eqb u.handle h) as (λ b. eqb u.handle h ≡ b → cond b (Some u) (found us h) ≡ Some t → option_map_or (λ k. eqb k h) (handle_at (u ∷ us) n) false ≡ covers t.ranges n) [
+      | true ↦ λ q e.
+          let same : u ≡ t = cc in
+          let here : option_map_or (λ k. eqb k h) (handle_at (u ∷ us) n) false ≡ covers u.ranges n =
+          elim (covers u.ranges n) as (λ b. option_map_or (λ k. eqb k h) (option_map (λ (v : Live). v.handle) (cond b (Some u) (live_at us n))) false ≡ b) [
+            | true ↦ q
+            | false ↦ no_handle us h u.handle n (handles_of u us all.0) (sym (eqb-true _ _ q))
+          ] in
+          subst (λ (x : Live). option_map_or (λ k. eqb k h) (handle_at (u ∷ us) n) false ≡ covers x.ranges n) same here
+      | false ↦ λ q e.
+          elim (covers u.ranges n) as (λ b. covers u.ranges n ≡ b → option_map_or (λ k. eqb k h) (option_map (λ (v : Live). v.handle) (cond b (Some u) (live_at us n))) false ≡ covers t.ranges n) [
+            | true ↦ λ is. q ∙ sym ((all_found (AreSeparate u) us h t all.0 e).pages n is)
+            | false ↦ λ is. has_handle us h n t all.1 e
+          ] refl
+    ] refl e
 
 -- ---- one less
 

@@ -1,10 +1,12 @@
-ghost use Rattle.std.specs.Prelude.{◌≡◌, ◌==◌, ◌++◌, ◌∷◌, [], ◌≤◌, ◌<◌, ◌^◌, ℕ, None, Some, true, is_some, length, filter, OnOk};
+ghost use Rattle.std.specs.Prelude.{◌≡◌, ◌==◌, ◌++◌, ◌∷◌, [], ◌≤◌, ◌<◌, ◌^◌, ℕ, None, Some, true, is_some, length, filter, slice_index_or, vec_len, if◌then◌else◌, IsOk, OnOk, OnErr};
+ghost use Rattle.std.specs.List.{remove};
 ghost use Rattle.std.specs.Option.{option_map};
 ghost use Rattle.base.specs.Pages.{in_run, covers};
 ghost use Rattle.base.specs.Ledger as rules;
 ghost use Rattle.base.specs.Manifest as rows;
 ghost use Rattle.base.specs.declared.transaction.Kind.TheVariants.{Donate};
-ghost use Rattle.spans.specs.Spans.{room_for};
+ghost use Rattle.spans.specs.Spans.{value_at};
+ghost use Rattle.spans.specs.Taking.{has_number};
 ghost use Rattle.ledger.specs.Ledger as spec;
 ghost use Rattle.ledger.specs.Changes as changes;
 ghost use Rattle.ledger.specs.Gifts as gifts;
@@ -187,8 +189,8 @@ impl Ledger {
         live::live_of(&self.live, p)
     }
 
-    /// Makes room for one more donation and one more live transaction, and for an `open`, `retrieve`
-    /// or `close` of so many runs. A refusal changes nothing but the room.
+    /// Makes room for one more donation and one more live transaction, and for an `open` or
+    /// `retrieve` of so many runs. A refusal changes nothing but the room.
     pub fn ready(&mut self, runs: usize) -> Result<(), OutOfMemory>
         ensures same { spec.IsSameButRoom self.old self.new }
         ensures room { OnOk result (spec.IsReady runs self.new.room) }
@@ -207,21 +209,30 @@ impl Ledger {
         ensures { spec.IsSameButRoom self.old self.new }
     {
         for place in self.numbered..self.manifest.regions().len() {
-            self.given.ready(1)?;
             let first = self.manifest.regions()[place].pages().first();
-            self.number_pages(first);
+            self.number_pages(first)?;
             self.numbered = place + 1;
         }
         Ok(())
     }
 
     /// Gives a page, and those behind it of which the same is said, the number of that.
-    fn number_pages(&mut self, page: Page)
-        requires { room_for 1 ≤ self.old.room.given }
+    fn number_pages(&mut self, page: Page) -> Result<(), OutOfMemory>
         ensures { spec.IsSameButRoom self.old self.new }
     {
         if let Some(said) = self.said_from(page) {
-            self.given.put(said.run, said.gift.number());
+            self.given.put(said.run, said.gift.number())?;
+        }
+        Ok(())
+    }
+
+    /// Takes the numbers of regions away again, where no donation is completed.
+    fn forget_numbers(&mut self)
+        ensures { spec.IsSameButRoom self.old self.new }
+    {
+        if self.donations.is_empty() {
+            self.given = PageMap::new(*self.live.allocator());
+            self.numbered = self.manifest.regions().len();
         }
     }
 
@@ -244,7 +255,7 @@ impl Ledger {
         Some(Said { run, gift })
     }
 
-    /// Adds a live transaction. This takes no memory.
+    /// Adds a live transaction, for which `ready` has made room. This takes no memory.
     pub fn open(&mut self, transaction: Live)
         requires ready { spec.IsReady (length transaction.ranges) self.old.room }
         requires new { spec.found self.old.live transaction.handle ≡ None }
@@ -256,9 +267,66 @@ impl Ledger {
         ensures live { self.new.live ≡ changes.with_live transaction self.old.live }
     {
         self.numbered = self.numbered_with(transaction.terms.kind);
-        self.shared
-            .put_all(&transaction.terms.ranges, transaction.handle.bits());
+        let is_added = self.add(transaction).is_ok();
+        prove!(is_added);
+    }
+
+    /// Adds a live transaction, and makes room for it where its pages stand; the first donation gives the pages of all
+    /// regions a number. A refusal changes nothing.
+    pub fn try_open(&mut self, transaction: Live) -> Result<(), OutOfMemory>
+        requires new { spec.found self.old.live transaction.handle ≡ None }
+        requires named { spec.NamesItsSender transaction }
+        requires apart { (n : ℕ) → covers transaction.ranges n ≡ true
+            → rules.live_at self.old.live n ≡ None }
+        ensures manifest { self.new.manifest ≡ self.old.manifest }
+        ensures donations { self.new.donations ≡ self.old.donations }
+        ensures ok { OnOk result (self.new.live ≡ changes.with_live transaction self.old.live) }
+        ensures err { OnErr result (self.new.live ≡ self.old.live) }
+    {
+        let numbered = self.numbered_with(transaction.terms.kind);
+        let is_first = numbered < self.numbered;
+        self.numbered = numbered;
+        let added = self.number_and_add(transaction);
+        if is_first && added.is_err() {
+            self.forget_numbers();
+        }
+        added
+    }
+
+    fn number_and_add(&mut self, transaction: Live) -> Result<(), OutOfMemory>
+        requires new { spec.found self.old.live transaction.handle ≡ None }
+        requires named { spec.NamesItsSender transaction }
+        requires apart { (n : ℕ) → covers transaction.ranges n ≡ true
+            → rules.live_at self.old.live n ≡ None }
+        ensures manifest { self.new.manifest ≡ self.old.manifest }
+        ensures donations { self.new.donations ≡ self.old.donations }
+        ensures ok { OnOk result (self.new.live ≡ changes.with_live transaction self.old.live) }
+        ensures err { OnErr result (self.new.live ≡ self.old.live) }
+    {
+        self.number_regions()?;
+        self.add(transaction)
+    }
+
+    /// Adds a live transaction. A refusal changes nothing.
+    fn add(&mut self, transaction: Live) -> Result<(), OutOfMemory>
+        requires new { spec.found self.old.live transaction.handle ≡ None }
+        requires named { spec.NamesItsSender transaction }
+        requires apart { (n : ℕ) → covers transaction.ranges n ≡ true
+            → rules.live_at self.old.live n ≡ None }
+        ensures manifest { self.new.manifest ≡ self.old.manifest }
+        ensures donations { self.new.donations ≡ self.old.donations }
+        ensures ok { OnOk result (self.new.live ≡ changes.with_live transaction self.old.live) }
+        ensures err { OnErr result (self.new.live ≡ self.old.live) }
+        ensures at_once { spec.IsReady (length transaction.ranges) self.old.room → IsOk result }
+    {
+        let number = transaction.handle.bits();
+        self.shared.put_all(&transaction.terms.ranges, number)?;
+        if self.live.reserve(1).is_err() {
+            self.shared.take_out(&transaction.terms.ranges, number);
+            return Err(OutOfMemory);
+        }
         put_in(&mut self.live, transaction);
+        Ok(())
     }
 
     /// Before which region all have numbers, or need none, when a transaction of this kind is opened.
@@ -283,8 +351,6 @@ impl Ledger {
 
     /// Takes the transaction of a handle out.
     fn take(&mut self, handle: Handle) -> Option<Live>
-        requires { (t : _) → spec.found self.old.live handle ≡ Some t
-            → room_for (length t.ranges) ≤ self.old.room.shared }
         ensures value { result ≡ spec.found self.old.live handle }
         ensures manifest { self.new.manifest ≡ self.old.manifest }
         ensures donations { self.new.donations ≡ self.old.donations }
@@ -292,15 +358,11 @@ impl Ledger {
         ensures room { spec.HasSameRoomForDonations self.old.room self.new.room }
     {
         let place = place_of(&self.live, handle)?;
-        let transaction = self.live.remove(place);
-        self.shared.cut_all(&transaction.terms.ranges);
-        Some(transaction)
+        Some(take_at(&mut self.live, &mut self.shared, place))
     }
 
-    /// Ends the transaction of a handle. This takes no memory.
+    /// Ends the transaction of a handle. This takes no memory, and needs no room.
     pub fn close(&mut self, handle: Handle)
-        requires { (t : _) → spec.found self.old.live handle ≡ Some t
-            → spec.IsReady (length t.ranges) self.old.room }
         ensures manifest { self.new.manifest ≡ self.old.manifest }
         ensures donations { self.new.donations ≡ self.old.donations }
         ensures live { self.new.live ≡ changes.without handle self.old.live }
@@ -318,7 +380,7 @@ impl Ledger {
     }
 
     /// The receiver has retrieved the transaction of a handle, with this access: a donation, for which
-    /// there is room, is completed and ends. This takes no memory.
+    /// `ready` has made room, is completed and ends. This takes no memory.
     pub fn retrieve(&mut self, p: PartitionId, handle: Handle, access: Access)
         requires { (t : _) → spec.found self.old.live handle ≡ Some t → t.kind ≡ Donate
             → spec.IsReady (length t.ranges) self.old.room }
@@ -328,37 +390,87 @@ impl Ledger {
         ensures live { self.new.live
             ≡ changes.live_after handle p access (spec.found self.old.live handle) self.old.live }
     {
+        let is_done = self.try_retrieve(p, handle, access).is_ok();
+        prove!(is_done);
+    }
+
+    /// The receiver has retrieved the transaction of a handle, with this access: a donation is completed and ends,
+    /// and takes memory where its pages stand. A refusal changes nothing.
+    pub fn try_retrieve(
+        &mut self,
+        p: PartitionId,
+        handle: Handle,
+        access: Access,
+    ) -> Result<(), OutOfMemory>
+        ensures manifest { self.new.manifest ≡ self.old.manifest }
+        ensures donations { OnOk result (self.new.donations ≡ changes.donations_after p access
+            (spec.found self.old.live handle) self.old.donations) }
+        ensures live { OnOk result (self.new.live
+            ≡ changes.live_after handle p access (spec.found self.old.live handle) self.old.live) }
+        ensures err { OnErr result (spec.IsSameButRoom self.old self.new) }
+        ensures at_once { ((t : _) → spec.found self.old.live handle ≡ Some t → t.kind ≡ Donate
+            → spec.IsReady (length t.ranges) self.old.room) → IsOk result }
+    {
         let Some(transaction) = self.find(handle) else {
-            return;
+            return Ok(());
         };
         match transaction.terms.kind {
-            Kind::Share | Kind::Lend => self.set_retrieval(p, handle, Some(access)),
+            Kind::Share | Kind::Lend => {
+                self.set_retrieval(p, handle, Some(access));
+                Ok(())
+            }
             Kind::Donate => self.complete(p, handle, access),
         }
     }
 
-    /// The donation of a handle is completed.
-    fn complete(&mut self, p: PartitionId, handle: Handle, access: Access)
-        requires { (t : _) → spec.found self.old.live handle ≡ Some t
-            → spec.IsReady (length t.ranges) self.old.room }
+    /// The donation of a handle is completed. A refusal changes nothing.
+    fn complete(
+        &mut self,
+        p: PartitionId,
+        handle: Handle,
+        access: Access,
+    ) -> Result<(), OutOfMemory>
         ensures manifest { self.new.manifest ≡ self.old.manifest }
-        ensures donations { (t : _) → spec.found self.old.live handle ≡ Some t
-            → self.new.donations ≡ self.old.donations ++ changes.completed p access t ∷ [] }
-        ensures live { self.new.live ≡ changes.without handle self.old.live }
+        ensures donations { OnOk result ((t : _) → spec.found self.old.live handle ≡ Some t
+            → self.new.donations ≡ self.old.donations ++ changes.completed p access t ∷ []) }
+        ensures live { OnOk result (self.new.live ≡ changes.without handle self.old.live) }
+        ensures err { OnErr result (spec.IsSameButRoom self.old self.new) }
+        ensures at_once { ((t : _) → spec.found self.old.live handle ≡ Some t
+            → spec.IsReady (length t.ranges) self.old.room) → IsOk result }
     {
-        let Some(transaction) = self.take(handle) else {
-            return;
+        let Some(place) = place_of(&self.live, handle) else {
+            return Ok(());
         };
-        let terms = Box::into_inner(transaction.terms);
+        self.donations.reserve(1)?;
         let gift = Gift { taker: p, access };
-        self.given.put_all(&terms.ranges, gift.number());
+        self.given
+            .put_all(&self.live[place].terms.ranges, gift.number())?;
+        let transaction = take_at(&mut self.live, &mut self.shared, place);
+        let terms = Box::into_inner(transaction.terms);
         self.donations.push_reserved(Donation {
             ranges: terms.ranges,
             giver: terms.sender,
             taker: p,
             access,
         });
+        Ok(())
     }
+}
+
+/// Takes the transaction at a place out, and its handle from its pages. This takes no memory.
+fn take_at(live: &mut Vec<Live>, shared: &mut PageMap, place: usize) -> Live
+    requires inside { place < vec_len live.old }
+    requires pages { (d : _) (n : ℕ) → has_number (slice_index_or live.old.items place d).handle shared.old.spans n
+        ≡ covers (slice_index_or live.old.items place d).ranges n }
+    ensures value { (d : _) → result ≡ slice_index_or live.old.items place d }
+    ensures live { live.new.items ≡ remove live.old.items place }
+    ensures shared { (n : ℕ) → value_at shared.new.spans n
+        ≡ (if covers result.ranges n then None else value_at shared.old.spans n) }
+    ensures room { shared.old.room ≤ shared.new.room }
+{
+    let transaction = live.remove(place);
+    shared.take_out(&transaction.terms.ranges, transaction.handle.bits());
+    transaction
 }
 
 /// The owner of a page, by what its number spells, if it has one, and by its region.

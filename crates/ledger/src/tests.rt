@@ -78,15 +78,6 @@ fn retrieve(
     Ok(())
 }
 
-fn close(ledger: &mut Ledger, handle: Handle) -> Result<(), OutOfMemory> {
-    if let Some(transaction) = ledger.find(handle) {
-        let runs = transaction.terms.ranges.len();
-        ledger.ready(runs)?;
-        ledger.close(handle);
-    }
-    Ok(())
-}
-
 /// What the first receiver has retrieved.
 fn retrieved(ledger: &Ledger, handle: Handle) -> Option<Access> {
     ledger.find(handle)?.terms.receivers.first()?.retrieved
@@ -201,7 +192,7 @@ fn lend_covers_its_ranges(rt: HostRuntime) -> Result<(), Fail> {
 fn lend_comes_and_goes(rt: HostRuntime) -> Result<(), Fail> {
     let mut ledger = lent(&rt, rt.alloc())?;
     retrieve_and_relinquish(&rt, &mut ledger)?;
-    close(&mut ledger, handle_of(FIRST))?;
+    ledger.close(handle_of(FIRST));
     assert!(rt; ledger.find(handle_of(FIRST)).is_none());
     settled(
         &rt,

@@ -10,7 +10,7 @@ use Rattle.spans.specs.Spans.{Span, value_at, end_of, ascend, end_from}
 use Rattle.spans.specs.Edits.{rise, HasRunAt, IsAheadOf, IsBetween, AreAt}
 use Rattle.spans.proofs.Ascending.{begins, far, ascend-cons, ascend-left, ascend-right, ascend-append, value_at-behind, value_at-ahead}
 use Rattle.spans.proofs.Blocks.{before-ascends, before-at}
-use Rattle.spans.proofs.Zones.{first_at_least, firsts_ascend, run_ends_ascend}
+use Rattle.spans.proofs.Runs.{first_at_least, firsts_ascend, run_ends_ascend}
 
 -- ---- runs that rise
 

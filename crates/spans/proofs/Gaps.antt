@@ -1,5 +1,5 @@
 -- Intervals with a gap between them: what a step of the pass does to those before it and behind it.
-use Rattle.std.proofs.Common.{◌≡◌, ℕ, zero, suc, ◌+◌, ◌-◌, ◌<◌, ◌≤◌, Bool, true, false, ◌||◌, cond, leb, List, [], ◌∷◌, ◌++◌, length, get_or, take, drop, Option, Some, None, refl, sym, ap, subst, ◌∙◌, append_assoc, append-nil, arith}
+use Rattle.std.proofs.Common.{◌≡◌, ℕ, zero, suc, ◌+◌, ◌-◌, ◌<◌, ◌≤◌, Bool, true, false, ◌||◌, cond, leb, ltb, List, [], ◌∷◌, ◌++◌, length, get_or, take, drop, Option, Some, None, refl, sym, ap, subst, ◌∙◌, append_assoc, append-nil, arith}
 use Rattle.std.specs.List.{copy_within, AllAdjacentBelow}
 use Rattle.std.proofs.Math.ListN.{set}
 use Rattle.std.proofs.Math.Seq.{take-append_seam, drop-append_seam, drop-cons, drop-drop}
@@ -154,6 +154,9 @@ rise_from_adjacent e (run ∷ next ∷ runs) h first =
     let le : leb e run.first ≡ true = grind (arith, nat_tests, first run (omega arith)) in
     let on : leb (end_of run) next.first ≡ true = sym (h 0 run (omega arith)) in
     rw le (rise_from_adjacent (end_of run) (next ∷ runs) (λ k d lt. let e : suc k + 1 ≡ suc (k + 1) = omega arith in subst (λ (i : ℕ). true ≡ leb (end_of (get_or (next ∷ runs) k d)) (get_or (run ∷ next ∷ runs) i d).first) e (h (suc k) d (omega arith))) (λ d some. leb-true _ _ on))
+
+pub rise_from_apart : (runs : List PageRun) → AllAdjacentBelow (λ run next. true ≡ ltb (end_of run) next.first) runs (length runs) → rise 0 runs ≡ true
+rise_from_apart runs h = rise_from_adjacent 0 runs (λ k d lt. let a = h k d lt in sym (grind (arith, nat_tests))) (λ d some. omega arith)
 
 pub rise_first : (e i : ℕ) (runs : List PageRun) (d : PageRun) → i < length runs → rise e (drop i runs) ≡ true → e ≤ (get_or runs i d).first
 rise_first e i runs d lt h = leb-true _ _ (and_parts (leb e (get_or runs i d).first) (rise (end_of (get_or runs i d)) (drop (suc i) runs)) (ap (rise e) (sym (drop-cons runs i d lt)) ∙ h)).0

@@ -1,11 +1,12 @@
 -- What intervals have before a page and from a page on, and what is put in between.
-use Rattle.std.proofs.Common.{◌≡◌, ℕ, suc, ◌<◌, ◌≤◌, Bool, true, false, ◌&&◌, not, cond, leb, ltb, List, [], ◌∷◌, ◌++◌, length, get_or, take, drop, Option, Some, None, refl, sym, ap, ◌∙◌, append_assoc, append-nil, arith}
+use Rattle.std.proofs.Common.{◌≡◌, ℕ, suc, ◌<◌, ◌≤◌, Bool, true, false, ◌&&◌, not, cond, leb, ltb, List, [], ◌∷◌, ◌++◌, length, get_or, take, drop, max, Option, Some, None, refl, sym, ap, ◌∙◌, append_assoc, append-nil, arith}
 use Rattle.std.specs.Option.{option_map_or}
 use Rattle.std.proofs.Math.Seq.{drop-cons}
 use Rattle.std.proofs.lemmas.List.{take-append-drop, take_all}
+use Rattle.std.proofs.lemmas.Bool.{leb-true}
 use Rattle.base.specs.Pages.{PageRun, in_run}
 use Rattle.spans.specs.Spans.{Span, value_at, end_of, ascend, end_from}
-use Rattle.spans.specs.Edits.{left_of, right_of, listed, all_before, all_from, span_of, replaced}
+use Rattle.spans.specs.Edits.{part_of, left_of, right_of, listed, all_before, all_from, span_of, replaced}
 use Rattle.spans.proofs.Ascending.{Begins, begins, far, ascend-cons, least, ascend-left, ascend-right, ascend-append, value_at-append}
 use Rattle.spans.proofs.Cutting.{no_left, no_right, whole_left, whole_right, left_at, right_at, outside, is_left, is_right}
 
@@ -209,3 +210,18 @@ module _ (page i : ℕ) (ss : List Span) (s : Span) (h : ascend 0 ss ≡ true) (
   unfolding ys
   before_there first le =
       sym (ap (all_before first) (sym (take-append-drop (suc i) ss)) ∙ all_before-append first (take (suc i) ss) ys ∙ ap (λ l. all_before first (take (suc i) ss) ++ l) (none_before first le) ∙ append-nil (all_before first (take (suc i) ss)))
+
+pub some_from : (page e : ℕ) (ss : List Span) → e ≤ page → page < end_from e ss → 0 < length (all_from page ss)
+unfolding all_from
+some_from page e [] le lt = absurd (omega arith)
+some_from page e (s ∷ ss) le lt = elim (leb (end_of s.run) page) as (λ b. leb (end_of s.run) page ≡ b → 0 < length (listed (cond b None (Some (part_of (max s.run.first page) (end_of s.run) s))) ++ all_from page ss)) [
+  | true ↦ λ t. some_from page (end_of s.run) ss (leb-true _ _ t) lt
+  | false ↦ λ t. omega arith
+] refl
+
+pub fewer_from : (page : ℕ) (ss : List Span) → length (all_from page ss) ≤ length ss
+unfolding all_from
+fewer_from page [] = omega arith
+fewer_from page (s ∷ ss) =
+    let rest = fewer_from page ss in
+    elim (leb (end_of s.run) page) as (λ b. length (listed (cond b None (Some (part_of (max s.run.first page) (end_of s.run) s))) ++ all_from page ss) ≤ length (s ∷ ss)) [ true ↦ omega arith | false ↦ omega arith ]

@@ -1,93 +1,111 @@
 -- Intervals that stand in blocks.
-use Rattle.std.specs.Prelude.{◌≡◌, ℕ, ◌-◌, ◌<◌, ◌≤◌, suc, Bool, true, ◌&&◌, nat_le, nat_lt, List, [], ◌∷◌, ◌++◌, Option, Some, length, slice_index_or, take, drop, min, if◌then◌else◌}
+use Rattle.std.specs.Prelude.{◌≡◌, ℕ, ◌+◌, ◌*◌, ◌-◌, ◌/◌, ◌^◌, ◌<◌, ◌≤◌, Bool, true, nat_le, nat_lt, List, [], ◌∷◌, ◌++◌, Some, length, filter, slice_index_or, take, drop, if◌then◌else◌}
 use Rattle.std.specs.List.{AllByRecursion}
 use Rattle.base.specs.Pages.{PageRun, covers}
-use Rattle.spans.specs.declared.page_map.runs.Zone.{Zone}
-use Rattle.spans.specs.Spans.{Span, SpansView, value_at, ascend, room_for}
-use Rattle.spans.specs.Edits.{joined}
+use Rattle.spans.specs.Spans.{Span, value_at, ascend}
+use Rattle.spans.specs.Search.{begins_at}
+use Rattle.spans.specs.Taking.{IsTakenIn}
+use Rattle.spans.specs.declared.page_map.place.Group.{Group}
 
--- the page is in the zone
-abbrev pub in_zone : Zone → ℕ → Bool
-in_zone zone n = nat_le zone.first n && nat_lt n zone.end
+-- a block knows where its first interval begins, and has places for 128
+pub record IsBlock (begin : ℕ) (ss : List Span) (capacity : ℕ) : Type 0 where
+  pub begins : begin ≡ begins_at ss
+  pub in_range : begin ≤ 2 ^ 27
+  pub ascending : ascend 0 ss ≡ true
+  pub short : length ss ≤ 128
+  pub places : 128 ≤ capacity
+
+-- blocks upward, before which of them a cursor stands, and how many are spare
+pub record BlocksView : Type 0 where
+  pub list : List (List Span)
+  pub at : ℕ
+  pub spare : ℕ
 
 -- the intervals of all blocks, one after another
-abbrev pub all_spans : List SpansView → List Span
+abbrev pub all_spans : List (List Span) → List Span
 all_spans [] = []
-all_spans (b ∷ bs) = b.spans ++ all_spans bs
+all_spans (b ∷ bs) = b ++ all_spans bs
 
--- each of them has an interval
-abbrev pub AreFilled : List SpansView → Type 0
-AreFilled bs = AllByRecursion (λ b. 0 < length b.spans) bs
+-- each of them has an interval, and no more than a block may have
+abbrev pub AreFilled : List (List Span) → Type 0
+AreFilled bs = AllByRecursion (λ b. (0 < length b) × (length b ≤ 128)) bs
 
--- each of them has this much room
-abbrev pub HaveRoom : ℕ → List SpansView → Type 0
-HaveRoom room bs = AllByRecursion (λ b. room ≤ b.room) bs
+-- the blocks stand upward, and each has an interval
+pub record AreStacked (bs : List (List Span)) : Type 0 where
+  pub ascending : ascend 0 (all_spans bs) ≡ true
+  pub filled : AreFilled bs
 
--- the least room of any, and no more than this
-abbrev pub least_room : ℕ → List SpansView → ℕ
-least_room room [] = room
-least_room room (b ∷ bs) = min b.room (least_room room bs)
+-- how many blocks a block of so many intervals becomes at most, beside itself, where so many runs get a number
+abbrev pub more_blocks : ℕ → ℕ → ℕ
+more_blocks len runs = (len + 2 * runs - 1) / 128
 
--- one block alone has its own room; where there are more, an edit needs some in each, and memory for its runs
-abbrev pub room_of : SpansView → List SpansView → ℕ → ℕ
-room_of first [] runs = first.room
-room_of first (b ∷ bs) runs = min first.room (least_room (room_for runs) (b ∷ bs))
+-- the runs that belong to a block before these: those that do not begin behind the first of these
+abbrev pub runs_before : List (List Span) → List PageRun → List PageRun
+runs_before [] runs = runs
+runs_before (b ∷ bs) runs = filter (λ run. nat_le run.first (begins_at b)) runs
 
--- the blocks stand upward, and only the first may have no interval
-pub record IsStack (first : List Span) (more : List SpansView) : Type 0 where
-  pub ascending : ascend 0 (first ++ all_spans more) ≡ true
-  pub filled : AreFilled more
+-- the others
+abbrev pub runs_after : List (List Span) → List PageRun → List PageRun
+runs_after [] runs = []
+runs_after (b ∷ bs) runs = filter (λ run. nat_lt (begins_at b) run.first) runs
 
--- one block alone is a map of its own
-abbrev pub AreStacked : List Span → List SpansView → Type 0
-AreStacked first [] = Unit {0}
-AreStacked first (b ∷ bs) = IsStack first (b ∷ bs)
+-- how many more blocks there are at most where the runs get a number
+abbrev pub needed : List (List Span) → List PageRun → ℕ
+needed [] runs = 0
+needed (b ∷ bs) runs =
+    more_blocks (length b) (length (runs_before bs runs)) + needed bs (runs_after bs runs)
 
--- where there are blocks behind the first, each has room for so many runs, and so have lists of this capacity
-abbrev pub AreReady : ℕ → List SpansView → ℕ → Type 0
-AreReady spare [] lists = Unit {0}
-AreReady spare (b ∷ bs) lists = room_for spare ≤ least_room (room_for lists) (b ∷ bs)
+-- the same, also where there is no block yet
+abbrev pub blocks_needed : List (List Span) → List PageRun → ℕ
+blocks_needed [] [] = 0
+blocks_needed [] (run ∷ runs) = 1 + more_blocks 0 (length (run ∷ runs))
+blocks_needed (b ∷ bs) runs = needed (b ∷ bs) runs
 
--- the blocks stand upward, and behind the first is room
-pub record AreBlocks (first : List Span) (more : List SpansView) (spare lists : ℕ) : Type 0 where
-  pub stacked : AreStacked first more
-  pub ready : AreReady spare more lists
+-- there are places for so many blocks
+pub record HavePlaces (all front back spare : ℕ) : Type 0 where
+  pub in_front : all ≤ front
+  pub in_back : all ≤ back
+  pub in_spare : all ≤ spare
 
--- the block before a place among those behind the first
-abbrev pub block_before : SpansView → List SpansView → ℕ → SpansView
-block_before first more i = slice_index_or (first ∷ more) i first
+-- the block of a group of runs: the runs of the group begin behind its begin, the others do not, and what is needed is
+-- the sum of both
+pub record IsGroup (bs : List (List Span)) (runs : List PageRun) (group : Group) : Type 0 where
+  pub first : group.place ≡ 0 → group.from ≡ 0
+  pub before : (i : ℕ) (d : PageRun) (b : List Span) → i < group.from → (slice_index_or runs i d).first ≤ begins_at (slice_index_or bs group.place b)
+  pub behind : (i : ℕ) (d : PageRun) (b : List Span) → 0 < group.place → group.from ≤ i → i < length runs → begins_at (slice_index_or bs group.place b) < (slice_index_or runs i d).first
+  pub next : (i : ℕ) (d : PageRun) → i < length runs → ascend (slice_index_or runs i d).first (all_spans (drop (group.place + 1) bs)) ≡ true
 
--- the block at a place gives the pages of the runs this number, or none
-pub record IsSetAt (runs : List PageRun) (value : Option ℕ) (old : List SpansView) (i : ℕ) (new : List SpansView) : Type 0 where
+-- the blocks of a map stand upward, and there is room for a call with so many runs
+pub record IsPageMap (blocks : BlocksView) (room runs spans : ℕ) : Type 0 where
+  pub stacked : AreStacked blocks.list
+  pub spare : room ≤ blocks.spare
+  pub sorted : room ≤ runs
+  pub scratch : 0 < room → 128 + 2 * room ≤ spans
+
+-- blocks with these intervals stand behind those that stood before the cursor, and before it then
+pub record ArePushed (spans : List Span) (old new : BlocksView) : Type 0 where
+  pub from : old.at ≤ new.at
+  pub inside : new.at ≤ length new.list
+  pub front : take old.at new.list ≡ take old.at old.list
+  pub made : all_spans (drop old.at (take new.at new.list)) ≡ spans
+  pub filled : AreFilled (drop old.at (take new.at new.list))
+  pub rest : drop new.at new.list ≡ drop old.at old.list
+
+-- the block at a place has no interval of the number any more that has a page from the first up to the end
+pub record IsTakenAt (first end value : ℕ) (old : List (List Span)) (i : ℕ) (new : List (List Span)) : Type 0 where
+  pub spans : List Span
+  pub taken : (d : List Span) → IsTakenIn first end value (slice_index_or old i d) spans
+  pub before : take i new ≡ take i old
+  pub here : drop i new ≡ spans ∷ drop (i + 1) old
+  pub len : length new ≡ length old
+
+-- the block at a place gives the pages of the runs this number
+pub record IsSetAt (runs : List PageRun) (value : ℕ) (old : List (List Span)) (i : ℕ) (new : List (List Span)) : Type 0 where
   pub spans : List Span
   pub ascending : ascend 0 spans ≡ true
-  pub at : (d : SpansView) (n : ℕ) → value_at spans n
-      ≡ (if covers runs n then value else value_at (slice_index_or old i d).spans n)
+  pub at : (d : List Span) (n : ℕ) → value_at spans n
+      ≡ (if covers runs n then Some value else value_at (slice_index_or old i d) n)
   pub before : take i new ≡ take i old
-  pub rest : all_spans (drop i new) ≡ spans ++ all_spans (drop (suc i) old)
-  pub room : (room : ℕ) → ((d : SpansView) → room ≤ (slice_index_or old i d).room - room_for (length runs))
-      → HaveRoom room (drop (suc i) old) → HaveRoom room (drop i new)
-  pub inside : i ≤ length new
-
--- intervals as two lists, one before the other, neither of which is empty
-pub record IsParted (whole front rest : List Span) : Type 0 where
-  pub joined : front ++ rest ≡ whole
-  pub lower : 0 < length front
-  pub upper : 0 < length rest
-
--- the last interval of a block and the first of the next touch and have the same number: this is both
-pub record IsSeam (lower upper : List Span) (whole : Span) : Type 0 where
-  pub before : List Span
-  pub last : Span
-  pub first : Span
-  pub behind : List Span
-  pub ends : lower ≡ before ++ last ∷ []
-  pub begins : upper ≡ first ∷ behind
-  pub joins : joined last first ≡ Some whole
-
--- blocks that say the same, also behind others, with no less room
-pub record AreAlike (old new : List SpansView) : Type 0 where
-  pub at : (front : List Span) (n : ℕ) → value_at (front ++ all_spans new) n ≡ value_at (front ++ all_spans old) n
-  pub ascending : (front : List Span) (e : ℕ) → ascend e (front ++ all_spans old) ≡ true
-      → ascend e (front ++ all_spans new) ≡ true
-  pub room : (room limit : ℕ) → room ≤ least_room limit old → room ≤ least_room limit new
+  pub rest : all_spans (drop i new) ≡ spans ++ all_spans (drop (i + 1) old)
+  pub filled : AreFilled (drop (i + 1) old) → AreFilled (drop i new)
+  pub inside : i < length new

@@ -3,4 +3,6 @@ pub mod Spans
 pub mod Edits
 pub mod Search
 pub mod Gaps
+pub mod Zones
 pub mod Blocks
+pub mod Taking

@@ -1,11 +1,12 @@
 //! Looks pages up, by halving.
 
-ghost use Rattle.std.specs.Prelude.{◌≡◌, ℕ, ◌+◌, ◌-◌, ◌*◌, ◌^◌, ◌<◌, ◌≤◌, length};
+ghost use Rattle.std.specs.Prelude.{◌≡◌, ℕ, ◌+◌, ◌-◌, ◌*◌, ◌^◌, ◌<◌, ◌≤◌, true, length, slice_index_or};
+ghost use Rattle.spans.specs.Spans as spec;
 ghost use Rattle.spans.specs.Spans.{value_at};
 ghost use Rattle.spans.specs.Search.{IsFound, IsFirstOf};
 
 use crate::probes::Probes;
-use crate::spans::Spans;
+use crate::spans::{Span, Spans};
 use base::{Page, Run};
 use std::marker::Brand;
 use std::sync::ledger::{Blank, Ledger};
@@ -27,39 +28,93 @@ enum Place {
     Before(usize),
 }
 
-impl Spans {
-    /// The interval of a page, or the place of those behind it.
-    fn place_of<L: Ledger>(&self, page: Page, probes: &mut Probes<L>) -> Place
-        ensures place { IsFound self.now.spans page result }
-        ensures cost { 2 ^ (probes.new - probes.old) ≤ 2 * length self.now.spans + 1 }
-        ensures counts { probes.old ≤ probes.new }
-    {
-        let mut low = 0;
-        let mut high = self.len();
-        while low < high {
-            let middle = low + (high - low) / 2;
-            let (run, value) = self.look(middle, probes);
-            if page.number() < run.first().number() {
-                high = middle;
-            } else if run.end() <= page.number() {
-                low = middle + 1;
-            } else {
-                return Place::Inside(run, value);
-            }
-        }
-        Place::Before(low)
-    }
+/// An interval among others. Counts one look.
+fn look<L: Ledger>(spans: &[Span], i: usize, probes: &mut Probes<L>) -> Span
+    requires { i < length spans.now }
+    ensures span { (d : spec.Span) → result ≡ slice_index_or spans.now i d }
+    ensures count { probes.new ≡ probes.old + 1 }
+{
+    probes.count();
+    spans[i]
+}
 
+/// The interval of a page, or the place of those behind it.
+fn place_in<L: Ledger>(spans: &[Span], page: Page, probes: &mut Probes<L>) -> Place
+    requires { spec.ascend 0 spans.now ≡ true }
+    ensures place { IsFound spans.now page result }
+    ensures cost { 2 ^ (probes.new - probes.old) ≤ 2 * length spans.now + 1 }
+    ensures counts { probes.old ≤ probes.new }
+{
+    let mut low = 0;
+    let mut high = spans.len();
+    while low < high {
+        let middle = low + (high - low) / 2;
+        let span = look(spans, middle, probes);
+        if page.number() < span.run.first().number() {
+            high = middle;
+        } else if span.run.end() <= page.number() {
+            low = middle + 1;
+        } else {
+            return Place::Inside(span.run, span.value);
+        }
+    }
+    Place::Before(low)
+}
+
+/// The number of a page. It looks at no more intervals than their count has binary digits.
+pub(crate) fn find_in<L: Ledger>(spans: &[Span], page: Page, probes: &mut Probes<L>) -> Option<u64>
+    requires { spec.ascend 0 spans.now ≡ true }
+    ensures value { result ≡ value_at spans.now page }
+    ensures cost { 2 ^ (probes.new - probes.old) ≤ 2 * length spans.now + 1 }
+    ensures counts { probes.old ≤ probes.new }
+{
+    match place_in(spans, page, probes) {
+        Place::Inside(_, value) => Some(value),
+        Place::Before(_) => None,
+    }
+}
+
+/// The number of a page, and how far the pages behind it have the same, with one look more at most.
+pub(crate) fn segment_in<L: Ledger>(spans: &[Span], page: Page, probes: &mut Probes<L>) -> Segment
+    requires { spec.ascend 0 spans.now ≡ true }
+    ensures behind { page < result.end }
+    ensures in_range { result.end ≤ 2 ^ 27 }
+    ensures value { (n : ℕ) → page ≤ n → n < result.end
+        → value_at spans.now n ≡ result.value }
+{
+    match place_in(spans, page, probes) {
+        Place::Inside(run, value) => Segment {
+            value: Some(value),
+            end: run.end(),
+        },
+        Place::Before(place) => Segment {
+            value: None,
+            end: first_of(spans, place, probes),
+        },
+    }
+}
+
+/// Where the interval at a place begins; without one, the number of pages.
+fn first_of<L: Ledger>(spans: &[Span], place: usize, probes: &mut Probes<L>) -> u32
+    requires { spec.ascend 0 spans.now ≡ true }
+    ensures { IsFirstOf spans.now place result }
+{
+    if place < spans.len() {
+        let span = look(spans, place, probes);
+        span.run.first().number()
+    } else {
+        Page::COUNT
+    }
+}
+
+impl Spans {
     /// The number of a page. It looks at no more intervals than their count has binary digits.
     pub fn find<L: Ledger>(&self, page: Page, probes: &mut Probes<L>) -> Option<u64>
         ensures value { result ≡ value_at self.now.spans page }
         ensures cost { 2 ^ (probes.new - probes.old) ≤ 2 * length self.now.spans + 1 }
         ensures counts { probes.old ≤ probes.new }
     {
-        match self.place_of(page, probes) {
-            Place::Inside(_, value) => Some(value),
-            Place::Before(_) => None,
-        }
+        find_in(self.as_slice(), page, probes)
     }
 
     /// The number of a page, with no count of the looks.
@@ -99,37 +154,6 @@ impl Spans {
             → value_at self.now.spans n ≡ result.value }
     {
         let mut probes = Probes::<L>::new(blank);
-        self.find_segment(page, &mut probes)
-    }
-
-    /// The same, with a count of the looks: one more than `find` makes, at most.
-    fn find_segment<L: Ledger>(&self, page: Page, probes: &mut Probes<L>) -> Segment
-        ensures behind { page < result.end }
-        ensures in_range { result.end ≤ 2 ^ 27 }
-        ensures value { (n : ℕ) → page ≤ n → n < result.end
-            → value_at self.now.spans n ≡ result.value }
-    {
-        match self.place_of(page, probes) {
-            Place::Inside(run, value) => Segment {
-                value: Some(value),
-                end: run.end(),
-            },
-            Place::Before(place) => Segment {
-                value: None,
-                end: self.first_of(place, probes),
-            },
-        }
-    }
-
-    /// Where the interval at a place begins; without one, the number of pages.
-    fn first_of<L: Ledger>(&self, place: usize, probes: &mut Probes<L>) -> u32
-        ensures { IsFirstOf self.now.spans place result }
-    {
-        if place < self.len() {
-            let (run, _) = self.look(place, probes);
-            run.first().number()
-        } else {
-            Page::COUNT
-        }
+        segment_in(self.as_slice(), page, &mut probes)
     }
 }

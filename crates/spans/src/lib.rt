@@ -6,6 +6,7 @@ mod find;
 mod page_map;
 mod probes;
 mod spans;
+mod zone;
 
 pub use alike::run_until;
 pub use find::Segment;

@@ -1,59 +1,75 @@
-ghost use Rattle.std.specs.Prelude.{◌≡◌, ◌+◌, ◌<◌, ◌≤◌, ◌↔◌, ◌^◌, ℕ, [], Some, None, length, if◌then◌else◌, IsTrue, OnOk};
+ghost use Rattle.std.specs.Prelude.{◌≡◌, ◌+◌, ◌-◌, ◌*◌, ◌<◌, ◌≤◌, ◌↔◌, ◌^◌, ℕ, [], Some, None, length, vec_capacity, if◌then◌else◌, IsTrue, IsOk, OnOk, OnErr};
 ghost use Rattle.base.specs.Pages.{in_run, covers};
 ghost use Rattle.spans.specs.Spans as spec;
+ghost use Rattle.spans.specs.Taking.{has_number};
 
 use crate::find::Segment;
-use crate::spans::Spans;
-use base::limits::MOST_RANGES;
+use crate::probes::Probes;
+use crate::spans::{LIMIT, Span, gather};
 use base::{OutOfMemory, Page, Run};
 use std::alloc::Global;
-use std::marker::Model;
+use std::marker::{Brand, Model};
+use std::sync::ledger::{Blank, Ledger};
 
-mod borders;
-mod edit;
+mod blocks;
+mod looking;
 mod place;
-mod room;
-mod runs;
+mod putting;
+mod taking;
 #[cfg(test)]
 mod tests;
 
-use borders::join_borders;
-use edit::set_blocks;
-use place::{get_in_blocks, segment_in_blocks};
-use room::{LIMIT, gather_all, ready_blocks};
-use runs::reach_of;
+use blocks::Blocks;
+use place::more_needed;
+use putting::put_sorted;
+use taking::take_runs;
 
-/// A map from pages to numbers as `Spans` is, whose intervals stand in blocks, so that an edit moves only those
-/// of the blocks that it touches. All intervals of a block end before the next block begins; runs that are put make
-/// one interval with those of their number that they touch, in other blocks too. A map of few intervals has one
-/// block. Beside the blocks is memory in which the runs of an edit are put in order, and cut to what a block has of
-/// them. Each block behind the first has room for so many runs at least as `spare` says, and so have both lists. For
-/// more runs than a send has, all blocks become one, since room for so many in each could take many times the memory
-/// of the intervals; it is not parted in the next `whole` calls, which pay for that.
+/// A map from pages to numbers as `Spans` is, whose intervals stand in blocks of the same size, so that an edit moves
+/// only those of the blocks that it touches. All intervals of a block end before the next block begins. A call that gives
+/// pages a number makes room for just that; where it is refused, nothing has changed.
 #[derive(Drop)]
 pub struct PageMap {
-    first: Spans,
-    more: Vec<Spans>,
+    blocks: Blocks,
     sorted: Vec<Run>,
-    clipped: Vec<Run>,
-    spare: usize,
-    whole: usize,
+    scratch: Vec<Span>,
+    room: usize,
 }
 
 impl Model for PageMap {
-    ghost use Rattle.std.specs.Prelude.{◌++◌, min, vec_capacity};
-    ghost use Rattle.spans.specs.Spans.{SpansView};
-    ghost use Rattle.spans.specs.Blocks.{all_spans, room_of, AreBlocks};
+    ghost use Rattle.std.specs.Prelude.{vec_capacity};
+    ghost use Rattle.spans.specs.Spans.{SpansView, room_for};
+    ghost use Rattle.spans.specs.Blocks.{all_spans, IsPageMap};
 
     ghost Value = { SpansView };
 
     ghost view = { λ m. record {
-      spans = m.first.spans ++ all_spans m.more.items;
-      room = room_of m.first m.more.items (min (vec_capacity m.sorted) (vec_capacity m.clipped));
+      spans = all_spans m.blocks.list;
+      room = room_for m.room;
     } };
 
-    ghost invariant = { λ m. AreBlocks m.first.spans m.more.items m.spare
-        (min (vec_capacity m.sorted) (vec_capacity m.clipped)) };
+    ghost invariant = { λ m. IsPageMap m.blocks m.room (vec_capacity m.sorted) (vec_capacity m.scratch) };
+}
+
+/// Makes room in both lists for so many runs, and for the intervals of a block and those runs.
+fn ready_lists(
+    sorted: &mut Vec<Run>,
+    scratch: &mut Vec<Span>,
+    runs: usize,
+) -> Result<(), OutOfMemory>
+    ensures sorted { OnOk result (runs ≤ vec_capacity sorted.new) }
+    ensures scratch { OnOk result (128 + 2 * runs ≤ vec_capacity scratch.new) }
+    ensures at_once { runs ≤ vec_capacity sorted.old → 128 + 2 * runs ≤ vec_capacity scratch.old → IsOk result }
+    ensures kept { vec_capacity sorted.old ≤ vec_capacity sorted.new }
+    ensures kept_scratch { vec_capacity scratch.old ≤ vec_capacity scratch.new }
+{
+    let Some(spans) = runs.checked_mul(2) else {
+        return Err(OutOfMemory);
+    };
+    sorted.clear();
+    sorted.reserve(runs)?;
+    scratch.clear();
+    scratch.reserve(spans.saturating_add(LIMIT))?;
+    Ok(())
 }
 
 impl PageMap {
@@ -62,144 +78,132 @@ impl PageMap {
         ensures { result.spans ≡ [] }
     {
         PageMap {
-            first: Spans::new(alloc),
-            more: Vec::new(alloc),
+            blocks: Blocks::new(alloc),
             sorted: Vec::new(alloc),
-            clipped: Vec::new(alloc),
-            spare: 0,
-            whole: 0,
+            scratch: Vec::new(alloc),
+            room: 0,
         }
     }
 
-    /// Makes room for one call of `put_all` or `cut_all` with this many runs, or of `put` for one. A refusal changes
-    /// no number. For up to 512 runs the upper half of a block of many intervals becomes a block of its own, if there is
-    /// memory for it; for more, all blocks become one.
-    #[inline]
+    /// Makes room for one call of `put_all` with so many runs, wherever they stand, or of `put` for one. That can take a
+    /// block for each run; a call without it asks for those alone that it needs. A refusal changes no number.
     pub fn ready(&mut self, runs: usize) -> Result<(), OutOfMemory>
         ensures spans { self.new.spans ≡ self.old.spans }
         ensures room { OnOk result (spec.room_for runs ≤ self.new.room) }
     {
-        if self.more.is_empty() && self.first.len() <= LIMIT {
-            return self.first.ready(runs);
-        }
-        self.ready_all(runs)
+        self.room = 0;
+        ready_lists(&mut self.sorted, &mut self.scratch, runs)?;
+        self.blocks.ready(runs)?;
+        self.room = runs;
+        Ok(())
     }
 
-    /// The same where there are more blocks, or the first is long. What serves several blocks is compiled apart, so that
-    /// a map of one block costs a test more than a `Spans`.
-    #[inline(never)]
-    fn ready_all(&mut self, runs: usize) -> Result<(), OutOfMemory>
-        ensures spans { self.new.spans ≡ self.old.spans }
-        ensures room { OnOk result (spec.room_for runs ≤ self.new.room) }
+    /// Gives all pages of a run this number; other pages keep theirs. A refusal changes nothing.
+    pub fn put(&mut self, run: Run, value: u64) -> Result<(), OutOfMemory>
+        ensures at { OnOk result ((n : _) → spec.value_at self.new.spans n
+            ≡ (if in_run run n then Some value else spec.value_at self.old.spans n)) }
+        ensures err { OnErr result (self.new.spans ≡ self.old.spans) }
+        ensures at_once { spec.room_for 1 ≤ self.old.room → IsOk result }
     {
-        if MOST_RANGES < runs && gather_all(&mut self.first, &mut self.more, runs).is_ok() {
-            self.whole = self.first.len();
-        } else if self.more.is_empty() && 0 < self.whole {
-            self.whole -= 1;
-        } else if self.spare < runs || LIMIT < self.first.len() {
-            self.spare = 0;
-            self.spare = ready_blocks(
-                &mut self.first,
-                &mut self.more,
-                &mut self.sorted,
-                &mut self.clipped,
-                runs,
-            )?;
-        }
-        self.first.ready(runs)
+        self.put_all(&[run], value)
     }
 
-    /// Gives all pages of a run this number; other pages keep theirs. This takes no memory.
-    #[inline]
-    pub fn put(&mut self, run: Run, value: u64)
-        requires { spec.room_for 1 ≤ self.old.room }
-        ensures { (n : _) → spec.value_at self.new.spans n
-            ≡ (if in_run run n then Some value else spec.value_at self.old.spans n) }
+    /// Gives all pages of the runs this number; other pages keep theirs. A refusal changes nothing. Runs that touch or share
+    /// pages are put as one, each block that has pages of them is edited once, and beside it no other but the next.
+    pub fn put_all(&mut self, runs: &[Run], value: u64) -> Result<(), OutOfMemory>
+        ensures at { OnOk result ((n : ℕ) → spec.value_at self.new.spans n
+            ≡ (if covers runs.now n then Some value else spec.value_at self.old.spans n)) }
+        ensures err { OnErr result (self.new.spans ≡ self.old.spans) }
+        ensures at_once { spec.room_for (length runs.now) ≤ self.old.room → IsOk result }
     {
-        if self.more.is_empty() {
-            self.first.put(run, value);
-        } else {
-            self.put_all(&[run], value);
+        if runs.is_empty() {
+            return Ok(());
         }
+        ready_lists(&mut self.sorted, &mut self.scratch, runs.len())?;
+        gather(&mut self.sorted, runs);
+        self.blocks.ready(more_needed(&self.blocks, &self.sorted))?;
+        self.room = 0;
+        put_sorted(&mut self.blocks, &mut self.sorted, value, &mut self.scratch);
+        Ok(())
     }
 
-    /// Gives all pages of the runs this number; other pages keep theirs. This takes no memory. Runs that share no
-    /// page are put in one pass over each block that has pages of them.
-    #[inline]
-    pub fn put_all(&mut self, runs: &[Run], value: u64)
-        requires { spec.room_for (length runs.now) ≤ self.old.room }
-        ensures { (n : ℕ) → spec.value_at self.new.spans n
-            ≡ (if covers runs.now n then Some value else spec.value_at self.old.spans n) }
-    {
-        if self.more.is_empty() {
-            self.first.put_all(runs, value);
-            return;
-        }
-        set_blocks(
-            &mut self.first,
-            &mut self.more,
-            &mut self.sorted,
-            &mut self.clipped,
-            runs,
-            Some(value),
-        );
-        join_borders(&mut self.first, &mut self.more, reach_of(runs));
-        self.spare = self.spare.saturating_sub(runs.len());
-    }
-
-    /// Takes the numbers of all pages of the runs away; other pages keep theirs. This takes no memory, and
-    /// runs that share no page are cut in one pass over each block that has pages of them.
-    #[inline]
-    pub fn cut_all(&mut self, runs: &[Run])
-        requires { spec.room_for (length runs.now) ≤ self.old.room }
-        ensures { (n : ℕ) → spec.value_at self.new.spans n
+    /// Takes a number away from all pages that have it, where those are the pages of the runs; other pages keep theirs.
+    /// This takes no memory and needs no room, since whole intervals go. Where the list has places for the runs, as it has
+    /// behind a call that put them, they are gone over upward.
+    pub fn take_out(&mut self, runs: &[Run], value: u64)
+        requires { (n : ℕ) → has_number value self.old.spans n ≡ covers runs.now n }
+        ensures at { (n : ℕ) → spec.value_at self.new.spans n
             ≡ (if covers runs.now n then None else spec.value_at self.old.spans n) }
+        ensures room { self.old.room ≤ self.new.room }
     {
-        if self.more.is_empty() {
-            self.first.cut_all(runs);
+        if self.sorted.capacity() < runs.len() {
+            take_runs(&mut self.blocks, runs, value);
             return;
         }
-        set_blocks(
-            &mut self.first,
-            &mut self.more,
-            &mut self.sorted,
-            &mut self.clipped,
-            runs,
-            None,
-        );
-        self.spare = self.spare.saturating_sub(runs.len());
+        gather(&mut self.sorted, runs);
+        take_runs(&mut self.blocks, &self.sorted, value);
+    }
+
+    /// How many intervals there are.
+    pub fn len(&self) -> usize {
+        let front = self.blocks.front.iter().map(|block| block.len());
+        let back = self.blocks.back.iter().map(|block| block.len());
+        front
+            .chain(back)
+            .fold(0, |all, len| usize::saturating_add(all, len))
     }
 
     /// Whether no page has a number.
-    #[inline]
     pub fn is_empty(&self) -> bool
         ensures { IsTrue result ↔ (self.now.spans ≡ []) }
     {
-        self.more.is_empty() && self.first.is_empty()
+        self.blocks.len() == 0
     }
 
     /// The number of a page.
-    #[inline]
     pub fn get(&self, page: Page) -> Option<u64>
         ensures { result ≡ spec.value_at self.now.spans page }
     {
-        if self.more.is_empty() {
-            return self.first.get(page);
-        }
-        get_in_blocks(&self.first, &self.more, page)
+        self.get_from::<Brand>(page, Blank::new(1))
+    }
+
+    fn get_from<L: Ledger>(&self, page: Page, blank: Blank) -> Option<u64>
+        requires name { blank.name ≡ L.name }
+        requires parts { blank.parts ≡ L.parts }
+        requires some { 0 < L.parts }
+        ensures { result ≡ spec.value_at self.now.spans page }
+    {
+        let mut probes = Probes::<L>::new(blank);
+        self.find(page, &mut probes)
+    }
+
+    /// The number of a page.
+    pub fn find<L: Ledger>(&self, page: Page, probes: &mut Probes<L>) -> Option<u64>
+        ensures value { result ≡ spec.value_at self.now.spans page }
+    {
+        looking::find(&self.blocks, page, probes)
     }
 
     /// The number of a page, and how far the pages behind it have the same.
-    #[inline]
     pub fn segment_at(&self, page: Page) -> Segment
         ensures behind { page < result.end }
         ensures in_range { result.end ≤ 2 ^ 27 }
         ensures value { (n : ℕ) → page ≤ n → n < result.end
             → spec.value_at self.now.spans n ≡ result.value }
     {
-        if self.more.is_empty() {
-            return self.first.segment_at(page);
-        }
-        segment_in_blocks(&self.first, &self.more, page)
+        self.segment_from::<Brand>(page, Blank::new(1))
+    }
+
+    fn segment_from<L: Ledger>(&self, page: Page, blank: Blank) -> Segment
+        requires name { blank.name ≡ L.name }
+        requires parts { blank.parts ≡ L.parts }
+        requires some { 0 < L.parts }
+        ensures behind { page < result.end }
+        ensures in_range { result.end ≤ 2 ^ 27 }
+        ensures value { (n : ℕ) → page ≤ n → n < result.end
+            → spec.value_at self.now.spans n ≡ result.value }
+    {
+        let mut probes = Probes::<L>::new(blank);
+        looking::segment(&self.blocks, page, &mut probes)
     }
 }

@@ -15,16 +15,20 @@ mod join;
 mod order;
 mod pass;
 mod place;
+mod taking;
 #[cfg(test)]
 mod tests;
 
-pub(crate) use order::sort;
+pub(crate) use between::put_all;
+pub(crate) use block::{Block, LIMIT};
+pub(crate) use order::gather;
+pub(crate) use place::place_near_end as place_behind;
 
 /// The pages of a run, and the number that each of them has.
 #[derive(Clone, Copy)]
 pub(crate) struct Span {
-    run: Run,
-    value: u64,
+    pub(crate) run: Run,
+    pub(crate) value: u64,
 }
 
 impl Model for Span {
@@ -121,13 +125,14 @@ impl Spans {
     }
 
     /// The same, with what it takes of the room.
-    pub(crate) fn put_runs(&mut self, runs: &[Run], value: u64)
+    fn put_runs(&mut self, runs: &[Run], value: u64)
         requires { spec.room_for (length runs.now) ≤ self.old.room }
         ensures at { (n : ℕ) → spec.value_at self.new.spans n
             ≡ (if covers runs.now n then Some value else spec.value_at self.old.spans n) }
         ensures room { self.old.room ≤ self.new.room + spec.room_for (length runs.now) }
     {
-        if 1 < runs.len() && order::sort(&mut self.sorted, runs) {
+        if 1 < runs.len() {
+            order::gather(&mut self.sorted, runs);
             between::put_all(&mut self.spans, &self.sorted, value);
             return;
         }
@@ -162,6 +167,14 @@ impl Spans {
             left -= 1;
             self.cut(runs[left]);
         }
+    }
+
+    /// The intervals.
+    pub(crate) fn as_slice(&self) -> &[Span]
+        ensures same { result.now ≡ self.now.spans }
+        ensures ascending { spec.ascend 0 self.now.spans ≡ true }
+    {
+        &self.spans
     }
 
     /// How many intervals there are.

@@ -163,16 +163,14 @@ abbrev pub of_parts : LedgerView → List Mailbox → List PartitionState → St
 of_parts l boxes partitions = record { manifest = l.manifest; donations = l.donations; live = l.live; mailboxes = boxes; partitions = partitions }
 
 -- what the ledger and the mailboxes come to is the state after a retrieval
-pub completed_state : {A : Type 0} (filled : Result A Status) (s : State) (p handle : ℕ) (access : Access) (first ready last : LedgerView) (boxes after : List Mailbox) (partitions : List PartitionState) → of_parts first boxes partitions ≡ s → CanRetrieve s p handle → IsSameButRoom first ready
-    → last.manifest ≡ ready.manifest → last.donations ≡ donations_after p access (found ready.live handle) ready.donations → last.live ≡ live_after handle p access (found ready.live handle) ready.live
+pub completed_state : {A : Type 0} (filled : Result A Status) (s : State) (p handle : ℕ) (access : Access) (first last : LedgerView) (boxes after : List Mailbox) (partitions : List PartitionState) → of_parts first boxes partitions ≡ s → CanRetrieve s p handle
+    → last.manifest ≡ first.manifest → last.donations ≡ donations_after p access (found first.live handle) first.donations → last.live ≡ live_after handle p access (found first.live handle) first.live
     → IfErr filled (RefusesWith (pairs.fill_tests boxes p)) → OnOk filled (after ≡ pairs.with_rx p true boxes) → of_parts last after partitions ≡ after_retrieval s p handle access
-completed_state (Err status) s p handle access first ready last boxes after partitions is can same manifest donations live refused ok =
+completed_state (Err status) s p handle access first last boxes after partitions is can manifest donations live refused ok =
     absurd (let fill = can.fills in let refuses : first_refusal (pairs.fill_tests s.mailboxes p) ≡ Some status = ap (λ (u : State). first_refusal (pairs.fill_tests u.mailboxes p)) (sym is) ∙ refused in cc)
-completed_state (Ok x) s p handle access first ready last boxes after partitions is can same manifest donations live refused ok =
+completed_state (Ok x) s p handle access first last boxes after partitions is can manifest donations live refused ok =
     let start = of_parts first boxes partitions in
     let can_start : CanRetrieve start p handle = subst (λ (u : State). CanRetrieve u p handle) (sym is) can in
-    let given : last.donations ≡ donations_after p access (found first.live handle) first.donations = donations ∙ ap₂ (λ (ts : List Live) (ds : List Donation). donations_after p access (found ts handle) ds) same.live same.donations in
-    let kept : last.live ≡ live_after handle p access (found first.live handle) first.live = live ∙ ap (λ (ts : List Live). live_after handle p access (found ts handle) ts) same.live in
-    ap (λ (m : ManifestRows). record { manifest = m; donations = last.donations; live = last.live; mailboxes = after; partitions = partitions }) (manifest ∙ same.manifest)
-    ∙ retrieved_state start p handle access last.live last.donations after can_start given kept ok
+    ap (λ (m : ManifestRows). record { manifest = m; donations = last.donations; live = last.live; mailboxes = after; partitions = partitions }) manifest
+    ∙ retrieved_state start p handle access last.live last.donations after can_start donations live ok
     ∙ ap (λ (u : State). after_retrieval u p handle access) is

@@ -79,7 +79,7 @@ needs_room (MapBuffers pair) = false
 needs_room UnmapBuffers = false
 needs_room ReleaseRx = false
 needs_room (Open t) = true
-needs_room (Close handle) = true
+needs_room (Close handle) = false
 needs_room (Retrieve handle access) = true
 needs_room (Relinquish handle) = false
 

@@ -173,7 +173,7 @@ fn clear_runs<M: TableMem + Drop>(tables: &mut Tables<M>, edit: &Edit)
     }
 }
 
-/// Changes the state. Opening, retrieving and ending a transaction take memory.
+/// Changes the state. Opening and retrieving a transaction take memory.
 #[inline(always)]
 fn apply(state: &mut State, p: PartitionId, update: Update) -> Result<(), OutOfMemory>
     requires { CanUpdate state.old p update }
@@ -188,7 +188,7 @@ fn apply(state: &mut State, p: PartitionId, update: Update) -> Result<(), OutOfM
         Update::UnmapBuffers => buffers::unregister(state, p),
         Update::ReleaseRx => buffers::take_rx_back(state, p),
         Update::Open(transaction) => send::open(state, transaction)?,
-        Update::Close(handle) => reclaim::close(state, handle)?,
+        Update::Close(handle) => reclaim::close(state, handle),
         Update::Retrieve(handle, access) => retrieve::complete(state, p, handle, access)?,
         Update::Relinquish(handle) => relinquish::give_up(state, p, handle),
     }

@@ -9,14 +9,10 @@ ghost use Rattle.spans.specs.Gaps.{around};
 
 use super::Span;
 use super::edit::fits;
+use super::order::lie_apart;
 use super::pass::{Gap, close, set_all, widen};
 use super::place::{is_at, place_near_end};
 use base::Run;
-
-/// Whether there is a page between each run and the next.
-fn lie_apart(runs: &[Run]) -> bool {
-    runs.is_sorted_by(|run, next| run.end() < next.first().number())
-}
 
 /// The place between two intervals where the runs stand, if there is none that they touch and that has their number,
 /// and they do not touch each other.
@@ -88,7 +84,7 @@ fn put_between(spans: &mut Vec<Span>, place: usize, runs: &[Run], value: u64)
 }
 
 /// Gives all pages of the runs this number.
-pub(super) fn put_all(spans: &mut Vec<Span>, runs: &[Run], value: u64)
+pub(crate) fn put_all(spans: &mut Vec<Span>, runs: &[Run], value: u64)
     requires ascending { spec.ascend 0 spans.old.items ≡ true }
     requires rise { rise 0 runs.now ≡ true }
     requires some { 0 < length runs.now }

@@ -55,7 +55,7 @@ pub(super) fn join_over(spans: &mut [Span], gap: Gap, page: u32) -> Gap
 }
 
 /// Joins the first two intervals behind the gap.
-pub(super) fn join_behind(spans: &mut [Span], gap: Gap) -> Gap
+fn join_behind(spans: &mut [Span], gap: Gap) -> Gap
     requires ascending { spec.ascend 0 (around gap spans.old) ≡ true }
     requires gap { gap.front ≤ gap.back }
     requires inside { gap.back ≤ length spans.old }
@@ -80,4 +80,23 @@ pub(super) fn join_behind(spans: &mut [Span], gap: Gap) -> Gap
         }
         None => gap,
     }
+}
+
+/// Joins the first three intervals behind the gap: of a run that has a number already, what is left behind it, and the
+/// interval that touches that.
+pub(super) fn join_both_behind(spans: &mut [Span], gap: Gap) -> Gap
+    requires ascending { spec.ascend 0 (around gap spans.old) ≡ true }
+    requires gap { gap.front ≤ gap.back }
+    requires inside { gap.back ≤ length spans.old }
+    ensures at { (n : ℕ) → spec.value_at (around result spans.new) n ≡ spec.value_at (around gap spans.old) n }
+    ensures ascending { spec.ascend 0 (around result spans.new) ≡ true }
+    ensures above { (page : ℕ) → spec.ascend page (drop gap.back spans.old) ≡ true
+        → spec.ascend page (drop result.back spans.new) ≡ true }
+    ensures gap { result.front ≤ result.back }
+    ensures inside { result.back ≤ length spans.new }
+    ensures wider { gap.back - gap.front ≤ result.back - result.front }
+    ensures len { length spans.new ≡ length spans.old }
+{
+    let gap = join_behind(spans, gap);
+    join_behind(spans, gap)
 }

@@ -9,7 +9,7 @@ ghost use Rattle.spans.specs.Edits.{listed, all_before, all_from, replaced, rise
 ghost use Rattle.spans.specs.Gaps.{around, IsSameBefore};
 
 use super::Span;
-use super::join::{join_behind, join_over};
+use super::join::{join_both_behind, join_over};
 use super::place::place_near_end;
 use base::{Page, Run};
 
@@ -235,7 +235,7 @@ fn set_joined(spans: &mut Vec<Span>, gap: Gap, run: Run, value: Option<u64>, pla
 {
     let gap = join_over(spans, gap, run.end());
     let gap = set(spans, gap, run, value, places);
-    join_behind(spans, gap)
+    join_both_behind(spans, gap)
 }
 
 /// Where nothing is done yet, with so many places.

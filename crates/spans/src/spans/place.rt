@@ -60,7 +60,7 @@ fn end_before(spans: &[Span], page: u32) -> bool
 
 /// The place of the first interval that ends behind a page. Mostly it is the last, or behind it, and so is
 /// found without a search.
-pub(super) fn place_near_end(spans: &[Span], page: u32) -> usize
+pub(crate) fn place_near_end(spans: &[Span], page: u32) -> usize
     requires { spec.ascend 0 spans.now ≡ true }
     ensures inside { result ≤ length spans.now }
     ensures below { spec.end_from 0 (take result spans.now) ≤ page }

@@ -175,3 +175,57 @@ fn shorter_ways_leave_what_one_pass_leaves(rt: HostRuntime) -> Result<(), Fail> 
     }
     Ok(())
 }
+
+/// How many maximal stretches of pages with one number there are before a page.
+fn stretches(list: &Vec<u64>) -> usize {
+    let mut count: usize = 0;
+    let mut last = 0;
+    for value in list {
+        if *value != last && *value != 0 {
+            count = count.saturating_add(1);
+        }
+        last = *value;
+    }
+    count
+}
+
+/// Gives the pages of a run this number in a list.
+fn mark(rt: &impl Abort, list: &mut Vec<u64>, run: Run, value: u64) {
+    let first = run.first().number() as usize;
+    let end = run.end() as usize;
+    assert!(rt; end <= list.len());
+    for i in first..end {
+        list[i] = value;
+    }
+}
+
+#[test]
+fn intervals_are_the_maximal_stretches_of_a_list(rt: HostRuntime) -> Result<(), Fail> {
+    let mut spans = Spans::new(rt.alloc());
+    let mut list = Vec::new(rt.alloc());
+    for _ in 0..64 {
+        list.push(0)?;
+    }
+    let mut state = 7;
+    for _ in 0..3000 {
+        let mut runs = Vec::new(rt.alloc());
+        let many = draw(&mut state, 4).saturating_add(1);
+        for _ in 0..many {
+            let first = draw(&mut state, 50);
+            let count = draw(&mut state, 8).saturating_add(1);
+            runs.push(pages(&rt, first, count))?;
+        }
+        let value = u64::from(draw(&mut state, 4));
+        spans.ready(runs.len())?;
+        if value == 0 {
+            spans.cut_all(&runs);
+        } else {
+            spans.put_all(&runs, value);
+        }
+        for run in &runs {
+            mark(&rt, &mut list, *run, value);
+        }
+        assert_eq!(&rt; spans.len(), stretches(&list));
+    }
+    Ok(())
+}

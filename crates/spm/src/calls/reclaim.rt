@@ -124,16 +124,10 @@ fn returned_by(
     }
 }
 
-/// Ends the transaction of a handle.
+/// Ends the transaction of a handle. This takes no memory.
 #[tactic(auto, unfolding(rules::specs::Calls::Reclaim::ended))]
-pub(crate) fn close(state: &mut State, handle: Handle) -> Result<(), OutOfMemory>
-    ensures ok { OnOk result (state.new ≡ rules.ended state.old handle) }
-    ensures err { OnErr result (state.new ≡ state.old) }
+pub(crate) fn close(state: &mut State, handle: Handle)
+    ensures { state.new ≡ rules.ended state.old handle }
 {
-    if let Some(transaction) = state.ledger.find(handle) {
-        let runs = transaction.terms.ranges.len();
-        state.ledger.ready(runs)?;
-    }
     state.ledger.close(handle);
-    Ok(())
 }

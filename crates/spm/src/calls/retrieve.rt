@@ -2,8 +2,6 @@
 
 ghost use Rattle.std.specs.Prelude.{◌≡◌, ◌≤◌, ◌<◌, ◌+◌, ◌*◌, true, length, Some, None, IfOk, IfErr, OnOk, OnErr};
 ghost use Rattle.base.specs.Refusals.{NoneRefuses, RefusesWith};
-ghost use Rattle.base.specs.declared.transaction.Kind.TheVariants.{Donate};
-ghost use Rattle.ledger.specs.Ledger.{found, IsReady, IsSameButRoom};
 ghost use Rattle.rules.specs.Calls.Retrieve as rules;
 ghost use Rattle.rules.specs.Laws.SentPages.{IsWithinLimits};
 ghost use Rattle.rules.specs.Run.{IsReached};
@@ -22,7 +20,7 @@ use base::{
 };
 use descr::{Endpoint, RetrieveDesc, read_retrieve};
 use descw::{ResponseFields, write_response};
-use ledger::{Ledger, Live};
+use ledger::Live;
 use mailbox::Pair;
 use std::alloc::Global;
 use wire::{Reply, Transfer};
@@ -334,25 +332,6 @@ fn change(
     })
 }
 
-/// Makes room for a retrieve of the transaction of a handle, which a donation alone needs. A refusal changes
-/// nothing but the room.
-fn ready_for(ledger: &mut Ledger, handle: Handle) -> Result<(), OutOfMemory>
-    ensures same { IsSameButRoom ledger.old ledger.new }
-    ensures room { OnOk result ((t : _) → found ledger.old.live handle ≡ Some t → t.kind ≡ Donate
-        → IsReady (length t.ranges) ledger.new.room) }
-{
-    let runs = match ledger.find(handle) {
-        Some(transaction) => {
-            if transaction.terms.kind != Kind::Donate {
-                return Ok(());
-            }
-            transaction.terms.ranges.len()
-        }
-        None => return Ok(()),
-    };
-    ledger.ready(runs)
-}
-
 /// The partition has retrieved the transaction of a handle, and holds RX.
 pub(crate) fn complete(
     state: &mut State,
@@ -364,8 +343,7 @@ pub(crate) fn complete(
     ensures ok { OnOk result (state.new ≡ after_retrieval state.old p handle access) }
     ensures err { OnErr result (state.new ≡ state.old) }
 {
-    ready_for(&mut state.ledger, handle)?;
-    state.ledger.retrieve(p, handle, access);
+    state.ledger.try_retrieve(p, handle, access)?;
     let _ = state.pairs.fill(p);
     Ok(())
 }

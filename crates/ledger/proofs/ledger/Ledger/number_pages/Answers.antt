@@ -15,4 +15,4 @@ invariant_of-self c =
     subst (λ (g : Gift). Says old.manifest old.donations.items n (Some g)) (sym c.number.ensures)
     (subst (λ (l : LedgerView). Says l.manifest l.donations n (Some c.in-Some.said.gift)) (sym c.self.view_is) (c.said_from.ensures c.in-Some.said c.in-Some.is n is)) in
     IsKept-numbered old.manifest old.donations.items old.live.items old.given.spans old.shared.spans c.put.new.self.spans c.self.invariant
-    (AreGifts-same old.manifest old.donations.items c.in-Some.said.run c.number.result old.given.spans c.put.new.self.spans c.self.invariant.gifts so c.put.ensures)
+    (AreGifts-same old.manifest old.donations.items c.in-Some.said.run c.number.result old.given.spans c.put.new.self.spans c.self.invariant.gifts so c.in_ok-put.ensures.at)

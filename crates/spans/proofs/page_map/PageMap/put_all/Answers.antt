@@ -1,22 +1,13 @@
-use Rattle.std.proofs.Common.{ℕ, ◌<◌, length, min, vec_capacity, ap, rules, arith}
-use Rattle.spans.specs.Spans.{SpansView, room_for}
-use Rattle.spans.proofs.Blocks.{has_rooms}
+use Rattle.std.proofs.Common.{◌≡◌, ℕ, ◌+◌, ◌*◌, ◌<◌, ◌≤◌, IsOk, length, ap, rules, arith}
+use Rattle.spans.specs.Spans.{SpansView}
 use Rattle.spans.proofs.page_map.PageMap.put_all.Goals as goal
 
-pub set_blocks-requires-clause-room : goal.set_blocks-requires-clause-room
-set_blocks-requires-clause-room c =
-    let some : 0 < length c.self.inside.more.items = search rules in
-    let lists : ℕ = min (vec_capacity c.self.inside.sorted) (vec_capacity c.self.inside.clipped) in
-    (has_rooms (room_for (length c.args.runs.now)) c.self.inside.first c.self.inside.more.items lists (omega (arith, c.requires, ap (λ (v : SpansView). v.room) c.self.view_is)) some).in_more
-
-pub set_blocks-requires-clause-sorted : goal.set_blocks-requires-clause-sorted
-set_blocks-requires-clause-sorted c =
-    let some : 0 < length c.self.inside.more.items = search rules in
-    let lists : ℕ = min (vec_capacity c.self.inside.sorted) (vec_capacity c.self.inside.clipped) in
-    omega (arith, (has_rooms (room_for (length c.args.runs.now)) c.self.inside.first c.self.inside.more.items lists (omega (arith, c.requires, ap (λ (v : SpansView). v.room) c.self.view_is)) some).for_runs)
-
-pub set_blocks-requires-clause-clipped : goal.set_blocks-requires-clause-clipped
-set_blocks-requires-clause-clipped c =
-    let some : 0 < length c.self.inside.more.items = search rules in
-    let lists : ℕ = min (vec_capacity c.self.inside.sorted) (vec_capacity c.self.inside.clipped) in
-    omega (arith, (has_rooms (room_for (length c.args.runs.now)) c.self.inside.first c.self.inside.more.items lists (omega (arith, c.requires, ap (λ (v : SpansView). v.room) c.self.view_is)) some).for_runs)
+pub returns-in_err-ready_lists-clause-at_once : goal.returns-in_err-ready_lists-clause-at_once
+returns-in_err-ready_lists-clause-at_once c = λ room.
+    let same = ap (λ (v : SpansView). v.room) c.self.view_is in
+    let inv = c.self.invariant in
+    let some : 0 < length c.args.runs.now = search rules in
+    let enough : length c.args.runs.now ≤ c.self.inside.room = omega (arith, same, room) in
+    let scratch = inv.scratch (omega (arith, enough, some)) in
+    let ok : IsOk c.ready_lists.result = c.ready_lists.ensures.at_once (omega (arith, enough, inv.sorted)) (omega (arith, enough, scratch)) in
+    search rules

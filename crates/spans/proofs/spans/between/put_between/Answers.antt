@@ -5,7 +5,7 @@ use Rattle.spans.specs.Spans.{value_at, end_of, end_from}
 use Rattle.spans.specs.Gaps.{around}
 use Rattle.spans.proofs.Ascending.{far}
 use Rattle.spans.proofs.Gaps.{covers_at}
-use Rattle.spans.proofs.Zones.{first_at_least}
+use Rattle.spans.proofs.Runs.{first_at_least}
 use Rattle.spans.proofs.Between.{ends_before_next}
 use Rattle.spans.proofs.spans.between.put_between.Goals as goal
 

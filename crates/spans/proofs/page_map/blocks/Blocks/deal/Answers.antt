@@ -1,0 +1,83 @@
+use Rattle.std.proofs.Common.{◌≡◌, ◌∙◌, ℕ, ◌+◌, ◌-◌, ◌*◌, ◌/◌, ◌%◌, min, ◌<◌, ◌≤◌, true, List, ◌++◌, length, take, drop, refl, sym, ap, subst, arith}
+use Rattle.std.proofs.lemmas.List.{length-take, length-drop, take_all}
+use Rattle.std.proofs.lemmas.Grind.{div_ceil_times}
+use Rattle.spans.specs.Spans.{Span, ascend}
+use Rattle.spans.specs.Blocks.{ArePushed}
+use Rattle.spans.proofs.Ascending.{ascend-taken, ascend-dropped}
+use Rattle.spans.proofs.Lists.{take_on}
+use Rattle.spans.proofs.Pushed.{pushed-none, pushed-more}
+use Rattle.spans.proofs.page_map.blocks.Blocks.deal.Goals as goal
+
+pub loop-done-init : goal.loop-done-init
+loop-done-init c =
+    let len : ℕ = length c.args.spans.now in
+    let d = div_ceil_times len 128 (omega arith) in
+    let e = c.div_ceil-parts.ensures in
+    record {
+      pushed = pushed-none c.args.self.now c.requires.at;
+      done = omega arith;
+      some = λ lt. omega (arith, d.0, e, lt);
+      fits = omega (arith, d.0, e);
+      full = λ lt. omega (arith, d.1, e, lt);
+      spare = refl;
+      enough = omega (arith, d.1, e, c.requires.spare);
+    }
+
+pub part_len-len-requires-clause-some : goal.part_len-len-requires-clause-some
+part_len-len-requires-clause-some c = c.loop-done.invariant.some c.loop-done-test.true
+
+pub part_len-len-requires-clause-fits : goal.part_len-len-requires-clause-fits
+part_len-len-requires-clause-fits c = c.loop-done.invariant.fits
+
+pub part_len-len-requires-clause-full : goal.part_len-len-requires-clause-full
+part_len-len-requires-clause-full c = c.loop-done.invariant.full c.loop-done-test.true
+
+pub push-requires-clause-spare : goal.push-requires-clause-spare
+push-requires-clause-spare c =
+    let inv = c.loop-done.invariant in
+    let some = inv.some c.loop-done-test.true in
+    omega (arith, inv.spare, inv.enough, some)
+
+pub push-requires-clause-ascending : goal.push-requires-clause-ascending
+push-requires-clause-ascending c =
+    ascend-taken (c.loop-done.done + c.part_len-len.result - c.loop-done.done) (drop c.loop-done.done c.args.spans.now) (ascend-dropped c.loop-done.done c.args.spans.now c.requires.ascending)
+
+pub overflow_sub-parts : goal.overflow_sub-parts
+overflow_sub-parts c = let some = c.loop-done.invariant.some c.loop-done-test.true in omega arith
+
+pub loop-done-preserved : goal.loop-done-preserved
+loop-done-preserved c =
+    let inv = c.loop-done.invariant in
+    let some = inv.some c.loop-done-test.true in
+    let spans = c.args.spans.now in
+    let done = c.loop-done.done in
+    let len = c.part_len-len.result in
+    let part = take (done + len - done) (drop done spans) in
+    let e = c.part_len-len.ensures in
+    let l = length-take (done + len - done) (drop done spans) in
+    let m = length-drop done spans in
+    let long : length part ≡ len = omega (arith, l, m, e.inside) in
+    record {
+      pushed = subst (λ (s : List Span). ArePushed s c.args.self.now c.push.new.self) (sym (take_on done len spans))
+          (pushed-more (take done spans) part c.args.self.now c.loop-done.self c.push.new.self inv.pushed c.push.ensures.list c.push.ensures.at (omega (arith, long, e.some)) (omega (arith, long, e.short)));
+      done = omega (arith, e.inside, inv.done);
+      some = λ lt. omega (arith, e.fits, lt);
+      fits = omega (arith, e.fits);
+      full = λ lt.
+          let two : 1 < c.loop-done.parts = omega (arith, e.fits, lt) in
+          let f = e.full two in
+          omega arith;
+      spare = omega (arith, inv.spare, c.push.ensures.spare, some);
+      enough = inv.enough;
+    }
+
+pub returns-clause-pushed : goal.returns-clause-pushed
+returns-clause-pushed c =
+    subst (λ (s : List Span). ArePushed s c.args.self.now c.loop-done.self) (take_all c.loop-done.done c.args.spans.now (omega (arith, c.loop-done-test.false))) c.loop-done.invariant.pushed
+
+pub returns-clause-spare : goal.returns-clause-spare
+returns-clause-spare c = λ some.
+    let inv = c.loop-done.invariant in
+    let d = div_ceil_times (length c.args.spans.now) 128 (omega arith) in
+    let e = c.div_ceil-parts.ensures in
+    omega (arith, inv.spare, d.0, d.1, e, some)

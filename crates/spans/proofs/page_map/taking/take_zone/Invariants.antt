@@ -1,0 +1,15 @@
+use Rattle.std.proofs.Common.{◌≡◌, ◌≤◌, max}
+use Rattle.spans.specs.Blocks.{all_spans, AreStacked}
+use Rattle.spans.specs.Taking.{IsTakenIn}
+use Rattle.spans.proofs.page_map.taking.take_zone.Given as goal
+
+abbrev pub invariant-loop-end : goal.invariant-loop-end
+invariant-loop-end l = record {
+  stacked : AreStacked l.blocks.list;
+  inside : l.end ≤ l.zone.end;
+  taken : IsTakenIn (max l.end l.zone.first) l.zone.end l.value (all_spans l.fn.blocks.list) (all_spans l.blocks.list);
+  spare : l.blocks.spare ≡ l.fn.blocks.spare;
+}
+
+abbrev pub decreases-loop-end : goal.decreases-loop-end
+decreases-loop-end l = l.end

@@ -1,0 +1,51 @@
+//! What the blocks say of a page.
+
+ghost use Rattle.std.specs.Prelude.{◌≡◌, ◌+◌, ◌-◌, ◌*◌, ◌^◌, ◌≤◌, ◌<◌, ℕ, true, length, slice_index_or};
+ghost use Rattle.spans.specs.Spans as spec;
+ghost use Rattle.spans.specs.Blocks.{all_spans, AreStacked};
+
+use super::blocks::Blocks;
+use super::place::{find_before, look_at};
+use crate::find::{Segment, find_in, segment_in};
+use crate::probes::Probes;
+use base::Page;
+use std::sync::ledger::Ledger;
+
+/// The number of a page.
+pub(super) fn find<L: Ledger>(blocks: &Blocks, page: Page, probes: &mut Probes<L>) -> Option<u64>
+    requires { AreStacked blocks.now.list }
+    ensures value { result ≡ spec.value_at (all_spans blocks.now.list) page }
+{
+    let count = find_before(blocks, page.number() + 1, probes);
+    if count == 0 {
+        return None;
+    }
+    find_in(blocks.block(count - 1).spans(), page, probes)
+}
+
+/// The number of a page, and how far the pages behind it have the same.
+pub(super) fn segment<L: Ledger>(blocks: &Blocks, page: Page, probes: &mut Probes<L>) -> Segment
+    requires { AreStacked blocks.now.list }
+    ensures behind { page < result.end }
+    ensures in_range { result.end ≤ 2 ^ 27 }
+    ensures value { (n : ℕ) → page ≤ n → n < result.end
+        → spec.value_at (all_spans blocks.now.list) n ≡ result.value }
+{
+    let count = find_before(blocks, page.number() + 1, probes);
+    let next = if count < blocks.len() {
+        look_at(blocks, count, probes)
+    } else {
+        Page::COUNT
+    };
+    if count == 0 {
+        return Segment {
+            value: None,
+            end: next,
+        };
+    }
+    let segment = segment_in(blocks.block(count - 1).spans(), page, probes);
+    Segment {
+        end: segment.end.min(next),
+        ..segment
+    }
+}
