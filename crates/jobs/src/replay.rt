@@ -160,13 +160,6 @@ impl Trace {
         Ok(())
     }
 
-    /// A hexadecimal digit. Bytes of TX are many, and a formatter would take longer for them than their line does.
-    fn push_digit(&mut self, digit: u8) -> Result<(), Fault> {
-        let first = if digit < 10 { b'0' } else { b'a' - 10 };
-        self.text.push(char::from(first.wrapping_add(digit)))?;
-        Ok(())
-    }
-
     /// The same as bytes of TX and a call. One that is broken has a byte changed.
     fn push_raw(&mut self, sending: &Sending, broken: bool) -> Result<(), Fault> {
         let mut bytes = send_bytes(self.alloc, sending)?;
@@ -177,8 +170,7 @@ impl Trace {
         let length = bytes.len();
         write!(&mut self.text, "tx {:04x} ", sending.sender)?;
         for byte in &bytes {
-            self.push_digit(byte / 16)?;
-            self.push_digit(byte % 16)?;
+            write!(&mut self.text, "{byte:02x}")?;
         }
         let function = match sending.kind {
             Kind::Donate => 0x8400_0071u32,
