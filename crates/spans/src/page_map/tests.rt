@@ -172,3 +172,122 @@ fn many_edits_leave_what_they_leave_in_one_list(rt: HostRuntime) -> Result<(), F
     assert!(&rt; 5 < most, "there were {most} blocks");
     Ok(())
 }
+
+/// Runs of each other page of many from this one on, in calls of 512.
+fn put_each_other(
+    rt: &impl Abort,
+    pair: &mut Pair,
+    first: u32,
+    value: u64,
+    goes_down: bool,
+) -> Result<(), OutOfMemory> {
+    for call in 0..9_u32 {
+        let call = if goes_down { 8 - call } else { call };
+        let shape = Shape {
+            first: first.wrapping_add(call.wrapping_mul(1_024)),
+            count: 512,
+            step: 2,
+            pages: 1,
+        };
+        let runs = pair.shape(rt, shape, goes_down)?;
+        pair.put(&runs, value)?;
+        assert_eq!(rt; pair.map.len(), pair.list.len());
+    }
+    Ok(())
+}
+
+/// One run of many pages.
+fn put_long(rt: &impl Abort, pair: &mut Pair, first: u32, value: u64) -> Result<(), OutOfMemory> {
+    let long = Shape {
+        first,
+        count: 1,
+        step: 0,
+        pages: PAGES,
+    };
+    let runs = pair.shape(rt, long, false)?;
+    pair.put(&runs, value)
+}
+
+#[test]
+fn borders_of_blocks_part_nothing_that_came_back(rt: HostRuntime) -> Result<(), Fail> {
+    let mut pair = Pair::new(rt.alloc());
+    put_long(&rt, &mut pair, 10_000, 7)?;
+    for round in 0..6_u32 {
+        let first = 10_001 + 301 * round;
+        put_each_other(&rt, &mut pair, first, 8, round % 2 == 0)?;
+        assert!(&rt; 60 < pair.blocks());
+        put_each_other(&rt, &mut pair, first, 7, round % 3 == 0)?;
+        assert_eq!(&rt; pair.map.len(), 1);
+        assert_eq!(&rt; pair.blocks(), 1);
+        pair.compare(&rt);
+    }
+    Ok(())
+}
+
+#[test]
+fn runs_that_cross_blocks_are_put(rt: HostRuntime) -> Result<(), Fail> {
+    let mut pair = Pair::new(rt.alloc());
+    put_each_other(&rt, &mut pair, 0, 7, false)?;
+    assert!(&rt; 30 < pair.blocks());
+    let long = Shape {
+        first: 1_001,
+        count: 3,
+        step: 3_000,
+        pages: 2_001,
+    };
+    for (value, goes_down) in [(8, false), (7, true), (9, false)] {
+        let runs = pair.shape(&rt, long, goes_down)?;
+        pair.put(&runs, value)?;
+        pair.compare(&rt);
+    }
+    Ok(())
+}
+
+#[test]
+fn blocks_vanish_with_their_intervals(rt: HostRuntime) -> Result<(), Fail> {
+    let mut pair = Pair::new(rt.alloc());
+    assert!(&rt; pair.map.is_empty());
+    put_each_other(&rt, &mut pair, 1, 7, true)?;
+    assert!(&rt; 30 < pair.blocks() && !pair.map.is_empty());
+    put_long(&rt, &mut pair, 0, 8)?;
+    assert_eq!(&rt; pair.blocks(), 1);
+    assert_eq!(&rt; pair.map.len(), 1);
+    pair.compare(&rt);
+    Ok(())
+}
+
+#[test]
+fn block_is_parted_beyond_its_limit(rt: HostRuntime) -> Result<(), Fail> {
+    let mut pair = Pair::new(rt.alloc());
+    for (place, blocks) in [(0, 1), (1, 2)] {
+        let shape = Shape {
+            first: 2 * 128 * place,
+            count: if place == 0 { 128 } else { 1 },
+            step: 2,
+            pages: 1,
+        };
+        let runs = pair.shape(&rt, shape, false)?;
+        pair.put(&runs, 7)?;
+        assert_eq!(&rt; pair.blocks(), blocks);
+        pair.compare(&rt);
+    }
+    Ok(())
+}
+
+#[test]
+fn blocks_that_become_short_are_joined(rt: HostRuntime) -> Result<(), Fail> {
+    let mut pair = Pair::new(rt.alloc());
+    put_each_other(&rt, &mut pair, 0, 7, false)?;
+    assert!(&rt; 30 < pair.blocks());
+    let most = Shape {
+        first: 1,
+        count: 140,
+        step: 64,
+        pages: 62,
+    };
+    let runs = pair.shape(&rt, most, true)?;
+    pair.put(&runs, 7)?;
+    assert!(&rt; pair.blocks() < 9, "there are {} blocks", pair.blocks());
+    pair.compare(&rt);
+    Ok(())
+}
