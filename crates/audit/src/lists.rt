@@ -44,8 +44,7 @@ fn places_of_donations(alloc: Global, donations: &[Donation]) -> Result<PageMap,
 {
     let mut places = PageMap::new(alloc);
     for (place, donation) in donations.iter().enumerate() {
-        places.ready(donation.ranges.len())?;
-        places.put_all(&donation.ranges, place as u64);
+        places.put_all(&donation.ranges, place as u64)?;
     }
     Ok(places)
 }
@@ -58,8 +57,7 @@ fn places_of_live(alloc: Global, live: &[Live]) -> Result<PageMap, OutOfMemory>
 {
     let mut places = PageMap::new(alloc);
     for (place, transaction) in live.iter().enumerate() {
-        places.ready(transaction.terms.ranges.len())?;
-        places.put_all(&transaction.terms.ranges, place as u64);
+        places.put_all(&transaction.terms.ranges, place as u64)?;
     }
     Ok(places)
 }

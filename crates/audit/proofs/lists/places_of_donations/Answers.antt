@@ -1,7 +1,7 @@
 use Rattle.std.proofs.Common.{cond, List, Some, ap, ◌∙◌}
 use Rattle.base.specs.Pages.{PageRun, covers}
 use Rattle.base.specs.Transactions.{Donation}
-use Rattle.spans.specs.Spans.{Span, value_at}
+use Rattle.spans.specs.Spans.{value_at}
 use Rattle.audit.proofs.ListPlaces.{donation-placed}
 use Rattle.audit.proofs.lists.places_of_donations.Goals as goal
 
@@ -12,6 +12,4 @@ loop-place-preserved c = λ n.
     let runs = c.deref.ensures.value ∙ ap (λ (x : Donation). x.ranges) c.donation.view_is in
     donation-placed c.args.donations.now l.place n d (value_at l.places.spans n) (value_at c.put_all.new.self.spans n)
     c.loop-place-test.true c.index-donations-place.is (l.invariant n)
-    (c.put_all.ensures n
-    ∙ ap (λ (r : List PageRun). cond (covers r n) (Some l.place) (value_at c.ready.new.self.spans n)) runs
-    ∙ ap (λ (ss : List Span). cond (covers d.ranges n) (Some l.place) (value_at ss n)) c.in_ok-ready.ensures.spans)
+    (c.in_ok-put_all.ensures.at n ∙ ap (λ (r : List PageRun). cond (covers r n) (Some l.place) (value_at l.places.spans n)) runs)

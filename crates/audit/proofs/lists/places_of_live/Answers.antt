@@ -1,7 +1,7 @@
 use Rattle.std.proofs.Common.{◌≡◌, cond, List, Some, ap, ◌∙◌}
 use Rattle.base.specs.Pages.{PageRun, covers}
 use Rattle.base.specs.Transactions.{Live}
-use Rattle.spans.specs.Spans.{Span, value_at}
+use Rattle.spans.specs.Spans.{value_at}
 use Rattle.audit.proofs.ListPlaces.{live-placed}
 use Rattle.audit.proofs.lists.places_of_live.Goals as goal
 
@@ -9,9 +9,7 @@ pub loop-place-preserved : goal.loop-place-preserved
 loop-place-preserved c = λ n.
     let l = c.loop-place in
     let t = c.index-live-place.result in
-    let runs : c.deref-in-loop-place-2.result.now ≡ t.ranges = cc (c.deref-in-loop-place-2.ensures.value, c.deref-in-loop-place.ensures, ap (λ (x : Live). x.ranges) c.transaction.view_is) in
+    let runs : c.deref-in-loop-place.result.now ≡ t.ranges = cc (c.deref-in-loop-place.ensures.value, c.deref.ensures, ap (λ (x : Live). x.ranges) c.transaction.view_is) in
     live-placed c.args.live.now l.place n t (value_at l.places.spans n) (value_at c.put_all.new.self.spans n)
     c.requires c.loop-place-test.true c.index-live-place.is (l.invariant n)
-    (c.put_all.ensures n
-    ∙ ap (λ (r : List PageRun). cond (covers r n) (Some l.place) (value_at c.ready.new.self.spans n)) runs
-    ∙ ap (λ (ss : List Span). cond (covers t.ranges n) (Some l.place) (value_at ss n)) c.in_ok-ready.ensures.spans)
+    (c.in_ok-put_all.ensures.at n ∙ ap (λ (r : List PageRun). cond (covers r n) (Some l.place) (value_at l.places.spans n)) runs)
