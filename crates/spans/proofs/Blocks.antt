@@ -238,6 +238,10 @@ pub no_spans : (bs : List (List Span)) → AreFilled bs → all_spans bs ≡ [] 
 no_spans [] f e = refl
 no_spans (b ∷ bs) f e = let l = length-append b (all_spans bs) in let none = ap length e in absurd (omega (arith, f.0.0))
 
+pub fewer_blocks : (bs : List (List Span)) → AreFilled bs → length bs ≤ length (all_spans bs)
+fewer_blocks [] f = omega arith
+fewer_blocks (b ∷ bs) f = let l = length-append b (all_spans bs) in let rest = fewer_blocks bs f.1 in omega (arith, f.0.0)
+
 -- a page before which the last block begins that begins before it
 pub at_block : (bs : List (List Span)) (i n : ℕ) (d : List Span) → AreStacked bs → i < length bs → begins_at (get_or bs i d) ≤ n → value_at (all_spans (drop (i + 1) bs)) n ≡ None → value_at (all_spans bs) n ≡ value_at (get_or bs i d) n
 at_block bs i n d h lt from none =

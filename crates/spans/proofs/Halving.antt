@@ -1,12 +1,15 @@
 -- A page is looked for by halving.
-use Rattle.std.proofs.Common.{◌≡◌, ℕ, suc, ◌+◌, ◌-◌, ◌*◌, ◌^◌, ◌<◌, ◌≤◌, true, List, [], ◌∷◌, ◌++◌, length, take, drop, Some, None, refl, sym, ap, ◌∙◌, arith}
+use Rattle.std.proofs.Common.{◌≡◌, ℕ, suc, ◌+◌, ◌-◌, ◌*◌, ◌^◌, ◌<◌, ◌≤◌, true, false, nat_eq, ltb, List, [], ◌∷◌, ◌++◌, length, take, drop, Some, None, refl, sym, ap, ◌∙◌, mul-le-mul, arith}
 use Rattle.std.proofs.Math.Nat.{mul-le-mul_left}
 use Rattle.std.proofs.Math.Seq.{drop-cons}
 use Rattle.std.proofs.lemmas.List.{take-append-drop}
+use Rattle.std.proofs.lemmas.Nat.{pow-add, pow_below}
+use Rattle.std.proofs.lemmas.Bool.{eqb-true, ltb-true}
 use Rattle.std.proofs.lemmas.Bool.Decides.{nat_tests}
 use Rattle.base.specs.Pages.{PageRun, in_run}
-use Rattle.spans.specs.Spans.{Span, value_at, ascend, end_from, IsSpanAt}
+use Rattle.spans.specs.Spans.{Span, value_at, ascend, end_from, is_border, IsSpanAt}
 use Rattle.spans.specs.Search.{IsBefore, begins_at, IsFirstOf}
+use Rattle.spans.proofs.Borders.{border-right, border-end}
 use Rattle.spans.proofs.Ascending.{begins, ascend-cons, ascend-left, ascend-right, end_from-take, value_at-append, value_at-behind, value_at-ahead, value_at-here}
 
 -- ---- the count of looks
@@ -25,6 +28,35 @@ looked p i size len le some so_far =
     let more = pow_more p i le in
     let scaled = mul-le-mul_left (2 ^ (p - i)) some in
     rw more (omega (arith, scaled, so_far))
+
+-- a look more
+pub looked-once_more : (q p i len : ℕ) → i ≤ p → q ≤ p + 1 → p ≤ q → 2 ^ (p - i) ≤ len → 2 ^ (q - i) ≤ 2 * len
+looked-once_more q p i len le most least so_far = elim (nat_eq q p) as (λ b. nat_eq q p ≡ b → 2 ^ (q - i) ≤ 2 * len) [
+  | true ↦ λ t. let e : q ≡ p = eqb-true q p t in rw e (omega (arith, so_far))
+  | false ↦ λ t. let e : q ≡ p + 1 = grind (arith, nat_tests) in rw (e, pow_more p i le) (omega (arith, so_far))
+] refl
+
+-- a power of two below the next
+few : (b k most : ℕ) → 2 ^ b ≤ most → most < 2 ^ (k + 1) → 2 ^ b ≤ 2 ^ k
+few b k most le less = elim (ltb b k) as (λ q. ltb b k ≡ q → 2 ^ b ≤ 2 ^ k) [
+  | true ↦ λ t. let below = pow_below b k (ltb-true _ _ t) in omega (arith, below)
+  | false ↦ λ t. elim (nat_eq b k) as (λ q. nat_eq b k ≡ q → 2 ^ b ≤ 2 ^ k) [
+    | true ↦ λ u. let e : b ≡ k = eqb-true b k u in rw e (omega arith)
+    | false ↦ λ u. elim (nat_eq b (k + 1)) as (λ q. nat_eq b (k + 1) ≡ q → 2 ^ b ≤ 2 ^ k) [
+      | true ↦ λ v. let e : b ≡ k + 1 = eqb-true b (k + 1) v in let big : 2 ^ b ≡ 2 ^ (k + 1) = ap (λ (n : ℕ). 2 ^ n) e in absurd (omega (arith, big, le, less))
+      | false ↦ λ v. let above : k + 1 < b = grind (arith, nat_tests) in let big = pow_below (k + 1) b above in absurd (omega (arith, big, le, less))
+    ] refl
+  ] refl
+] refl
+
+-- looks at blocks, and looks in one of them
+pub both-looked : (q p i k blocks in_block most : ℕ) → i ≤ p → p ≤ q → 2 ^ (p - i) ≤ blocks → 2 ^ (q - p) ≤ in_block → in_block < 2 ^ (k + 1) → blocks ≤ most → 2 ^ (q - i) ≤ 2 ^ k * most
+both-looked q p i k blocks in_block most le on first second short fewer =
+    let e : q - i ≡ (q - p) + (p - i) = omega arith in
+    let parts : 2 ^ (q - i) ≡ 2 ^ (q - p) * 2 ^ (p - i) = ap (λ (n : ℕ). 2 ^ n) e ∙ pow-add 2 (q - p) (p - i) in
+    let a : 2 ^ (q - p) ≤ 2 ^ k = few (q - p) k in_block second short in
+    let b : 2 ^ (p - i) ≤ most = omega (arith, first, fewer) in
+    rw parts (mul-le-mul a b)
 
 -- ---- one look
 
@@ -58,6 +90,10 @@ module _ (ss : List Span) (ascending : ascend 0 ss ≡ true) (m : ℕ) (run : Pa
   pub look-inside : (n : ℕ) → in_run run n ≡ true → value_at ss n ≡ Some value
   unfolding s
   look-inside n here = ap (λ l. value_at l n) parted ∙ value_at-here (take m ss) (drop (suc m) ss) s n (ap (ascend 0) (sym parted) ∙ ascending) here
+
+  pub look-border : is_border ss (run.first + run.count) ≡ true
+  unfolding s
+  look-border = ap (λ (l : List Span). is_border l (run.first + run.count)) parted ∙ border-right (take m ss) (s ∷ drop (suc m) ss) (run.first + run.count) (border-end s (drop (suc m) ss))
 
 -- ---- between two intervals
 

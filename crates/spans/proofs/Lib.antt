@@ -1,5 +1,6 @@
 mod Ascending
 mod Blocks
+mod Borders
 mod Cutting
 mod Gaps
 mod Halving

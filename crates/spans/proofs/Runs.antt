@@ -169,6 +169,16 @@ covers_within e (run ∷ runs) last n h is =
       | inr rest ↦ (let r = covers_within (end_of run) runs last n parts.1 rest in (omega (arith, r.0), r.1))
     ]
 
+pub covers_from : (e : ℕ) (runs : List PageRun) (n : ℕ) → rise e runs ≡ true → covers runs n ≡ true → e ≤ n
+covers_from e [] n h is = absurd cc
+covers_from e (run ∷ runs) n h is =
+    let parts = and_parts (leb e run.first) (rise (end_of run) runs) h in
+    let from = leb-true _ _ parts.0 in
+    elim (either_way (in_run run n) (covers runs n) is) [
+      | inl here ↦ (let i = in_it run n here in omega (arith, i.0))
+      | inr rest ↦ (let r = covers_from (end_of run) runs n parts.1 rest in omega arith)
+    ]
+
 pub firsts_taken : (i : ℕ) (runs : List PageRun) → IsNonDecreasingBy (λ run. run.first) runs → IsNonDecreasingBy (λ run. run.first) (take i runs)
 firsts_taken i runs h j k d le lt =
     let l = length-take i runs in

@@ -3,13 +3,14 @@ use Rattle.std.specs.Prelude.{◌≡◌, ℕ, ◌+◌, ◌^◌, ◌≤◌, true,
 use Rattle.base.specs.Pages.{PageRun, in_run}
 use Rattle.spans.specs.declared.find.Place.{Place}
 use Rattle.spans.specs.declared.find.Place.TheVariants.{Inside, Before}
-use Rattle.spans.specs.Spans.{Span, value_at, ascend, end_from}
+use Rattle.spans.specs.Spans.{Span, value_at, ascend, end_from, is_border}
 
 -- the page is in an interval with this run and number
 pub record IsInside (ss : List Span) (page : ℕ) (run : PageRun) (value : ℕ) : Type 0 where
   pub here : in_run run page ≡ true
   pub ends : run.first + run.count ≤ 2 ^ 27
   pub alike : (n : ℕ) → in_run run n ≡ true → value_at ss n ≡ Some value
+  pub border : is_border ss (run.first + run.count) ≡ true
 
 -- the intervals before the place end at the page or before it, and the others begin behind it
 pub record IsBefore (ss : List Span) (page i : ℕ) : Type 0 where

@@ -79,8 +79,11 @@ pub(crate) fn segment_in<L: Ledger>(spans: &[Span], page: Page, probes: &mut Pro
     requires { spec.ascend 0 spans.now ≡ true }
     ensures behind { page < result.end }
     ensures in_range { result.end ≤ 2 ^ 27 }
+    ensures border { spec.is_border spans.now result.end ≡ true }
     ensures value { (n : ℕ) → page ≤ n → n < result.end
         → value_at spans.now n ≡ result.value }
+    ensures cost { 2 ^ (probes.new - probes.old) ≤ 2 * (2 * length spans.now + 1) }
+    ensures counts { probes.old ≤ probes.new }
 {
     match place_in(spans, page, probes) {
         Place::Inside(run, value) => Segment {
@@ -97,7 +100,9 @@ pub(crate) fn segment_in<L: Ledger>(spans: &[Span], page: Page, probes: &mut Pro
 /// Where the interval at a place begins; without one, the number of pages.
 fn first_of<L: Ledger>(spans: &[Span], place: usize, probes: &mut Probes<L>) -> u32
     requires { spec.ascend 0 spans.now ≡ true }
-    ensures { IsFirstOf spans.now place result }
+    ensures first { IsFirstOf spans.now place result }
+    ensures cost { probes.new ≤ probes.old + 1 }
+    ensures counts { probes.old ≤ probes.new }
 {
     if place < spans.len() {
         let span = look(spans, place, probes);
@@ -134,10 +139,12 @@ impl Spans {
         self.find(page, &mut probes)
     }
 
-    /// The number of a page, and how far the pages behind it have the same.
+    /// The number of a page, and how far the pages behind it have the same: up to where an interval begins or ends, or to
+    /// the last page of all.
     pub fn segment_at(&self, page: Page) -> Segment
         ensures behind { page < result.end }
         ensures in_range { result.end ≤ 2 ^ 27 }
+        ensures border { spec.is_border self.now.spans result.end ≡ true }
         ensures value { (n : ℕ) → page ≤ n → n < result.end
             → value_at self.now.spans n ≡ result.value }
     {
@@ -150,6 +157,7 @@ impl Spans {
         requires some { 0 < L.parts }
         ensures behind { page < result.end }
         ensures in_range { result.end ≤ 2 ^ 27 }
+        ensures border { spec.is_border self.now.spans result.end ≡ true }
         ensures value { (n : ℕ) → page ≤ n → n < result.end
             → value_at self.now.spans n ≡ result.value }
     {

@@ -1,4 +1,4 @@
-ghost use Rattle.std.specs.Prelude.{◌≡◌, ◌+◌, ◌-◌, ◌*◌, ◌<◌, ◌≤◌, ◌↔◌, ◌^◌, ℕ, [], Some, None, length, vec_capacity, if◌then◌else◌, IsTrue, IsOk, OnOk, OnErr};
+ghost use Rattle.std.specs.Prelude.{◌≡◌, ◌+◌, ◌-◌, ◌*◌, ◌<◌, ◌≤◌, ◌↔◌, ◌^◌, ℕ, [], Some, None, true, length, vec_capacity, if◌then◌else◌, IsTrue, IsOk, OnOk, OnErr};
 ghost use Rattle.base.specs.Pages.{in_run, covers};
 ghost use Rattle.spans.specs.Spans as spec;
 ghost use Rattle.spans.specs.Taking.{has_number};
@@ -124,6 +124,7 @@ impl PageMap {
         self.blocks.ready(more_needed(&self.blocks, &self.sorted))?;
         self.room = 0;
         put_sorted(&mut self.blocks, &mut self.sorted, value, &mut self.scratch);
+        self.blocks.trim();
         Ok(())
     }
 
@@ -177,17 +178,21 @@ impl PageMap {
         self.find(page, &mut probes)
     }
 
-    /// The number of a page.
+    /// The number of a page. It looks at no more blocks and intervals than the intervals have binary digits, and eight more.
     pub fn find<L: Ledger>(&self, page: Page, probes: &mut Probes<L>) -> Option<u64>
         ensures value { result ≡ spec.value_at self.now.spans page }
+        ensures cost { 2 ^ (probes.new - probes.old) ≤ 2 ^ 8 * (2 * length self.now.spans + 1) }
+        ensures counts { probes.old ≤ probes.new }
     {
         looking::find(&self.blocks, page, probes)
     }
 
-    /// The number of a page, and how far the pages behind it have the same.
+    /// The number of a page, and how far the pages behind it have the same: up to where an interval begins or ends, or to
+    /// the last page of all.
     pub fn segment_at(&self, page: Page) -> Segment
         ensures behind { page < result.end }
         ensures in_range { result.end ≤ 2 ^ 27 }
+        ensures border { spec.is_border self.now.spans result.end ≡ true }
         ensures value { (n : ℕ) → page ≤ n → n < result.end
             → spec.value_at self.now.spans n ≡ result.value }
     {
@@ -200,10 +205,24 @@ impl PageMap {
         requires some { 0 < L.parts }
         ensures behind { page < result.end }
         ensures in_range { result.end ≤ 2 ^ 27 }
+        ensures border { spec.is_border self.now.spans result.end ≡ true }
         ensures value { (n : ℕ) → page ≤ n → n < result.end
             → spec.value_at self.now.spans n ≡ result.value }
     {
         let mut probes = Probes::<L>::new(blank);
-        looking::segment(&self.blocks, page, &mut probes)
+        self.segment(page, &mut probes)
+    }
+
+    /// The same with a count of the looks: no more than the intervals have binary digits, and ten more.
+    pub fn segment<L: Ledger>(&self, page: Page, probes: &mut Probes<L>) -> Segment
+        ensures behind { page < result.end }
+        ensures in_range { result.end ≤ 2 ^ 27 }
+        ensures border { spec.is_border self.now.spans result.end ≡ true }
+        ensures value { (n : ℕ) → page ≤ n → n < result.end
+            → spec.value_at self.now.spans n ≡ result.value }
+        ensures cost { 2 ^ (probes.new - probes.old) ≤ 2 ^ 10 * (2 * length self.now.spans + 1) }
+        ensures counts { probes.old ≤ probes.new }
+    {
+        looking::segment(&self.blocks, page, probes)
     }
 }

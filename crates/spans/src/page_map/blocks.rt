@@ -1,6 +1,6 @@
 //! Blocks upward, and a cursor among them.
 
-ghost use Rattle.std.specs.Prelude.{◌≡◌, ◌≤◌, ◌<◌, ◌+◌, ◌-◌, ◌^◌, ◌++◌, ◌∷◌, [], true, length, take, drop, slice_index_or, vec_len, vec_capacity, IsOk, OnOk, OnErr};
+ghost use Rattle.std.specs.Prelude.{◌≡◌, ◌≤◌, ◌<◌, ◌+◌, ◌-◌, ◌^◌, ◌++◌, ◌∷◌, [], true, length, take, drop, slice_index_or, min, vec_len, vec_capacity, IsOk, OnOk, OnErr};
 ghost use Rattle.spans.specs.Spans as spec;
 
 use crate::spans::{Block, Span};
@@ -120,6 +120,15 @@ impl Blocks {
         self.front.reserve(spare.saturating_add(back))?;
         self.back.reserve(spare.saturating_add(front))?;
         make_spare(&mut self.spare, spare)
+    }
+
+    /// Gives the spare blocks back but for one, so that what a call reckoned with and did not take is there for others.
+    pub(super) fn trim(&mut self)
+        ensures list { self.new.list ≡ self.old.list }
+        ensures at { self.new.at ≡ self.old.at }
+        ensures spare { self.new.spare ≡ min 1 self.old.spare }
+    {
+        self.spare.truncate(1);
     }
 
     /// The last block before the cursor becomes spare.

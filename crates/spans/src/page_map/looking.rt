@@ -15,6 +15,8 @@ use std::sync::ledger::Ledger;
 pub(super) fn find<L: Ledger>(blocks: &Blocks, page: Page, probes: &mut Probes<L>) -> Option<u64>
     requires { AreStacked blocks.now.list }
     ensures value { result ≡ spec.value_at (all_spans blocks.now.list) page }
+    ensures cost { 2 ^ (probes.new - probes.old) ≤ 2 ^ 8 * (2 * length (all_spans blocks.now.list) + 1) }
+    ensures counts { probes.old ≤ probes.new }
 {
     let count = find_before(blocks, page.number() + 1, probes);
     if count == 0 {
@@ -28,8 +30,11 @@ pub(super) fn segment<L: Ledger>(blocks: &Blocks, page: Page, probes: &mut Probe
     requires { AreStacked blocks.now.list }
     ensures behind { page < result.end }
     ensures in_range { result.end ≤ 2 ^ 27 }
+    ensures border { spec.is_border (all_spans blocks.now.list) result.end ≡ true }
     ensures value { (n : ℕ) → page ≤ n → n < result.end
         → spec.value_at (all_spans blocks.now.list) n ≡ result.value }
+    ensures cost { 2 ^ (probes.new - probes.old) ≤ 2 ^ 10 * (2 * length (all_spans blocks.now.list) + 1) }
+    ensures counts { probes.old ≤ probes.new }
 {
     let count = find_before(blocks, page.number() + 1, probes);
     let next = if count < blocks.len() {

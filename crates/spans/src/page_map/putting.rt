@@ -1,6 +1,6 @@
 //! Gives pages of runs a number, block by block, from the last to the first.
 
-ghost use Rattle.std.specs.Prelude.{◌≡◌, ◌+◌, ◌-◌, ◌*◌, ◌≤◌, ◌<◌, ◌++◌, ◌∷◌, [], ◌/◌, ℕ, Some, None, true, false, reverse, length, take, drop, slice_index_or, vec_len, vec_capacity, if◌then◌else◌};
+ghost use Rattle.std.specs.Prelude.{◌≡◌, ◌+◌, ◌-◌, ◌*◌, ◌^◌, ◌≤◌, ◌<◌, ◌++◌, ◌∷◌, [], ◌/◌, ℕ, Some, None, true, false, reverse, length, take, drop, slice_index_or, vec_len, vec_capacity, if◌then◌else◌};
 ghost use Rattle.base.specs.Pages.{in_run, covers};
 ghost use Rattle.spans.specs.Spans as spec;
 ghost use Rattle.spans.specs.Search.{begins_at};
@@ -150,6 +150,27 @@ impl Blocks {
             self.back[at].put_all(runs, value);
         }
     }
+
+    /// The same behind the end of the block at a place, in one of their own.
+    fn put_behind(&mut self, place: usize, runs: &[Run], value: u64)
+        requires inside { place < length self.old.list }
+        requires rise { rise 0 runs.now ≡ true }
+        requires some { 0 < length runs.now }
+        requires room { 2 * length runs.now ≤ 128 }
+        requires in_range { place + 1 < 2 ^ 64 }
+        requires full { (d : _) → length (slice_index_or self.old.list place d) ≡ 128 }
+        requires ascending { (d : _) → spec.ascend 0 (slice_index_or self.old.list place d) ≡ true }
+        requires behind { (d : _) (r : _) → spec.end_from 0 (slice_index_or self.old.list place d)
+            ≤ (slice_index_or runs.now 0 r).first }
+        requires spare { 0 < self.old.spare }
+        ensures set { IsSetAt runs.now value self.old.list place self.new.list }
+        ensures spare { self.new.spare + 1 ≡ self.old.spare }
+    {
+        let behind = place + 1;
+        self.go_to(behind);
+        self.push(&[]);
+        self.put_at(behind, runs, value);
+    }
 }
 
 /// Gives the pages of a group of runs this number in the block that they belong to. It answers whether there are fewer
@@ -176,6 +197,11 @@ fn put_in(
     if len + 2 * runs.len() <= LIMIT {
         blocks.put_at(place, runs, value);
         return blocks.block(place).len() < len;
+    }
+    let end = blocks.block(place).end();
+    if len == LIMIT && 2 * runs.len() <= LIMIT && end < runs[0].first().number() {
+        blocks.put_behind(place, runs, value);
+        return false;
     }
     let has_pages = 0 < runs[0].count();
     prove!(has_pages);
@@ -237,7 +263,7 @@ fn tidy_runs(blocks: &mut Blocks, runs: &[Run])
     requires firsts { IsNonDecreasingBy (λ run. run.first) runs.now }
     ensures spans { all_spans blocks.new.list ≡ all_spans blocks.old.list }
     ensures stacked { AreStacked blocks.new.list }
-    ensures spare { blocks.new.spare ≡ blocks.old.spare }
+    ensures spare { blocks.old.spare ≤ blocks.new.spare }
 {
     let mut left = runs.len();
     while 0 < left {

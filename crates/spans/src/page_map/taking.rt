@@ -1,6 +1,6 @@
 //! Takes the intervals of one number out of the blocks that have pages of runs.
 
-ghost use Rattle.std.specs.Prelude.{◌≡◌, ◌<◌, ◌+◌, ◌++◌, ℕ, ◌-◌, ◌≤◌, true, length, drop, take};
+ghost use Rattle.std.specs.Prelude.{◌≡◌, ◌<◌, ◌+◌, ◌++◌, ℕ, ◌-◌, ◌≤◌, true, length, drop, take, max};
 ghost use Rattle.base.specs.Pages.{covers};
 ghost use Rattle.spans.specs.Spans as spec;
 ghost use Rattle.spans.specs.Blocks.{all_spans, AreFilled, AreStacked, IsTakenAt};
@@ -33,15 +33,20 @@ impl Blocks {
         }
     }
 
-    /// Takes the block before a place out, which has no interval.
+    /// Takes the block before a place out, which has no interval. It becomes spare if no other is, so that what comes and
+    /// goes behind a full block asks for no memory each time.
     fn remove(&mut self, at: usize)
         requires some { 0 < at }
         requires inside { at ≤ length self.old.list }
         ensures list { self.new.list ≡ take (at - 1) self.old.list ++ drop at self.old.list }
-        ensures spare { self.new.spare ≡ self.old.spare }
+        ensures spare { self.new.spare ≡ max 1 self.old.spare }
     {
         self.go_to(at);
-        let _ = self.front.pop();
+        if self.spare.is_empty() {
+            self.retire();
+        } else {
+            let _ = self.front.pop();
+        }
     }
 
     /// Makes one block of those before and behind a place, if both are short.
@@ -53,7 +58,7 @@ impl Blocks {
         ensures spans { all_spans self.new.list ≡ all_spans self.old.list }
         ensures filled { AreFilled self.new.list }
         ensures inside { at ≤ length self.new.list }
-        ensures spare { self.new.spare ≡ self.old.spare }
+        ensures spare { self.old.spare ≤ self.new.spare }
     {
         if self.len() == at || SHORT < self.block(at - 1).len() + self.block(at).len() {
             return;
@@ -61,6 +66,9 @@ impl Blocks {
         self.go_to(at);
         if let Some(next) = self.back.pop() {
             self.front[at - 1].append(&next);
+            if self.spare.is_empty() {
+                self.spare.push_reserved(next);
+            }
         }
     }
 
@@ -72,7 +80,7 @@ impl Blocks {
         requires behind { AreFilled (drop (place + 1) self.old.list) }
         ensures spans { all_spans self.new.list ≡ all_spans self.old.list }
         ensures filled { AreFilled self.new.list }
-        ensures spare { self.new.spare ≡ self.old.spare }
+        ensures spare { self.old.spare ≤ self.new.spare }
     {
         if self.block(place).len() == 0 {
             self.remove(place + 1);
@@ -131,7 +139,7 @@ fn take_zone(blocks: &mut Blocks, zone: Zone, value: u64)
     requires { AreStacked blocks.old.list }
     ensures taken { IsTakenIn zone.first zone.end value (all_spans blocks.old.list) (all_spans blocks.new.list) }
     ensures stacked { AreStacked blocks.new.list }
-    ensures spare { blocks.new.spare ≡ blocks.old.spare }
+    ensures spare { blocks.old.spare ≤ blocks.new.spare }
 {
     let mut end = zone.end;
     while zone.first < end {
@@ -153,7 +161,7 @@ pub(super) fn take_runs(blocks: &mut Blocks, runs: &[Run], value: u64)
         → covers runs.now n ≡ true }
     ensures spans { all_spans blocks.new.list ≡ others value (all_spans blocks.old.list) }
     ensures stacked { AreStacked blocks.new.list }
-    ensures spare { blocks.new.spare ≡ blocks.old.spare }
+    ensures spare { blocks.old.spare ≤ blocks.new.spare }
 {
     let mut left = runs.len();
     while 0 < left {

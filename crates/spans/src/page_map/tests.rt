@@ -69,17 +69,30 @@ impl Pair {
         }
     }
 
-    /// Sets the pages of the runs in both maps. Where memory is refused once, nothing has changed, and the second time it
-    /// is there.
-    fn put(&mut self, runs: &[Run], value: u64) -> Result<(), OutOfMemory> {
+    /// Sets the pages of the runs in both maps. Where memory is refused once, the second time it is there.
+    fn put(&mut self, rt: &impl Abort, runs: &[Run], value: u64) -> Result<(), OutOfMemory> {
+        let had = self.capacity();
         if self.map.put_all(runs, value).is_err() {
-            self.map.put_all(runs, value)?;
+            self.put_again(rt, runs, value, had)?;
         }
         if self.list.ready(runs.len()).is_err() {
             self.list.ready(runs.len())?;
         }
         self.list.put_all(runs, value);
         Ok(())
+    }
+
+    /// Where memory was refused, all numbers and blocks are as before.
+    fn put_again(
+        &mut self,
+        rt: &impl Abort,
+        runs: &[Run],
+        value: u64,
+        had: [usize; 2],
+    ) -> Result<(), OutOfMemory> {
+        self.compare(rt);
+        assert_eq!(rt; self.capacity(), had);
+        self.map.put_all(runs, value)
     }
 
     /// The runs of a shape, the last of them first if they are to go down.
@@ -117,8 +130,9 @@ impl Pair {
         segment
     }
 
-    /// Both say the same of all pages, and the map has no interval too many.
+    /// Both say the same of all pages, and the map has no interval too many, and one spare block at most.
     fn compare(&self, rt: &impl Abort) {
+        assert!(rt; self.map.blocks.spare.len() < 2);
         let mut number = 0;
         let mut len: usize = 0;
         while number < Page::COUNT {
@@ -136,6 +150,11 @@ impl Pair {
     /// How many blocks there are, in both lists.
     fn blocks(&self) -> usize {
         self.map.blocks.len()
+    }
+
+    /// How many blocks there are, and how many are spare.
+    fn capacity(&self) -> [usize; 2] {
+        [self.blocks(), self.map.blocks.spare.len()]
     }
 }
 
@@ -165,7 +184,7 @@ fn many_edits_leave_what_they_leave_in_one_list(rt: HostRuntime) -> Result<(), F
         let goes_down = draw.below(4) == 0;
         let shape = drawn_shape(&mut draw);
         let runs = pair.shape(&rt, shape, goes_down)?;
-        pair.put(&runs, u64::from(draw.below(4)))?;
+        pair.put(&rt, &runs, u64::from(draw.below(4)))?;
         pair.compare(&rt);
         most = most.max(pair.blocks());
     }
@@ -190,7 +209,7 @@ fn put_each_other(
             pages: 1,
         };
         let runs = pair.shape(rt, shape, goes_down)?;
-        pair.put(&runs, value)?;
+        pair.put(rt, &runs, value)?;
         assert_eq!(rt; pair.map.len(), pair.list.len());
     }
     Ok(())
@@ -205,7 +224,7 @@ fn put_long(rt: &impl Abort, pair: &mut Pair, first: u32, value: u64) -> Result<
         pages: PAGES,
     };
     let runs = pair.shape(rt, long, false)?;
-    pair.put(&runs, value)
+    pair.put(rt, &runs, value)
 }
 
 #[test]
@@ -237,7 +256,7 @@ fn runs_that_cross_blocks_are_put(rt: HostRuntime) -> Result<(), Fail> {
     };
     for (value, goes_down) in [(8, false), (7, true), (9, false)] {
         let runs = pair.shape(&rt, long, goes_down)?;
-        pair.put(&runs, value)?;
+        pair.put(&rt, &runs, value)?;
         pair.compare(&rt);
     }
     Ok(())
@@ -267,8 +286,28 @@ fn block_is_parted_beyond_its_limit(rt: HostRuntime) -> Result<(), Fail> {
             pages: 1,
         };
         let runs = pair.shape(&rt, shape, false)?;
-        pair.put(&runs, 7)?;
+        pair.put(&rt, &runs, 7)?;
         assert_eq!(&rt; pair.blocks(), blocks);
+        pair.compare(&rt);
+    }
+    Ok(())
+}
+
+#[test]
+fn run_that_touches_a_full_block_is_joined_to_it(rt: HostRuntime) -> Result<(), Fail> {
+    for (first, blocks) in [(255, 2), (256, 3)] {
+        let mut pair = Pair::new(rt.alloc());
+        for (first, count) in [(0, 128), (1_000, 128), (first, 1)] {
+            let shape = Shape {
+                first,
+                count,
+                step: 2,
+                pages: 1,
+            };
+            let runs = pair.shape(&rt, shape, false)?;
+            pair.put(&rt, &runs, 7)?;
+        }
+        assert_eq!(&rt; pair.blocks(), blocks, "behind {first}");
         pair.compare(&rt);
     }
     Ok(())
@@ -286,8 +325,9 @@ fn blocks_that_become_short_are_joined(rt: HostRuntime) -> Result<(), Fail> {
         pages: 62,
     };
     let runs = pair.shape(&rt, most, true)?;
-    pair.put(&runs, 7)?;
+    pair.put(&rt, &runs, 7)?;
     assert!(&rt; pair.blocks() < 9, "there are {} blocks", pair.blocks());
+    assert_eq!(&rt; pair.map.blocks.spare.len(), 1);
     pair.compare(&rt);
     Ok(())
 }

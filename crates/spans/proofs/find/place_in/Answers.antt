@@ -2,7 +2,7 @@ use Rattle.std.proofs.Common.{◌≡◌, ap, subst, ◌+◌, ◌-◌, ◌*◌, �
 use Rattle.base.specs.Pages.{PageRun}
 use Rattle.spans.specs.Spans.{Span}
 use Rattle.spans.specs.Search.{IsInside}
-use Rattle.spans.proofs.Halving.{halved, looked, look-above, look-below, look-inside, within}
+use Rattle.spans.proofs.Halving.{halved, looked, look-above, look-below, look-inside, look-border, within}
 use Rattle.spans.proofs.find.place_in.Goals as goal
 
 pub loop-low-preserved-then-number : goal.loop-low-preserved-then-number
@@ -49,6 +49,7 @@ returns-else-end-number-clause-place g c =
     let inside : IsInside c.args.spans.now c.args.page c.look-span.result.run c.look-span.result.value = record {
       here = within c.look-span.result.run c.args.page (omega (arith, c.if-number.false, c.number.ensures.same, c.number-in-loop-low.ensures.same, c.first.ensures.same, first_is)) (omega (arith, c.if-end-number.false, c.end.ensures.same, c.number-else-number.ensures.same, end_is));
       ends = omega (arith, c.end.ensures.in_range.1, end_is);
+      border = look-border c.args.spans.now c.requires (c.loop-low.low + (c.loop-low.high - c.loop-low.low) / 2) c.look-span.result.run c.look-span.result.value (omega arith) (λ d. sym (c.look-span.ensures.span d));
       alike = look-inside c.args.spans.now c.requires (c.loop-low.low + (c.loop-low.high - c.loop-low.low) / 2) c.look-span.result.run c.look-span.result.value (omega arith) (λ d. sym (c.look-span.ensures.span d));
     } in
     subst (λ (s : Span). IsInside c.args.spans.now c.args.page s.run s.value) (sym c.span.view_is) inside

@@ -11,7 +11,7 @@ pub put_all-requires-clause-ascending : goal.put_all-requires-clause-ascending
 put_all-requires-clause-ascending c =
     let d = c.block.result.now in
     let e = c.extend_from_slice.ensures in
-    let same : c.spans.result.now ≡ d = c.spans.ensures ∙ c.block-2.ensures.block d ∙ sym (c.block.ensures.block d) in
+    let same : c.spans.result.now ≡ d = c.spans.ensures ∙ c.block-3.ensures.block d ∙ sym (c.block.ensures.block d) in
     let spans_long = ap length same in
     let ok = e.succeeds (omega (arith, c.clear.ensures.len, c.clear.ensures.capacity, spans_long, c.len-len.ensures.same, c.len-len.ensures.short, c.requires.scratch)) in
     let items : c.extend_from_slice.new.self.items ≡ d = copied_items c.extend_from_slice.result c.clear.new.self.items c.spans.result.now c.extend_from_slice.new.self.items ok e.items c.clear.ensures.items ∙ same in
@@ -22,18 +22,25 @@ pub put_all-requires-clause-room : goal.put_all-requires-clause-room
 put_all-requires-clause-room c =
     let d = c.block.result.now in
     let e = c.extend_from_slice.ensures in
-    let same : c.spans.result.now ≡ d = c.spans.ensures ∙ c.block-2.ensures.block d ∙ sym (c.block.ensures.block d) in
+    let same : c.spans.result.now ≡ d = c.spans.ensures ∙ c.block-3.ensures.block d ∙ sym (c.block.ensures.block d) in
     let spans_long = ap length same in
     let ok = e.succeeds (omega (arith, c.clear.ensures.len, c.clear.ensures.capacity, spans_long, c.len-len.ensures.same, c.len-len.ensures.short, c.requires.scratch)) in
     let items : c.extend_from_slice.new.self.items ≡ d = copied_items c.extend_from_slice.result c.clear.new.self.items c.spans.result.now c.extend_from_slice.new.self.items ok e.items c.clear.ensures.items ∙ same in
     let len : vec_len c.extend_from_slice.new.self ≡ length d = copied_len c.extend_from_slice.result (vec_len c.clear.new.self) (length c.spans.result.now) (vec_len c.extend_from_slice.new.self) ok e.len c.clear.ensures.len ∙ spans_long in
     omega (arith, len, c.len-len.ensures.same, c.len-len.ensures.short, e.capacity, c.clear.ensures.capacity, c.requires.scratch)
 
+pub put_behind-requires-clause-spare : goal.put_behind-requires-clause-spare
+put_behind-requires-clause-spare c =
+    let d = c.block.result.now in
+    let spare = c.requires.spare d in
+    let long = ap length (c.block.ensures.block d) in
+    omega (arith, spare, long, c.len-len.ensures.same, c.if-len-runs-le-LIMIT.false, c.requires.some)
+
 pub deal-requires-clause-spare : goal.deal-requires-clause-spare
 deal-requires-clause-spare c =
     let d = c.block.result.now in
     let e = c.extend_from_slice.ensures in
-    let same : c.spans.result.now ≡ d = c.spans.ensures ∙ c.block-2.ensures.block d ∙ sym (c.block.ensures.block d) in
+    let same : c.spans.result.now ≡ d = c.spans.ensures ∙ c.block-3.ensures.block d ∙ sym (c.block.ensures.block d) in
     let spans_long = ap length same in
     let ok = e.succeeds (omega (arith, c.clear.ensures.len, c.clear.ensures.capacity, spans_long, c.len-len.ensures.same, c.len-len.ensures.short, c.requires.scratch)) in
     let items : c.extend_from_slice.new.self.items ≡ d = copied_items c.extend_from_slice.result c.clear.new.self.items c.spans.result.now c.extend_from_slice.new.self.items ok e.items c.clear.ensures.items ∙ same in
@@ -47,7 +54,7 @@ pub returns-clause-set : goal.returns-clause-set
 returns-clause-set c =
     let d = c.block.result.now in
     let e = c.extend_from_slice.ensures in
-    let same : c.spans.result.now ≡ d = c.spans.ensures ∙ c.block-2.ensures.block d ∙ sym (c.block.ensures.block d) in
+    let same : c.spans.result.now ≡ d = c.spans.ensures ∙ c.block-3.ensures.block d ∙ sym (c.block.ensures.block d) in
     let spans_long = ap length same in
     let ok = e.succeeds (omega (arith, c.clear.ensures.len, c.clear.ensures.capacity, spans_long, c.len-len.ensures.same, c.len-len.ensures.short, c.requires.scratch)) in
     let items : c.extend_from_slice.new.self.items ≡ d = copied_items c.extend_from_slice.result c.clear.new.self.items c.spans.result.now c.extend_from_slice.new.self.items ok e.items c.clear.ensures.items ∙ same in
@@ -63,15 +70,15 @@ returns-clause-set c =
     let pushed : ArePushed c.put_all.new.spans.items c.retire.new.self c.deal.new.self = subst (λ (l : List Span). ArePushed l c.retire.new.self c.deal.new.self) c.deref-2.ensures.value c.deal.ensures.pushed in
     let set : (b : List Span) (n : ℕ) → value_at c.put_all.new.spans.items n ≡ cond (covers c.args.runs.now n) (Some c.args.value) (value_at (get_or old place b) n) = λ b n.
     c.put_all.ensures.at n ∙ ap (λ (l : List Span). cond (covers c.args.runs.now n) (Some c.args.value) (value_at l n)) (items ∙ c.block.ensures.block b) in
-    let run = c.index-runs-0.result in
-    let some = some_spans c.args.runs.now run c.args.value c.put_all.new.spans.items (value_at (get_or old place d) run.first) c.requires.some c.index-runs-0.is (omega (arith, c.count-has_pages.ensures.same, c.count-has_pages.ensures.in_range.0)) (set d run.first) in
+    let run = c.index-runs-0-2.result in
+    let some = some_spans c.args.runs.now run c.args.value c.put_all.new.spans.items (value_at (get_or old place d) run.first) c.requires.some c.index-runs-0-2.is (omega (arith, c.count-has_pages.ensures.same, c.count-has_pages.ensures.in_range.0)) (set d run.first) in
     set-pushed c.args.runs.now c.args.value old place c.put_all.new.spans.items c.retire.new.self c.deal.new.self c.requires.inside mid (omega (arith, at, c.retire.ensures.at)) pushed c.put_all.ensures.ascending set some
 
 pub returns-clause-spare : goal.returns-clause-spare
 returns-clause-spare c = λ b.
     let d = c.block.result.now in
     let e = c.extend_from_slice.ensures in
-    let same : c.spans.result.now ≡ d = c.spans.ensures ∙ c.block-2.ensures.block d ∙ sym (c.block.ensures.block d) in
+    let same : c.spans.result.now ≡ d = c.spans.ensures ∙ c.block-3.ensures.block d ∙ sym (c.block.ensures.block d) in
     let spans_long = ap length same in
     let ok = e.succeeds (omega (arith, c.clear.ensures.len, c.clear.ensures.capacity, spans_long, c.len-len.ensures.same, c.len-len.ensures.short, c.requires.scratch)) in
     let items : c.extend_from_slice.new.self.items ≡ d = copied_items c.extend_from_slice.result c.clear.new.self.items c.spans.result.now c.extend_from_slice.new.self.items ok e.items c.clear.ensures.items ∙ same in
@@ -79,8 +86,8 @@ returns-clause-spare c = λ b.
     let long = ap length (c.block.ensures.block b) in
     let was = ap (λ (x : BlocksView). x.spare) c.go_to.ensures in
     let here : 0 < length c.deref-2.result.now → c.retire.new.self.spare ≤ c.deal.new.self.spare + 1 + (length c.deref-2.result.now - 1) / 128 = c.deal.ensures.spare in
-    let run = c.index-runs-0.result in
-    let some = some_spans c.args.runs.now run c.args.value c.put_all.new.spans.items (value_at c.extend_from_slice.new.self.items run.first) c.requires.some c.index-runs-0.is (omega (arith, c.count-has_pages.ensures.same, c.count-has_pages.ensures.in_range.0)) (c.put_all.ensures.at run.first) in
+    let run = c.index-runs-0-2.result in
+    let some = some_spans c.args.runs.now run c.args.value c.put_all.new.spans.items (value_at c.extend_from_slice.new.self.items run.first) c.requires.some c.index-runs-0-2.is (omega (arith, c.count-has_pages.ensures.same, c.count-has_pages.ensures.in_range.0)) (c.put_all.ensures.at run.first) in
     let same_long = ap length c.deref-2.ensures.value in
     let done = here (omega (arith, some, same_long)) in
     omega (arith, done, was, c.retire.ensures.spare, c.put_all.ensures.len, c.deref-2.ensures.len, len, long)

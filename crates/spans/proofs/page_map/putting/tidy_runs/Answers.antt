@@ -13,5 +13,5 @@ loop-left-preserved c =
       stacked = record { ascending = ap (ascend 0) c.tidy.ensures.spans ∙ inv.stacked.ascending; filled = c.tidy.ensures.filled };
       some = some_blocks c.loop-left.blocks.list c.tidy.new.self.list c.tidy.ensures.spans inv.stacked.filled inv.some;
       spans = c.tidy.ensures.spans ∙ inv.spans;
-      spare = c.tidy.ensures.spare ∙ inv.spare;
+      spare = omega (arith, c.tidy.ensures.spare, inv.spare);
     }

@@ -8,7 +8,7 @@ invariant-loop-left l = record {
   stacked : AreStacked l.blocks.list;
   some : 0 < length l.blocks.list;
   spans : all_spans l.blocks.list ≡ all_spans l.fn.blocks.list;
-  spare : l.blocks.spare ≡ l.fn.blocks.spare;
+  spare : l.fn.blocks.spare ≤ l.blocks.spare;
 }
 
 abbrev pub decreases-loop-left : goal.decreases-loop-left

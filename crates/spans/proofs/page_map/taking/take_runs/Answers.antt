@@ -27,7 +27,7 @@ loop-left-preserved c =
           let zone = in_zone_parts c.last_zone-from.result.1 n (c.last_zone-from.ensures.covers n here) in
           let gone = taken.gone n zone.0 zone.1 in
           absurd (cc));
-      spare = c.take_zone.ensures.spare ∙ inv.spare;
+      spare = omega (arith, c.take_zone.ensures.spare, inv.spare);
     }
 
 pub returns-clause-spans : goal.returns-clause-spans

@@ -10,7 +10,7 @@ invariant-loop-left l = record {
   stacked : AreStacked l.blocks.list;
   rest : others l.value (all_spans l.blocks.list) ≡ others l.value (all_spans l.fn.blocks.list);
   within : (n : ℕ) → has_number l.value (all_spans l.blocks.list) n ≡ true → covers (take l.left l.runs) n ≡ true;
-  spare : l.blocks.spare ≡ l.fn.blocks.spare;
+  spare : l.fn.blocks.spare ≤ l.blocks.spare;
 }
 
 abbrev pub decreases-loop-left : goal.decreases-loop-left

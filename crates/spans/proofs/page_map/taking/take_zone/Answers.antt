@@ -11,7 +11,7 @@ loop-end-init c = record {
   stacked = c.requires;
   inside = omega arith;
   taken = taken-none (max c.args.zone.end c.args.zone.first) c.args.zone.end c.args.value (all_spans c.args.blocks.now.list) (omega arith);
-  spare = refl;
+  spare = omega arith;
 }
 
 pub blocks_before-count-requires : goal.blocks_before-count-requires
@@ -80,5 +80,5 @@ loop-end-preserved c =
       stacked = record { ascending = ap (ascend 0) c.tidy.ensures.spans ∙ zone-ascends c.args.zone.first c.args.zone.end c.loop-end.end c.args.value old c.take_at.new.self.list place d inv.stacked lt up inv.inside c.take_at.ensures.taken; filled = c.tidy.ensures.filled };
       inside = omega (arith, inv.inside, low, less);
       taken = taken-both c.begin-end.result c.loop-end.end c.args.zone.end c.args.zone.first c.args.value (all_spans c.args.blocks.now.list) (all_spans old) (all_spans c.tidy.new.self.list) inv.taken there;
-      spare = c.tidy.ensures.spare ∙ c.take_at.ensures.spare ∙ inv.spare;
+      spare = omega (arith, c.tidy.ensures.spare, c.take_at.ensures.spare, inv.spare);
     }

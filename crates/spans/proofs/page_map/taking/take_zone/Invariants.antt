@@ -8,7 +8,7 @@ invariant-loop-end l = record {
   stacked : AreStacked l.blocks.list;
   inside : l.end ≤ l.zone.end;
   taken : IsTakenIn (max l.end l.zone.first) l.zone.end l.value (all_spans l.fn.blocks.list) (all_spans l.blocks.list);
-  spare : l.blocks.spare ≡ l.fn.blocks.spare;
+  spare : l.fn.blocks.spare ≤ l.blocks.spare;
 }
 
 abbrev pub decreases-loop-end : goal.decreases-loop-end
