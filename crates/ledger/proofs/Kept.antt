@@ -1,7 +1,7 @@
 -- The intervals agree with the lists after each change.
-use Rattle.std.proofs.Common.{◌≡◌, ℕ, ◌<◌, true, false, cond, eqb, List, [], ◌∷◌, ◌++◌, Some, None, length, get_or, refl, arith, sym, ap, subst, ◌∙◌}
+use Rattle.std.proofs.Common.{◌≡◌, ℕ, true, false, cond, eqb, List, [], ◌∷◌, ◌++◌, Some, None, get_or, refl, arith, sym, ap, subst, ◌∙◌}
 use Rattle.std.specs.List.{AllByRecursion, remove}
-use Rattle.std.specs.Option.{option_map, option_map_or}
+use Rattle.std.specs.Option.{option_map_or}
 use Rattle.std.proofs.lemmas.Bool.{eqb-true}
 use Rattle.std.proofs.lemmas.Bool.Decides.{nat_tests}
 use Rattle.std.proofs.lemmas.List.{get_or_default}
@@ -51,24 +51,6 @@ has_put m ds live given shared new runs h k kept unknown is at n =
       | true ↦ self
       | false ↦ other
     ]
-
--- and where it is taken out again, the intervals are as before
-pub IsKept-undone : (m : ManifestRows) (ds : List Donation) (live known : List Live) (given shared mid new : List Span) (runs rest : List PageRun) (t : Live) (k : ℕ) → IsKept m ds live given shared → live ≡ known → runs ≡ t.ranges → rest ≡ t.ranges
-    → ((n : ℕ) → covers t.ranges n ≡ true → live_at known n ≡ None) → ((n : ℕ) → value_at mid n ≡ cond (covers runs n) (Some k) (value_at shared n)) → ((n : ℕ) → value_at new n ≡ cond (covers rest n) None (value_at mid n)) → IsKept m ds live given new
-IsKept-undone m ds live known given shared mid new runs rest t k kept same runs_are rest_are none at out = record {
-  gifts = kept.gifts;
-  handles = λ n.
-      let here : covers t.ranges n ≡ true → None ≡ value_at shared n = λ is. sym (kept.handles n ∙ ap (λ (l : List Live). option_map (λ (u : Live). u.handle) (live_at l n)) same ∙ ap (λ o. option_map (λ (u : Live). u.handle) o) (none n is)) in
-      out n ∙ ap (λ (rs : List PageRun). cond (covers rs n) None (value_at mid n)) rest_are
-      ∙ ap (λ o. cond (covers t.ranges n) None o) (at n ∙ ap (λ (rs : List PageRun). cond (covers rs n) (Some k) (value_at shared n)) runs_are)
-      ∙ (elim (covers t.ranges n) as (λ b. covers t.ranges n ≡ b → cond b None (cond b (Some k) (value_at shared n)) ≡ value_at shared n) [
-        | true ↦ λ is. here is
-        | false ↦ λ is. refl
-      ] refl)
-      ∙ kept.handles n;
-  separate = kept.separate;
-  named = kept.named;
-}
 
 -- ---- one less
 

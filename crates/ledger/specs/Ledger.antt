@@ -27,11 +27,6 @@ pub record IsReady (runs : ℕ) (room : Room) : Type 0 where
   pub given : room_for runs ≤ room.given
   pub shared : room_for runs ≤ room.shared
 
--- there is as much room for donations and their intervals
-pub record HasSameRoomForDonations (old new : Room) : Type 0 where
-  pub donations : new.donations ≡ old.donations
-  pub given : new.given ≡ old.given
-
 -- the two differ in their room alone
 pub record IsSameButRoom (old new : LedgerView) : Type 0 where
   pub manifest : new.manifest ≡ old.manifest

@@ -286,25 +286,14 @@ impl Ledger {
         let numbered = self.numbered_with(transaction.terms.kind);
         let is_first = numbered < self.numbered;
         self.numbered = numbered;
-        let added = self.number_and_add(transaction);
+        let added = match self.number_regions() {
+            Ok(()) => self.add(transaction),
+            Err(error) => Err(error),
+        };
         if is_first && added.is_err() {
             self.forget_numbers();
         }
         added
-    }
-
-    fn number_and_add(&mut self, transaction: Live) -> Result<(), OutOfMemory>
-        requires new { spec.found self.old.live transaction.handle ≡ None }
-        requires named { spec.NamesItsSender transaction }
-        requires apart { (n : ℕ) → covers transaction.ranges n ≡ true
-            → rules.live_at self.old.live n ≡ None }
-        ensures manifest { self.new.manifest ≡ self.old.manifest }
-        ensures donations { self.new.donations ≡ self.old.donations }
-        ensures ok { OnOk result (self.new.live ≡ changes.with_live transaction self.old.live) }
-        ensures err { OnErr result (self.new.live ≡ self.old.live) }
-    {
-        self.number_regions()?;
-        self.add(transaction)
     }
 
     /// Adds a live transaction. A refusal changes nothing.
@@ -355,7 +344,6 @@ impl Ledger {
         ensures manifest { self.new.manifest ≡ self.old.manifest }
         ensures donations { self.new.donations ≡ self.old.donations }
         ensures live { self.new.live ≡ changes.without handle self.old.live }
-        ensures room { spec.HasSameRoomForDonations self.old.room self.new.room }
     {
         let place = place_of(&self.live, handle)?;
         Some(take_at(&mut self.live, &mut self.shared, place))

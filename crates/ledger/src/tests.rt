@@ -1,3 +1,7 @@
+ghost use Rattle.std.specs.Prelude.{◌≡◌, ◌<◌, ◌∷◌, [], ℕ, true, None, IfOk};
+ghost use Rattle.base.specs.Pages.{covers};
+ghost use Rattle.base.specs.Ledger.{live_at};
+
 use crate::{Ledger, Live, Receiver, Terms};
 use arrayvec::ArrayVec;
 use base::{Access, Handle, Kind, OutOfMemory, Page, PartitionId, Rights, Run};
@@ -9,6 +13,17 @@ use std::test::Fail;
 const FIRST: u16 = 0x8001;
 
 const SECOND: u16 = 0x8002;
+
+/// The first partition's largest region begins here, and ends before the second page.
+const REGION: u32 = 0x8_0000;
+
+const REGION_END: u32 = 0x8_0400;
+
+/// Where the regions begin and end.
+const EDGES: [u32; 14] = [
+    0x9000, 0x9001, REGION, REGION_END, 0x9_0000, 0x9_0002, 0xa_0000, 0xa_0200, 0xb_0000, 0xb_0002,
+    0xc_0000, 0xc_0002, 0xd_0000, 0xd_0001,
+];
 
 fn common_ledger(alloc: Global) -> Result<Ledger, OutOfMemory> {
     let manifest = common_manifest(alloc)?;
@@ -30,9 +45,12 @@ fn handle_of(sender: u16) -> Handle {
 fn transaction(
     alloc: Global,
     kind: Kind,
-    [sender, receiver]: [u16; 2],
+    parties: [u16; 2],
     ranges: Vec<Run>,
-) -> Result<Live, OutOfMemory> {
+) -> Result<Live, OutOfMemory>
+    ensures { IfOk result (λ t. t.ranges ≡ ranges.items) }
+{
+    let [sender, receiver] = parties;
     let receiver = Receiver {
         partition: PartitionId::new(receiver),
         cap: Rights::Rw,
@@ -62,6 +80,31 @@ fn open(ledger: &mut Ledger, transaction: Live) -> Result<(), OutOfMemory> {
         ledger.open(transaction);
     }
     Ok(())
+}
+
+/// Opens a transaction of one run, where no page of it is live, and its sender has sent none that is.
+fn open_beside(
+    ledger: &mut Ledger,
+    alloc: Global,
+    kind: Kind,
+    parties: [u16; 2],
+    run: Run,
+) -> Result<(), OutOfMemory> {
+    let transaction = transaction(alloc, kind, parties, vec![in alloc; run]?)?;
+    let named = transaction.handle.high() == u32::from(transaction.terms.sender.number());
+    let is_new = ledger.find(transaction.handle).is_none();
+    if named && is_new && is_apart(ledger, run) {
+        ledger.try_open(transaction)?;
+    }
+    Ok(())
+}
+
+/// Whether the pages are alike, and none is live.
+fn is_apart(ledger: &Ledger, run: Run) -> bool
+    ensures { result ≡ true → (n : ℕ) → covers (run ∷ []) n ≡ true → live_at ledger.now.live n ≡ None }
+{
+    let segment = ledger.segment(run.first());
+    !segment.is_live && run.end() <= segment.end
 }
 
 fn retrieve(
@@ -96,6 +139,226 @@ fn donate(
     let transaction = transaction(alloc, Kind::Donate, parties, ranges)?;
     open(ledger, transaction)?;
     retrieve(ledger, taker, handle_of(giver), access)
+}
+
+/// As `donate`, where each call makes the room that it needs.
+fn try_donate(
+    ledger: &mut Ledger,
+    alloc: Global,
+    parties: [u16; 2],
+    run: Run,
+    access: Access,
+) -> Result<(), OutOfMemory> {
+    let [giver, taker] = parties;
+    let ranges = vec![in alloc; run]?;
+    let transaction = transaction(alloc, Kind::Donate, parties, ranges)?;
+    let named = transaction.handle.high() == u32::from(transaction.terms.sender.number());
+    if named && ledger.live().is_empty() {
+        ledger.try_open(transaction)?;
+    }
+    ledger.try_retrieve(PartitionId::new(taker), handle_of(giver), access)
+}
+
+/// A donation from the first of the parties to the second.
+#[derive(Clone, Copy)]
+struct Drawn {
+    parties: [u16; 2],
+    run: Run,
+    access: Access,
+}
+
+/// Drawn numbers, the same each time.
+#[derive(Drop)]
+struct Draw {
+    state: u64,
+}
+
+impl Draw {
+    /// A number below a limit.
+    fn below(&mut self, limit: u32) -> u32
+        requires { 0 < limit }
+        ensures { result < limit }
+    {
+        self.state = self
+            .state
+            .wrapping_mul(6_364_136_223_846_793_005)
+            .wrapping_add(1_442_695_040_888_963_407);
+        ((self.state >> 33) % u64::from(limit)) as u32
+    }
+
+    /// One of the three partitions.
+    fn partition(&mut self) -> u16 {
+        FIRST + self.below(3) as u16
+    }
+
+    /// A donation of 1 to 40 pages, which begins at most 40 pages before this one and less than 20 behind it. There are
+    /// few owners and accesses, so that runs often touch others that are the same.
+    fn donation(&mut self, rt: &impl Abort, number: u32) -> Drawn {
+        let first = number.wrapping_sub(40).wrapping_add(self.below(60));
+        Drawn {
+            parties: [self.partition(), self.partition()],
+            run: run(rt, first, 1 + self.below(40)),
+            access: Access::normal(Rights::Rw, self.below(2) == 0),
+        }
+    }
+}
+
+/// A ledger whose room is made before each call, and one whose calls make it.
+#[derive(Drop)]
+struct Pair {
+    ready: Ledger,
+    trying: Ledger,
+}
+
+impl Pair {
+    fn new(alloc: Global) -> Result<Self, OutOfMemory> {
+        Ok(Pair {
+            ready: common_ledger(alloc)?,
+            trying: common_ledger(alloc)?,
+        })
+    }
+
+    fn donate(&mut self, alloc: Global, drawn: Drawn) -> Result<(), OutOfMemory> {
+        let Drawn {
+            parties,
+            run,
+            access,
+        } = drawn;
+        donate(&mut self.ready, alloc, parties, run, access)?;
+        try_donate(&mut self.trying, alloc, parties, run, access)
+    }
+
+    /// Both say the same of a page.
+    fn compare_at(&self, rt: &impl Abort, number: u32) {
+        let page = run(rt, number, 1).first();
+        let (ready, trying) = (&self.ready, &self.trying);
+        assert_eq!(rt; ready.segment(page), trying.segment(page), "{number:x}");
+        assert_eq!(rt; ready.owner(page), trying.owner(page), "{number:x}");
+        assert_eq!(rt; ready.home(page), trying.home(page), "{number:x}");
+        assert_eq!(rt;
+            ready.given_until(page),
+            trying.given_until(page),
+            "{number:x}"
+        );
+    }
+
+    /// Both say the same of the pages before and behind where a run or a region begins or ends.
+    fn compare_around(&self, rt: &impl Abort, number: u32) {
+        for page in number.saturating_sub(2)..number.saturating_add(2) {
+            self.compare_at(rt, page);
+        }
+    }
+
+    fn compare_around_run(&self, rt: &impl Abort, run: Run) {
+        self.compare_around(rt, run.first().number());
+        self.compare_around(rt, run.end());
+    }
+
+    fn compare_around_regions(&self, rt: &impl Abort) {
+        for edge in EDGES {
+            self.compare_around(rt, edge);
+        }
+    }
+
+    /// Drawn donations around where regions begin and end, and the runs of them.
+    fn donate_drawn(&mut self, rt: &impl Abort, alloc: Global) -> Result<Vec<Run>, OutOfMemory> {
+        let mut draw = Draw { state: 1 };
+        let mut runs = Vec::new(alloc);
+        for _ in 0..40 {
+            let edge = EDGES[draw.below(14) as usize];
+            let drawn = draw.donation(rt, edge);
+            let run = drawn.run;
+            self.donate(alloc, drawn)?;
+            self.compare_around_run(rt, run);
+            runs.push(run)?;
+        }
+        Ok(runs)
+    }
+}
+
+/// Whose a page is, and what it is to its owner.
+#[derive(Clone, Copy, Debug, PartialEq, Eq)]
+struct Owned {
+    owner: u16,
+    home: Access,
+}
+
+/// The pages from `REGION` up to `REGION_END`, one by one.
+#[derive(Drop)]
+struct Pages {
+    list: Vec<Owned>,
+}
+
+impl Pages {
+    /// The first partition owns them, and may write and execute them.
+    fn new(alloc: Global) -> Result<Self, OutOfMemory> {
+        let owned = Owned {
+            owner: FIRST,
+            home: Access::normal(Rights::Rw, true),
+        };
+        let list = vec![in alloc; owned; 1024]?;
+        Ok(Pages { list })
+    }
+
+    fn give(&mut self, drawn: Drawn) {
+        let [_, owner] = drawn.parties;
+        let home = drawn.access;
+        for number in drawn.run.first().number()..drawn.run.end() {
+            if let Some(page) = self.list.get_mut(number.wrapping_sub(REGION) as usize) {
+                *page = Owned { owner, home };
+            }
+        }
+    }
+
+    fn at(&self, number: u32) -> Option<Owned> {
+        self.list.get(number.wrapping_sub(REGION) as usize).copied()
+    }
+
+    /// The first page behind this one that has another owner, or is something else to it.
+    fn next_other(&self, number: u32) -> Option<u32> {
+        let here = self.at(number);
+        for page in number..REGION_END {
+            if self.at(page) != here {
+                return Some(page);
+            }
+        }
+        None
+    }
+
+    /// What is given ends at the first page that differs; where none does, it ends with the region, or with all pages.
+    fn compare_at(&self, rt: &impl Abort, ledger: &Ledger, number: u32) {
+        let end = ledger.given_until(run(rt, number, 1).first());
+        match self.next_other(number) {
+            Some(other) => assert_eq!(rt; end, other, "{number:x}"),
+            None => assert!(rt;
+                end == REGION_END || end == Page::COUNT,
+                "{number:x}: {end:x}"
+            ),
+        }
+    }
+
+    fn compare(&self, rt: &impl Abort, ledger: &Ledger) {
+        for number in REGION..REGION_END {
+            self.compare_at(rt, ledger, number);
+        }
+    }
+
+    /// Drawn donations in the region's first three quarters.
+    fn donate_drawn(
+        &mut self,
+        rt: &impl Abort,
+        alloc: Global,
+        ledger: &mut Ledger,
+    ) -> Result<(), OutOfMemory> {
+        let mut draw = Draw { state: 2 };
+        for _ in 0..20 {
+            let number = REGION + 40 + draw.below(0x280);
+            let drawn = draw.donation(rt, number);
+            donate(ledger, alloc, drawn.parties, drawn.run, drawn.access)?;
+            self.give(drawn);
+        }
+        Ok(())
+    }
 }
 
 /// Each page of the table has this owner and this home, and none is live.
@@ -140,6 +403,15 @@ fn lent(rt: &impl Abort, alloc: Global) -> Result<Ledger, OutOfMemory> {
     let lend = transaction(alloc, Kind::Lend, [FIRST, SECOND], ranges)?;
     open(&mut ledger, lend)?;
     Ok(ledger)
+}
+
+/// A lend and a share of the region's last quarter, apart from its end.
+fn lend_and_share(rt: &impl Abort, alloc: Global, ledger: &mut Ledger) -> Result<(), OutOfMemory> {
+    let ranges = vec![in alloc; run(rt, 0x8_0310, 2), run(rt, 0x8_03f0, 1)]?;
+    let lend = transaction(alloc, Kind::Lend, [FIRST, SECOND], ranges)?;
+    open(ledger, lend)?;
+    let pages = run(rt, 0x8_0380, 4);
+    open_beside(ledger, alloc, Kind::Share, [SECOND, FIRST], pages)
 }
 
 fn retrieve_and_relinquish(rt: &impl Abort, ledger: &mut Ledger) -> Result<(), OutOfMemory> {
@@ -211,5 +483,49 @@ fn page_that_came_back_is_as_those_that_stayed(rt: HostRuntime) -> Result<(), Fa
     segments(&rt, &ledger, &[(0x8_0000, false, 0x8_0001)]);
     donate(&mut ledger, rt.alloc(), [SECOND, FIRST], page, code)?;
     segments(&rt, &ledger, &[(0x8_0000, false, 0x8_0400)]);
+    Ok(())
+}
+
+#[test]
+fn both_ways_of_a_donation_come_to_the_same(rt: HostRuntime) -> Result<(), Fail> {
+    let mut pair = Pair::new(rt.alloc())?;
+    let runs = pair.donate_drawn(&rt, rt.alloc())?;
+    for run in &runs {
+        pair.compare_around_run(&rt, *run);
+    }
+    pair.compare_around_regions(&rt);
+    assert_eq!(rt; pair.ready.donations().len(), 40);
+    assert_eq!(rt; pair.trying.donations().len(), 40);
+    Ok(())
+}
+
+/// Transactions that are live end nothing of what was given.
+#[test]
+fn given_until_ends_where_pages_differ(rt: HostRuntime) -> Result<(), Fail> {
+    let mut ledger = common_ledger(rt.alloc())?;
+    let mut pages = Pages::new(rt.alloc())?;
+    pages.compare(&rt, &ledger);
+    pages.donate_drawn(&rt, rt.alloc(), &mut ledger)?;
+    pages.compare(&rt, &ledger);
+    lend_and_share(&rt, rt.alloc(), &mut ledger)?;
+    assert_eq!(rt; ledger.live().len(), 2);
+    pages.compare(&rt, &ledger);
+    Ok(())
+}
+
+/// Only a donation gives the pages of regions numbers, so a share asks for no memory for them.
+#[test]
+fn share_numbers_no_region(rt: HostRuntime) -> Result<(), Fail> {
+    let mut ledger = common_ledger(rt.alloc())?;
+    let pages = run(&rt, REGION, 1);
+    open_beside(
+        &mut ledger,
+        rt.alloc(),
+        Kind::Share,
+        [FIRST, SECOND],
+        pages,
+    )?;
+    assert_eq!(rt; ledger.live().len(), 1);
+    assert!(rt; ledger.given.is_empty());
     Ok(())
 }

@@ -4,7 +4,7 @@ use Rattle.base.specs.Transactions.{Live, AreAscending}
 use Rattle.ledger.specs.declared.live.Terms.{Terms}
 use Rattle.ledger.specs.Ledger.{LedgerView, found}
 use Rattle.ledger.specs.Changes.{with_live}
-use Rattle.ledger.proofs.Kept.{IsKept-open, IsKept-undone, has_put}
+use Rattle.ledger.proofs.Kept.{IsKept-open, has_put}
 use Rattle.ledger.proofs.Transactions.{ascending}
 use Rattle.ledger.proofs.ledger.Ledger.add.Goals as goal
 

@@ -1,8 +1,7 @@
-use Rattle.std.proofs.Common.{◌≡◌, ◌≤◌, ◌*◌, ◌-◌, ◌++◌, ◌∷◌, [], List, Some, None, IsOk, length, vec_len, vec_capacity, refl, sym, ap, subst, ◌∙◌, arith, rules}
-use Rattle.base.specs.Pages.{PageRun}
+use Rattle.std.proofs.Common.{◌≡◌, ◌++◌, ◌∷◌, [], List, Some, None, IsOk, length, refl, sym, ap, subst, ◌∙◌, arith, rules}
 use Rattle.base.specs.Transactions.{Live, Donation, AreAscending}
 use Rattle.ledger.specs.declared.live.Terms.{Terms}
-use Rattle.ledger.specs.Ledger.{LedgerView, found, IsReady}
+use Rattle.ledger.specs.Ledger.{LedgerView, found}
 use Rattle.ledger.specs.Changes.{without, completed}
 use Rattle.ledger.proofs.Places.{IsPlace-in, HasNone-in}
 use Rattle.ledger.proofs.Kept.{found_at, found_some, at_place_pages, IsKept-close, IsKept-complete}
