@@ -518,14 +518,8 @@ fn given_until_ends_where_pages_differ(rt: HostRuntime) -> Result<(), Fail> {
 fn share_numbers_no_region(rt: HostRuntime) -> Result<(), Fail> {
     let mut ledger = common_ledger(rt.alloc())?;
     let pages = run(&rt, REGION, 1);
-    open_beside(
-        &mut ledger,
-        rt.alloc(),
-        Kind::Share,
-        [FIRST, SECOND],
-        pages,
-    )?;
+    open_beside(&mut ledger, rt.alloc(), Kind::Share, [FIRST, SECOND], pages)?;
     assert_eq!(rt; ledger.live().len(), 1);
-    assert!(rt; ledger.given.is_empty());
+    assert_eq!(rt; ledger.given_until(pages.first()), Page::COUNT);
     Ok(())
 }
