@@ -56,7 +56,18 @@ pub(crate) fn runs_past(runs: &[Run], first: u32) -> &[Run]
     &runs[ended(runs, first)..]
 }
 
-/// Those of the runs that have a page from one up to another. One run alone is told by its bounds.
+/// Those of the runs that have a page from one up to another, of whatever runs.
+fn runs_among(runs: &[Run], first: u32, end: u32) -> &[Run]
+    requires { are_normal runs.now ≡ true }
+    ensures same { result.now ≡ parts.runs_between first end runs.now }
+    ensures normal { are_normal result.now ≡ true }
+{
+    let rest = runs_past(runs, first);
+    &rest[..begun(rest, end)]
+}
+
+/// The same. One run alone is told by its bounds, without a call.
+#[inline(always)]
 pub(crate) fn runs_between(runs: &[Run], first: u32, end: u32) -> &[Run]
     requires { are_normal runs.now ≡ true }
     ensures same { result.now ≡ parts.runs_between first end runs.now }
@@ -67,8 +78,7 @@ pub(crate) fn runs_between(runs: &[Run], first: u32, end: u32) -> &[Run]
         let is_between = first < run.end() && run.first().number() < end;
         return &runs[..usize::from(is_between)];
     }
-    let rest = runs_past(runs, first);
-    &rest[..begun(rest, end)]
+    runs_among(runs, first, end)
 }
 
 /// Whether a page is in one of the runs. Where the first of them does not end before it, that one
