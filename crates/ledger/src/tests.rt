@@ -126,6 +126,10 @@ fn retrieved(ledger: &Ledger, handle: Handle) -> Option<Access> {
     ledger.find(handle)?.terms.receivers.first()?.retrieved
 }
 
+fn donation(alloc: Global, parties: [u16; 2], run: Run) -> Result<Live, OutOfMemory> {
+    transaction(alloc, Kind::Donate, parties, vec![in alloc; run]?)
+}
+
 /// Some pages are given from the first of these partitions to the second.
 fn donate(
     ledger: &mut Ledger,
@@ -135,9 +139,7 @@ fn donate(
     access: Access,
 ) -> Result<(), OutOfMemory> {
     let [giver, taker] = parties;
-    let ranges = vec![in alloc; run]?;
-    let transaction = transaction(alloc, Kind::Donate, parties, ranges)?;
-    open(ledger, transaction)?;
+    open(ledger, donation(alloc, parties, run)?)?;
     retrieve(ledger, taker, handle_of(giver), access)
 }
 
@@ -150,11 +152,10 @@ fn try_donate(
     access: Access,
 ) -> Result<(), OutOfMemory> {
     let [giver, taker] = parties;
-    let ranges = vec![in alloc; run]?;
-    let transaction = transaction(alloc, Kind::Donate, parties, ranges)?;
-    let named = transaction.handle.high() == u32::from(transaction.terms.sender.number());
+    let donation = donation(alloc, parties, run)?;
+    let named = donation.handle.high() == u32::from(donation.terms.sender.number());
     if named && ledger.live().is_empty() {
-        ledger.try_open(transaction)?;
+        ledger.try_open(donation)?;
     }
     ledger.try_retrieve(PartitionId::new(taker), handle_of(giver), access)
 }
