@@ -1,7 +1,8 @@
 #!/bin/sh
-# Refuses each allocation of tests of the gate in turn. They compare what a refused call leaves (all numbers, owners and
-# translations, and the room for more) with what was there, and make the call again: each must pass, or end for
-# want of memory where the test itself finds none. To be run after `rt test` in crates/spans and crates/call_tests.
+# Refuses each allocation of tests of the gate in turn. Where a call of theirs is refused, those of maps compare all numbers,
+# the blocks and the spare ones with what was there, and that of a send three translations, what is live and what was
+# written; then they make the call again. Each must pass, or end for want of memory where the test itself finds none. To
+# be run after `rt test` in crates/spans and crates/call_tests.
 set -eu
 here=$(cd "$(dirname "$0")" && pwd)
 work=$(mktemp -d)
