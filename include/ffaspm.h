@@ -150,10 +150,12 @@ struct ffaspm_reply {
  * FFASPM_DONE: the call was answered, be it with FFA_ERROR, and the operations of the call are there
  * for ffaspm_operation. After FFA_ERROR the state and the tables are as they were.
  * FFASPM_NO_MEMORY: the state and the tables are as they were, and the call may be made again. A
- * firmware answers FFA_ERROR with FFA_NO_MEMORY. There is nothing to replay: ffaspm_operation gives
- * the operations of an earlier call, or none.
- * FFASPM_RX_SHORT: nothing was changed, and there is nothing to replay.
+ * firmware answers FFA_ERROR with FFA_NO_MEMORY.
+ * FFASPM_RX_SHORT: the state and the tables are as they were.
  * FFASPM_NOT_MADE.
+ * After any status but FFASPM_DONE there is nothing to replay: ffaspm_operation gives no operation, not
+ * even one of an earlier call, and `operations` of the reply is 0. Its other members, and `rx`, are as they
+ * were.
  */
 uint32_t ffaspm_handle(struct ffaspm *spm, const struct ffaspm_call *call, const uint8_t *tx,
                        size_t tx_length, uint8_t *rx, size_t rx_room, struct ffaspm_reply *reply);
@@ -176,13 +178,12 @@ struct ffaspm_operation {
 };
 
 /*
- * The operation of the last call at an index from 0 on: of the last that ffaspm_handle answered with
- * FFASPM_DONE, as long as no other call was made. To be replayed on the live tables in this
- * order, before the reply, so that a walk which reads a later store reads the earlier ones too: a DMB
- * ISHST stands after each store (docs/LINKING.md; Arm ARM, "Break-before-make sequence").
+ * The operation of the last call at an index from 0 on. To be replayed on the live tables in this order,
+ * before the reply, so that a walk which reads a later store reads the earlier ones too: a DMB ISHST stands
+ * after each store (docs/LINKING.md; Arm ARM, "Break-before-make sequence").
  *
- * FFASPM_DONE; FFASPM_NOTHING_THERE, where the call made no more (boot, a refused call and one that
- * moves no page make none); FFASPM_NOT_MADE.
+ * FFASPM_DONE; FFASPM_NOTHING_THERE, where the call made no more (boot, a refused call, one that moves no
+ * page, and one that ffaspm_handle did not answer with FFASPM_DONE make none); FFASPM_NOT_MADE.
  */
 uint32_t ffaspm_operation(struct ffaspm *spm, size_t index, struct ffaspm_operation *operation);
 

@@ -1,7 +1,8 @@
 /*
  * Want of memory: five lives of transactions, in which each growth of the heap is refused once, the first
  * in one run, the second in the next, until a run meets no refusal. A call that is refused memory must leave
- * words, owners and translations as they were, and is made again: then all replies are those of ample memory.
+ * words, owners and translations as they were, and no operations, and is made again: then all replies are
+ * those of ample memory.
  */
 #include "ffaspm.h"
 #include "heap.h"
@@ -98,11 +99,13 @@ static void call(uint16_t caller, size_t length, const uint64_t words[4], uint32
     static struct view before, after;
     struct ffaspm_call call = {{words[0], words[1], words[2], words[3], 0, 0, 0, 0}, caller};
     struct ffaspm_reply reply;
+    struct ffaspm_operation operation;
     take_view(&before);
     uint32_t status = ffaspm_handle(&spm, &call, tx, length, rx, sizeof rx, &reply);
     if (status == FFASPM_NO_MEMORY) {
         take_view(&after);
         differences += memcmp(&before, &after, sizeof before) != 0;
+        differences += reply.operations != 0 || ffaspm_operation(&spm, 0, &operation) != FFASPM_NOTHING_THERE;
         refused_calls++;
         status = ffaspm_handle(&spm, &call, tx, length, rx, sizeof rx, &reply);
     }

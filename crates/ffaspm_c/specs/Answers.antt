@@ -76,9 +76,9 @@ pub record IsAnswered (c : CallWords) (old new : Machine) : Type 0 where
   pub clears : HasCleared (clears old.state c) new
   pub reached : IsReached new.state
 
--- the state and all words are the same; the list of operations may be emptied
+-- the state and all words are the same, and the list of operations is empty
 abbrev pub IsLeft : Machine → Machine → Type 0
-IsLeft old new = unchanged new ≡ unchanged old
+IsLeft old new = new ≡ unchanged old
 
 -- the bytes, or none
 abbrev pub bytes_of : Option (List ℕ) → List ℕ

@@ -6,6 +6,7 @@ ghost use Rattle.rules.specs.Run as rules;
 ghost use Rattle.wire.specs.Replies.{filled};
 ghost use Rattle.ffaspm_c.specs.Answers as answers;
 ghost use Rattle.ffaspm_c.specs.Answers.{call_from, rx_bytes, in_front, AreBoth, IsAnswered, IsLeft, IsReply};
+ghost use Rattle.spm.specs.Machine.{unchanged};
 
 use crate::holder::Holder;
 use crate::status::{DONE, NO_MEMORY, NOT_MADE, RX_SHORT};
@@ -53,7 +54,7 @@ fn answered(
         (IsAnswered (call_from call.now.caller call.now.regs tx.now) spm.old spm.new) }
     ensures reply { IfOk result (λ reply. reply
         ≡ rules.answer spm.old.state (call_from call.now.caller call.now.regs tx.now)) }
-    ensures err { OnErr result (IsLeft spm.old spm.new) }
+    ensures err { OnErr result (unchanged spm.new ≡ unchanged spm.old) }
 {
     let regs = call.regs;
     let call = Call {
@@ -88,6 +89,25 @@ fn fill(bytes: &Option<Vec<u8>>, rx: &mut [u8]) -> usize
     }
 }
 
+/// Tells why a call was not answered. The reply counts no operations.
+fn unanswered(reply: &mut ReplyOut, status: u32) -> u32
+    ensures reply { reply.new ≡ record reply.old { operations = 0 } }
+    ensures status { result ≡ status }
+{
+    reply.operations = 0;
+    status
+}
+
+/// The same where there is a manager, which then lists no operations, those of an earlier call neither.
+fn left(spm: &mut Spm<ListPool>, reply: &mut ReplyOut, status: u32) -> u32
+    ensures left { IsLeft spm.old spm.new }
+    ensures reply { reply.new ≡ record reply.old { operations = 0 } }
+    ensures status { result ≡ status }
+{
+    spm.forget_ops();
+    unanswered(reply, status)
+}
+
 /// Answers the call where `rx` has room for the caller's whole RX buffer.
 fn serve(
     alloc: Global,
@@ -104,16 +124,15 @@ fn serve(
         reply.new.regs reply.new.rx_length rx.old rx.new }
     ensures operations { result ≡ answers.done →
         reply.new.operations ≡ length spm.new.pool.operations }
-    ensures no_memory { result ≡ answers.no_memory → IsLeft spm.old spm.new }
-    ensures rx_short { result ≡ answers.rx_short → spm.new ≡ spm.old }
-    ensures untouched_reply { result ≢ answers.done → reply.new ≡ reply.old }
+    ensures left { result ≢ answers.done → IsLeft spm.old spm.new }
+    ensures untouched_reply { result ≢ answers.done → reply.new ≡ record reply.old { operations = 0 } }
     ensures untouched_rx { result ≢ answers.done → rx.new ≡ rx.old }
     ensures fits { result ≡ answers.rx_short → length rx.old < rx_size spm.old.state call.now.caller }
     ensures status { (result ≡ answers.done)
         ⊎ ((result ≡ answers.no_memory) ⊎ (result ≡ answers.rx_short)) }
 {
     if rx.len() < rx_size(spm, PartitionId::new(call.caller)) {
-        return RX_SHORT;
+        return left(spm, reply, RX_SHORT);
     }
     match answered(alloc, spm, call, tx) {
         Ok(answer) => {
@@ -125,7 +144,7 @@ fn serve(
             };
             DONE
         }
-        Err(_) => NO_MEMORY,
+        Err(_) => left(spm, reply, NO_MEMORY),
     }
 }
 
@@ -134,7 +153,8 @@ fn serve(
 /// filled with.
 ///
 /// `NO_MEMORY` and `RX_SHORT` (the room for RX is smaller than the buffer that the caller has
-/// registered) change nothing, and write nothing.
+/// registered) change nothing, and write nothing, but that the list of operations is empty then, and their count
+/// in the reply 0: those of an earlier call are not to be replayed again. `NOT_MADE` writes this count alone.
 #[unsafe(no_mangle)]
 pub extern "C" fn ffaspm_handle(
     alloc: Global,
@@ -155,13 +175,13 @@ pub extern "C" fn ffaspm_handle(
     ensures no_memory { result ≡ answers.no_memory →
         AreBoth IsLeft holder.old.kept.manager holder.new.kept.manager }
     ensures rx_short { result ≡ answers.rx_short →
-        holder.new.kept.manager ≡ holder.old.kept.manager }
+        AreBoth IsLeft holder.old.kept.manager holder.new.kept.manager }
     ensures fits { result ≡ answers.rx_short → IfSome holder.old.kept.manager (λ m.
         length rx.old < rx_size m.state call.now.caller) }
     ensures not_made { result ≡ answers.not_made → holder.old.kept.manager ≡ None }
     ensures none { holder.old.kept.manager ≡ None → result ≡ answers.not_made }
     ensures still_none { holder.old.kept.manager ≡ None → holder.new.kept.manager ≡ None }
-    ensures untouched_reply { result ≢ answers.done → reply.new ≡ reply.old }
+    ensures untouched_reply { result ≢ answers.done → reply.new ≡ record reply.old { operations = 0 } }
     ensures untouched_rx { result ≢ answers.done → rx.new ≡ rx.old }
     ensures status { answers.IsHandleStatus result }
 {
@@ -171,6 +191,6 @@ pub extern "C" fn ffaspm_handle(
             holder.put(spm);
             status
         }
-        None => NOT_MADE,
+        None => unanswered(reply, NOT_MADE),
     }
 }

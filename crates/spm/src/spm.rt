@@ -119,11 +119,20 @@ impl<M: TableMem + Drop> Spm<M> {
         &self.state.ledger
     }
 
-    /// The operations on the tables during the last call, in order: none after boot and after a refusal.
+    /// The operations on the tables during the last call, in order: none after boot, after a refusal, and after
+    /// `forget_ops`.
     pub fn last_ops(&self) -> &[Op]
         ensures { result.now ≡ reverse self.now.pool.operations }
     {
         self.tables.memory().ops()
+    }
+
+    /// Empties the list of operations of the last call, so that nobody takes them for those of a call that was not
+    /// answered. The state and the tables stay.
+    pub fn forget_ops(&mut self)
+        ensures { self.new ≡ unchanged self.old }
+    {
+        self.tables.begin();
     }
 
     /// How many operations were made on the table memory, those of boot included, modulo 2^64.

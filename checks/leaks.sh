@@ -1,0 +1,10 @@
+#!/bin/sh
+# Makes and ends a manager 1,000 times by the C library, over a heap that counts: no byte may be left. To be run after
+# `rt lib` in crates/ffaspm_c.
+set -eu
+here=$(cd "$(dirname "$0")" && pwd)
+work=$(mktemp -d)
+trap 'rm -rf "$work"' EXIT
+"${CC:-cc}" -std=c11 -O2 -Wall -Wextra -Werror -I "$here/../include" "$here/leaks.c" \
+    "${1:-$here/../crates/ffaspm_c/out/libffaspm_c.a}" -o "$work/leaks"
+"$work/leaks"
