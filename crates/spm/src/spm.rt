@@ -132,7 +132,7 @@ impl<M: TableMem + Drop> Spm<M> {
     pub fn forget_ops(&mut self)
         ensures { self.new ≡ unchanged self.old }
     {
-        self.tables.begin();
+        self.tables.begin()
     }
 
     /// How many operations were made on the table memory, those of boot included, modulo 2^64.
