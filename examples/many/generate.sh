@@ -1,5 +1,5 @@
 #!/bin/sh
-# generate.sh FOLDER: writes manifest.toml, of 64 partitions, and calls.script into the folder.
+# generate.sh FOLDER: writes manifest.toml, of 64 partitions, and calls.script into the folder, which it makes.
 # Each partition has 3 MB of memory, and its buffers are the first two pages of that.
 set -e
 folder=${1:?usage: generate.sh FOLDER}
@@ -31,5 +31,6 @@ script() {
     echo 'maps 8040'
 }
 
+mkdir -p "$folder"
 manifest > "$folder/manifest.toml"
 script > "$folder/calls.script"
