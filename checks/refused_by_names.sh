@@ -15,11 +15,11 @@ else
     test $# -gt 0 || set -- $(ls -d crates/*/must-fail | cut -d / -f 2)
     rt must-fail "$@" > "$work/printed" 2>&1
 fi
-sed -n 's/^rt: must-fail \([^ ]*\)\.edit: refused, as it must be: /\1 /p' "$work/printed" > "$work/refused"
+sed -n 's/^rt: must-fail \([^ ]*\)\.edit: refused, as it must be/\1 /p' "$work/printed" > "$work/refused"
 test -s "$work/refused" || { echo 'checks/refused_by_names: no refusal was printed' >&2; exit 1; }
 
 unnamed=0
-grep -E 'has no field|that can be named from here' "$work/refused" > "$work/listed" || true
+grep -E 'only because a proof file names|has no field|that can be named from here' "$work/refused" > "$work/listed" || true
 while read -r edit reason; do
     grep -q "$(basename "$edit")" CONTRIBUTING.md && continue
     unnamed=$((unnamed + 1))
