@@ -33,8 +33,7 @@ examples:
 	examples/firmware/run
 
 # The program, the library and the tests that they look at are built first, over what was proved before.
-checks: lib
-	cd crates/ffaspm && rt run > out/stdout
+checks: run lib
 	cd crates/spans && rt test
 	cd crates/call_tests && rt test
 	checks/refusals.sh

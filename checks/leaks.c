@@ -3,6 +3,7 @@
  * one of which is retrieved, and a completed donation, and two calls were refused: one by FFA_ERROR, and one for want
  * of memory. Then no byte may be left. Each life has more ranges than the one before, up to 500 and from 1 again.
  */
+#include "descriptor.h"
 #include "ffaspm.h"
 #include <stdio.h>
 #include <stdlib.h>
@@ -65,23 +66,12 @@ void rattle_dealloc(void *place)
 
 /* ---- calls (FF-A 1.1, "Memory transaction descriptor") */
 
-static void put(size_t at, size_t bytes, uint64_t number)
-{
-    for (size_t i = 0; i < bytes; i++)
-        tx[at + i] = (uint8_t)(number >> 8 * i);
-}
-
-static void put_header(uint16_t sender, uint32_t flags, uint64_t handle, uint16_t receiver, uint8_t permissions)
+static void put_receiver(uint32_t flags, uint64_t handle, uint8_t permissions)
 {
     memset(tx, 0, sizeof tx);
-    put(0, 2, sender);
-    put(4, 4, flags);
-    put(8, 8, handle);
-    put(24, 4, 16);
-    put(28, 4, 1);
-    put(32, 4, 48);
-    put(48, 2, receiver);
-    put(50, 1, permissions);
+    put_header(tx, 0x8001, 0, flags, handle, 1);
+    put(tx, 48, 2, 0x8002);
+    put(tx, 50, 1, permissions);
 }
 
 static uint32_t call(uint16_t caller, size_t length, uint64_t w0, uint64_t w1, uint64_t w2, uint64_t w3)
@@ -99,13 +89,13 @@ static void answered(uint32_t status, uint32_t w0, const char *what)
 /* Sends so many single pages of 0x8001 to 0x8002, each two pages behind the one before. */
 static uint32_t send(uint32_t function, uint8_t permissions, uint64_t address, uint32_t ranges)
 {
-    put_header(0x8001, 0, 0, 0x8002, permissions);
-    put(52, 4, 64);
-    put(64, 4, ranges);
-    put(68, 4, ranges);
+    put_receiver(0, 0, permissions);
+    put(tx, 52, 4, 64);
+    put(tx, 64, 4, ranges);
+    put(tx, 68, 4, ranges);
     for (uint32_t i = 0; i < ranges; i++) {
-        put(80 + 16 * i, 8, address + 2 * i * (uint64_t)PAGE);
-        put(80 + 16 * i + 8, 4, 1);
+        put(tx, 80 + 16 * i, 8, address + 2 * i * (uint64_t)PAGE);
+        put(tx, 80 + 16 * i + 8, 4, 1);
     }
     size_t length = 80 + 16 * ranges;
     return call(0x8001, length, function, length, length, 0);
@@ -114,7 +104,7 @@ static uint32_t send(uint32_t function, uint8_t permissions, uint64_t address, u
 /* `kind`: 2 of a lend, 3 of a donation. */
 static void retrieve(uint64_t handle, uint32_t kind, uint8_t permissions)
 {
-    put_header(0x8001, kind << 3, handle, 0x8002, permissions);
+    put_receiver(kind << 3, handle, permissions);
     answered(call(0x8002, 64, FFA_MEM_RETRIEVE_REQ, 64, 64, 0), FFA_MEM_RETRIEVE_RESP, "a retrieve");
 }
 

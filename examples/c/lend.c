@@ -5,6 +5,7 @@
  * the manager's words.
  */
 #include "ffaspm.h"
+#include "descriptor.h"
 #include "heap.h"
 #include <inttypes.h>
 #include <stdio.h>
@@ -134,52 +135,36 @@ static uint32_t call(const char *name, uint16_t caller, size_t tx_length, size_t
     return status;
 }
 
-static void put(size_t at, size_t bytes, uint64_t number)
-{
-    for (size_t i = 0; i < bytes; i++)
-        tx[at + i] = (uint8_t)(number >> 8 * i);
-}
-
-/* The header of FF-A 1.1 with one access descriptor, right behind it. */
-static void put_header(uint16_t sender, uint32_t flags, uint64_t handle)
-{
-    memset(tx, 0, sizeof tx);
-    put(0, 2, sender);
-    put(4, 4, flags);
-    put(8, 8, handle);
-    put(24, 4, 16);
-    put(28, 4, 1);
-    put(32, 4, 48);
-}
-
 /* One page of `sender`, which `receiver` may read and write. */
 static void put_lend(uint16_t sender, uint16_t receiver, uint64_t address)
 {
-    put_header(sender, 0, 0);
-    put(48, 2, receiver);
-    put(50, 1, 2);
-    put(52, 4, 64);
-    put(64, 4, 1);
-    put(68, 4, 1);
-    put(80, 8, address);
-    put(88, 4, 1);
+    memset(tx, 0, sizeof tx);
+    put_header(tx, sender, 0, 0, 0, 1);
+    put(tx, 48, 2, receiver);
+    put(tx, 50, 1, 2);
+    put(tx, 52, 4, 64);
+    put(tx, 64, 4, 1);
+    put(tx, 68, 4, 1);
+    put(tx, 80, 8, address);
+    put(tx, 88, 4, 1);
 }
 
 /* What was lent is to be read and written. */
 static void put_retrieve(uint16_t sender, uint16_t receiver, uint64_t handle)
 {
-    put_header(sender, 2u << 3, handle);
-    put(48, 2, receiver);
-    put(50, 1, 2);
+    memset(tx, 0, sizeof tx);
+    put_header(tx, sender, 0, 2u << 3, handle, 1);
+    put(tx, 48, 2, receiver);
+    put(tx, 50, 1, 2);
 }
 
 static void put_relinquish(uint16_t receiver, uint64_t handle, uint32_t flags)
 {
     memset(tx, 0, sizeof tx);
-    put(0, 8, handle);
-    put(8, 4, flags);
-    put(12, 4, 1);
-    put(16, 2, receiver);
+    put(tx, 0, 8, handle);
+    put(tx, 8, 4, flags);
+    put(tx, 12, 4, 1);
+    put(tx, 16, 2, receiver);
 }
 
 static void register_buffers(uint16_t partition, uint64_t address)

@@ -5,6 +5,7 @@
  * those of ample memory.
  */
 #include "ffaspm.h"
+#include "descriptor.h"
 #include "heap.h"
 #include <stdio.h>
 #include <stdlib.h>
@@ -118,24 +119,6 @@ static void call(uint16_t caller, size_t length, const uint64_t words[4], uint32
 
 /* ---- calls (FF-A 1.1, "Memory transaction descriptor") */
 
-static void put(size_t at, size_t bytes, uint64_t number)
-{
-    for (size_t i = 0; i < bytes; i++)
-        tx[at + i] = (uint8_t)(number >> 8 * i);
-}
-
-static void put_header(uint16_t sender, uint16_t attributes, uint32_t flags, uint64_t handle, uint32_t receivers)
-{
-    memset(tx, 0, sizeof tx);
-    put(0, 2, sender);
-    put(2, 2, attributes);
-    put(4, 4, flags);
-    put(8, 8, handle);
-    put(24, 4, 16);
-    put(28, 4, receivers);
-    put(32, 4, 48);
-}
-
 static void map(uint16_t partition, uint64_t address)
 {
     call(partition, 0, (const uint64_t[]){FFA_RXTX_MAP, address, address + PAGE, 1}, FFA_SUCCESS, 0);
@@ -153,16 +136,17 @@ static void send(uint32_t function, uint16_t sender, uint16_t first, uint16_t se
                  uint64_t page)
 {
     uint32_t composite = second ? 80 : 64;
-    put_header(sender, second ? 0x2f : 0, 0, 0, second ? 2 : 1);
+    memset(tx, 0, sizeof tx);
+    put_header(tx, sender, second ? 0x2f : 0, 0, 0, second ? 2 : 1);
     for (uint32_t at = 48; at < composite; at += 16) {
-        put(at, 2, at == 48 ? first : second);
-        put(at + 2, 1, permissions);
-        put(at + 4, 4, composite);
+        put(tx, at, 2, at == 48 ? first : second);
+        put(tx, at + 2, 1, permissions);
+        put(tx, at + 4, 4, composite);
     }
-    put(composite, 4, 1);
-    put(composite + 4, 4, 1);
-    put(composite + 16, 8, page);
-    put(composite + 24, 4, 1);
+    put(tx, composite, 4, 1);
+    put(tx, composite + 4, 4, 1);
+    put(tx, composite + 16, 8, page);
+    put(tx, composite + 24, 4, 1);
     uint64_t length = composite + 32;
     call(sender, length, (const uint64_t[]){function, length, length, 0}, FFA_SUCCESS, 1);
 }
@@ -171,9 +155,10 @@ static void send(uint32_t function, uint16_t sender, uint16_t first, uint16_t se
 static void retrieve(uint16_t receiver, uint64_t handle, uint32_t kind, uint8_t permissions, uint32_t flags,
                      uint32_t status)
 {
-    put_header((uint16_t)(handle >> 32), 0, kind << 3 | flags, handle, 1);
-    put(48, 2, receiver);
-    put(50, 1, permissions);
+    memset(tx, 0, sizeof tx);
+    put_header(tx, (uint16_t)(handle >> 32), 0, kind << 3 | flags, handle, 1);
+    put(tx, 48, 2, receiver);
+    put(tx, 50, 1, permissions);
     call(receiver, 64, (const uint64_t[]){FFA_MEM_RETRIEVE_REQ, 64, 64, 0},
          status ? FFA_ERROR : FFA_MEM_RETRIEVE_RESP, status ? status : 96);
 }
@@ -181,9 +166,9 @@ static void retrieve(uint16_t receiver, uint64_t handle, uint32_t kind, uint8_t 
 static void relinquish(uint16_t receiver, uint64_t handle)
 {
     memset(tx, 0, sizeof tx);
-    put(0, 8, handle);
-    put(12, 4, 1);
-    put(16, 2, receiver);
+    put(tx, 0, 8, handle);
+    put(tx, 12, 4, 1);
+    put(tx, 16, 2, receiver);
     call(receiver, 18, (const uint64_t[]){FFA_MEM_RELINQUISH, 0, 0, 0}, FFA_SUCCESS, 0);
 }
 
