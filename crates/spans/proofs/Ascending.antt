@@ -1,9 +1,9 @@
 -- Intervals in ascending order: parts of the list, and the numbers of pages between them.
-use Rattle.std.proofs.Common.{◌≡◌, ℕ, zero, suc, ◌<◌, ◌≤◌, true, false, ◌&&◌, cond, leb, ltb, List, [], ◌∷◌, ◌++◌, length, get_or, take, drop, Some, None, refl, ap, ◌∙◌, arith}
+use Rattle.std.proofs.Common.{◌≡◌, ℕ, zero, suc, ◌+◌, ◌-◌, ◌<◌, ◌≤◌, true, false, ◌&&◌, cond, leb, ltb, List, [], ◌∷◌, ◌++◌, length, get_or, take, drop, Some, None, refl, sym, ap, ◌∙◌, arith}
 use Rattle.std.specs.Option.{option_map_or}
 use Rattle.std.specs.List.{AllWithin}
 use Rattle.std.specs.List.Sorted.{IsNonDecreasingBy}
-use Rattle.std.proofs.lemmas.List.{take-append-drop}
+use Rattle.std.proofs.lemmas.List.{take-append-drop, take_all}
 use Rattle.std.proofs.lemmas.Bool.{and_parts, and_from, leb-true, ltb-true}
 use Rattle.std.proofs.lemmas.Bool.Decides.{nat_tests}
 use Rattle.base.specs.Pages.{PageRun, in_run}
@@ -74,9 +74,6 @@ value_at-append (s ∷ xs) ys n =
 pub out : (s : Span) (ss : List Span) (n : ℕ) → in_run s.run n ≡ false → value_at (s ∷ ss) n ≡ value_at ss n
 out s ss n h = rw h refl
 
-pub not_in : (run : PageRun) (n : ℕ) → (end_of run ≤ n → ⊥) → (n < run.first → ⊥) → in_run run n ≡ true
-not_in run n a b = grind (arith, nat_tests)
-
 pub behind : (run : PageRun) (n : ℕ) → end_of run ≤ n → in_run run n ≡ false
 behind run n le = grind (arith, nat_tests)
 
@@ -99,6 +96,12 @@ value_at-ahead e (s ∷ ss) n h lt =
     let lt2 : n < s.run.first = omega arith in
     out s ss n (ahead s.run n lt2) ∙ value_at-ahead (end_of s.run) ss n (rest_from e s ss h) (omega arith)
 
+pub in_first : (run : PageRun) → 0 < run.count → in_run run run.first ≡ true
+in_first run some = grind (arith, nat_tests)
+
+pub in_last : (run : PageRun) → 0 < run.count → in_run run (end_of run - 1) ≡ true
+in_last run some = grind (arith, nat_tests)
+
 -- the number of a page of one of them
 pub value_at-here : (xs ys : List Span) (s : Span) (n : ℕ) → ascend 0 (xs ++ s ∷ ys) ≡ true → in_run s.run n ≡ true → value_at (xs ++ s ∷ ys) n ≡ Some s.value
 value_at-here xs ys s n h is =
@@ -115,6 +118,10 @@ pub end_from-take : (e i : ℕ) (ss : List Span) (d : Span) → i < length ss �
 end_from-take e i [] d lt = absurd (omega arith)
 end_from-take e zero (s ∷ ss) d lt = refl
 end_from-take e (suc i) (s ∷ ss) d lt = end_from-take (end_of s.run) i ss d (omega arith)
+
+pub end_from-last : (ss : List Span) (i : ℕ) (d : Span) → i + 1 ≡ length ss → end_from 0 ss ≡ end_of (get_or ss i d).run
+end_from-last ss i d last =
+    ap (end_from 0) (sym (take_all (suc i) ss (omega arith))) ∙ end_from-take 0 i ss d (omega arith)
 
 end_at_least : (e j : ℕ) (ss : List Span) (d : Span) → ascend e ss ≡ true → j < length ss → e ≤ end_of (get_or ss j d).run
 end_at_least e j [] d h lt = absurd (omega arith)

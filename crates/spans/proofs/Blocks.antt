@@ -1,5 +1,5 @@
 -- Intervals in blocks: what an edit of one block does to all of them.
-use Rattle.std.proofs.Common.{◌≡◌, ℕ, zero, suc, ◌+◌, ◌-◌, ◌<◌, ◌≤◌, Bool, true, false, ◌&&◌, cond, leb, ltb, List, [], ◌∷◌, ◌++◌, length, get_or, take, drop, Option, Some, None, max, length-append, refl, sym, ap, subst, ◌∙◌, append_assoc, append-nil, arith}
+use Rattle.std.proofs.Common.{◌≡◌, ℕ, zero, suc, ◌+◌, ◌-◌, ◌<◌, ◌≤◌, Bool, true, false, cond, leb, ltb, List, [], ◌∷◌, ◌++◌, length, get_or, take, drop, Option, Some, None, max, length-append, refl, sym, ap, subst, ◌∙◌, append_assoc, append-nil, arith}
 use Rattle.std.specs.Option.{option_map_or}
 use Rattle.std.specs.List.{AllByRecursion}
 use Rattle.std.proofs.Math.Seq.{drop-cons, take-append_seam, drop-append_seam}
@@ -7,21 +7,16 @@ use Rattle.std.proofs.Math.ListN.{set}
 use Rattle.std.proofs.lemmas.List.{take-append-drop, get_or_default, take-set-le, drop-set, length-set, length-drop, get_or-drop}
 use Rattle.std.proofs.lemmas.Bool.{leb-true, ltb-true}
 use Rattle.std.proofs.lemmas.Bool.Decides.{nat_tests}
-use Rattle.base.specs.Pages.{PageRun, in_run, covers}
+use Rattle.base.specs.Pages.{PageRun}
 use Rattle.spans.specs.Spans.{Span, value_at, end_of, ascend, end_from}
 use Rattle.spans.specs.Search.{begins_at}
 use Rattle.spans.specs.Taking.{IsTakenIn}
-use Rattle.spans.specs.Blocks.{all_spans, AreFilled, AreStacked, IsSetAt, IsTakenAt}
+use Rattle.spans.specs.Blocks.{all_spans, AreFilled, AreStacked, IsPutAt, IsTakenAt}
+use Rattle.spans.specs.Edits.{IsMerged}
 use Rattle.spans.proofs.Lists.{no_items}
-use Rattle.spans.proofs.Ascending.{begins, far, ascend-cons, ascend-left, ascend-right, ascend-append, least, out, behind, value_at-append, value_at-behind, value_at-ahead}
+use Rattle.spans.proofs.Ascending.{begins, far, ascend-cons, ascend-left, ascend-right, ascend-append, least, out, behind, value_at-append, value_at-behind, value_at-ahead, in_first, in_last}
 
 -- ---- where no page has a number, there is no interval
-
-in_first : (run : PageRun) → 0 < run.count → in_run run run.first ≡ true
-in_first run some = grind (arith, nat_tests)
-
-in_last : (run : PageRun) → 0 < run.count → in_run run (end_of run - 1) ≡ true
-in_last run some = grind (arith, nat_tests)
 
 pub from_page : (e page : ℕ) (ss : List Span) → ascend e ss ≡ true → ((n : ℕ) → n < page → value_at ss n ≡ None) → ascend page ss ≡ true
 from_page e page [] h none = refl
@@ -284,28 +279,14 @@ module _ (bs : List (List Span)) (i e next : ℕ) (f : AreFilled bs) (h : ascend
 
 -- ---- one block gets other intervals
 
-pub some_spans : (runs : List PageRun) (run : PageRun) (v : ℕ) (ss : List Span) (o : Option ℕ) → 0 < length runs → run ≡ get_or runs 0 run → 0 < run.count → value_at ss run.first ≡ cond (covers runs run.first) (Some v) o → 0 < length ss
-some_spans [] run v ss o some is count at = absurd (omega arith)
-some_spans (r ∷ rs) run v [] o some is count at =
-    let here : in_run run run.first ≡ true = in_first run count in
-    let yes : covers (r ∷ rs) run.first ≡ true = rw (← is, here) refl in
-    let none : None ≡ cond (covers (r ∷ rs) run.first) (Some v) o = at in
-    let no : None ≡ Some v = none ∙ rw yes refl in
-    absurd (cc)
-some_spans (r ∷ rs) run v (s ∷ ss) o some is count at = omega arith
-
-pub is_set_at : (runs : List PageRun) (value : ℕ) (old : List (List Span)) (i : ℕ) (block : List Span) (new : List (List Span)) → i < length old → new ≡ set old i block → ascend 0 block ≡ true
-    → ((d : List Span) (n : ℕ) → value_at block n ≡ cond (covers runs n) (Some value) (value_at (get_or old i d) n)) → 0 < length block → length block ≤ 128 → IsSetAt runs value old i new
-is_set_at runs value old i block new lt is ascending at some short =
-    let here : drop i new ≡ block ∷ drop (i + 1) old = ap (drop i) is ∙ drop-set old i block lt in
+pub is_put_at : (runs : List PageRun) (value : Option ℕ) (old : List (List Span)) (i : ℕ) (block was : List Span) (new : List (List Span)) → i < length old → new ≡ set old i block → was ≡ get_or old i was → IsMerged runs value was block → IsPutAt runs value old i new
+is_put_at runs value old i block was new lt is at merged =
     record {
-      spans = block;
-      ascending = ascending;
-      at = at;
-      before = ap (take i) is ∙ take-set-le i old i block (omega arith);
-      rest = ap all_spans here;
-      filled = λ f. subst AreFilled (sym here) ((some, short), f);
-      inside = let l = length-set old i block in let e = ap length is in omega arith;
+      block = block;
+      merged = λ d. subst (λ (b : List Span). IsMerged runs value b block) (at ∙ get_or_default old i was d lt) merged;
+      list =
+          sym (take-append-drop i new) ∙ ap (λ l. l ++ drop i new) (ap (take i) is ∙ take-set-le i old i block (omega arith))
+          ∙ ap (λ l. take i old ++ l) (ap (drop i) is ∙ drop-set old i block lt);
     }
 
 pub is_taken_at : (first end value : ℕ) (old : List (List Span)) (i : ℕ) (block was : List Span) (new : List (List Span)) → i < length old → new ≡ set old i block → was ≡ get_or old i was → IsTakenIn first end value was block → IsTakenAt first end value old i new
@@ -329,64 +310,12 @@ later e (suc i) zero bs h le = absurd (omega arith)
 later e (suc i) (suc j) [] h le = refl
 later e (suc i) (suc j) (b ∷ bs) h le = later e i j bs h (omega arith)
 
--- ---- two blocks that become one
+-- ---- all blocks from a place on
 
-all-last : (i : ℕ) (bs : List (List Span)) (block d : List Span) (next : List Span) → i + 1 ≡ length bs → block ≡ get_or bs i d ++ next → all_spans (set bs i block) ≡ all_spans bs ++ next
-all-last i [] block d next is e = absurd (omega arith)
-all-last zero (b ∷ []) block d next is e = append-nil block ∙ e ∙ ap (λ l. l ++ next) (sym (append-nil b))
-all-last zero (b ∷ c ∷ bs) block d next is e = absurd (omega arith)
-all-last (suc i) (b ∷ bs) block d next is e = ap (λ l. b ++ l) (all-last i bs block d next (omega arith) e) ∙ sym (append_assoc b (all_spans bs) next)
-
-last_ascends : (e i : ℕ) (bs : List (List Span)) (d : List Span) (next : List Span) → i + 1 ≡ length bs → ascend e (all_spans bs ++ next) ≡ true → ascend 0 (get_or bs i d ++ next) ≡ true
-last_ascends e i [] d next is h = absurd (omega arith)
-last_ascends e zero (b ∷ []) d next is h = far 0 e (b ++ next) (omega arith) (ap (λ l. ascend e (l ++ next)) (sym (append-nil b)) ∙ h)
-last_ascends e zero (b ∷ c ∷ bs) d next is h = absurd (omega arith)
-last_ascends e (suc i) (b ∷ bs) d next is h =
-    last_ascends (end_from e b) i bs d next (omega arith) (ascend-right e b (all_spans bs ++ next) (ap (ascend e) (sym (append_assoc b (all_spans bs) next)) ∙ h))
-
-filled_set : (bs : List (List Span)) (i : ℕ) (block : List Span) → AreFilled bs → IsFilled block → AreFilled (set bs i block)
-filled_set [] i block f g = f
-filled_set (b ∷ bs) zero block f g = (g, f.1)
-filled_set (b ∷ bs) (suc i) block f g = (f.0, filled_set bs i block f.1 g)
-
--- the last of some blocks, and the first of those behind them
-module _ (old front rest : List (List Span)) (i : ℕ) (here next : List Span) (list : front ++ (next ∷ rest) ≡ old) (last : i + 1 ≡ length front) (is : here ≡ get_or front i here) (h : ascend 0 (all_spans old) ≡ true) (f : AreFilled old) where
-  whole : all_spans old ≡ (all_spans front ++ next) ++ all_spans rest
-  whole = ap all_spans (sym list) ∙ all-append front (next ∷ rest) ∙ sym (append_assoc (all_spans front) next (all_spans rest))
-
-  pub both-ascend : ascend 0 (here ++ next) ≡ true
-  both-ascend =
-      ap (λ (b : List Span). ascend 0 (b ++ next)) is
-      ∙ last_ascends 0 i front here next last (ascend-left 0 (all_spans front ++ next) (all_spans rest) (ap (ascend 0) (sym whole) ∙ h))
-
-  pub both-spans : all_spans (set front i (here ++ next) ++ rest) ≡ all_spans old
-  both-spans =
-      all-append (set front i (here ++ next)) rest
-      ∙ ap (λ l. l ++ all_spans rest) (all-last i front (here ++ next) here next last (ap (λ (b : List Span). b ++ next) is))
-      ∙ sym whole
-
-  pub both-filled : length here + length next ≤ 128 → AreFilled (set front i (here ++ next) ++ rest)
-  both-filled short =
-      let parts : AreFilled (front ++ (next ∷ rest)) = subst AreFilled (sym list) f in
-      let long = length-append front (next ∷ rest) in
-      let a = filled_front (length front) (front ++ (next ∷ rest)) parts in
-      let b = filled_rest (length front) (front ++ (next ∷ rest)) parts in
-      let a2 : AreFilled front = subst AreFilled (take-append_seam front (next ∷ rest)) a in
-      let b2 : AreFilled (next ∷ rest) = subst AreFilled (drop-append_seam front (next ∷ rest)) b in
-      let l = length-append here next in
-      all_joined IsFilled (set front i (here ++ next)) rest (filled_set front i (here ++ next) a2 (omega (arith, b2.0.0), omega arith)) b2.1
-
--- without a block that has no interval
-pub without_none : (bs : List (List Span)) (i : ℕ) (d : List Span) → i < length bs → length (get_or bs i d) ≡ 0 → all_spans (take i bs ++ drop (i + 1) bs) ≡ all_spans bs
-without_none bs i d lt none =
-    all-append (take i bs) (drop (i + 1) bs)
-    ∙ ap (λ (b : List Span). all_spans (take i bs) ++ (b ++ all_spans (drop (i + 1) bs))) (sym (no_items (get_or bs i d) none))
-    ∙ sym (all-parted i bs ∙ ap (λ l. all_spans (take i bs) ++ l) (all-next i bs d lt))
-
-pub filled_but : (bs : List (List Span)) (i : ℕ) (d : List Span) → i < length bs → AreFilled (take i bs) → AreFilled (drop (i + 1) bs) → IsFilled (get_or bs i d) → AreFilled bs
-filled_but bs i d lt a c b =
+pub filled_from : (bs : List (List Span)) (i : ℕ) (d : List Span) → i < length bs → AreFilled (drop (i + 1) bs) → IsFilled (get_or bs i d) → AreFilled (drop i bs)
+filled_from bs i d lt c b =
     let on : suc i ≡ i + 1 = omega arith in
-    filled_both i bs a (subst AreFilled (sym (drop-cons bs i d lt ∙ ap (λ (k : ℕ). get_or bs i d ∷ drop k bs) on)) (b, c))
+    subst AreFilled (sym (drop-cons bs i d lt ∙ ap (λ (k : ℕ). get_or bs i d ∷ drop k bs) on)) (b, c)
 
 pub some_blocks : (old new : List (List Span)) → all_spans new ≡ all_spans old → AreFilled old → 0 < length old → 0 < length new
 some_blocks old [] e f some = let none = no_spans old f (sym e) in absurd (omega arith)
@@ -401,3 +330,19 @@ above_here e page i bs f h le = above_page e page 0 (drop i bs) f h (λ d lt.
     let same = ap (λ (k : ℕ). begins_at (get_or bs k d)) on in
     let b = le d (omega arith) in
     omega arith)
+
+-- ---- where the last block ends
+
+begins_before-end : (ss : List Span) → 0 < length ss → ascend 0 ss ≡ true → begins_at ss ≤ end_from 0 ss
+begins_before-end [] some up = absurd (omega (arith, some))
+begins_before-end (s ∷ ss) some up = let x = begins 0 s ss up in omega (arith, x.some, least (end_of s.run) ss x.rest)
+
+-- no page behind the end of the last block has a number
+pub value_at-end : (bs : List (List Span)) (i n : ℕ) (b : List Span) → AreStacked bs → i + 1 ≡ length bs → b ≡ get_or bs i b → end_from 0 b ≤ n → value_at (all_spans bs) n ≡ None
+value_at-end bs i n b h last is from =
+    let lt : i < length bs = omega (arith, last) in
+    let ends : end_from 0 (get_or bs i b) ≤ n = subst (λ (x : List Span). end_from 0 x ≤ n) is from in
+    let up = block_ascends bs i b h lt in
+    let begun : begins_at (get_or bs i b) ≤ n = omega (arith, begins_before-end (get_or bs i b) (filled_at i bs b h.filled lt).0 up, ends) in
+    let none : drop (i + 1) bs ≡ [] = no_items (drop (i + 1) bs) (length-drop (i + 1) bs ∙ (omega (arith, last))) in
+    at_block bs i n b h lt begun (ap (λ (x : List (List Span)). value_at (all_spans x) n) none) ∙ value_at-behind 0 (get_or bs i b) n up ends

@@ -2,17 +2,18 @@ mod Ascending
 mod Blocks
 mod Borders
 mod Cutting
-mod Gaps
+mod Dense
+mod Edited
 mod Halving
+mod Joined
 mod Joining
 mod Lists
+mod Merging
 mod Needs
 mod Parting
 mod Pushed
-mod Places
-pub mod Segments
 mod Runs
-mod Steps
-pub mod Between
+mod Same
+pub mod Segments
 mod Taken
 mod Taking

@@ -1,9 +1,10 @@
 -- A list whose second part stands backward.
-use Rattle.std.proofs.Common.{◌≡◌, ℕ, zero, suc, ◌+◌, ◌-◌, ◌<◌, ◌≤◌, List, [], ◌∷◌, ◌++◌, length, get_or, take, drop, length-append, refl, sym, ap, subst, ◌∙◌, append_assoc, arith}
-use Rattle.std.proofs.Common.{reverse, Result, Ok, Err, IsOk, is_ok, if◌then◌else◌}
+use Rattle.std.proofs.Common.{◌≡◌, ℕ, zero, suc, ◌+◌, ◌-◌, ◌<◌, ◌≤◌, List, [], ◌∷◌, ◌++◌, length, get_or, take, drop, length-append, refl, sym, ap, ◌∙◌, append_assoc, append-nil, arith}
+use Rattle.std.proofs.Common.{reverse, Result, IsOk, is_ok, if◌then◌else◌}
 use Rattle.std.proofs.Math.ListN.{set, get_or-append}
-use Rattle.std.proofs.Math.Seq.{drop-cons, take-append_seam, drop-append_seam, set-append_seam, get_or-append_seam}
-use Rattle.std.proofs.lemmas.List.{take-append-drop, length-take, take-set-le, drop-set, reverse-append, length-reverse, get_or-reverse, get_or-append-add, set-append_left, set-append_right, length-set, take-append-le, drop-append-le}
+use Rattle.std.proofs.Math.Seq.{drop-cons, take-append_seam, drop-append_seam, drop-append-add, set-append_seam, get_or-append_seam}
+use borrow.Rule.Slice.PartMut.{put_mid, Post-is}
+use Rattle.std.proofs.lemmas.List.{take-append-drop, length-take, length-drop, take_all, drop_all, take-set-le, drop-set, reverse-append, length-reverse, get_or-reverse, get_or-append-add, set-append_left, set-append_right}
 
 pub reverse-last : {A : Type 0} (xs : List A) (x : A) → reverse (xs ++ x ∷ []) ≡ x ∷ reverse xs
 reverse-last xs x = reverse-append xs (x ∷ [])
@@ -22,6 +23,13 @@ module _ {A : Type 0} (front back : List A) where
   pub behind_all : drop (length front) (front ++ reverse back) ≡ reverse back
   behind_all = drop-append_seam front (reverse back)
 
+  -- the list and a place in it, as they are seen from outside
+  pub view-behind : (list : List A) (at : ℕ) → front ++ reverse back ≡ list → length front ≡ at → drop at list ≡ reverse back
+  view-behind list at is e = ap (drop at) (sym is) ∙ ap (λ (k : ℕ). drop k (front ++ reverse back)) (sym e) ∙ behind_all
+
+  pub view-before : (list : List A) (at : ℕ) → front ++ reverse back ≡ list → length front ≡ at → take at list ≡ front
+  view-before list at is e = ap (take at) (sym is) ∙ ap (λ (k : ℕ). take k (front ++ reverse back)) (sym e) ∙ before_all
+
   pub get_or-front : (i : ℕ) (d : A) → i < length front → get_or (front ++ reverse back) i d ≡ get_or front i d
   get_or-front i d lt = get_or-append front (reverse back) d i lt
 
@@ -35,13 +43,13 @@ module _ {A : Type 0} (front back : List A) where
   pub set-front : (i : ℕ) (x : A) → i < length front → set front i x ++ reverse back ≡ set (front ++ reverse back) i x
   set-front i x lt = sym (set-append_left front (reverse back) i x lt)
 
-set_parts : {A : Type 0} (xs : List A) (i : ℕ) (x : A) → i < length xs → set xs i x ≡ take i xs ++ x ∷ drop (i + 1) xs
+pub set_parts : {A : Type 0} (xs : List A) (i : ℕ) (x : A) → i < length xs → set xs i x ≡ take i xs ++ x ∷ drop (i + 1) xs
 set_parts xs i x lt =
     sym (take-append-drop i (set xs i x))
     ∙ ap (λ l. l ++ drop i (set xs i x)) (take-set-le i xs i x (omega arith))
     ∙ ap (λ l. take i xs ++ l) (drop-set xs i x lt)
 
-parts_of : {A : Type 0} (xs : List A) (i : ℕ) (d : A) → i < length xs → xs ≡ take i xs ++ get_or xs i d ∷ drop (i + 1) xs
+pub parts_of : {A : Type 0} (xs : List A) (i : ℕ) (d : A) → i < length xs → xs ≡ take i xs ++ get_or xs i d ∷ drop (i + 1) xs
 parts_of xs i d lt =
     let on : suc i ≡ i + 1 = omega arith in
     sym (take-append-drop i xs) ∙ ap (λ l. take i xs ++ l) (drop-cons xs i d lt ∙ ap (λ (k : ℕ). get_or xs i d ∷ drop k xs) on)
@@ -101,8 +109,41 @@ take_on done len l =
 pub before_next : {A : Type 0} (front rest : List A) (next : A) (i : ℕ) → length front ≡ i → get_or (front ++ next ∷ rest) i next ≡ next
 before_next front rest next i e = ap (λ (k : ℕ). get_or (front ++ next ∷ rest) k next) (sym e) ∙ get_or-append_seam front next rest next
 
-pub copied_items : {A B E : Type 0} (r : Result B E) (was more now : List A) → IsOk r → now ≡ (if is_ok r then was ++ more else was) → was ≡ [] → now ≡ more
-copied_items r was more now ok is none = (rw ok at is) ∙ ap (λ l. l ++ more) none
+pub extended : {A B E : Type 0} (r : Result B E) (was more now : List A) → IsOk r → now ≡ (if is_ok r then was ++ more else was) → now ≡ was ++ more
+extended r was more now ok is = rw ok at is
 
-pub copied_len : {B E : Type 0} (r : Result B E) (was more now : ℕ) → IsOk r → now ≡ (if is_ok r then was + more else was) → was ≡ 0 → now ≡ more
-copied_len r was more now ok is none = let e : now ≡ was + more = rw ok at is in omega (arith, e, none)
+-- what was lent of a list is given back
+pub given_back : {A : Type 0} (lent rest : List A) (n : ℕ) → n ≡ length lent → take n (lent ++ rest) ≡ lent
+given_back lent rest n e = ap (λ (k : ℕ). take k (lent ++ rest)) e ∙ take-append_seam lent rest
+
+-- what was lent of a list from a place on is given back
+module _ {A : Type 0} (a : ℕ) (xs ys : List A) (le : a ≤ length xs) where
+  pub rest_lent : take (length xs - a) (drop a xs) ≡ drop a xs
+  rest_lent = let l = length-drop a xs in take_all (length xs - a) (drop a xs) (omega arith)
+
+  module _ (long : length ys ≡ length (take (length xs - a) (drop a xs))) where
+    pub rest_back : put_mid a (length xs - a) xs ys ≡ take a xs ++ ys
+    rest_back =
+        ap (λ l. take a xs ++ (ys ++ l)) (Post-is a (length xs) xs le ∙ drop_all (length xs) xs (omega arith))
+        ∙ ap (λ l. take a xs ++ l) (append-nil ys)
+
+    pub back-front : take a (put_mid a (length xs - a) xs ys) ≡ take a xs
+    back-front =
+        let l = length-take a xs in
+        let long : length (take a xs) ≡ a = omega arith in
+        ap (take a) rest_back ∙ ap (λ (k : ℕ). take k (take a xs ++ ys)) (sym long) ∙ take-append_seam (take a xs) ys
+
+    pub back-rest : (i : ℕ) → drop (a + i) (put_mid a (length xs - a) xs ys) ≡ drop i ys
+    back-rest i =
+        let l = length-take a xs in
+        let long : length (take a xs) ≡ a = omega arith in
+        ap (drop (a + i)) rest_back ∙ ap (λ (k : ℕ). drop (k + i) (take a xs ++ ys)) (sym long) ∙ drop-append-add (take a xs) ys i
+
+    pub back-length : length (put_mid a (length xs - a) xs ys) ≡ length xs
+    back-length =
+        let l = length-take a xs in
+        let d = length-drop a xs in
+        let r = ap length rest_lent in
+        let n = length-append (take a xs) ys in
+        let b = ap length rest_back in
+        omega arith

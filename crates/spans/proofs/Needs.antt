@@ -1,5 +1,5 @@
 -- How many more blocks there are where runs get a number.
-use Rattle.std.proofs.Common.{◌≡◌, ℕ, zero, suc, ◌+◌, ◌-◌, ◌<◌, ◌≤◌, Bool, true, false, cond, not, leb, ltb, filter, List, [], ◌∷◌, ◌++◌, length, get_or, take, drop, length-append, refl, sym, ap, subst, ◌∙◌, arith}
+use Rattle.std.proofs.Common.{◌≡◌, ℕ, suc, ◌+◌, ◌-◌, ◌<◌, ◌≤◌, Bool, true, false, cond, not, leb, ltb, filter, List, [], ◌∷◌, ◌++◌, length, get_or, take, drop, length-append, refl, sym, ap, subst, ◌∙◌, arith}
 use Rattle.std.specs.List.{AllByRecursion}
 use Rattle.std.proofs.lemmas.List.{take-append-drop, length-take, length-drop, get_or-take, get_or-drop}
 use Rattle.std.proofs.lemmas.List.Filters.{length-filter_both}
@@ -12,7 +12,7 @@ use Rattle.spans.specs.Search.{begins_at}
 use Rattle.spans.specs.Blocks.{all_spans, AreFilled, more_blocks, runs_before, runs_after, needed, blocks_needed, IsGroup}
 use Rattle.spans.specs.declared.page_map.place.Group.{Group}
 use Rattle.spans.proofs.Ascending.{far, ascend-right}
-use Rattle.spans.proofs.Blocks.{IsFilled, all-next, block-begins, begins-filled, begins_upward, filled_front, filled_rest, filled_at, all_at, all_joined, all_taken}
+use Rattle.spans.proofs.Blocks.{all-next, block-begins, begins-filled, begins_upward, filled_front, filled_rest, filled_at}
 
 -- ---- of one block
 
@@ -285,3 +285,49 @@ none-needed (b ∷ bs) (run ∷ runs) f e = absurd (omega arith)
 pub some-needed : (bs : List (List Span)) (runs : List PageRun) → 0 < length bs → needed bs runs ≡ blocks_needed bs runs
 some-needed [] runs some = absurd (omega arith)
 some-needed (b ∷ bs) runs some = refl
+
+-- ---- two blocks that became one
+
+one_more : (a b r s : ℕ) → 0 < a → 0 < b → more_blocks (a + b) (r + s) ≤ 1 + (more_blocks a r + more_blocks b s)
+one_more a b r s some other = omega arith
+
+begins-one : (a b : List Span) → 0 < length a → begins_at (a ++ b) ≡ begins_at a
+begins-one [] b some = absurd (omega arith)
+begins-one (s ∷ a) b some = refl
+
+-- the runs that belong to both
+runs-both : (low high : ℕ) (runs : List PageRun) → low ≤ high → length (to low runs) + length (to high (behind low runs)) ≡ length (to high runs)
+unfolding to behind
+runs-both low high runs le =
+    let both = length-filter_both (λ (run : PageRun). leb run.first low) (λ (run : PageRun). ltb low run.first) (λ run. other_way run low) (filter (λ run. leb run.first high) runs) in
+    let first = ap length (filter_within (λ (run : PageRun). leb run.first low) (λ run. leb run.first high) (to_less low high le) runs) in
+    let rest = ap length (filter_swap (λ (run : PageRun). ltb low run.first) (λ run. leb run.first high) runs) in
+    omega (arith, both, first, rest)
+
+of_both : (low high : ℕ) (runs : List PageRun) → low ≤ high → length (filter (λ (run : PageRun). leb run.first low) runs) + length (filter (λ (run : PageRun). leb run.first high) (filter (λ (run : PageRun). ltb low run.first) runs)) ≡ length (filter (λ (run : PageRun). leb run.first high) runs)
+unfolding to behind
+of_both low high runs le = runs-both low high runs le
+
+-- both need one more than one of them at most
+pub needed-one : (xs : List (List Span)) (a b : List Span) (ys : List (List Span)) (e : ℕ) → AreFilled (a ∷ b ∷ ys) → ascend e (all_spans (a ∷ b ∷ ys)) ≡ true → (runs : List PageRun)
+    → needed (xs ++ (a ++ b) ∷ ys) runs ≤ 1 + needed (xs ++ a ∷ b ∷ ys) runs
+needed-one [] a b [] e f up runs =
+    let l = length-append a b in
+    let both = length-filter_both (λ (run : PageRun). leb run.first (begins_at b)) (λ (run : PageRun). ltb (begins_at b) run.first) (λ run. other_way run (begins_at b)) runs in
+    let m = one_more (length a) (length b) (length (filter (λ (run : PageRun). leb run.first (begins_at b)) runs)) (length (filter (λ (run : PageRun). ltb (begins_at b) run.first) runs)) f.0.0 f.1.0.0 in
+    rw l (rw (sym both) (omega (arith, m)))
+needed-one [] a b (y ∷ ys) e f up runs =
+    let le : begins_at b ≤ begins_at y = begins_upward e 1 2 (a ∷ b ∷ y ∷ ys) b y f up (omega arith) (omega arith) in
+    let l = length-append a b in
+    let rest : filter (λ (run : PageRun). ltb (begins_at y) run.first) (filter (λ run. ltb (begins_at b) run.first) runs) ≡ filter (λ run. ltb (begins_at y) run.first) runs =
+    filter_within (λ run. ltb (begins_at y) run.first) (λ run. ltb (begins_at b) run.first) (behind_less (begins_at b) (begins_at y) le) runs in
+    let both = of_both (begins_at b) (begins_at y) runs le in
+    let m = one_more (length a) (length b) (length (filter (λ (run : PageRun). leb run.first (begins_at b)) runs)) (length (filter (λ (run : PageRun). leb run.first (begins_at y)) (filter (λ run. ltb (begins_at b) run.first) runs))) f.0.0 f.1.0.0 in
+    rw (rest, l, sym both) (omega (arith, m))
+needed-one (x ∷ []) a b ys e f up runs =
+    let same = begins-one a b f.0.0 in
+    let r = needed-one [] a b ys e f up (filter (λ (run : PageRun). ltb (begins_at a) run.first) runs) in
+    rw same (omega (arith, r))
+needed-one (x ∷ y ∷ xs) a b ys e f up runs =
+    let r = needed-one (y ∷ xs) a b ys e f up (filter (λ (run : PageRun). ltb (begins_at y) run.first) runs) in
+    omega (arith, r)

@@ -1,12 +1,12 @@
 -- Runs that stand upward.
-use Rattle.std.proofs.Common.{◌≡◌, ℕ, zero, suc, ◌<◌, ◌≤◌, Bool, true, false, ◌&&◌, ◌||◌, cond, leb, ltb, List, [], ◌∷◌, length, get_or, take, drop, ◌++◌, ◌+◌, ◌-◌, ◌⊎◌, inl, inr, max, length-append, Option, refl, sym, ap, ◌∙◌, arith}
-use Rattle.std.specs.List.{AllWithin}
+use Rattle.std.proofs.Common.{◌≡◌, ℕ, zero, suc, ◌<◌, ◌≤◌, Bool, true, false, ◌||◌, leb, ltb, List, [], ◌∷◌, length, get_or, take, drop, ◌++◌, ◌+◌, ◌-◌, ◌⊎◌, inl, inr, max, refl, sym, ap, subst, ◌∙◌, arith}
+use Rattle.std.specs.List.{AllAdjacentBelow}
 use Rattle.std.specs.List.Sorted.{IsNonDecreasingBy}
 use Rattle.std.proofs.Math.ListN.{set}
-use Rattle.std.proofs.lemmas.List.{take-append-drop, take-take, take_more, take_more_set, drop-append-le, drop-take, length-take, length-drop, get_or-take, get_or_default, get_or-set_same, drop-drop, get_or-drop}
+use Rattle.std.proofs.lemmas.List.{take-append-drop, take_more, take_more_set, drop-append-le, length-take, get_or-take, get_or_default, get_or-set_same, drop-drop, get_or-drop}
 use Rattle.std.proofs.lemmas.List.Folds.{list_any-append}
 use Rattle.std.proofs.Math.Seq.{drop-cons}
-use Rattle.std.proofs.lemmas.Bool.{and_parts, leb-true, ltb-true, ltb-false}
+use Rattle.std.proofs.lemmas.Bool.{and_parts, leb-true, ltb-true}
 use Rattle.std.proofs.lemmas.Bool.Decides.{nat_tests}
 use Rattle.base.specs.Pages.{PageRun, in_run, covers}
 use Rattle.spans.specs.Spans.{end_of}
@@ -31,74 +31,6 @@ firsts_ascend e (run ∷ runs) h zero (suc j) d le lt =
     omega arith
 firsts_ascend e (run ∷ runs) h (suc i) zero d le lt = absurd (omega arith)
 firsts_ascend e (run ∷ runs) h (suc i) (suc j) d le lt = firsts_ascend (end_of run) runs (and_parts (leb e run.first) (rise (end_of run) runs) h).1 i j d (omega arith) (omega arith)
-
-pub run_ends_ascend : (e : ℕ) (runs : List PageRun) → rise e runs ≡ true → IsNonDecreasingBy (λ run. end_of run) runs
-run_ends_ascend e [] h i j d le lt = absurd (omega arith)
-run_ends_ascend e (run ∷ runs) h zero zero d le lt = omega arith
-run_ends_ascend e (run ∷ runs) h zero (suc j) d le lt =
-    let b = first_at_least (end_of run) j runs d (and_parts (leb e run.first) (rise (end_of run) runs) h).1 (omega arith) in
-    omega arith
-run_ends_ascend e (run ∷ runs) h (suc i) zero d le lt = absurd (omega arith)
-run_ends_ascend e (run ∷ runs) h (suc i) (suc j) d le lt = run_ends_ascend (end_of run) runs (and_parts (leb e run.first) (rise (end_of run) runs) h).1 i j d (omega arith) (omega arith)
-
-firsts_dropped : (i : ℕ) (runs : List PageRun) → IsNonDecreasingBy (λ run. run.first) runs → IsNonDecreasingBy (λ run. run.first) (drop i runs)
-firsts_dropped zero runs h = h
-firsts_dropped (suc i) [] h = h
-firsts_dropped (suc i) (run ∷ runs) h = firsts_dropped i runs (λ j k d le lt. h (suc j) (suc k) d (omega arith) (omega arith))
-
-pub rest_ascends : (e i : ℕ) (runs : List PageRun) → rise e runs ≡ true → IsNonDecreasingBy (λ run. run.first) (drop i runs)
-rest_ascends e i runs h = firsts_dropped i runs (firsts_ascend e runs h)
-
--- ---- runs beside a zone
-
-none_of_two : (a b : Bool) → a ≡ false → b ≡ false → (a || b) ≡ false
-none_of_two a b h k = rw (h, k) refl
-
-pub ended : (runs : List PageRun) (i page n : ℕ) → AllWithin (λ run. leb (end_of run) page ≡ true) runs 0 i → page ≤ n → i ≤ length runs → covers (take i runs) n ≡ false
-ended runs zero page n h le in_list = refl
-ended [] (suc i) page n h le in_list = refl
-ended (run ∷ runs) (suc i) page n h le in_list =
-    let a : end_of run ≤ page = leb-true _ _ (h 0 run (omega arith) (omega arith)) in
-    let here : in_run run n ≡ false = grind (arith, nat_tests) in
-    none_of_two (in_run run n) (covers (take i runs) n) here (ended runs i page n (λ k d from to. h (suc k) d (omega arith) (omega arith)) le (omega arith))
-
-pub not_begun : (runs : List PageRun) (i page n : ℕ) → AllWithin (λ run. ltb run.first page ≡ false) runs i (length runs) → n < page → covers (drop i runs) n ≡ false
-not_begun [] zero page n h lt = refl
-not_begun (run ∷ runs) zero page n h lt =
-    let a : page ≤ run.first = ltb-false _ _ (h 0 run (omega arith) (omega arith)) in
-    let here : in_run run n ≡ false = grind (arith, nat_tests) in
-    none_of_two (in_run run n) (covers runs n) here (not_begun runs zero page n (λ k d from to. h (suc k) d (omega arith) (omega arith)) lt)
-not_begun [] (suc i) page n h lt = refl
-not_begun (run ∷ runs) (suc i) page n h lt = not_begun runs i page n (λ k d from to. h (suc k) d (omega arith) (omega arith)) lt
-
-only_front : (a b : Bool) → b ≡ false → a ≡ (a || b)
-only_front true b h = refl
-only_front false b h = sym h
-
-only_rest : (a b : Bool) → a ≡ false → b ≡ (a || b)
-only_rest true b h = absurd cc
-only_rest false b h = refl
-
-pub taken_covers : (runs : List PageRun) (i n : ℕ) → covers (drop i runs) n ≡ false → covers (take i runs) n ≡ covers runs n
-taken_covers runs i n h =
-    only_front (covers (take i runs) n) (covers (drop i runs) n) h
-    ∙ sym (list_any-append (λ (run : PageRun). in_run run n) (take i runs) (drop i runs))
-    ∙ ap (λ (l : List PageRun). covers l n) (take-append-drop i runs)
-
-pub dropped_covers : (runs : List PageRun) (i n : ℕ) → covers (take i runs) n ≡ false → covers (drop i runs) n ≡ covers runs n
-dropped_covers runs i n h =
-    only_rest (covers (take i runs) n) (covers (drop i runs) n) h
-    ∙ sym (list_any-append (λ (run : PageRun). in_run run n) (take i runs) (drop i runs))
-    ∙ ap (λ (l : List PageRun). covers l n) (take-append-drop i runs)
-
--- those that end behind a page and begin before another
-pub part_covers : (runs rest : List PageRun) (i j low high n : ℕ) → rest ≡ drop i runs → i ≤ length runs → low ≤ n → n < high
-    → AllWithin (λ run. leb (end_of run) low ≡ true) runs 0 i → AllWithin (λ run. ltb run.first high ≡ false) rest j (length rest)
-    → covers (take j rest) n ≡ covers runs n
-part_covers runs rest i j low high n is inside from to ends begins =
-    taken_covers rest j n (not_begun rest j high n begins to)
-    ∙ ap (λ (l : List PageRun). covers l n) is
-    ∙ dropped_covers runs i n (ended runs i low n ends from inside)
 
 -- ---- parts of runs that rise
 
@@ -139,7 +71,7 @@ rise_low low (run ∷ runs) le h =
     let here : leb low run.first ≡ true = grind (arith, nat_tests) in
     rw here (and_parts (leb 0 run.first) (rise (end_of run) runs) h).1
 
-in_it : (run : PageRun) (n : ℕ) → in_run run n ≡ true → (run.first ≤ n) × (n < end_of run)
+pub in_it : (run : PageRun) (n : ℕ) → in_run run n ≡ true → (run.first ≤ n) × (n < end_of run)
 in_it run n h =
     let parts = and_parts (leb run.first n) (ltb n (end_of run)) h in
     (leb-true _ _ parts.0, ltb-true _ _ parts.1)
@@ -190,62 +122,12 @@ firsts_taken i runs h j k d le lt =
     omega arith
 
 -- the runs of a group, whose last is widened
-module _ (runs : List PageRun) (from left : ℕ) (last wide : PageRun) (lt : from < left) (inside : left ≤ length runs) (is : last ≡ get_or runs (left - 1) last) where
-  others_of : List PageRun
-  others_of = drop from (take (left - 1) runs)
-
-  on : left - 1 + 1 ≡ left
-  on = omega arith
-
-  taken : take left runs ≡ take (left - 1) runs ++ last ∷ []
-  taken = ap (λ (k : ℕ). take k runs) (sym on) ∙ take_more runs (left - 1) last (omega arith) ∙ ap (λ r. take (left - 1) runs ++ r ∷ []) (sym is)
-
-  pub group_is : drop from (take left runs) ≡ drop from (take (left - 1) runs) ++ last ∷ []
-  group_is = ap (drop from) taken ∙ drop-append-le from (take (left - 1) runs) (last ∷ []) (let l = length-take (left - 1) runs in omega arith)
-
-  pub group_covers : (n : ℕ) → covers (drop from (take left runs)) n ≡ (covers (drop from (take (left - 1) runs)) n || in_run last n)
-  group_covers n = ap (λ (l : List PageRun). covers l n) group_is ∙ list_any-append (λ (run : PageRun). in_run run n) (drop from (take (left - 1) runs)) (last ∷ []) ∙ ap (λ b. covers (drop from (take (left - 1) runs)) n || b) (or_false (in_run last n))
-    where
-      or_false : (b : Bool) → (b || false) ≡ b
-      or_false true = refl
-      or_false false = refl
-
-  pub wide_covers : (n : ℕ) → covers (drop from (take (left - 1) runs) ++ wide ∷ []) n ≡ (covers (drop from (take (left - 1) runs)) n || in_run wide n)
-  wide_covers n = list_any-append (λ (run : PageRun). in_run run n) (drop from (take (left - 1) runs)) (wide ∷ []) ∙ ap (λ b. covers (drop from (take (left - 1) runs)) n || b) (or_false (in_run wide n))
-    where
-      or_false : (b : Bool) → (b || false) ≡ b
-      or_false true = refl
-      or_false false = refl
-
-  -- the list that was written to
-  pub wide_is : (now : List PageRun) → take left now ≡ take left runs → left ≤ length now → take (left - from) (drop from (set now (left - 1) wide)) ≡ drop from (take (left - 1) runs) ++ wide ∷ []
-  wide_is now same long =
-      let fewer : take (left - 1) now ≡ take (left - 1) runs =
-      sym (take-take (left - 1) left now (omega arith)) ∙ ap (take (left - 1)) same ∙ take-take (left - 1) left runs (omega arith) in
-      let at : from + (left - from) ≡ left = omega arith in
-      sym (drop-take from (left - from) (set now (left - 1) wide))
-      ∙ ap (λ (k : ℕ). drop from (take k (set now (left - 1) wide))) (at ∙ sym on)
-      ∙ ap (drop from) (take_more_set now (left - 1) wide (omega arith) ∙ ap (λ l. l ++ wide ∷ []) fewer)
-      ∙ drop-append-le from (take (left - 1) runs) (wide ∷ []) (let l = length-take (left - 1) runs in omega arith)
-
-  pub group_long : length (drop from (take (left - 1) runs) ++ wide ∷ []) ≡ left - from
-  group_long =
-      let l = length-take (left - 1) runs in
-      let m = length-drop from (take (left - 1) runs) in
-      let a = length-append (drop from (take (left - 1) runs)) (wide ∷ []) in
-      omega arith
-
-  pub group_rises : rise 0 runs ≡ true → wide.first ≡ last.first → rise 0 (drop from (take (left - 1) runs) ++ wide ∷ []) ≡ true
-  group_rises h same =
-      rise_last 0 (drop from (take (left - 1) runs)) last wide same
-      (ap (rise 0) (sym group_is) ∙ rise_dropped 0 from (take left runs) (rise_taken 0 left runs h))
-
-  -- those from a place on are those of the group, and those behind it
-  pub rest_covers : (n : ℕ) → covers (drop from runs) n ≡ (covers (drop from (take left runs)) n || covers (drop left runs) n)
-  rest_covers n =
-      let l = length-take left runs in
-      ap (λ (m : List PageRun). covers m n) (ap (drop from) (sym (take-append-drop left runs)) ∙ drop-append-le from (take left runs) (drop left runs) (omega arith))
-      ∙ list_any-append (λ (run : PageRun). in_run run n) (drop from (take left runs)) (drop left runs)
+-- those of a group, and those behind it
+pub rest_covers : (runs : List PageRun) (from left n : ℕ) → from ≤ left → left ≤ length runs → covers (drop from runs) n ≡ (covers (drop from (take left runs)) n || covers (drop left runs) n)
+rest_covers runs from left n lt le =
+    let l = length-take left runs in
+    ap (λ (m : List PageRun). covers m n) (ap (drop from) (sym (take-append-drop left runs)) ∙ drop-append-le from (take left runs) (drop left runs) (omega arith))
+    ∙ list_any-append (λ (run : PageRun). in_run run n) (drop from (take left runs)) (drop left runs)
 
 -- the first of what is left, and the others
 pub covers_more : (runs : List PageRun) (i n : ℕ) (run : PageRun) → i < length runs → run ≡ get_or runs i run → covers (drop i runs) n ≡ true → (in_run run n ≡ true) ⊎ (covers (drop (suc i) runs) n ≡ true)
@@ -329,16 +211,6 @@ module _ (old : List PageRun) (done next : ℕ) (last run : PageRun) (some : 0 <
         let b = ap (λ (r : PageRun). r.first) there in
         omega arith
 
-pub same_at : (i j : ℕ) (old new : List PageRun) (d : PageRun) → take j new ≡ take j old → i < j → get_or new i d ≡ get_or old i d
-same_at i j old new d e lt = sym (get_or-take j new i d lt) ∙ ap (λ (l : List PageRun). get_or l i d) e ∙ get_or-take j old i d lt
-
-pub first_set : (i j : ℕ) (runs : List PageRun) (run d : PageRun) → run.first ≡ (get_or runs j run).first → j < length runs → (get_or (set runs j run) i d).first ≡ (get_or runs i d).first
-first_set i j [] run d e lt = absurd (omega arith)
-first_set zero zero (r ∷ runs) run d e lt = e
-first_set zero (suc j) (r ∷ runs) run d e lt = refl
-first_set (suc i) zero (r ∷ runs) run d e lt = refl
-first_set (suc i) (suc j) (r ∷ runs) run d e lt = first_set i j runs run d e (omega arith)
-
 -- ---- two lists whose ends are the same
 
 pub drop_next : {A : Type 0} (next : ℕ) (new old : List A) → drop next new ≡ drop next old → drop (next + 1) new ≡ drop (next + 1) old
@@ -353,3 +225,25 @@ pub covers_next : (next : ℕ) (new old : List PageRun) → drop next new ≡ dr
 covers_next next new old e lt d n =
     ap (λ (r : PageRun). covers (take next old) n || in_run r n) (same_in_rest next new old e d)
     ∙ sym (ap (λ (l : List PageRun). covers l n) (take_more old next d lt) ∙ covers_one_more (take next old) (get_or old next d) n)
+
+-- ---- run after run
+
+pub rise_at : (e i : ℕ) (runs : List PageRun) (d : PageRun) → rise e runs ≡ true → i < length runs → rise (end_of (get_or runs i d)) (drop (suc i) runs) ≡ true
+rise_at e i [] d h lt = absurd (omega arith)
+rise_at e zero (run ∷ runs) d h lt = (and_parts (leb e run.first) (rise (end_of run) runs) h).1
+rise_at e (suc i) (run ∷ runs) d h lt = rise_at (end_of run) i runs d (and_parts (leb e run.first) (rise (end_of run) runs) h).1 (omega arith)
+
+-- where each begins at the end of the one before it or later, they do
+pub rise_from_adjacent : (e : ℕ) (runs : List PageRun) → AllAdjacentBelow (λ run next. true ≡ leb (end_of run) next.first) runs (length runs) → ((d : PageRun) → 0 < length runs → e ≤ (get_or runs 0 d).first) → rise e runs ≡ true
+rise_from_adjacent e [] h first = refl
+rise_from_adjacent e (run ∷ []) h first = let le : leb e run.first ≡ true = grind (arith, nat_tests, first run (omega arith)) in rw le refl
+rise_from_adjacent e (run ∷ next ∷ runs) h first =
+    let le : leb e run.first ≡ true = grind (arith, nat_tests, first run (omega arith)) in
+    let on : leb (end_of run) next.first ≡ true = sym (h 0 run (omega arith)) in
+    rw le (rise_from_adjacent (end_of run) (next ∷ runs) (λ k d lt. let e : suc k + 1 ≡ suc (k + 1) = omega arith in subst (λ (i : ℕ). true ≡ leb (end_of (get_or (next ∷ runs) k d)) (get_or (run ∷ next ∷ runs) i d).first) e (h (suc k) d (omega arith))) (λ d some. leb-true _ _ on))
+
+pub rise_from_apart : (runs : List PageRun) → AllAdjacentBelow (λ run next. true ≡ ltb (end_of run) next.first) runs (length runs) → rise 0 runs ≡ true
+rise_from_apart runs h = rise_from_adjacent 0 runs (λ k d lt. let a = h k d lt in sym (grind (arith, nat_tests))) (λ d some. omega arith)
+
+pub rise_first : (e i : ℕ) (runs : List PageRun) (d : PageRun) → i < length runs → rise e (drop i runs) ≡ true → e ≤ (get_or runs i d).first
+rise_first e i runs d lt h = leb-true _ _ (and_parts (leb e (get_or runs i d).first) (rise (end_of (get_or runs i d)) (drop (suc i) runs)) (ap (rise e) (sym (drop-cons runs i d lt)) ∙ h)).0

@@ -1,7 +1,7 @@
 -- Intervals of one number that go out of blocks.
-use Rattle.std.proofs.Common.{◌≡◌, ℕ, suc, ◌+◌, ◌<◌, ◌≤◌, Bool, true, false, cond, ◌||◌, eqb, leb, ltb, ◌⊎◌, inl, inr, List, [], ◌∷◌, ◌++◌, length, get_or, take, drop, max, Option, Some, None, length-append, refl, sym, ap, subst, ◌∙◌, append_assoc, append-nil, drop-drop, arith}
+use Rattle.std.proofs.Common.{◌≡◌, ℕ, ◌+◌, ◌<◌, ◌≤◌, Bool, true, false, ◌||◌, eqb, ltb, ◌⊎◌, inl, inr, List, [], ◌++◌, length, get_or, take, drop, max, Option, Some, None, length-append, refl, sym, ap, subst, ◌∙◌, append_assoc, append-nil, drop-drop, arith}
 use Rattle.std.specs.Option.{option_map_or}
-use Rattle.std.proofs.lemmas.Bool.{and_parts, leb-true, eqb-true, ltb-true, ltb-false}
+use Rattle.std.proofs.lemmas.Bool.{eqb-true, ltb-true, ltb-false}
 use Rattle.std.proofs.lemmas.Bool.Decides.{nat_tests}
 use Rattle.std.proofs.lemmas.List.{take-append-drop}
 use Rattle.std.proofs.lemmas.List.Folds.{list_any-append}
@@ -9,11 +9,9 @@ use Rattle.base.specs.Pages.{PageRun, in_run, covers}
 use Rattle.spans.specs.Spans.{Span, value_at, ascend, end_from}
 use Rattle.spans.specs.Search.{begins_at}
 use Rattle.spans.specs.Blocks.{all_spans, AreFilled, AreStacked, IsTakenAt}
-use Rattle.spans.specs.declared.zone.Zone.{Zone}
-use Rattle.spans.specs.Zones.{in_zone}
 use Rattle.spans.specs.Taking.{has_number, others, IsTakenIn}
 use Rattle.spans.proofs.Ascending.{far, ascend-left, ascend-right, ascend-append, value_at-append, value_at-behind, value_at-ahead}
-use Rattle.spans.proofs.Blocks.{all-parted, parted, part-ascends, front-ascends, block-ascends, block-begins, filled_front, filled_rest, filled_at}
+use Rattle.spans.proofs.Blocks.{all-parted, parted, part-ascends, block-begins, filled_front, filled_rest, filled_at}
 use Rattle.spans.proofs.Taking.{others-append, at-others, has_left, has_right}
 
 has_some : (value : ℕ) (o : Option ℕ) → option_map_or (λ v. eqb v value) o false ≡ true → o ≡ Some value
@@ -175,6 +173,3 @@ pub left-covers : (runs : List PageRun) (from n : ℕ) → covers runs n ≡ tru
 left-covers runs from n h never =
     one_of (covers (take from runs) n) (covers (drop from runs) n)
     (sym (list_any-append (λ (run : PageRun). in_run run n) (take from runs) (drop from runs)) ∙ ap (λ (l : List PageRun). covers l n) (take-append-drop from runs) ∙ h) never
-
-pub in_zone_parts : (zone : Zone) (n : ℕ) → in_zone zone n ≡ true → (zone.first ≤ n) × (n < zone.end)
-in_zone_parts zone n h = let parts = and_parts (leb zone.first n) (ltb n zone.end) h in (leb-true _ _ parts.0, ltb-true _ _ parts.1)

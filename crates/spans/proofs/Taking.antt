@@ -4,7 +4,7 @@ use Rattle.std.specs.Option.{option_map_or}
 use Rattle.std.proofs.Math.ListN.{set}
 use Rattle.std.proofs.lemmas.List.{take-append-drop, take_more, take_more_set, drop-append-le, drop-set-lt, length-take}
 use Rattle.std.proofs.lemmas.List.Elements.{filter-append}
-use Rattle.std.proofs.lemmas.Bool.{and_parts, eqb-true, ltb-true, ltb-false}
+use Rattle.std.proofs.lemmas.Bool.{and_parts, eqb-true, ltb-true}
 use Rattle.std.proofs.lemmas.Bool.Decides.{nat_tests}
 use Rattle.base.specs.Pages.{PageRun, in_run}
 use Rattle.spans.specs.Spans.{Span, value_at, end_of, ascend, end_from}
@@ -127,19 +127,6 @@ has_right value e (s ∷ xs) ys n h has =
 first_begins : (e : ℕ) (ss : List Span) → ascend e ss ≡ true → ascend (begins_at ss) ss ≡ true
 first_begins e [] h = refl
 first_begins e (s ∷ ss) h = let x = begins e s ss h in ascend-cons s.run.first s ss (omega arith) x.some x.rest
-
--- such a page is in the first of all intervals or behind it, and in the last or before it
-pub has_between : (value e : ℕ) (ss : List Span) (n : ℕ) → ascend e ss ≡ true → has_number value ss n ≡ true → (begins_at ss ≤ n) × (n < end_from e ss)
-has_between value e ss n h has = (
-  elim (ltb n (begins_at ss)) as (λ q. ltb n (begins_at ss) ≡ q → begins_at ss ≤ n) [
-    | true ↦ λ t. absurd (has_none value ss n (value_at-ahead (begins_at ss) ss n (first_begins e ss h) (ltb-true _ _ t)) has)
-    | false ↦ λ t. ltb-false _ _ t
-  ] refl,
-  elim (ltb n (end_from e ss)) as (λ q. ltb n (end_from e ss) ≡ q → n < end_from e ss) [
-    | true ↦ λ t. ltb-true _ _ t
-    | false ↦ λ t. absurd (has_none value ss n (value_at-behind e ss n h (ltb-false _ _ t)) has)
-  ] refl,
-)
 
 -- ---- those of a number go out between others
 

@@ -1,8 +1,9 @@
--- Intervals that stand in blocks.
-use Rattle.std.specs.Prelude.{◌≡◌, ℕ, ◌+◌, ◌*◌, ◌-◌, ◌/◌, ◌^◌, ◌<◌, ◌≤◌, Bool, true, nat_le, nat_lt, List, [], ◌∷◌, ◌++◌, Some, length, filter, slice_index_or, take, drop, if◌then◌else◌}
+-- Intervals that stand in blocks. A map's view names `all_spans`; the other words stand in clauses inside the crate alone.
+use Rattle.std.specs.Prelude.{◌≡◌, ℕ, ◌+◌, ◌*◌, ◌-◌, ◌/◌, ◌^◌, ◌<◌, ◌≤◌, true, nat_le, nat_lt, List, [], ◌∷◌, ◌++◌, Option, length, filter, slice_index_or, take, drop, if◌then◌else◌}
 use Rattle.std.specs.List.{AllByRecursion}
 use Rattle.base.specs.Pages.{PageRun, covers}
-use Rattle.spans.specs.Spans.{Span, value_at, ascend}
+use Rattle.spans.specs.Spans.{Span, value_at, ascend, are_joined}
+use Rattle.spans.specs.Edits.{all_from, rise, IsSame, IsMerged}
 use Rattle.spans.specs.Search.{begins_at}
 use Rattle.spans.specs.Taking.{IsTakenIn}
 use Rattle.spans.specs.declared.page_map.place.Group.{Group}
@@ -29,6 +30,16 @@ all_spans (b ∷ bs) = b ++ all_spans bs
 -- each of them has an interval, and no more than a block may have
 abbrev pub AreFilled : List (List Span) → Type 0
 AreFilled bs = AllByRecursion (λ b. (0 < length b) × (length b ≤ 128)) bs
+
+-- it and the first of these have more than 112 intervals together
+abbrev pub IsLongBeside : List Span → List (List Span) → Type 0
+IsLongBeside b [] = Unit {0}
+IsLongBeside b (c ∷ bs) = 112 < length b + length c
+
+-- no two that stand side by side could be one
+abbrev pub AreDense : List (List Span) → Type 0
+AreDense [] = Unit {0}
+AreDense (b ∷ bs) = IsLongBeside b bs × AreDense bs
 
 -- the blocks stand upward, and each has an interval
 pub record AreStacked (bs : List (List Span)) : Type 0 where
@@ -75,12 +86,15 @@ pub record IsGroup (bs : List (List Span)) (runs : List PageRun) (group : Group)
   pub behind : (i : ℕ) (d : PageRun) (b : List Span) → 0 < group.place → group.from ≤ i → i < length runs → begins_at (slice_index_or bs group.place b) < (slice_index_or runs i d).first
   pub next : (i : ℕ) (d : PageRun) → i < length runs → ascend (slice_index_or runs i d).first (all_spans (drop (group.place + 1) bs)) ≡ true
 
--- the blocks of a map stand upward, and there is room for a call with so many runs
+-- the blocks of a map stand upward, no two side by side could be one, intervals that touch and have one number are one over
+-- their borders, too, and there is room for a call with so many runs
 pub record IsPageMap (blocks : BlocksView) (room runs spans : ℕ) : Type 0 where
   pub stacked : AreStacked blocks.list
+  pub dense : AreDense blocks.list
   pub spare : room ≤ blocks.spare
   pub sorted : room ≤ runs
-  pub scratch : 0 < room → 128 + 2 * room ≤ spans
+  pub scratch : 0 < room → 256 + 2 * room ≤ spans
+  pub joined : are_joined (all_spans blocks.list) ≡ true
 
 -- blocks with these intervals stand behind those that stood before the cursor, and before it then
 pub record ArePushed (spans : List Span) (old new : BlocksView) : Type 0 where
@@ -91,6 +105,20 @@ pub record ArePushed (spans : List Span) (old new : BlocksView) : Type 0 where
   pub filled : AreFilled (drop old.at (take new.at new.list))
   pub rest : drop new.at new.list ≡ drop old.at old.list
 
+-- two blocks side by side became one before a place, or none did
+pub record AreJoinedAt (at : ℕ) (old new : List (List Span)) : Type 0 where
+  pub before : take (at - 1) new ≡ take (at - 1) old
+  pub spans : (i : ℕ) → i < at → all_spans (drop i new) ≡ all_spans (drop i old)
+  pub filled : (i : ℕ) → i < at → AreFilled (drop i old) → AreFilled (drop i new)
+  pub dense : (i : ℕ) → i < at → AreDense (drop i (take at old)) → AreDense (drop at old) → AreDense (drop i new)
+
+-- the block at a place is gone if it has no interval, and else may be one with the next
+pub record IsSettled (i : ℕ) (old new : List (List Span)) : Type 0 where
+  pub before : take i new ≡ take i old
+  pub spans : all_spans (drop i new) ≡ all_spans (drop i old)
+  pub filled : AreFilled (drop i new)
+  pub dense : AreDense (drop (i + 1) old) → AreDense (drop i new)
+
 -- the block at a place has no interval of the number any more that has a page from the first up to the end
 pub record IsTakenAt (first end value : ℕ) (old : List (List Span)) (i : ℕ) (new : List (List Span)) : Type 0 where
   pub spans : List Span
@@ -99,13 +127,39 @@ pub record IsTakenAt (first end value : ℕ) (old : List (List Span)) (i : ℕ) 
   pub here : drop i new ≡ spans ∷ drop (i + 1) old
   pub len : length new ≡ length old
 
--- the block at a place gives the pages of the runs this number
-pub record IsSetAt (runs : List PageRun) (value : ℕ) (old : List (List Span)) (i : ℕ) (new : List (List Span)) : Type 0 where
-  pub spans : List Span
-  pub ascending : ascend 0 spans ≡ true
-  pub at : (d : List Span) (n : ℕ) → value_at spans n
-      ≡ (if covers runs n then Some value else value_at (slice_index_or old i d) n)
+-- the runs belong to the block at a place: where they get a number, none before it changes
+pub record BelongTo (runs : List PageRun) (bs : List (List Span)) (i : ℕ) : Type 0 where
+  pub inside : i < length bs
+  pub short : (d : List Span) → length (slice_index_or bs i d) ≤ 128
+  pub rises : rise 0 runs ≡ true
+  pub some : 0 < length runs
+  pub ascending : ascend 0 (all_spans (drop i bs)) ≡ true
+  pub joined : are_joined (all_spans (drop i bs)) ≡ true
+  pub filled : AreFilled (drop (i + 1) bs)
+  pub next : (d : PageRun) → ascend (slice_index_or runs (length runs - 1) d).first (all_spans (drop (i + 1) bs)) ≡ true
+
+-- the pages of the runs have this number, or none, in the block at a place
+pub record IsPutAt (runs : List PageRun) (value : Option ℕ) (old : List (List Span)) (i : ℕ) (new : List (List Span)) : Type 0 where
+  pub block : List Span
+  pub merged : (d : List Span) → IsMerged runs value (slice_index_or old i d) block
+  pub list : new ≡ take i old ++ block ∷ drop (i + 1) old
+
+-- the same from the block at a place on, in any blocks
+pub record IsEdited (runs : List PageRun) (value : Option ℕ) (old : List (List Span)) (i : ℕ) (new : List (List Span)) : Type 0 where
   pub before : take i new ≡ take i old
-  pub rest : all_spans (drop i new) ≡ spans ++ all_spans (drop (i + 1) old)
-  pub filled : AreFilled (drop (i + 1) old) → AreFilled (drop i new)
-  pub inside : i < length new
+  pub filled : AreFilled (drop i new)
+  pub ascending : ascend 0 (all_spans (drop i new)) ≡ true
+  pub at : (n : ℕ) → value_at (all_spans (drop i new)) n
+      ≡ (if covers runs n then value else value_at (all_spans (drop i old)) n)
+  pub joined : are_joined (all_spans (drop i new)) ≡ true
+
+-- what the blocks behind the cursor have before a page is gone. Some of the others went behind the intervals of a list, and
+-- what is left begins behind the page
+pub record HasTakenIn (page : ℕ) (out : List Span) (old : BlocksView) (out_new : List Span) (new : BlocksView) : Type 0 where
+  pub taken : List Span
+  pub parted : all_from page (all_spans (drop old.at old.list)) ≡ taken ++ all_spans (drop new.at new.list)
+  pub same : IsSame (out ++ taken) out_new
+  pub above : ascend (page + 1) (all_spans (drop new.at new.list)) ≡ true
+  pub filled : AreFilled (drop new.at new.list)
+  pub before : take new.at new.list ≡ take old.at old.list
+  pub at : new.at ≡ old.at

@@ -1,7 +1,7 @@
--- Intervals in which the pages of a run get another number, or none.
-use Rattle.std.specs.Prelude.{◌≡◌, ℕ, ◌+◌, ◌-◌, ◌<◌, ◌≤◌, ◌==◌, Bool, true, ◌&&◌, nat_le, List, [], ◌∷◌, ◌++◌, Option, Some, None, length, slice_index_or, take, drop, min, max, if◌then◌else◌}
-use Rattle.base.specs.Pages.{PageRun}
-use Rattle.spans.specs.Spans.{Span, end_of, ascend, end_from}
+-- Intervals in which the pages of a run get another number, or none. These words stand in clauses inside the crate alone.
+use Rattle.std.specs.Prelude.{◌≡◌, ℕ, ◌+◌, ◌*◌, ◌-◌, ◌≤◌, ◌==◌, Bool, true, ◌&&◌, nat_le, List, [], ◌∷◌, ◌++◌, Option, Some, None, length, min, max, if◌then◌else◌}
+use Rattle.base.specs.Pages.{PageRun, covers}
+use Rattle.spans.specs.Spans.{Span, value_at, end_of, ascend, end_from, are_joined}
 
 -- the pages of an interval from one page up to another
 abbrev pub part_of : ℕ → ℕ → Span → Span
@@ -56,23 +56,16 @@ abbrev pub rise : ℕ → List PageRun → Bool
 rise end [] = true
 rise end (run ∷ runs) = nat_le end run.first && rise (end_of run) runs
 
--- the interval at a place has the pages of the run
-pub record HasRunAt (ss : List Span) (i : ℕ) (run : PageRun) : Type 0 where
-  pub inside : i < length ss
-  pub same : (d : Span) → (slice_index_or ss i d).run ≡ run
+-- the second list says of each page what the first says, and is no longer
+pub record IsSame (old new : List Span) : Type 0 where
+  pub at : (n : ℕ) → value_at new n ≡ value_at old n
+  pub ascends : (e : ℕ) → ascend e old ≡ true → ascend e new ≡ true
+  pub ends : (e : ℕ) → end_from e new ≡ end_from e old
+  pub fewer : length new ≤ length old
 
--- the interval at a place, if there is one, begins where a run ends, or later
-pub record IsAheadOf (run : PageRun) (ss : List Span) (i : ℕ) : Type 0 where
-  pub ahead : (d : Span) → i < length ss → end_of run ≤ (slice_index_or ss i d).run.first
-
--- the runs stand between two neighbouring intervals: that before the place ends before them, and that at the place
--- begins behind them
-pub record IsBetween (ss : List Span) (i : ℕ) (runs : List PageRun) : Type 0 where
-  pub inside : i ≤ length ss
-  pub rises : rise (end_from 0 (take i ss)) runs ≡ true
-  pub ahead : (k : ℕ) (d : PageRun) → k < length runs → ascend (end_of (slice_index_or runs k d)) (drop i ss) ≡ true
-
--- the intervals from the place on have the pages of the runs, one for one
-pub record AreAt (ss : List Span) (i : ℕ) (runs : List PageRun) : Type 0 where
-  pub inside : i + length runs ≤ length ss
-  pub each : (k : ℕ) (d : PageRun) → k < length runs → HasRunAt ss (i + k) (slice_index_or runs k d)
+-- the intervals, but the pages of the runs have this number, or none
+pub record IsMerged (runs : List PageRun) (value : Option ℕ) (old new : List Span) : Type 0 where
+  pub ascending : ascend 0 new ≡ true
+  pub at : (n : ℕ) → value_at new n ≡ (if covers runs n then value else value_at old n)
+  pub joined : are_joined old ≡ true → are_joined new ≡ true
+  pub fewer : length new ≤ length old + 2 * length runs

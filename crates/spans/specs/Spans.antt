@@ -1,5 +1,5 @@
 -- Maps from pages to numbers as intervals.
-use Rattle.std.specs.Prelude.{◌≡◌, ℕ, ◌+◌, ◌*◌, ◌^◌, ◌==◌, Bool, true, ◌&&◌, ◌||◌, nat_le, nat_lt, List, [], ◌∷◌, Option, Some, None, slice_index_or, if◌then◌else◌}
+use Rattle.std.specs.Prelude.{◌≡◌, ℕ, ◌+◌, ◌*◌, ◌^◌, ◌==◌, Bool, true, not, ◌&&◌, ◌||◌, nat_le, nat_lt, List, [], ◌∷◌, Option, Some, None, slice_index_or, if◌then◌else◌}
 use Rattle.base.specs.Pages.{PageRun, in_run}
 
 -- the pages of a run, and the number that each of them has
@@ -25,6 +25,16 @@ abbrev pub ascend : ℕ → List Span → Bool
 ascend end [] = true
 ascend end (s ∷ ss) = (nat_le end s.run.first && nat_lt 0 s.run.count) && ascend (end_of s.run) ss
 
+-- it does not touch the first of these, or that has another number
+abbrev pub is_apart : Span → List Span → Bool
+is_apart s [] = true
+is_apart s (t ∷ ss) = not (s.value == t.value && end_of s.run == t.run.first)
+
+-- intervals that touch and have one number are one
+abbrev pub are_joined : List Span → Bool
+are_joined [] = true
+are_joined (s ∷ ss) = is_apart s ss && are_joined ss
+
 -- where the last of them ends; without one, this page
 abbrev pub end_from : ℕ → List Span → ℕ
 end_from end [] = end
@@ -39,6 +49,6 @@ abbrev pub is_border : List Span → ℕ → Bool
 is_border [] page = page == 2 ^ 27
 is_border (s ∷ ss) page = (page == s.run.first || page == end_of s.run) || is_border ss page
 
--- an edit splits an interval at two places, and puts one in between
+-- a run splits an interval at two places, and stands between them
 abbrev pub room_for : ℕ → ℕ
 room_for calls = calls * 3

@@ -6,10 +6,9 @@ ghost use Rattle.spans.specs.Spans.{value_at};
 ghost use Rattle.spans.specs.Search.{IsFound, IsFirstOf};
 
 use crate::probes::Probes;
-use crate::spans::{Span, Spans};
+use crate::spans::Span;
 use base::{Page, Run};
-use std::marker::Brand;
-use std::sync::ledger::{Blank, Ledger};
+use std::sync::ledger::Ledger;
 
 /// The number of a page, if it has one, and the first page behind it from which the answer may differ.
 #[derive(Clone, Copy, Debug, PartialEq, Eq)]
@@ -109,59 +108,5 @@ fn first_of<L: Ledger>(spans: &[Span], place: usize, probes: &mut Probes<L>) -> 
         span.run.first().number()
     } else {
         Page::COUNT
-    }
-}
-
-impl Spans {
-    /// The number of a page. It looks at no more intervals than their count has binary digits.
-    pub fn find<L: Ledger>(&self, page: Page, probes: &mut Probes<L>) -> Option<u64>
-        ensures value { result ≡ value_at self.now.spans page }
-        ensures cost { 2 ^ (probes.new - probes.old) ≤ 2 * length self.now.spans + 1 }
-        ensures counts { probes.old ≤ probes.new }
-    {
-        find_in(self.as_slice(), page, probes)
-    }
-
-    /// The number of a page, with no count of the looks.
-    pub fn get(&self, page: Page) -> Option<u64>
-        ensures { result ≡ value_at self.now.spans page }
-    {
-        self.get_from::<Brand>(page, Blank::new(1))
-    }
-
-    fn get_from<L: Ledger>(&self, page: Page, blank: Blank) -> Option<u64>
-        requires name { blank.name ≡ L.name }
-        requires parts { blank.parts ≡ L.parts }
-        requires some { 0 < L.parts }
-        ensures { result ≡ value_at self.now.spans page }
-    {
-        let mut probes = Probes::<L>::new(blank);
-        self.find(page, &mut probes)
-    }
-
-    /// The number of a page, and how far the pages behind it have the same: up to where an interval begins or ends, or to
-    /// the last page of all.
-    pub fn segment_at(&self, page: Page) -> Segment
-        ensures behind { page < result.end }
-        ensures in_range { result.end ≤ 2 ^ 27 }
-        ensures border { spec.is_border self.now.spans result.end ≡ true }
-        ensures value { (n : ℕ) → page ≤ n → n < result.end
-            → value_at self.now.spans n ≡ result.value }
-    {
-        self.segment_from::<Brand>(page, Blank::new(1))
-    }
-
-    fn segment_from<L: Ledger>(&self, page: Page, blank: Blank) -> Segment
-        requires name { blank.name ≡ L.name }
-        requires parts { blank.parts ≡ L.parts }
-        requires some { 0 < L.parts }
-        ensures behind { page < result.end }
-        ensures in_range { result.end ≤ 2 ^ 27 }
-        ensures border { spec.is_border self.now.spans result.end ≡ true }
-        ensures value { (n : ℕ) → page ≤ n → n < result.end
-            → value_at self.now.spans n ≡ result.value }
-    {
-        let mut probes = Probes::<L>::new(blank);
-        segment_in(self.as_slice(), page, &mut probes)
     }
 }

@@ -6,7 +6,6 @@ mod find;
 mod page_map;
 mod probes;
 mod spans;
-mod zone;
 
 pub use alike::run_until;
 pub use find::Segment;

@@ -12,21 +12,22 @@ use std::marker::{Brand, Model};
 use std::sync::ledger::{Blank, Ledger};
 
 mod blocks;
+mod edit;
 mod looking;
 mod place;
-mod putting;
 mod taking;
 #[cfg(test)]
 mod tests;
 
 use blocks::Blocks;
+use edit::edit_sorted;
 use place::more_needed;
-use putting::put_sorted;
 use taking::take_runs;
 
 /// A map from pages to numbers as `Spans` is, whose intervals stand in blocks of the same size, so that an edit moves
-/// only those of the blocks that it touches. All intervals of a block end before the next block begins. A call that gives
-/// pages a number makes room for just that; where it is refused, nothing has changed.
+/// only those of the blocks that it touches. All intervals of a block end before the next block begins, and intervals that
+/// touch and have one number are one, over the borders of blocks, too. A call that gives pages a number, or takes it away,
+/// makes room for just that; where it is refused, nothing has changed.
 #[derive(Drop)]
 pub struct PageMap {
     blocks: Blocks,
@@ -50,15 +51,15 @@ impl Model for PageMap {
     ghost invariant = { λ m. IsPageMap m.blocks m.room (vec_capacity m.sorted) (vec_capacity m.scratch) };
 }
 
-/// Makes room in both lists for so many runs, and for the intervals of a block and those runs.
+/// Makes room in both lists for so many runs, and for the intervals of two blocks and those runs.
 fn ready_lists(
     sorted: &mut Vec<Run>,
     scratch: &mut Vec<Span>,
     runs: usize,
 ) -> Result<(), OutOfMemory>
     ensures sorted { OnOk result (runs ≤ vec_capacity sorted.new) }
-    ensures scratch { OnOk result (128 + 2 * runs ≤ vec_capacity scratch.new) }
-    ensures at_once { runs ≤ vec_capacity sorted.old → 128 + 2 * runs ≤ vec_capacity scratch.old → IsOk result }
+    ensures scratch { OnOk result (256 + 2 * runs ≤ vec_capacity scratch.new) }
+    ensures at_once { runs ≤ vec_capacity sorted.old → 256 + 2 * runs ≤ vec_capacity scratch.old → IsOk result }
     ensures kept { vec_capacity sorted.old ≤ vec_capacity sorted.new }
     ensures kept_scratch { vec_capacity scratch.old ≤ vec_capacity scratch.new }
 {
@@ -68,7 +69,7 @@ fn ready_lists(
     sorted.clear();
     sorted.reserve(runs)?;
     scratch.clear();
-    scratch.reserve(spans.saturating_add(LIMIT))?;
+    scratch.reserve(spans.saturating_add(2 * LIMIT))?;
     Ok(())
 }
 
@@ -116,6 +117,29 @@ impl PageMap {
         ensures err { OnErr result (self.new.spans ≡ self.old.spans) }
         ensures at_once { spec.room_for (length runs.now) ≤ self.old.room → IsOk result }
     {
+        self.edit_all(runs, Some(value))
+    }
+
+    /// Takes the numbers of all pages of the runs away; other pages keep theirs. A refusal changes nothing. It asks for memory
+    /// as `put_all` does, since a run may part an interval in two, but for none where no page has a number.
+    pub fn cut_all(&mut self, runs: &[Run]) -> Result<(), OutOfMemory>
+        ensures at { OnOk result ((n : ℕ) → spec.value_at self.new.spans n
+            ≡ (if covers runs.now n then None else spec.value_at self.old.spans n)) }
+        ensures err { OnErr result (self.new.spans ≡ self.old.spans) }
+        ensures at_once { spec.room_for (length runs.now) ≤ self.old.room → IsOk result }
+    {
+        if self.is_empty() {
+            return Ok(());
+        }
+        self.edit_all(runs, None)
+    }
+
+    fn edit_all(&mut self, runs: &[Run], value: Option<u64>) -> Result<(), OutOfMemory>
+        ensures at { OnOk result ((n : ℕ) → spec.value_at self.new.spans n
+            ≡ (if covers runs.now n then value else spec.value_at self.old.spans n)) }
+        ensures err { OnErr result (self.new.spans ≡ self.old.spans) }
+        ensures at_once { spec.room_for (length runs.now) ≤ self.old.room → IsOk result }
+    {
         if runs.is_empty() {
             return Ok(());
         }
@@ -123,8 +147,8 @@ impl PageMap {
         gather(&mut self.sorted, runs);
         self.blocks.ready(more_needed(&self.blocks, &self.sorted))?;
         self.room = 0;
-        put_sorted(&mut self.blocks, &mut self.sorted, value, &mut self.scratch);
-        self.blocks.trim();
+        edit_sorted(&mut self.blocks, &self.sorted, value, &mut self.scratch);
+        self.blocks.trim(0);
         Ok(())
     }
 
@@ -139,10 +163,18 @@ impl PageMap {
     {
         if self.sorted.capacity() < runs.len() {
             take_runs(&mut self.blocks, runs, value);
-            return;
+        } else {
+            gather(&mut self.sorted, runs);
+            take_runs(&mut self.blocks, &self.sorted, value);
         }
-        gather(&mut self.sorted, runs);
-        take_runs(&mut self.blocks, &self.sorted, value);
+        self.blocks.trim(self.room);
+    }
+
+    /// How many blocks the intervals stand in: at most two for 113 intervals, and one. Each has 2 KB of memory.
+    pub fn blocks(&self) -> usize
+        ensures most { 113 * result ≤ 2 * length self.now.spans + 113 }
+    {
+        self.blocks.len()
     }
 
     /// How many intervals there are.
@@ -152,6 +184,14 @@ impl PageMap {
         front
             .chain(back)
             .fold(0, |all, len| usize::saturating_add(all, len))
+    }
+
+    /// The number of the page after the last that has a number; 0 where none has.
+    pub fn end(&self) -> u32
+        ensures in_range { result ≤ 2 ^ 27 }
+        ensures behind { (n : ℕ) → result ≤ n → spec.value_at self.now.spans n ≡ None }
+    {
+        looking::end(&self.blocks)
     }
 
     /// Whether no page has a number.
@@ -188,8 +228,9 @@ impl PageMap {
     }
 
     /// The number of a page, and how far the pages behind it have the same: up to where an interval begins or ends, or to
-    /// the last page of all.
+    /// the last page of all. Behind the end of an interval the pages have another number, or none.
     pub fn segment_at(&self, page: Page) -> Segment
+        ensures joined { spec.are_joined self.now.spans ≡ true }
         ensures behind { page < result.end }
         ensures in_range { result.end ≤ 2 ^ 27 }
         ensures border { spec.is_border self.now.spans result.end ≡ true }
@@ -203,6 +244,7 @@ impl PageMap {
         requires name { blank.name ≡ L.name }
         requires parts { blank.parts ≡ L.parts }
         requires some { 0 < L.parts }
+        ensures joined { spec.are_joined self.now.spans ≡ true }
         ensures behind { page < result.end }
         ensures in_range { result.end ≤ 2 ^ 27 }
         ensures border { spec.is_border self.now.spans result.end ≡ true }
@@ -215,6 +257,7 @@ impl PageMap {
 
     /// The same with a count of the looks: no more than the intervals have binary digits, and ten more.
     pub fn segment<L: Ledger>(&self, page: Page, probes: &mut Probes<L>) -> Segment
+        ensures joined { spec.are_joined self.now.spans ≡ true }
         ensures behind { page < result.end }
         ensures in_range { result.end ≤ 2 ^ 27 }
         ensures border { spec.is_border self.now.spans result.end ≡ true }

@@ -1,28 +1,28 @@
-ghost use Rattle.std.specs.Prelude.{◌≡◌, ◌+◌, ◌<◌, ◌≤◌, ◌↔◌, ℕ, [], Some, None, true, length, if◌then◌else◌, IsTrue, OnOk};
+ghost use Rattle.std.specs.Prelude.{◌≡◌, ◌+◌, ◌*◌, ◌-◌, ◌^◌, ◌<◌, ◌≤◌, ◌↔◌, ℕ, [], Some, None, true, length, if◌then◌else◌, IsTrue, OnOk};
 ghost use Rattle.base.specs.Pages.{in_run, covers};
 ghost use Rattle.spans.specs.Spans as spec;
+ghost use Rattle.spans.specs.Spans.{value_at};
 
+use crate::find::{Segment, find_in, segment_in};
 use crate::probes::Probes;
 use base::{OutOfMemory, Page, Run};
 use std::alloc::Global;
-use std::marker::Model;
-use std::sync::ledger::Ledger;
+use std::marker::{Brand, Model};
+use std::mem::swap;
+use std::sync::ledger::{Blank, Ledger};
 
-mod between;
 mod block;
-mod edit;
-mod join;
+mod merge;
 mod order;
-mod pass;
 mod place;
 mod taking;
 #[cfg(test)]
 mod tests;
 
-pub(crate) use between::put_all;
 pub(crate) use block::{Block, LIMIT};
+pub(crate) use merge::{append, merge};
 pub(crate) use order::gather;
-pub(crate) use place::place_near_end as place_behind;
+pub(crate) use place::place_near_end;
 
 /// The pages of a run, and the number that each of them has.
 #[derive(Clone, Copy)]
@@ -41,12 +41,12 @@ impl Model for Span {
     ghost inverse = { λ s. record { run = s.run; value = s.value } };
 }
 
-/// A map from pages to numbers: intervals of pages in ascending order, no two of which share a page. Runs that are
-/// put beside pages of their number, and share none with such, make one interval with them. Beside the intervals
-/// is memory in which runs are put in order.
+/// A map from pages to numbers: intervals of pages in ascending order, no two of which share a page. An edit writes all
+/// of them anew into a second list, and touching intervals of one number are one in it.
 #[derive(Drop)]
 pub struct Spans {
     spans: Vec<Span>,
+    scratch: Vec<Span>,
     sorted: Vec<Run>,
 }
 
@@ -58,7 +58,7 @@ impl Model for Spans {
 
     ghost view = { λ s. record {
       spans = s.spans.items;
-      room = min (vec_capacity s.spans - vec_len s.spans) (room_for (vec_capacity s.sorted));
+      room = min (min (vec_capacity s.spans) (vec_capacity s.scratch) - vec_len s.spans) (room_for (vec_capacity s.sorted));
     } };
 
     ghost invariant = { λ s. IsTrue (ascend 0 s.spans.items) };
@@ -71,6 +71,7 @@ impl Spans {
     {
         Spans {
             spans: Vec::new(alloc),
+            scratch: Vec::new(alloc),
             sorted: Vec::new(alloc),
         }
     }
@@ -86,95 +87,64 @@ impl Spans {
             return Err(OutOfMemory);
         };
         self.spans.reserve(spans)?;
+        self.scratch.clear();
+        self.scratch
+            .reserve(spans.saturating_add(self.spans.len()))?;
         self.sorted.clear();
         self.sorted.reserve(calls)?;
         Ok(())
     }
 
-    /// Gives all pages of a run this number; other pages keep theirs. This takes no memory. Where the run shares no
-    /// page with an interval of this number, and no two that touch have one number, none moves more than once.
+    /// Gives all pages of a run this number; other pages keep theirs. This takes no memory.
     pub fn put(&mut self, run: Run, value: u64)
         requires { spec.room_for 1 ≤ self.old.room }
-        ensures at { (n : _) → spec.value_at self.new.spans n
-            ≡ (if in_run run n then Some value else spec.value_at self.old.spans n) }
+        ensures at { (n : _) → value_at self.new.spans n
+            ≡ (if in_run run n then Some value else value_at self.old.spans n) }
         ensures room { self.old.room ≤ self.new.room + spec.room_for 1 }
     {
-        edit::put(&mut self.spans, Span { run, value });
+        self.set_all(&[run], Some(value));
     }
 
-    /// Takes the numbers of all pages of a run away; other pages keep theirs. This takes no memory. Where no two
-    /// intervals that touch have one number, none moves more than once.
+    /// Takes the numbers of all pages of a run away; other pages keep theirs. This takes no memory.
     pub fn cut(&mut self, run: Run)
         requires { spec.room_for 1 ≤ self.old.room }
-        ensures at { (n : _) → spec.value_at self.new.spans n
-            ≡ (if in_run run n then None else spec.value_at self.old.spans n) }
+        ensures at { (n : _) → value_at self.new.spans n
+            ≡ (if in_run run n then None else value_at self.old.spans n) }
         ensures room { self.old.room ≤ self.new.room + spec.room_for 1 }
     {
-        edit::cut(&mut self.spans, run);
+        self.set_all(&[run], None);
     }
 
-    /// Gives all pages of the runs this number; other pages keep theirs. This takes no memory. Runs that share
-    /// no page are put in one pass, in which no interval moves more than three times. Where they share no page
-    /// with one, and touch neither each other nor one of this number, none moves twice.
+    /// Gives all pages of the runs this number; other pages keep theirs. This takes no memory.
     pub fn put_all(&mut self, runs: &[Run], value: u64)
         requires { spec.room_for (length runs.now) ≤ self.old.room }
-        ensures { (n : ℕ) → spec.value_at self.new.spans n
-            ≡ (if covers runs.now n then Some value else spec.value_at self.old.spans n) }
+        ensures { (n : ℕ) → value_at self.new.spans n
+            ≡ (if covers runs.now n then Some value else value_at self.old.spans n) }
     {
-        self.put_runs(runs, value);
+        self.set_all(runs, Some(value));
     }
 
-    /// The same, with what it takes of the room.
-    fn put_runs(&mut self, runs: &[Run], value: u64)
-        requires { spec.room_for (length runs.now) ≤ self.old.room }
-        ensures at { (n : ℕ) → spec.value_at self.new.spans n
-            ≡ (if covers runs.now n then Some value else spec.value_at self.old.spans n) }
-        ensures room { self.old.room ≤ self.new.room + spec.room_for (length runs.now) }
-    {
-        if 1 < runs.len() {
-            order::gather(&mut self.sorted, runs);
-            between::put_all(&mut self.spans, &self.sorted, value);
-            return;
-        }
-        for run in runs {
-            self.put(*run, value);
-        }
-    }
-
-    /// Takes the numbers of all pages of the runs away; other pages keep theirs. This takes no memory, and
-    /// runs that share no page are cut in one pass.
+    /// Takes the numbers of all pages of the runs away; other pages keep theirs. This takes no memory.
     pub fn cut_all(&mut self, runs: &[Run])
         requires { spec.room_for (length runs.now) ≤ self.old.room }
-        ensures { (n : ℕ) → spec.value_at self.new.spans n
-            ≡ (if covers runs.now n then None else spec.value_at self.old.spans n) }
+        ensures { (n : ℕ) → value_at self.new.spans n
+            ≡ (if covers runs.now n then None else value_at self.old.spans n) }
     {
-        self.cut_runs(runs);
+        self.set_all(runs, None);
     }
 
-    /// The same, with what it takes of the room.
-    pub(crate) fn cut_runs(&mut self, runs: &[Run])
+    fn set_all(&mut self, runs: &[Run], value: Option<u64>)
         requires { spec.room_for (length runs.now) ≤ self.old.room }
-        ensures at { (n : ℕ) → spec.value_at self.new.spans n
-            ≡ (if covers runs.now n then None else spec.value_at self.old.spans n) }
+        ensures at { (n : ℕ) → value_at self.new.spans n
+            ≡ (if covers runs.now n then value else value_at self.old.spans n) }
         ensures room { self.old.room ≤ self.new.room + spec.room_for (length runs.now) }
     {
-        if 1 < runs.len() && order::sort(&mut self.sorted, runs) {
-            between::cut_all(&mut self.spans, &self.sorted);
+        if runs.is_empty() {
             return;
         }
-        let mut left = runs.len();
-        while 0 < left {
-            left -= 1;
-            self.cut(runs[left]);
-        }
-    }
-
-    /// The intervals.
-    pub(crate) fn as_slice(&self) -> &[Span]
-        ensures same { result.now ≡ self.now.spans }
-        ensures ascending { spec.ascend 0 self.now.spans ≡ true }
-    {
-        &self.spans
+        gather(&mut self.sorted, runs);
+        merge(&mut self.scratch, &mut self.spans, &self.sorted, value);
+        swap(&mut self.spans, &mut self.scratch);
     }
 
     /// How many intervals there are.
@@ -201,5 +171,46 @@ impl Spans {
         probes.count();
         let span = self.spans[i];
         (span.run, span.value)
+    }
+
+    /// The number of a page. It looks at no more intervals than their count has binary digits.
+    pub fn find<L: Ledger>(&self, page: Page, probes: &mut Probes<L>) -> Option<u64>
+        ensures value { result ≡ value_at self.now.spans page }
+        ensures cost { 2 ^ (probes.new - probes.old) ≤ 2 * length self.now.spans + 1 }
+        ensures counts { probes.old ≤ probes.new }
+    {
+        find_in(&self.spans, page, probes)
+    }
+
+    /// The number of a page, with no count of the looks.
+    pub fn get(&self, page: Page) -> Option<u64>
+        ensures { result ≡ value_at self.now.spans page }
+    {
+        self.segment_at(page).value
+    }
+
+    /// The number of a page, and how far the pages behind it have the same: up to where an interval begins or ends, or to
+    /// the last page of all.
+    pub fn segment_at(&self, page: Page) -> Segment
+        ensures behind { page < result.end }
+        ensures in_range { result.end ≤ 2 ^ 27 }
+        ensures border { spec.is_border self.now.spans result.end ≡ true }
+        ensures value { (n : ℕ) → page ≤ n → n < result.end
+            → value_at self.now.spans n ≡ result.value }
+    {
+        self.segment_from::<Brand>(page, Blank::new(1))
+    }
+
+    fn segment_from<L: Ledger>(&self, page: Page, blank: Blank) -> Segment
+        requires name { blank.name ≡ L.name }
+        requires parts { blank.parts ≡ L.parts }
+        requires some { 0 < L.parts }
+        ensures behind { page < result.end }
+        ensures in_range { result.end ≤ 2 ^ 27 }
+        ensures border { spec.is_border self.now.spans result.end ≡ true }
+        ensures value { (n : ℕ) → page ≤ n → n < result.end
+            → value_at self.now.spans n ≡ result.value }
+    {
+        segment_in(&self.spans, page, &mut Probes::<L>::new(blank))
     }
 }

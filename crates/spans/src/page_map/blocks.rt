@@ -1,10 +1,11 @@
 //! Blocks upward, and a cursor among them.
 
-ghost use Rattle.std.specs.Prelude.{◌≡◌, ◌≤◌, ◌<◌, ◌+◌, ◌-◌, ◌^◌, ◌++◌, ◌∷◌, [], true, length, take, drop, slice_index_or, min, vec_len, vec_capacity, IsOk, OnOk, OnErr};
+ghost use Rattle.std.specs.Prelude.{◌≡◌, ◌≤◌, ◌<◌, ◌+◌, ◌-◌, ◌*◌, ◌^◌, ◌++◌, ◌∷◌, [], true, length, take, drop, slice_index_or, max, min, vec_len, vec_capacity, IsOk, OnOk, OnErr};
 ghost use Rattle.spans.specs.Spans as spec;
+ghost use Rattle.spans.specs.Edits.{rise, IsMerged};
 
 use crate::spans::{Block, Span};
-use base::OutOfMemory;
+use base::{OutOfMemory, Run};
 use std::alloc::Global;
 use std::marker::Model;
 
@@ -122,13 +123,14 @@ impl Blocks {
         make_spare(&mut self.spare, spare)
     }
 
-    /// Gives the spare blocks back but for one, so that what a call reckoned with and did not take is there for others.
-    pub(super) fn trim(&mut self)
+    /// Gives the spare blocks back but for so many, and one: so that what a call reckoned with and did not take is there for
+    /// others, and what comes and goes behind a full block asks for no memory each time.
+    pub(super) fn trim(&mut self, spare: usize)
         ensures list { self.new.list ≡ self.old.list }
         ensures at { self.new.at ≡ self.old.at }
-        ensures spare { self.new.spare ≡ min 1 self.old.spare }
+        ensures spare { self.new.spare ≡ min (max 1 spare) self.old.spare }
     {
-        self.spare.truncate(1);
+        self.spare.truncate(spare.max(1));
     }
 
     /// The last block before the cursor becomes spare.
@@ -140,6 +142,25 @@ impl Blocks {
     {
         if let Some(block) = self.front.pop() {
             self.spare.push_reserved(block);
+        }
+    }
+
+    /// The same, and a list has its intervals, but the pages of the runs have this number, or none.
+    pub(super) fn retire_into(&mut self, out: &mut Vec<Span>, runs: &[Run], value: Option<u64>)
+        requires some { 0 < self.old.at }
+        requires rise { rise 0 runs.now ≡ true }
+        requires room { (d : _) → length (slice_index_or self.old.list (self.old.at - 1) d) + 2 * length runs.now
+            ≤ vec_capacity out.old }
+        ensures list { self.new.list ≡ take (self.old.at - 1) self.old.list ++ drop self.old.at self.old.list }
+        ensures at { self.new.at + 1 ≡ self.old.at }
+        ensures spare { self.new.spare ≡ self.old.spare + 1 }
+        ensures merged { (d : _) → IsMerged runs.now value (slice_index_or self.old.list (self.old.at - 1) d) out.new.items }
+        ensures capacity { vec_capacity out.old ≤ vec_capacity out.new }
+    {
+        if let Some(block) = self.front.pop() {
+            let mut emptied = block;
+            emptied.merge_into(out, runs, value);
+            self.spare.push_reserved(emptied);
         }
     }
 

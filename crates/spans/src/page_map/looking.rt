@@ -1,6 +1,6 @@
 //! What the blocks say of a page.
 
-ghost use Rattle.std.specs.Prelude.{◌≡◌, ◌+◌, ◌-◌, ◌*◌, ◌^◌, ◌≤◌, ◌<◌, ℕ, true, length, slice_index_or};
+ghost use Rattle.std.specs.Prelude.{◌≡◌, ◌+◌, ◌-◌, ◌*◌, ◌^◌, ◌≤◌, ◌<◌, ℕ, true, None, length, slice_index_or};
 ghost use Rattle.spans.specs.Spans as spec;
 ghost use Rattle.spans.specs.Blocks.{all_spans, AreStacked};
 
@@ -52,5 +52,17 @@ pub(super) fn segment<L: Ledger>(blocks: &Blocks, page: Page, probes: &mut Probe
     Segment {
         end: segment.end.min(next),
         ..segment
+    }
+}
+
+/// The number of the page after the last that has a number; 0 where none has.
+pub(super) fn end(blocks: &Blocks) -> u32
+    requires { AreStacked blocks.now.list }
+    ensures in_range { result ≤ 2 ^ 27 }
+    ensures behind { (n : ℕ) → result ≤ n → spec.value_at (all_spans blocks.now.list) n ≡ None }
+{
+    match blocks.len().checked_sub(1) {
+        Some(last) => blocks.block(last).end(),
+        None => 0,
     }
 }

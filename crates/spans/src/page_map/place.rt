@@ -48,7 +48,7 @@ pub(super) fn find_before<L: Ledger>(blocks: &Blocks, page: u32, probes: &mut Pr
     low
 }
 
-/// The same with no count of the looks.
+/// The same with no count of the looks. Mostly it is all of them, and so is found without a search.
 pub(super) fn blocks_before(blocks: &Blocks, page: u32) -> usize
     requires { AreStacked blocks.now.list }
     ensures inside { result ≤ length blocks.now.list }
@@ -56,6 +56,10 @@ pub(super) fn blocks_before(blocks: &Blocks, page: u32) -> usize
         → begins_at (slice_index_or blocks.now.list i d) < page }
     ensures behind { spec.ascend page (all_spans (drop result blocks.now.list)) ≡ true }
 {
+    let all = blocks.len();
+    if 0 < all && blocks.block(all - 1).begin() < page {
+        return all;
+    }
     before_from::<Brand>(blocks, page, Blank::new(1))
 }
 

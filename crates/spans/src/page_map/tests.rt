@@ -82,6 +82,19 @@ impl Pair {
         Ok(())
     }
 
+    /// Takes the numbers of the pages of the runs away in both maps. Where memory is refused once, the second time it is
+    /// there.
+    fn cut(&mut self, runs: &[Run]) -> Result<(), OutOfMemory> {
+        if self.map.cut_all(runs).is_err() {
+            self.map.cut_all(runs)?;
+        }
+        if self.list.ready(runs.len()).is_err() {
+            self.list.ready(runs.len())?;
+        }
+        self.list.cut_all(runs);
+        Ok(())
+    }
+
     /// Where memory was refused, all numbers and blocks are as before.
     fn put_again(
         &mut self,
@@ -329,5 +342,30 @@ fn blocks_that_become_short_are_joined(rt: HostRuntime) -> Result<(), Fail> {
     assert!(&rt; pair.blocks() < 9, "there are {} blocks", pair.blocks());
     assert_eq!(&rt; pair.map.blocks.spare.len(), 1);
     pair.compare(&rt);
+    Ok(())
+}
+
+#[test]
+fn pages_that_are_cut_have_no_number(rt: HostRuntime) -> Result<(), Fail> {
+    let mut pair = Pair::new(rt.alloc());
+    put_each_other(&rt, &mut pair, 0, 7, false)?;
+    for (first, count, step, pages) in [
+        (1_000, 3, 2_000, 601),
+        (1, 512, 4, 2),
+        (5_000, 512, 6, 3),
+        (0, 1, 0, PAGES),
+    ] {
+        let shape = Shape {
+            first,
+            count,
+            step,
+            pages,
+        };
+        let runs = pair.shape(&rt, shape, count == 512)?;
+        pair.cut(&runs)?;
+        pair.compare(&rt);
+    }
+    assert!(&rt; pair.map.is_empty());
+    assert_eq!(&rt; pair.blocks(), 0);
     Ok(())
 }

@@ -1,17 +1,15 @@
 //! Blocks: intervals that follow one another, in memory that has places for so many as a block may have.
 
-ghost use Rattle.std.specs.Prelude.{◌≡◌, ℕ, ◌+◌, ◌*◌, ◌≤◌, ◌<◌, ◌^◌, ◌++◌, [], Some, true, length, take, drop, slice_index_or, IfOk, if◌then◌else◌};
-ghost use Rattle.base.specs.Pages.{in_run, covers};
+ghost use Rattle.std.specs.Prelude.{◌≡◌, ◌+◌, ◌*◌, ◌≤◌, ◌<◌, ◌^◌, ◌++◌, [], true, length, vec_capacity, IfOk};
 ghost use Rattle.spans.specs.Spans as spec;
-ghost use Rattle.spans.specs.Edits.{rise, all_from};
+ghost use Rattle.spans.specs.Edits.{rise, all_from, IsMerged};
 ghost use Rattle.spans.specs.Search.{begins_at};
 ghost use Rattle.spans.specs.Taking.{IsTakenIn};
 
-use super::pass::{Gap, close};
+use super::Span;
+use super::merge::{merge, trim};
 use super::place::place_near_end;
-use super::taking::take_out;
-use super::{Span, between};
-use crate::zone::Zone;
+use super::taking::{Gap, close, take_out};
 use base::{OutOfMemory, Page, Run};
 use std::alloc::Global;
 use std::marker::Model;
@@ -49,24 +47,6 @@ fn begin_of(spans: &[Span]) -> u32
     }
 }
 
-/// Takes the pages before this one out of the interval at a place, if there is one.
-fn trim(spans: &mut [Span], place: usize, page: u32)
-    requires ascending { spec.ascend 0 spans.old ≡ true }
-    requires inside { place ≤ length spans.old }
-    requires below { spec.end_from 0 (take place spans.old) ≤ page }
-    requires above { (d : spec.Span) → place < length spans.old
-        → page < spec.end_of (slice_index_or spans.old place d).run }
-    ensures rest { drop place spans.new ≡ all_from page spans.old }
-    ensures len { length spans.new ≡ length spans.old }
-{
-    if place < spans.len() {
-        let span = spans[place];
-        if let Some(rest) = span.from(page) {
-            spans[place] = rest;
-        }
-    }
-}
-
 impl Block {
     /// A block without an interval.
     pub(crate) fn new(alloc: Global) -> Result<Self, OutOfMemory>
@@ -90,7 +70,8 @@ impl Block {
 
     /// Where its last interval ends; without one, the first page.
     pub(crate) fn end(&self) -> u32
-        ensures { result ≡ spec.end_from 0 self.now }
+        ensures same { result ≡ spec.end_from 0 self.now }
+        ensures in_range { result ≤ 2 ^ 27 }
     {
         if self.spans.is_empty() {
             return 0;
@@ -115,28 +96,40 @@ impl Block {
         &self.spans
     }
 
-    /// Gives all pages of the runs this number.
-    pub(crate) fn put_all(&mut self, runs: &[Run], value: u64)
+    /// Gives the pages of the runs this number, or none. Those of its intervals that end before the first run stay where
+    /// they are, and the others go through a list that has places for them.
+    pub(crate) fn edit(&mut self, runs: &[Run], value: Option<u64>, scratch: &mut Vec<Span>)
         requires rise { rise 0 runs.now ≡ true }
         requires some { 0 < length runs.now }
         requires room { length self.old + 2 * length runs.now ≤ 128 }
-        ensures ascending { spec.ascend 0 self.new ≡ true }
-        ensures at { (n : ℕ) → spec.value_at self.new n
-            ≡ (if covers runs.now n then Some value else spec.value_at self.old n) }
-        ensures some { 0 < length self.new }
-        ensures short { length self.new ≤ 128 }
+        requires scratch { 128 ≤ vec_capacity scratch.old }
+        ensures merged { IsMerged runs.now value self.old self.new }
+        ensures capacity { vec_capacity scratch.old ≤ vec_capacity scratch.new }
     {
-        let has_pages = 0 < runs[0].count();
-        prove!(has_pages);
-        between::put_all(&mut self.spans, runs, value);
+        let kept = place_near_end(&self.spans, runs[0].first().number().saturating_sub(1));
+        merge(scratch, &mut self.spans[kept..], runs, value);
+        self.spans.truncate(kept);
+        let _ = self.spans.extend_from_slice(scratch);
         self.begin = begin_of(&self.spans);
     }
 
-    /// Takes the intervals of a number out that have a page of a zone.
-    pub(crate) fn take_out(&mut self, zone: Zone, value: u64)
-        ensures { IsTakenIn zone.first zone.end value self.old self.new }
+    /// Fills a list with its intervals, but the pages of the runs have this number, or none. It has no interval then.
+    pub(crate) fn merge_into(&mut self, out: &mut Vec<Span>, runs: &[Run], value: Option<u64>)
+        requires rise { rise 0 runs.now ≡ true }
+        requires room { length self.old + 2 * length runs.now ≤ vec_capacity out.old }
+        ensures merged { IsMerged runs.now value self.old out.new.items }
+        ensures capacity { vec_capacity out.old ≤ vec_capacity out.new }
     {
-        take_out(&mut self.spans, zone.first, zone.end, value);
+        merge(out, &mut self.spans, runs, value);
+        self.spans.clear();
+        self.begin = begin_of(&self.spans);
+    }
+
+    /// Takes the intervals of a number out that have a page of a run.
+    pub(crate) fn take_out(&mut self, run: Run, value: u64)
+        ensures { IsTakenIn run.first (spec.end_of run) value self.old self.new }
+    {
+        take_out(&mut self.spans, run.first().number(), run.end(), value);
         self.begin = begin_of(&self.spans);
     }
 
@@ -154,27 +147,6 @@ impl Block {
         trim(&mut self.spans, place, page);
         close(&mut self.spans, gap);
         self.begin = begin_of(&self.spans);
-    }
-
-    /// Where a run touches its first interval, which has this number, that interval goes, and the run gets its pages.
-    pub(crate) fn join_to(&mut self, run: Run, value: u64) -> Run
-        ensures first { result.first ≡ run.first }
-        ensures wider { spec.end_of run ≤ spec.end_of result }
-        ensures above { (ys : _) → spec.ascend (spec.end_of run) (self.old ++ ys) ≡ true
-            → spec.ascend (spec.end_of result) (self.new ++ ys) ≡ true }
-        ensures at { (n : ℕ) → (if in_run result n then Some value else spec.value_at self.new n)
-            ≡ (if in_run run n then Some value else spec.value_at self.old n) }
-        ensures short { length self.new ≤ 128 }
-    {
-        let Some(first) = self.spans.first() else {
-            return run;
-        };
-        let Some(whole) = Span { run, value }.joined(*first) else {
-            return run;
-        };
-        close(&mut self.spans, Gap { front: 0, back: 1 });
-        self.begin = begin_of(&self.spans);
-        whole.run
     }
 
     /// Has these intervals in place of its own.

@@ -2,7 +2,8 @@
 
 ghost use Rattle.std.specs.Prelude.{◌≡◌, ◌^◌, ◌<◌, ◌≤◌, true, IsTrue, nat_le, length, take, slice_index_or};
 ghost use Rattle.spans.specs.Spans as spec;
-ghost use Rattle.spans.specs.Edits.{left_of, right_of, HasRunAt};
+ghost use Rattle.spans.specs.Edits as edits;
+ghost use Rattle.spans.specs.Edits.{left_of, right_of};
 
 use super::Span;
 use base::{Page, Run};
@@ -34,6 +35,18 @@ impl Span {
         let run = Run::new(Page::new(first), end - first);
         Some(Span { run, ..self })
     }
+
+    /// It and the next as one, where they touch and have one number.
+    pub(super) fn joined(self, next: Span) -> Option<Span>
+        ensures { result ≡ edits.joined self next }
+    {
+        if self.value == next.value && self.run.end() == next.run.first().number() {
+            let run = Run::new(self.run.first(), self.run.count() + next.run.count());
+            Some(Span { run, ..self })
+        } else {
+            None
+        }
+    }
 }
 
 /// The place of the first interval that ends behind a page.
@@ -58,8 +71,8 @@ fn end_before(spans: &[Span], page: u32) -> bool
     last.run.end() <= page
 }
 
-/// The place of the first interval that ends behind a page. Mostly it is the last, or behind it, and so is
-/// found without a search.
+/// The place of the first interval that ends behind a page. Mostly it is near an end of the list, and so is found
+/// without a search.
 pub(crate) fn place_near_end(spans: &[Span], page: u32) -> usize
     requires { spec.ascend 0 spans.now ≡ true }
     ensures inside { result ≤ length spans.now }
@@ -72,18 +85,11 @@ pub(crate) fn place_near_end(spans: &[Span], page: u32) -> usize
         len
     } else if end_before(&spans[..len - 1], page) {
         len - 1
+    } else if !end_before(&spans[..1], page) {
+        0
+    } else if !end_before(&spans[..2], page) {
+        1
     } else {
         place_of(spans, page)
     }
-}
-
-/// Whether the interval at a place has just the pages of a run.
-pub(super) fn is_at(spans: &[Span], place: usize, run: Run) -> bool
-    ensures { IsTrue result → HasRunAt spans.now place run }
-{
-    if spans.len() <= place {
-        return false;
-    }
-    let span = spans[place];
-    span.run.first().number() == run.first().number() && span.run.count() == run.count()
 }

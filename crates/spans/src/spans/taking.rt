@@ -6,8 +6,32 @@ ghost use Rattle.spans.specs.Spans as spec;
 ghost use Rattle.spans.specs.Taking.{others, IsTakenIn};
 
 use super::Span;
-use super::pass::{Gap, close};
 use super::place::place_near_end;
+
+/// Places among intervals that count for nothing: from `front` up to `back`.
+#[derive(Clone, Copy)]
+pub(super) struct Gap {
+    pub(super) front: usize,
+    pub(super) back: usize,
+}
+
+/// Closes the gap. Where it is inlined into a short function, it is compiled to a loop over single intervals, which
+/// takes twice as many instructions.
+#[inline(never)]
+pub(super) fn close(spans: &mut Vec<Span>, gap: Gap)
+    requires gap { gap.front ≤ gap.back }
+    requires inside { gap.back ≤ vec_len spans.old }
+    ensures items { spans.new.items ≡ take gap.front spans.old.items ++ drop gap.back spans.old.items }
+    ensures len { vec_len spans.new ≤ vec_len spans.old }
+    ensures capacity { vec_capacity spans.new ≡ vec_capacity spans.old }
+{
+    if gap.front == gap.back {
+        return;
+    }
+    let left = spans.len() - (gap.back - gap.front);
+    spans.copy_within(gap.back.., gap.front);
+    spans.truncate(left);
+}
 
 /// Whether there is an interval at a place, and it begins before a page.
 fn begins_before(spans: &[Span], place: usize, page: u32) -> bool

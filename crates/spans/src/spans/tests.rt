@@ -1,7 +1,4 @@
-ghost use Rattle.std.specs.Prelude.{◌≤◌, length};
-ghost use Rattle.spans.specs.Spans.{room_for};
-
-use super::{Spans, order, pass};
+use super::Spans;
 use base::{OutOfMemory, Page, Run};
 use std::process::Abort;
 use std::test::Fail;
@@ -121,16 +118,19 @@ fn drawn_runs(rt: &impl Abort, state: &mut u64) -> [Run; 3] {
 }
 
 impl Spans {
-    /// Sets the pages of runs with no shorter way than that over all intervals.
-    fn set_in_one_pass(&mut self, runs: &[Run], value: Option<u64>)
-        requires { room_for (length runs.now) ≤ self.old.room }
-    {
-        if order::sort(&mut self.sorted, runs) {
-            pass::set_all(&mut self.spans, &self.sorted, value, 0);
+    /// Sets the pages of runs one after another.
+    fn set_each(&mut self, runs: &[Run], value: Option<u64>) -> Result<(), OutOfMemory> {
+        for run in runs {
+            self.ready(1)?;
+            match value {
+                Some(value) => self.put(*run, value),
+                None => self.cut(*run),
+            }
         }
+        Ok(())
     }
 
-    /// Sets the pages of runs in this map, and in one that goes over all intervals.
+    /// Sets the pages of runs in this map at once, and in another one after another.
     fn set_beside(
         &mut self,
         rt: &impl Abort,
@@ -139,12 +139,11 @@ impl Spans {
         value: Option<u64>,
     ) -> Result<(), OutOfMemory> {
         self.ready(runs.len())?;
-        other.ready(runs.len())?;
         match value {
             Some(value) => self.put_all(runs, value),
             None => self.cut_all(runs),
         }
-        other.set_in_one_pass(runs, value);
+        other.set_each(runs, value)?;
         assert_eq!(rt; self.spans.len(), other.spans.len());
         for (span, same) in self.spans.iter().zip(&other.spans) {
             assert_eq!(rt; span.run, same.run);
@@ -155,7 +154,7 @@ impl Spans {
 }
 
 #[test]
-fn shorter_ways_leave_what_one_pass_leaves(rt: HostRuntime) -> Result<(), Fail> {
+fn runs_set_at_once_are_as_if_set_one_by_one(rt: HostRuntime) -> Result<(), Fail> {
     let mut spans = Spans::new(rt.alloc());
     let mut other = Spans::new(rt.alloc());
     let mut state = 1;

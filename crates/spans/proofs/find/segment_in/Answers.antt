@@ -1,4 +1,4 @@
-use Rattle.std.proofs.Common.{◌≡◌, ◌∙◌, ◌+◌, ◌*◌, ◌^◌, ◌≤◌, true, length, ap, arith}
+use Rattle.std.proofs.Common.{◌∙◌, ◌+◌, ◌*◌, length, ap}
 use Rattle.spans.specs.Spans.{is_border}
 use Rattle.spans.proofs.Borders.{border-begins}
 use Rattle.spans.proofs.Halving.{none_up_to, looked-once_more}

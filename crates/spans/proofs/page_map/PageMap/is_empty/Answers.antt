@@ -1,4 +1,4 @@
-use Rattle.std.proofs.Common.{◌≡◌, ◌∙◌, ℕ, length, IsTrue, nat_eq, subst, sym, ap, rules, arith}
+use Rattle.std.proofs.Common.{◌≡◌, ◌∙◌, ℕ, nat_eq, sym, ap, arith}
 use Rattle.spans.specs.Spans.{SpansView}
 use Rattle.std.proofs.lemmas.Bool.{eqb-true}
 use Rattle.spans.proofs.Blocks.{no_blocks, no_spans}

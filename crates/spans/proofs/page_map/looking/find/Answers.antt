@@ -1,6 +1,5 @@
-use Rattle.std.proofs.Common.{◌≡◌, ◌∙◌, ℕ, ◌+◌, ◌-◌, ◌*◌, ◌<◌, ◌≤◌, true, Some, None, List, length, get_or, drop, sym, ap, subst, rules, arith}
+use Rattle.std.proofs.Common.{◌≡◌, ◌∙◌, ℕ, ◌+◌, ◌-◌, ◌*◌, ◌<◌, true, None, List, length, drop, sym, ap, subst, arith}
 use Rattle.spans.specs.Spans.{Span, value_at, ascend}
-use Rattle.spans.specs.Search.{begins_at}
 use Rattle.spans.specs.Blocks.{all_spans}
 use Rattle.spans.proofs.Ascending.{value_at-ahead}
 use Rattle.spans.proofs.Blocks.{at_block, block_ascends, filled_at, fewer_blocks}

@@ -1,6 +1,6 @@
-use Rattle.std.proofs.Common.{◌≡◌, ◌∙◌, ℕ, ◌+◌, ◌-◌, ◌*◌, ◌^◌, ◌<◌, ◌≤◌, true, false, leb, min, Some, None, List, [], length, get_or, drop, refl, sym, ap, subst, arith}
+use Rattle.std.proofs.Common.{◌≡◌, ◌∙◌, ℕ, ◌+◌, ◌-◌, ◌*◌, ◌<◌, ◌≤◌, true, false, leb, min, None, List, [], length, get_or, drop, refl, sym, ap, arith}
 use Rattle.std.proofs.lemmas.Bool.Decides.{nat_tests}
-use Rattle.spans.specs.Spans.{Span, value_at, ascend, is_border}
+use Rattle.spans.specs.Spans.{Span, value_at, is_border}
 use Rattle.spans.specs.Search.{begins_at}
 use Rattle.spans.specs.Blocks.{all_spans}
 use Rattle.spans.proofs.Blocks.{at_block, block_ascends, rest_none, rest_behind, filled_at, fewer_blocks}

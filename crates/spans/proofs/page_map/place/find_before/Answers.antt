@@ -1,6 +1,4 @@
-use Rattle.std.proofs.Common.{◌≡◌, ℕ, ◌+◌, ◌-◌, ◌*◌, ◌/◌, ◌^◌, ◌<◌, ◌≤◌, List, length, get_or, arith}
-use Rattle.spans.specs.Spans.{Span}
-use Rattle.spans.specs.Search.{begins_at}
+use Rattle.std.proofs.Common.{ℕ, ◌+◌, ◌-◌, ◌*◌, ◌/◌, ◌^◌, ◌≤◌, length, arith}
 use Rattle.spans.proofs.Halving.{halved, looked}
 use Rattle.spans.proofs.Blocks.{begins_upward, above_page}
 use Rattle.spans.proofs.page_map.place.find_before.Goals as goal

@@ -1,4 +1,4 @@
-use Rattle.std.proofs.Common.{◌≡◌, ℕ, ◌+◌, ◌-◌, ◌*◌, ◌^◌, ◌<◌, ◌≤◌, List, length, get_or}
+use Rattle.std.proofs.Common.{ℕ, ◌+◌, ◌-◌, ◌*◌, ◌^◌, ◌<◌, ◌≤◌, List, length, get_or}
 use Rattle.spans.specs.Spans.{Span}
 use Rattle.spans.specs.Search.{begins_at}
 use Rattle.spans.proofs.page_map.place.find_before.Given as goal

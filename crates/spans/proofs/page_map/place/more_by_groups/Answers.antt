@@ -1,6 +1,5 @@
-use Rattle.std.proofs.Common.{◌≡◌, ◌∙◌, ℕ, ◌+◌, ◌-◌, ◌<◌, ◌≤◌, length, get_or, take, [], sym, ap, arith}
+use Rattle.std.proofs.Common.{◌≡◌, ◌∙◌, ℕ, ◌+◌, ◌-◌, ◌<◌, length, get_or, take, [], sym, ap, arith}
 use Rattle.std.proofs.lemmas.List.{length-take, take_all, take-take}
-use Rattle.base.specs.Pages.{PageRun}
 use Rattle.spans.specs.Blocks.{needed, more_blocks}
 use Rattle.spans.proofs.Needs.{needed-none, needed-most, group-needs, group-left}
 use Rattle.spans.proofs.Runs.{firsts_ascend, firsts_taken}

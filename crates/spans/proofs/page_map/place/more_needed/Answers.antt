@@ -1,4 +1,4 @@
-use Rattle.std.proofs.Common.{◌≡◌, ◌∙◌, ◌<◌, ℕ, length, sym, ap, eqb→eq, rules, arith}
+use Rattle.std.proofs.Common.{◌∙◌, rules, arith}
 use Rattle.spans.proofs.Needs.{needed-most, none-needed, some-needed}
 use Rattle.spans.proofs.page_map.place.more_needed.Goals as goal
 

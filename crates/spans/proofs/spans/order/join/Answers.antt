@@ -1,5 +1,5 @@
-use Rattle.std.proofs.Common.{◌≡◌, ◌∙◌, ℕ, ◌+◌, ◌-◌, ◌≤◌, ◌<◌, ◌||◌, List, length, take, drop, get_or, vec_len, sym, ap, arith}
-use Rattle.base.specs.Pages.{PageRun, in_run, covers}
+use Rattle.std.proofs.Common.{◌∙◌, ◌+◌, ◌<◌, ◌||◌, length, get_or, ap, arith}
+use Rattle.base.specs.Pages.{PageRun, in_run}
 use Rattle.spans.proofs.Runs.{same_in_rest, covers_next, drop_next}
 use Rattle.spans.proofs.spans.order.join.Goals as goal
 

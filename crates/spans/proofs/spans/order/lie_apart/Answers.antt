@@ -1,9 +1,9 @@
-use Rattle.std.proofs.Common.{◌≡◌, Bool, ltb, subst, rules, arith}
+use Rattle.std.proofs.Common.{◌≡◌, Bool, ltb, subst, rules}
 use Rattle.std.specs.List.{IsAllAdjacentAnswer}
 use Rattle.std.proofs.lemmas.Fn.{always_returns_same}
 use Rattle.base.specs.Pages.{PageRun}
 use Rattle.spans.specs.Spans.{end_of}
-use Rattle.spans.proofs.Gaps.{rise_from_apart}
+use Rattle.spans.proofs.Runs.{rise_from_apart}
 use Rattle.spans.proofs.spans.order.lie_apart.Goals as goal
 
 pub returns : goal.returns

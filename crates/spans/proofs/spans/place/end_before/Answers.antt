@@ -1,6 +1,6 @@
 use Rattle.std.proofs.Common.{◌≡◌, ◌-◌, ◌<◌, ◌∙◌, leb, length, arith, rules, ap}
 use Rattle.spans.specs.Spans.{Span, end_of, end_from}
-use Rattle.spans.proofs.Places.{end_from-last}
+use Rattle.spans.proofs.Ascending.{end_from-last}
 use Rattle.spans.proofs.spans.place.end_before.Goals as goal
 
 pub returns : goal.returns

@@ -1,7 +1,7 @@
 use Rattle.std.proofs.Common.{◌≡◌, ◌-◌, ◌∙◌, false, leb, length, arith, sym}
 use Rattle.std.proofs.lemmas.Bool.{leb-false}
 use Rattle.spans.specs.Spans.{end_from}
-use Rattle.spans.proofs.Places.{end_from-last}
+use Rattle.spans.proofs.Ascending.{end_from-last}
 use Rattle.spans.proofs.spans.place.place_near_end.Goals as goal
 
 pub returns-then-end_before-2-clause-above : goal.returns-then-end_before-2-clause-above

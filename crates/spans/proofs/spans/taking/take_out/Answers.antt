@@ -1,8 +1,7 @@
 use Rattle.std.proofs.Common.{◌≡◌, ◌<◌, ◌≤◌, ℕ, ◌∙◌, ◌++◌, List, take, drop, length, get_or, sym, ap, subst, arith}
 use Rattle.spans.specs.Spans.{Span, end_from}
-use Rattle.spans.specs.Gaps.{around}
 use Rattle.spans.specs.Taking.{others, IsTakenIn}
-use Rattle.spans.proofs.Gaps.{given_back}
+use Rattle.spans.proofs.Lists.{given_back}
 use Rattle.spans.proofs.Taking.{taken_out}
 use Rattle.spans.proofs.spans.taking.take_out.Goals as goal
 
@@ -19,5 +18,5 @@ returns-clause-taken c =
     let rest : drop gap.back new ≡ drop gap.back old = rw (← same) c.gather-gap.ensures.rest in
     let ahead : (d : Span) → gap.back < length old → c.args.end ≤ (get_or old gap.back d).run.first = rw (← same) c.gather-gap.ensures.ahead in
     let inside : gap.back ≤ length old = rw (← same) c.gather-gap.ensures.inside in
-    subst (λ (l : List Span). IsTakenIn c.args.first c.args.end c.args.value old l) (sym (c.close.ensures.items ∙ ap (λ (l : List Span). around gap l) back))
+    subst (λ (l : List Span). IsTakenIn c.args.first c.args.end c.args.value old l) (sym (c.close.ensures.items ∙ ap (λ (l : List Span). take gap.front l ++ drop gap.back l) back))
     (taken_out c.args.value c.args.first c.args.end place gap.front gap.back old new c.requires c.gather-gap.ensures.from inside below left rest ahead)

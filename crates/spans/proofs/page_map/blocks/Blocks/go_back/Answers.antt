@@ -1,4 +1,4 @@
-use Rattle.std.proofs.Common.{◌≡◌, ◌∙◌, ◌++◌, length, sym, ap, arith}
+use Rattle.std.proofs.Common.{◌∙◌, ◌++◌, sym, ap, arith}
 use Rattle.std.proofs.Common.{reverse}
 use Rattle.spans.specs.Blocks.{BlocksView}
 use Rattle.spans.proofs.Lists.{beside}

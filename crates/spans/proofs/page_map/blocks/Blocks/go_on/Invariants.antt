@@ -1,4 +1,4 @@
-use Rattle.std.proofs.Common.{◌≡◌, ◌+◌, ◌<◌, ◌≤◌, ◌++◌, vec_len, vec_capacity}
+use Rattle.std.proofs.Common.{◌≡◌, ◌+◌, ◌≤◌, ◌++◌, vec_len, vec_capacity}
 use Rattle.std.proofs.Common.{reverse}
 use Rattle.spans.specs.Blocks.{HavePlaces}
 use Rattle.spans.proofs.page_map.blocks.Blocks.go_on.Given as goal

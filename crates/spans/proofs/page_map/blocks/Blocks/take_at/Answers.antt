@@ -1,5 +1,5 @@
-use Rattle.std.proofs.Common.{◌≡◌, ◌∙◌, ℕ, ◌+◌, ◌-◌, ◌<◌, ◌≤◌, ◌++◌, List, length, get_or, reverse, sym, ap, arith}
-use Rattle.spans.specs.Spans.{Span, value_at}
+use Rattle.std.proofs.Common.{◌≡◌, ◌∙◌, ℕ, ◌-◌, ◌<◌, ◌++◌, List, length, get_or, reverse, sym, ap, arith}
+use Rattle.spans.specs.Spans.{Span, end_of}
 use Rattle.spans.specs.Blocks.{BlocksView}
 use Rattle.spans.proofs.Lists.{long, get_or-front, get_or-back, set-front, set-back}
 use Rattle.std.proofs.Math.ListN.{set}
@@ -18,7 +18,7 @@ returns-then-place-front-clause-taken c =
     let was : (d : List Span) → get_or c.args.self.now.list c.args.place d ≡ c.index_mut.result.now = λ d.
     ap (λ (l : List (List Span)). get_or l c.args.place d) (sym list) ∙ get_or-front front back c.args.place d (omega (arith, c.if-place-front.true, c.len-front.ensures)) ∙ get_or_default front c.args.place d c.index_mut.result.now (omega (arith, c.if-place-front.true, c.len-front.ensures)) ∙ sym c.index_mut.ensures.value in
     let is : front ++ reverse back ≡ c.args.self.now.list = list in
-    is_taken_at c.args.zone.first c.args.zone.end c.args.value c.args.self.now.list c.args.place b c.index_mut.result.now (set front c.args.place b ++ reverse back) c.requires
+    is_taken_at c.args.run.first (end_of c.args.run) c.args.value c.args.self.now.list c.args.place b c.index_mut.result.now (set front c.args.place b ++ reverse back) c.requires
     (set-front front back c.args.place b (omega (arith, c.if-place-front.true, c.len-front.ensures)) ∙ ap (λ (m : List (List Span)). set m c.args.place b) list)
     (sym (was c.index_mut.result.now)) c.take_out.ensures
 
@@ -34,6 +34,6 @@ returns-else-place-front-clause-taken c =
     let was : (d : List Span) → get_or c.args.self.now.list c.args.place d ≡ c.index_mut-else-place-front.result.now = λ d.
     ap (λ (l : List (List Span)). get_or l c.args.place d) (sym list) ∙ get_or-back front back c.args.place d (omega (arith, c.if-place-front.false, c.len-front.ensures)) (omega (arith, lt, l)) ∙ ap (λ (k : ℕ). get_or back k d) (sym at) ∙ get_or_default back (c.len.result - 1 - (c.args.place - c.len-front.result)) d c.index_mut-else-place-front.result.now (omega (arith, c.len.ensures, l, lt, c.if-place-front.false, c.len-front.ensures)) ∙ sym c.index_mut-else-place-front.ensures.value in
     let is : front ++ reverse back ≡ c.args.self.now.list = list in
-    is_taken_at c.args.zone.first c.args.zone.end c.args.value c.args.self.now.list c.args.place b c.index_mut-else-place-front.result.now (front ++ reverse (set back (c.len.result - 1 - (c.args.place - c.len-front.result)) b)) c.requires
+    is_taken_at c.args.run.first (end_of c.args.run) c.args.value c.args.self.now.list c.args.place b c.index_mut-else-place-front.result.now (front ++ reverse (set back (c.len.result - 1 - (c.args.place - c.len-front.result)) b)) c.requires
     (ap (λ (k : ℕ). front ++ reverse (set back k b)) at ∙ set-back front back c.args.place b (omega (arith, c.if-place-front.false, c.len-front.ensures)) (omega (arith, lt, l)) ∙ ap (λ (m : List (List Span)). set m c.args.place b) list)
     (sym (was c.index_mut-else-place-front.result.now)) c.take_out-else-place-front.ensures

@@ -1,60 +1,23 @@
-use Rattle.std.proofs.Common.{◌≡◌, ◌∙◌, ℕ, ◌+◌, ◌-◌, ◌<◌, ◌≤◌, ◌++◌, true, List, length, get_or, take, drop, sym, ap, subst, arith}
-use Rattle.spans.specs.Spans.{Span, ascend}
-use Rattle.spans.specs.Blocks.{BlocksView, all_spans, AreFilled}
-use Rattle.spans.proofs.Blocks.{filled_but, without_none}
-use Rattle.spans.proofs.page_map.blocks.Blocks.tidy.Goals.{then-len-eq0, else-len-eq0}
+use Rattle.std.proofs.Common.{◌∙◌, ◌-◌, sym, ap, subst, arith}
+use Rattle.spans.specs.Spans.{ascend}
+use Rattle.spans.specs.Blocks.{AreFilled}
+use Rattle.spans.proofs.Blocks.{filled_both, later}
+use Rattle.spans.proofs.Dense.{settled-all}
 use Rattle.spans.proofs.page_map.blocks.Blocks.tidy.Goals as goal
 
-pub join-requires-clause-filled : goal.join-requires-clause-filled
-join-requires-clause-filled c =
-    let bs = c.args.self.now.list in
-    let i = c.args.place in
-    let d = c.block.result.now in
-    let at : d ≡ get_or bs i d = c.block.ensures.block d in
-    let long = ap length at in
-    filled_but bs i d c.requires.inside c.requires.before c.requires.behind (omega (arith, long, c.len.ensures.same, c.if-len-eq0.false), omega (arith, long, c.len.ensures.same, c.len.ensures.short))
+pub settle-requires-clause-ascending : goal.settle-requires-clause-ascending
+settle-requires-clause-ascending c = later 0 0 c.args.place c.args.self.now.list c.requires.ascending (omega arith)
 
-pub join-requires-then-place-gt0-clause-ascending : goal.join-requires-then-place-gt0-clause-ascending
-join-requires-then-place-gt0-clause-ascending c =
-    let bs = c.args.self.now.list in
-    let i = c.args.place in
-    let d = c.block.result.now in
-    let at : d ≡ get_or bs i d = c.block.ensures.block d in
-    let long = ap length at in
-    elim c.if-len-eq0.branch [
-      | then-len-eq0 w ↦
-          let on : i + 1 - 1 ≡ i = omega arith in
-          let same : all_spans c.if-len-eq0.self.list ≡ all_spans bs = ap (λ (v : BlocksView). all_spans v.list) w.self-is ∙ ap all_spans w.remove.ensures.list ∙ ap (λ (k : ℕ). all_spans (take k bs ++ drop (i + 1) bs)) on ∙ without_none bs i d c.requires.inside (omega (arith, long, c.len.ensures.same, w.if-len-eq0.true)) in
-          ap (ascend 0) same ∙ c.requires.ascending
-      | else-len-eq0 w ↦
-          let same : all_spans c.if-len-eq0.self.list ≡ all_spans bs = ap (λ (v : BlocksView). all_spans v.list) w.self-is ∙ w.join.ensures.spans in
-          ap (ascend 0) same ∙ c.requires.ascending
-    ]
+pub join-requires-clause-ascending : goal.join-requires-clause-ascending
+join-requires-clause-ascending c =
+    let new = c.settle.new.self.list in
+    later 0 0 (c.args.place - 1) new (ap (ascend 0) (settled-all c.args.place c.args.self.now.list new c.settle.ensures.settled) ∙ c.requires.ascending) (omega arith)
 
 pub returns-then-place-gt0-clause-spans : goal.returns-then-place-gt0-clause-spans
 returns-then-place-gt0-clause-spans c =
-    let bs = c.args.self.now.list in
-    let i = c.args.place in
-    let d = c.block.result.now in
-    let at : d ≡ get_or bs i d = c.block.ensures.block d in
-    let long = ap length at in
-    c.join-then-place-gt0.ensures.spans ∙ elim c.if-len-eq0.branch [
-      | then-len-eq0 w ↦
-          let on : i + 1 - 1 ≡ i = omega arith in
-          ap (λ (v : BlocksView). all_spans v.list) w.self-is ∙ ap all_spans w.remove.ensures.list ∙ ap (λ (k : ℕ). all_spans (take k bs ++ drop (i + 1) bs)) on ∙ without_none bs i d c.requires.inside (omega (arith, long, c.len.ensures.same, w.if-len-eq0.true))
-      | else-len-eq0 w ↦ ap (λ (v : BlocksView). all_spans v.list) w.self-is ∙ w.join.ensures.spans
-    ]
+    c.join.ensures.joined.spans 0 (omega (arith, c.if-place-gt0.true)) ∙ settled-all c.args.place c.args.self.now.list c.settle.new.self.list c.settle.ensures.settled
 
-pub returns-else-place-gt0-clause-spans : goal.returns-else-place-gt0-clause-spans
-returns-else-place-gt0-clause-spans c =
-    let bs = c.args.self.now.list in
-    let i = c.args.place in
-    let d = c.block.result.now in
-    let at : d ≡ get_or bs i d = c.block.ensures.block d in
-    let long = ap length at in
-    elim c.if-len-eq0.branch [
-      | then-len-eq0 w ↦
-          let on : i + 1 - 1 ≡ i = omega arith in
-          ap (λ (v : BlocksView). all_spans v.list) w.self-is ∙ ap all_spans w.remove.ensures.list ∙ ap (λ (k : ℕ). all_spans (take k bs ++ drop (i + 1) bs)) on ∙ without_none bs i d c.requires.inside (omega (arith, long, c.len.ensures.same, w.if-len-eq0.true))
-      | else-len-eq0 w ↦ ap (λ (v : BlocksView). all_spans v.list) w.self-is ∙ w.join.ensures.spans
-    ]
+pub returns-then-place-gt0-clause-filled : goal.returns-then-place-gt0-clause-filled
+returns-then-place-gt0-clause-filled c =
+    let s = c.settle.ensures.settled in
+    c.join.ensures.joined.filled 0 (omega (arith, c.if-place-gt0.true)) (filled_both c.args.place c.settle.new.self.list (subst AreFilled (sym s.before) c.requires.before) s.filled)

@@ -1,4 +1,4 @@
-use Rattle.std.proofs.Common.{ℕ, ◌-◌}
+use Rattle.std.proofs.Common.{◌-◌}
 use Rattle.spans.proofs.page_map.tests.Pair.compare.Given as goal
 
 abbrev pub decreases-loop-number : goal.decreases-loop-number

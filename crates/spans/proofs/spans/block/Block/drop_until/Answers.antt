@@ -1,9 +1,9 @@
-use Rattle.std.proofs.Common.{◌≡◌, ◌∙◌, ◌++◌, ℕ, true, List, drop, length, sym, ap, subst, arith}
-use Rattle.spans.specs.Spans.{Span, ascend, end_from}
+use Rattle.std.proofs.Common.{◌≡◌, ◌∙◌, List, drop, length, ap, arith}
+use Rattle.spans.specs.Spans.{Span, ascend}
 use Rattle.spans.specs.Search.{begins_at}
 use Rattle.spans.specs.Edits.{all_from}
 use Rattle.spans.proofs.Ascending.{far}
-use Rattle.spans.proofs.Gaps.{given_back}
+use Rattle.spans.proofs.Lists.{given_back}
 use Rattle.spans.proofs.Parting.{ascend-all_from, some_from, fewer_from}
 use Rattle.spans.proofs.spans.block.Block.drop_until.Goals as goal
 

@@ -1,10 +1,10 @@
 use Rattle.std.proofs.Common.{◌≡◌, ◌-◌, ◌<◌, ◌∙◌, ℕ, List, length, get_or, sym, ap, rules, arith}
 use Rattle.spans.specs.Spans.{Span, end_of, end_from}
-use Rattle.spans.proofs.Places.{end_from-last}
+use Rattle.spans.proofs.Ascending.{end_from-last}
 use Rattle.spans.proofs.spans.block.Block.end.Goals as goal
 
-pub returns : goal.returns
-returns c =
+pub returns-clause-same : goal.returns-clause-same
+returns-clause-same c =
     let ss = c.self.inside.spans.items in
     let some : 0 < length ss = search rules in
     let s = c.index-span.result.now in
