@@ -1,11 +1,7 @@
 -- Pages that each item of a list has alike.
-use Rattle.std.proofs.Common.{◌≡◌, ℕ, suc, ◌+◌, ◌<◌, ◌≤◌, Bool, true, false, cond, List, [], ◌∷◌, ◌++◌, length, get_or, Option, Some, None, find, refl, sym, ap, ap₂, ◌∙◌, arith, inl, inr}
-use Rattle.std.specs.Option.{option_map_or}
+use Rattle.std.proofs.Common.{◌≡◌, ℕ, suc, ◌+◌, ◌<◌, ◌≤◌, Bool, cond, List, [], ◌∷◌, length, get_or, Option, Some, None, find, refl, sym, ap, ap₂, ◌∙◌, arith, inl, inr}
 use Rattle.std.proofs.lemmas.Bool.{cases_lt}
 use Rattle.std.proofs.lemmas.List.{get_or_default}
-use Rattle.base.specs.Pages.{covers}
-use Rattle.base.specs.Ledger.{donation_at}
-use Rattle.base.specs.Transactions.{Donation}
 use Rattle.spans.specs.Alike.{IsAlikeUntil}
 use Rattle.audit.specs.Alike.{AreWhole}
 
@@ -37,16 +33,3 @@ module _ {A : Type 0} (has : A → ℕ → Bool) (items : List A) (i page end li
 
   pub find-until : IsAlikeUntil (λ n. find (λ x. has x n) items) page limit end
   find-until = record { behind = so.behind; inside = so.inside; alike = λ n le lt. find-same has items n page (each n le lt) }
-
--- ---- the last donation
-
-last_of : (b c : Bool) (d e : Donation) (o : Option Donation)
-    → option_map_or (λ (x : Donation). Some x) (cond c (Some e) o) (cond b (Some d) None) ≡ cond c (Some e) (option_map_or (λ (x : Donation). Some x) o (cond b (Some d) None))
-last_of b true d e o = refl
-last_of b false d e o = refl
-
-pub donation_at-append : (ds : List Donation) (e : Donation) (n : ℕ) → donation_at (ds ++ e ∷ []) n ≡ cond (covers e.ranges n) (Some e) (donation_at ds n)
-donation_at-append [] e n = refl
-donation_at-append (d ∷ ds) e n =
-    ap (λ (o : Option Donation). option_map_or (λ (x : Donation). Some x) o (cond (covers d.ranges n) (Some d) None)) (donation_at-append ds e n)
-    ∙ last_of (covers d.ranges n) (covers e.ranges n) d e (donation_at ds n)

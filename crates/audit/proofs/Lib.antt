@@ -8,7 +8,6 @@ pub mod FilledLines
 pub mod HexDigits
 pub mod LineText
 pub mod ListPlaces
-pub mod MaximalRuns
 pub mod OwnedRuns
 pub mod SameEntries
 pub mod SameTexts

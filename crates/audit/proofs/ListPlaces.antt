@@ -1,15 +1,15 @@
--- Places in lists, by page: of the last donation that covers it, and of the live transaction that does.
-use Rattle.std.proofs.Common.{◌≡◌, ℕ, zero, suc, ◌+◌, ◌<◌, Bool, true, false, cond, List, [], ◌∷◌, ◌++◌, length, take, get_or, Option, Some, None, refl, sym, ap, ◌∙◌, arith}
+-- Places in lists, by page: of the donation that has it, and of the live transaction that covers it.
+use Rattle.std.proofs.Common.{◌≡◌, ℕ, zero, suc, ◌+◌, ◌<◌, Bool, true, false, cond, List, [], ◌∷◌, ◌++◌, length, take, drop, get_or, Option, Some, None, refl, sym, ap, ◌∙◌, arith}
 use Rattle.std.specs.List.{slice_get, AllByRecursion}
-use Rattle.std.specs.Option.{option_or}
-use Rattle.std.proofs.lemmas.List.{take_more}
+use Rattle.std.specs.Option.{option_or, option_map}
+use Rattle.std.proofs.lemmas.List.{take_more, drop_more}
 use Rattle.std.proofs.lemmas.List.Folds.{find-append}
-use Rattle.base.specs.Pages.{covers}
+use Rattle.base.specs.Pages.{in_run, covers}
 use Rattle.base.specs.Ledger.{donation_at, live_at}
-use Rattle.base.specs.Transactions.{Donation, Live}
+use Rattle.base.specs.Transactions.{Gift, Donation, Live}
+use Rattle.base.proofs.MaximalRuns.{valued-first}
 use Rattle.rules.specs.Laws.OneOwner.{AreApart, AreAllApart}
-use Rattle.audit.specs.Alike.{at_place}
-use Rattle.audit.proofs.AlikePages.{donation_at-append}
+use Rattle.audit.specs.Alike.{at_place, gift_at}
 
 got : {A : Type 0} (items : List A) (i : ℕ) (x : A) → i < length items → x ≡ get_or items i x → slice_get items i ≡ Some x
 got [] i x lt is = absurd (omega arith)
@@ -23,19 +23,23 @@ at-cond items i x false place lt is = refl
 
 -- ---- donations
 
-donation-more : (ds : List Donation) (i n : ℕ) (d : Donation) → i < length ds → d ≡ get_or ds i d → donation_at (take (i + 1) ds) n ≡ cond (covers d.ranges n) (Some d) (donation_at (take i ds) n)
-donation-more ds i n d lt is =
-    let more : take (i + 1) ds ≡ take i ds ++ d ∷ [] = take_more ds i d lt ∙ ap (λ x. take i ds ++ x ∷ []) (sym is) in
-    ap (λ (t : List Donation). donation_at t n) more ∙ donation_at-append (take i ds) d n
+rest-of : (ds : List Donation) (i : ℕ) (d : Donation) → i < length ds → d ≡ get_or ds i d → drop i ds ≡ d ∷ drop (i + 1) ds
+rest-of ds i d lt is = drop_more ds i d lt ∙ ap (λ (x : Donation). x ∷ drop (i + 1) ds) (sym is)
 
--- with one donation more, a page that it covers has its place
+value-of : (b : Bool) (d : Donation) (o : Option Donation) → option_map (λ (x : Donation). x.value) (cond b (Some d) o) ≡ cond b (Some d.value) (option_map (λ (x : Donation). x.value) o)
+value-of true d o = refl
+value-of false d o = refl
+
+-- with one donation more in front, a page that it has has its place
 pub donation-placed : (ds : List Donation) (i n : ℕ) (d : Donation) (old new : Option ℕ) → i < length ds → d ≡ get_or ds i d
-    → donation_at (take i ds) n ≡ at_place ds old → new ≡ cond (covers d.ranges n) (Some i) old → donation_at (take (i + 1) ds) n ≡ at_place ds new
+    → donation_at (drop (i + 1) ds) n ≡ gift_at ds old → new ≡ cond (in_run d.run n) (Some i) old → donation_at (drop i ds) n ≡ gift_at ds new
 donation-placed ds i n d old new lt is so now =
-    donation-more ds i n d lt is
-    ∙ ap (λ o. cond (covers d.ranges n) (Some d) o) so
-    ∙ sym (at-cond ds i d (covers d.ranges n) old lt is)
-    ∙ ap (at_place ds) (sym now)
+    ap (λ (t : List Donation). donation_at t n) (rest-of ds i d lt is)
+    ∙ valued-first d (drop (i + 1) ds) n
+    ∙ ap (λ (o : Option Gift). cond (in_run d.run n) (Some d.value) o) so
+    ∙ sym (value-of (in_run d.run n) d (at_place ds old))
+    ∙ ap (option_map (λ (x : Donation). x.value)) (sym (at-cond ds i d (in_run d.run n) old lt is))
+    ∙ ap (gift_at ds) (sym now)
 
 -- ---- live transactions
 

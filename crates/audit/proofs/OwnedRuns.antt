@@ -2,9 +2,10 @@
 use Rattle.std.proofs.Common.{◌≡◌, ℕ, ◌<◌, ◌≤◌, true, eqb, List, Option, Some, None, refl, sym, ap, ◌∙◌, arith, eq-eqb}
 use Rattle.base.specs.Access.{is_same}
 use Rattle.base.proofs.Booleans.{and_true}
-use Rattle.audit.specs.Runs.{Ownership, OwnedRun, maximal_runs, is_same_ownership, with_owned}
+use Rattle.base.specs.Runs.{maximal_runs}
+use Rattle.audit.specs.Runs.{Ownership, OwnedRun, is_same_ownership, with_owned}
 use Rattle.audit.proofs.ReachedRuns.{same-self}
-use Rattle.audit.proofs.MaximalRuns.{none-until, some-until}
+use Rattle.base.proofs.MaximalRuns.{none-until, some-until}
 
 ownership-self : (o : Ownership) → is_same_ownership o o ≡ true
 ownership-self o = and_true (eqb o.owner o.owner) (is_same o.home o.home) (eq-eqb o.owner o.owner refl) (same-self o.home)

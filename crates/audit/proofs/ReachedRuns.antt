@@ -6,8 +6,9 @@ use Rattle.base.specs.Need.{is_mixed, is_reached}
 use Rattle.spans.specs.Alike.{IsAlikeUntil}
 use Rattle.stage2.proofs.Counting.Needs.{alike-self, equal-first}
 use Rattle.stage2.proofs.Editing.Gigabyte.{not-reached}
-use Rattle.audit.specs.Runs.{ReachedRun, maximal_runs, with_reached}
-use Rattle.audit.proofs.MaximalRuns.{none-until, some-until}
+use Rattle.base.specs.Runs.{maximal_runs}
+use Rattle.audit.specs.Runs.{ReachedRun, with_reached}
+use Rattle.base.proofs.MaximalRuns.{none-until, some-until}
 
 pub same-self : (a : Access) → is_same a a ≡ true
 same-self a = alike-self (Some a) a refl

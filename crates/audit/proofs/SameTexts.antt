@@ -5,7 +5,7 @@ use Rattle.base.specs.Access.{View, is_same}
 use Rattle.audit.specs.Entries.{TableEntry}
 use Rattle.audit.specs.Runs.{ReachedRun}
 use Rattle.audit.specs.Texts.{maps_header, maps_line, maps_text, tables_header, entry_line, tables_text}
-use Rattle.audit.proofs.MaximalRuns.{runs-same}
+use Rattle.base.proofs.MaximalRuns.{runs-same}
 use Rattle.audit.proofs.Quotas.{need-same}
 use Rattle.audit.proofs.SameEntries.{entries-same}
 

@@ -10,7 +10,8 @@ use Rattle.words.specs.Words.{entry_of}
 use Rattle.stage2.specs.Slot.{slot}
 use Rattle.stage2.specs.Tables.{TablesView, view_of}
 use Rattle.stage2.specs.Walk.{Gigabyte, Chunk, next_page, table_at}
-use Rattle.audit.specs.Runs.{ReachedRun, maximal_runs}
+use Rattle.base.specs.Runs.{maximal_runs}
+use Rattle.audit.specs.Runs.{ReachedRun}
 
 -- the pool page of the table that a word points at
 abbrev pub next_in : TablesView → ℕ → ℕ → ℕ → Option ℕ

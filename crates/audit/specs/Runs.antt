@@ -4,46 +4,12 @@ use Rattle.std.specs.Option.{option_map_or}
 use Rattle.base.specs.Access.{Access, View, is_same}
 use Rattle.base.specs.Ledger.{owner, home}
 use Rattle.base.specs.Manifest.{ManifestRows}
-use Rattle.base.specs.Pages.{PageRun}
+use Rattle.base.specs.Runs.{ValuedRun, valued, with_next, maximal_runs}
 use Rattle.base.specs.Transactions.{Donation}
-
--- pages in a row, and the value of each of them
-pub record ValuedRun (A : Type 0) : Type 0 where
-  pub run : PageRun
-  pub value : A
 
 -- pages that are reached alike
 abbrev pub ReachedRun : Type 0
 ReachedRun = ValuedRun Access
-
--- so many pages from one on, with a value
-abbrev pub valued : {A : Type 0} → ℕ → ℕ → A → ValuedRun A
-valued first count value = record { run = record { first = first; count = count }; value = value }
-
--- the next pages begin where these end, and have the same value
-abbrev pub is_followed_by : {A : Type 0} → (A → A → Bool) → ValuedRun A → ValuedRun A → Bool
-is_followed_by same run next =
-    (run.run.first + run.run.count == next.run.first) && same run.value next.value
-
--- the pages of both as one run
-abbrev pub joined : {A : Type 0} → ValuedRun A → ValuedRun A → ValuedRun A
-joined run next = valued run.run.first (run.run.count + next.run.count) run.value
-
--- these runs and the next pages, which join the last run where they follow it with the same value
-unfoldable pub with_next : {A : Type 0} → (A → A → Bool) → List (ValuedRun A) → ValuedRun A
-    → List (ValuedRun A)
-with_next same [] next = next ∷ []
-with_next same (run ∷ []) next =
-    if is_followed_by same run next then joined run next ∷ [] else run ∷ next ∷ []
-with_next same (run ∷ other ∷ runs) next = run ∷ with_next same (other ∷ runs) next
-
--- the maximal runs of one value among the first pages, upward; a page that has no value is in none
-unfoldable pub maximal_runs : {A : Type 0} → (A → A → Bool) → (ℕ → Option A) → ℕ
-    → List (ValuedRun A)
-maximal_runs same value zero = []
-maximal_runs same value (suc n) =
-    option_map_or (λ a. with_next same (maximal_runs same value n) (valued n 1 a)) (value n)
-    (maximal_runs same value n)
 
 -- the maximal runs of all pages that are reached alike
 abbrev pub reached_runs : (ℕ → View) → List (ValuedRun Access)

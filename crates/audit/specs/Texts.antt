@@ -8,7 +8,8 @@ use Rattle.base.specs.Need.{need}
 use Rattle.words.specs.Words.{leaf_word_of}
 use Rattle.audit.specs.Entries.{TableEntry, entries}
 use Rattle.base.specs.Transactions.{Donation}
-use Rattle.audit.specs.Runs.{ValuedRun, Ownership, OwnedRun, reached_runs, owned_runs}
+use Rattle.base.specs.Runs.{ValuedRun}
+use Rattle.audit.specs.Runs.{Ownership, OwnedRun, reached_runs, owned_runs}
 
 -- ---- words and numbers
 

@@ -3,12 +3,11 @@
 ghost use Rattle.std.specs.Prelude.{◌≡◌, ◌<◌, ◌≤◌, ◌^◌, ℕ};
 ghost use Rattle.std.specs.List.{find};
 ghost use Rattle.std.specs.Option.{option_map};
-ghost use Rattle.base.specs.Access.{is_same};
 ghost use Rattle.base.specs.Manifest as rows;
 ghost use Rattle.base.specs.Pages.{in_run};
 ghost use Rattle.spans.specs.Alike.{IsAlikeUntil};
 
-use base::{Access, Page};
+use base::Page;
 use manifest::{Manifest, Region};
 use spans::run_until;
 
@@ -37,11 +36,4 @@ fn regions_until(regions: &[Region], page: Page, limit: u32) -> u32
         end = run_until(region.pages(), page, end);
     }
     end
-}
-
-/// Whether the two are alike in rights, execution and kind.
-pub(crate) fn is_same(a: Access, b: Access) -> bool
-    ensures { result ≡ is_same a b }
-{
-    a.rights() == b.rights() && a.is_executable() == b.is_executable() && a.kind() == b.kind()
 }

@@ -31,7 +31,8 @@ pub fn audit_text<M: TableMem + Drop>(
     ensures { IfOk result (λ text. spec.IsAuditText (string_bytes text)
         (spec.HaveEntriesOf manifest.now ledger.now.donations ledger.now.live tables.now)) }
 {
-    let rebuilt = rebuilt::<RawPool>(alloc, manifest, ledger.donations(), ledger.live())?;
+    let donations = ledger.donations(alloc)?;
+    let rebuilt = rebuilt::<RawPool>(alloc, manifest, &donations, ledger.live())?;
     let same = have_same_entries(alloc, manifest, tables, &rebuilt)?;
     let mut text = String::new(alloc);
     if same {

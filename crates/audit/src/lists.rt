@@ -22,8 +22,8 @@ pub(crate) struct Stretch {
     pub(crate) end: u32,
 }
 
-/// The lists of a state, and maps from a page to the place of the last donation that covers it, and of the live
-/// transaction that does.
+/// The lists of a state, and maps from a page to the place of the donation that has it, and of the live transaction
+/// that covers it.
 #[derive(Drop)]
 pub(crate) struct Lists<'a> {
     manifest: &'a Manifest,
@@ -32,19 +32,22 @@ pub(crate) struct Lists<'a> {
     given: PageMap,
     shared: PageMap,
     ghost donations_placed: { (n : ℕ) → rules.donation_at donations.now n
-        ≡ spec.at_place donations.now (value_at given.spans n) },
+        ≡ spec.gift_at donations.now (value_at given.spans n) },
     ghost live_placed: { (n : ℕ) → rules.live_at live.now n
         ≡ spec.at_place live.now (value_at shared.spans n) },
 }
 
-/// A map from pages to the places of the last donations that cover them.
+/// A map from pages to the places of the donations that have them.
 fn places_of_donations(alloc: Global, donations: &[Donation]) -> Result<PageMap, OutOfMemory>
     ensures { IfOk result (λ places. (n : ℕ) → rules.donation_at donations.now n
-        ≡ spec.at_place donations.now (value_at places.spans n)) }
+        ≡ spec.gift_at donations.now (value_at places.spans n)) }
 {
     let mut places = PageMap::new(alloc);
-    for (place, donation) in donations.iter().enumerate() {
-        places.put_all(&donation.ranges, place as u64)?;
+    let mut left = donations.len();
+    while 0 < left {
+        left -= 1;
+        let donation = donations[left];
+        places.put(donation.pages, left as u64)?;
     }
     Ok(places)
 }
@@ -108,7 +111,7 @@ impl<'a> Lists<'a> {
 
     /// The donation at a place.
     fn donation(&self, place: Option<u64>) -> Option<&Donation>
-        ensures { option_map (λ d. d.now) result ≡ spec.at_place self.now.donations.now place }
+        ensures { option_map (λ d. d.now.value) result ≡ spec.gift_at self.now.donations.now place }
     {
         self.donations.get(place? as usize)
     }
@@ -129,7 +132,7 @@ fn view_by(
     transaction: Option<&Live>,
 ) -> Option<Access>
     ensures { result ≡ spec.view_by p (option_map (λ r. r.now) region.entry)
-        (option_map (λ d. d.now) donation.entry) (option_map (λ t. t.now) transaction.entry) }
+        (option_map (λ d. d.now.value) donation.entry) (option_map (λ t. t.now) transaction.entry) }
 {
     match transaction {
         Some(transaction) => view_under(transaction, home_by(region, donation), p),
@@ -144,7 +147,7 @@ fn settled_by(
     donation: Option<&Donation>,
 ) -> Option<Access>
     ensures { result ≡ spec.settled_by p (option_map (λ r. r.now) region.entry)
-        (option_map (λ d. d.now) donation.entry) }
+        (option_map (λ d. d.now.value) donation.entry) }
 {
     match donation {
         Some(donation) => {
@@ -161,7 +164,7 @@ fn settled_by(
 /// What a page is to its owner.
 fn home_by(region: Option<&Region>, donation: Option<&Donation>) -> Option<Access>
     ensures { result ≡ spec.home_by (option_map (λ r. r.now) region.entry)
-        (option_map (λ d. d.now) donation.entry) }
+        (option_map (λ d. d.now.value) donation.entry) }
 {
     match donation {
         Some(donation) => Some(donation.access),

@@ -2,11 +2,12 @@
 
 ghost use Rattle.std.specs.Prelude.{◌≡◌, ◌++◌, ℕ, ◌<◌, ◌≤◌, ◌^◌, true, length, codes, IfOk, OnOk, string_bytes};
 ghost use Rattle.std.specs.Str.{IsUtf8};
+ghost use Rattle.base.specs.Runs as maximal;
 ghost use Rattle.audit.specs.Runs as runs;
 ghost use Rattle.audit.specs.Runs.{ownership, ownership_of, is_same_ownership};
 ghost use Rattle.audit.specs.Texts as spec;
 
-use crate::alike::{is_same, region_until};
+use crate::alike::region_until;
 use crate::digits::{fill_digits, push_decimal};
 use crate::text::{push_access, push_extent};
 use base::{Access, OutOfMemory, Page, PartitionId, Run};
@@ -46,7 +47,7 @@ impl Ownership {
     fn is_same(self, other: Self) -> bool
         ensures { result ≡ is_same_ownership self other }
     {
-        self.owner == other.owner && is_same(self.home, other.home)
+        self.owner == other.owner && self.home.is_same(other.home)
     }
 }
 
@@ -70,15 +71,15 @@ impl Model for Owned {
 impl Owned {
     /// Whether the next pages begin where these end, and have the same owner and home.
     fn is_followed_by(self, next: Self) -> bool
-        ensures { result ≡ runs.is_followed_by is_same_ownership self next }
+        ensures { result ≡ maximal.is_followed_by is_same_ownership self next }
     {
         self.run.end() == next.run.first().number() && self.ownership.is_same(next.ownership)
     }
 
     /// These pages and the next, which follow them.
     fn joined(self, next: Self) -> Self
-        requires { runs.is_followed_by is_same_ownership self next ≡ true }
-        ensures { result ≡ runs.joined self next }
+        requires { maximal.is_followed_by is_same_ownership self next ≡ true }
+        ensures { result ≡ maximal.joined self next }
     {
         Owned {
             run: Run::new(self.run.first(), self.run.count() + next.run.count()),
@@ -199,7 +200,7 @@ fn push_pages(
 /// Appends pages, to the last run where they follow it with the same owner and home.
 fn push_run(found: &mut Vec<Owned>, next: Owned) -> Result<(), OutOfMemory>
     ensures { OnOk result
-        (found.new.items ≡ runs.with_next is_same_ownership found.old.items next) }
+        (found.new.items ≡ maximal.with_next is_same_ownership found.old.items next) }
 {
     match found.last() {
         Some(last) if last.is_followed_by(next) => {

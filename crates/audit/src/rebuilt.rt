@@ -1,4 +1,4 @@
-//! Tables that are made again from the manifest, the completed donations and the live transactions.
+//! Tables that are made again from the manifest, what donations have left and the live transactions.
 //!
 //! Of each partition the maximal runs of pages that it reaches alike are mapped upward. So each table
 //! on the way is one that the views need in the end, and no quota is passed.
@@ -14,7 +14,6 @@ ghost use Rattle.stage2.specs.declared.walked.Walked.TheVariants.{None as Unmapp
 ghost use Rattle.audit.specs.Filling as spec;
 ghost use Rattle.audit.specs.Laws.{AreOfReached};
 
-use crate::alike::is_same;
 use crate::lists::{Lists, Stretch};
 use base::{Access, OutOfMemory, Page, PartitionId, Run};
 use ledger::{Donation, Live};
@@ -23,7 +22,7 @@ use pool::{ListPool, TableMem};
 use stage2::Tables;
 use std::alloc::Global;
 
-/// Tables that give each partition what the manifest, the completed donations and the live transactions
+/// Tables that give each partition what the manifest, what donations have left and the live transactions
 /// say. These are the lists of a state that some list of calls leads to.
 pub fn rebuild(
     alloc: Global,
@@ -100,7 +99,7 @@ fn is_alike(a: &Option<Access>, b: &Option<Access>) -> bool
 {
     match (a, b) {
         (None, None) => true,
-        (Some(a), Some(b)) => is_same(*a, *b),
+        (Some(a), Some(b)) => a.is_same(*b),
         _ => false,
     }
 }

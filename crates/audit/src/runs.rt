@@ -5,13 +5,13 @@
 
 ghost use Rattle.std.specs.Prelude.{◌≡◌, ◌<◌, ◌≤◌, ◌+◌, ◌*◌, ◌/◌, ◌^◌, false, true, IfOk, OnOk};
 ghost use Rattle.base.specs.Access.{is_same};
+ghost use Rattle.base.specs.Runs as maximal;
 ghost use Rattle.spans.specs.Alike.{IsAlikeUntil};
 ghost use Rattle.stage2.specs.Slot.{layout_of};
 ghost use Rattle.stage2.specs.Tables.{view_of};
 ghost use Rattle.audit.specs.Reads as reads;
 ghost use Rattle.audit.specs.Runs as runs;
 
-use crate::alike::is_same;
 use crate::entries::{CHUNK, WORDS, chunk_word, leaf_at, level2_table, level3_table, page_word};
 use base::{Access, OutOfMemory, Page, PartitionId, Run};
 use manifest::Manifest;
@@ -57,15 +57,15 @@ impl Reached {
 
     /// Whether the next pages begin where these end, and are reached alike.
     fn is_followed_by(self, next: Self) -> bool
-        ensures { result ≡ runs.is_followed_by is_same self next }
+        ensures { result ≡ maximal.is_followed_by is_same self next }
     {
-        self.run.end() == next.run.first().number() && is_same(self.access, next.access)
+        self.run.end() == next.run.first().number() && self.access.is_same(next.access)
     }
 
     /// These pages and the next, which follow them.
     fn joined(self, next: Self) -> Self
-        requires { runs.is_followed_by is_same self next ≡ true }
-        ensures { result ≡ runs.joined self next }
+        requires { maximal.is_followed_by is_same self next ≡ true }
+        ensures { result ≡ maximal.joined self next }
     {
         Reached {
             run: Run::new(self.run.first(), self.run.count() + next.run.count()),
@@ -268,7 +268,7 @@ fn push_leaf(
 
 /// Appends pages, to the last run where they follow it and are reached alike.
 fn push_run(found: &mut Vec<Reached>, next: Reached) -> Result<(), OutOfMemory>
-    ensures { OnOk result (found.new.items ≡ runs.with_next is_same found.old.items next) }
+    ensures { OnOk result (found.new.items ≡ maximal.with_next is_same found.old.items next) }
 {
     match found.last() {
         Some(last) if last.is_followed_by(next) => {

@@ -64,7 +64,7 @@ fn writes_tables(rt: HostRuntime) -> Result<(), Fail> {
 fn writes_owners(rt: HostRuntime) -> Result<(), Fail> {
     let alloc = rt.alloc();
     let manifest = common_manifest(alloc)?;
-    let ledger = Ledger::new(alloc, common_manifest(alloc)?);
+    let ledger = Ledger::new(alloc, common_manifest(alloc)?)?;
     let text = owners_text(alloc, &manifest, &ledger)?;
     let wanted = "owners 7\n\
         0009000000 1 8001 rw- device\n\
@@ -84,7 +84,7 @@ fn writes_owners(rt: HostRuntime) -> Result<(), Fail> {
 fn writes_owners_outside_all_regions(rt: HostRuntime) -> Result<(), Fail> {
     let alloc = rt.alloc();
     let manifest = common_manifest(alloc)?;
-    let mut ledger = Ledger::new(alloc, common_manifest(alloc)?);
+    let mut ledger = Ledger::new(alloc, common_manifest(alloc)?)?;
     let half = Page::COUNT / 2;
     donate(&mut ledger, alloc, Run::new(Page::new(half), half))?;
     let wanted = "owners 8\n\
@@ -122,7 +122,7 @@ fn donate(ledger: &mut Ledger, alloc: Global, run: Run) -> Result<(), OutOfMemor
     open(ledger, Live { handle, terms })?;
     if let Some(transaction) = ledger.find(handle) {
         let runs = transaction.terms.ranges.len();
-        ledger.ready(runs)?;
+        ledger.ready_to_retrieve(runs)?;
         ledger.retrieve(PartitionId::new(0x8002), handle, data);
     }
     Ok(())
@@ -132,7 +132,7 @@ fn donate(ledger: &mut Ledger, alloc: Global, run: Run) -> Result<(), OutOfMemor
 fn open(ledger: &mut Ledger, transaction: Live) -> Result<(), OutOfMemory>
     ensures { OnOk result (ledger.new.manifest ≡ ledger.old.manifest) }
 {
-    ledger.ready(transaction.terms.ranges.len())?;
+    ledger.ready_to_open(transaction.terms.ranges.len())?;
     let named = transaction.handle.high() == u32::from(transaction.terms.sender.number());
     if named && ledger.live().is_empty() {
         ledger.open(transaction);
@@ -159,7 +159,7 @@ fn writes_headers_of_a_stranger(rt: HostRuntime) -> Result<(), Fail> {
 fn audits_boot(rt: HostRuntime) -> Result<(), Fail> {
     let alloc = rt.alloc();
     let manifest = common_manifest(alloc)?;
-    let ledger = Ledger::new(alloc, common_manifest(alloc)?);
+    let ledger = Ledger::new(alloc, common_manifest(alloc)?)?;
     let booted: Tables<ListPool> = Tables::boot(alloc, &manifest)?;
     let empty: Tables<ListPool> = Tables::empty(alloc, &manifest)?;
     let equal = audit_boot(alloc, &manifest, &booted, &ledger)?;

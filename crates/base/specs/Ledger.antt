@@ -1,39 +1,38 @@
 -- Who owns a page, what it is to its owner, and what each partition reaches of it.
-use Rattle.std.specs.Prelude.{ℕ, Bool, false, ◌&&◌, ◌==◌, not, if◌then◌else◌, List, [], ◌∷◌, Option, Some, None, is_some}
+use Rattle.std.specs.Prelude.{ℕ, Bool, false, ◌&&◌, ◌==◌, not, if◌then◌else◌, List, ◌++◌, map, Option, Some, None, is_some}
 use Rattle.std.specs.List.{find}
 use Rattle.std.specs.Option.{option_map, option_and_then, option_map_or}
 use Rattle.base.specs.declared.transaction.Kind.{Kind}
 use Rattle.base.specs.declared.transaction.Kind.TheVariants.{Share, Lend, Donate}
-use Rattle.base.specs.Pages.{covers}
-use Rattle.base.specs.Access.{View}
-use Rattle.base.specs.Manifest.{ManifestRows, region_at, granted_in, grant, is_sharable}
-use Rattle.base.specs.Transactions.{Receiver, Live, Donation}
+use Rattle.base.specs.Pages.{PageRun, covers}
+use Rattle.base.specs.Access.{View, is_reached_with}
+use Rattle.base.specs.Manifest.{ManifestRows, RegionRow, region_at, granted_in, grant, is_sharable}
+use Rattle.base.specs.Runs.{maximal_runs, valued_at, end_of_all}
+use Rattle.base.specs.Transactions.{Receiver, Live, Gift, Donation, is_same_gift}
 
 -- the live transaction that covers a page
 abbrev pub live_at : List Live → ℕ → Option Live
 live_at live n = find (λ t. covers t.ranges n) live
 
--- the last donation that covers a page
-abbrev pub donation_at : List Donation → ℕ → Option Donation
-donation_at [] n = None
-donation_at (d ∷ ds) n =
-    option_map_or Some (donation_at ds n) (if covers d.ranges n then Some d else None)
+-- what the donations have left of a page
+abbrev pub donation_at : List Donation → ℕ → Option Gift
+donation_at ds n = valued_at ds n
 
--- the taker of the last donation that covers the page, else the manifest's owner
+-- the taker of the donation that has the page, else the manifest's owner
 abbrev pub owner : ManifestRows → List Donation → ℕ → Option ℕ
 owner m ds n =
-    option_map_or (λ d. Some d.taker) (donation_at ds n) (option_map (λ r. r.owner) (region_at m n))
+    option_map_or (λ g. Some g.taker) (donation_at ds n) (option_map (λ r. r.owner) (region_at m n))
 
 -- the access of that donation, else the owner's grant
 abbrev pub home : ManifestRows → List Donation → ℕ → View
 home m ds n =
-    option_map_or (λ d. Some d.access) (donation_at ds n)
+    option_map_or (λ g. Some g.access) (donation_at ds n)
     (option_and_then (λ r. granted_in r r.owner) (region_at m n))
 
--- what a partition reaches of a page that no live transaction covers: where a donation covers it the owner has the home and all others nothing, else the manifest's grants decide
+-- what a partition reaches of a page that no live transaction covers: where a donation has it the owner has the home and all others nothing, else the manifest's grants decide
 abbrev pub settled_view : ManifestRows → List Donation → ℕ → ℕ → View
 settled_view m ds p n =
-    option_map_or (λ d. if d.taker == p then Some d.access else None) (donation_at ds n)
+    option_map_or (λ g. if g.taker == p then Some g.access else None) (donation_at ds n)
     (grant m p n)
 
 -- what a partition has retrieved as one of these receivers
@@ -65,3 +64,24 @@ is_idle m ds live p n =
     is_owner m ds p n
     && option_map_or is_sharable (region_at m n) false
     && not (is_some (live_at live n))
+
+-- ---- a donation is retrieved
+
+-- the region says the same of its pages: its owner alone reaches them, with this access
+unfoldable pub is_granted_in : Option RegionRow → Gift → Bool
+is_granted_in None g = false
+is_granted_in (Some r) g =
+    is_sharable r && (r.owner == g.taker) && is_reached_with g.access (granted_in r r.owner)
+
+-- what a donation leaves of one of its pages: nothing where the page has come back as the manifest has it
+abbrev pub left_of : ManifestRows → Gift → ℕ → Option Gift
+left_of m g n = if is_granted_in (region_at m n) g then None else Some g
+
+-- what donations have left of a page after one of these runs
+abbrev pub left_after : ManifestRows → List PageRun → Gift → List Donation → ℕ → Option Gift
+left_after m runs g ds n = if covers runs n then left_of m g n else donation_at ds n
+
+-- what donations have left after one of these runs, as maximal runs, upward
+unfoldable pub with_donation_of : ManifestRows → List PageRun → Gift → List Donation → List Donation
+with_donation_of m runs g ds =
+    maximal_runs is_same_gift (left_after m runs g ds) (end_of_all (runs ++ map (λ d. d.run) ds))

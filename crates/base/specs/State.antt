@@ -17,6 +17,7 @@ pub record PartitionState : Type 0 where
   pub version : Version
   pub sends : ℕ
 
+-- what donations have left stands upward, as maximal runs: the pages whose owner, or what they are to it, is not as the manifest has it
 pub record State : Type 0 where
   pub manifest : ManifestRows
   pub donations : List Donation

@@ -1,10 +1,11 @@
--- Live transactions and completed donations as data (FF-A 1.1, "Memory management").
-use Rattle.std.specs.Prelude.{ℕ, ◌==◌, ◌<◌, nat_lt, List, [], ◌∷◌, if◌then◌else◌}
+-- Live transactions, and what completed donations have left, as data (FF-A 1.1, "Memory management").
+use Rattle.std.specs.Prelude.{ℕ, ◌==◌, ◌<◌, ◌&&◌, Bool, nat_lt, List, [], ◌∷◌, if◌then◌else◌}
 use Rattle.std.specs.List.{AllByRecursion}
 use Rattle.base.specs.declared.access.Rights.{Rights}
 use Rattle.base.specs.declared.transaction.Kind.{Kind}
 use Rattle.base.specs.Pages.{PageRun}
-use Rattle.base.specs.Access.{Access, View}
+use Rattle.base.specs.Access.{Access, View, is_same}
+use Rattle.base.specs.Runs.{ValuedRun}
 
 -- a receiver, the most that it may retrieve, and what it has retrieved
 pub record Receiver : Type 0 where
@@ -22,12 +23,17 @@ pub record Live : Type 0 where
   pub receivers : List Receiver
   pub home : Access
 
--- a donation that was retrieved: these pages have a new owner
-pub record Donation : Type 0 where
-  pub ranges : List PageRun
-  pub giver : ℕ
+-- what a donation that was retrieved gives: the new owner of its pages, and what they are to it
+pub record Gift : Type 0 where
   pub taker : ℕ
   pub access : Access
+
+abbrev pub is_same_gift : Gift → Gift → Bool
+is_same_gift a b = (a.taker == b.taker) && is_same a.access b.access
+
+-- pages that donations have left with this owner, to which they are this
+abbrev pub Donation : Type 0
+Donation = ValuedRun Gift
 
 -- they stand in ascending order of their handles
 abbrev pub AreAscending : List Live → Type 0
@@ -60,6 +66,6 @@ with_retrieval_of h p view [] = []
 with_retrieval_of h p view (t ∷ ts) =
     if t.handle == h then with_retrieval p view t ∷ ts else t ∷ with_retrieval_of h p view ts
 
--- the donation that a retrieval of the transaction completes
-abbrev pub completed : ℕ → Access → Live → Donation
-completed p access t = record { ranges = t.ranges; giver = t.sender; taker = p; access = access }
+-- what a partition is given that retrieves a donation with this access
+abbrev pub gift : ℕ → Access → Gift
+gift p access = record { taker = p; access = access }

@@ -42,7 +42,7 @@ impl Model for Access {
 }
 
 impl Access {
-    ghost use Rattle.base.specs.Access.{IsLegal};
+    ghost use Rattle.base.specs.Access.{IsLegal, is_same};
 
     /// Access to normal memory.
     pub fn normal(rights: Rights, exec: bool) -> Self
@@ -88,6 +88,14 @@ impl Access {
         ensures legal { IsLegal self }
     {
         self.kind
+    }
+
+    /// Whether the two are alike in data access, instruction access and kind.
+    pub fn is_same(self, other: Self) -> bool
+        ensures { result ≡ is_same self other }
+    {
+        let rights = self.rights == other.rights;
+        rights && self.exec == other.exec && self.kind == other.kind
     }
 
     /// The same kind of memory with this data access, where instructions may be fetched or not. They

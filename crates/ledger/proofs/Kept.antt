@@ -16,11 +16,9 @@ use Rattle.spans.specs.Spans.{Span, value_at}
 use Rattle.spans.specs.Taking.{has_number}
 use Rattle.base.proofs.Ascending.{all_with}
 use Rattle.ledger.specs.Ledger.{found, NamesItsSender}
-use Rattle.ledger.specs.Gifts.{gift, gift_of}
 use Rattle.ledger.specs.Changes.{with_live, with_retrieval, with_retrieval_of, without}
 use Rattle.ledger.specs.Intervals.{AreAllSeparate, AreHandles, AreGifts, IsKept}
 use Rattle.ledger.proofs.Transactions.{AreHandles-open, AreAllSeparate-open, AreHandles-close, has_handle, no_number, AreAllSeparate-without, AreHandles-retrieval, AreAllSeparate-retrieval, AllByRecursion-without, named-retrieval}
-use Rattle.ledger.proofs.Donations.{AreGifts-more}
 use Rattle.ledger.proofs.Places.{IsPlace}
 
 -- ---- one more transaction
@@ -115,24 +113,10 @@ IsKept-retrieval m ds live next given shared h p view kept items = record {
   named = subst (AllByRecursion NamesItsSender) (sym items) (named-retrieval live h p view kept.named);
 }
 
--- ---- one more donation
+-- ---- a donation is completed
 
-pub IsKept-complete : (m : ManifestRows) (ds next : List Donation) (live : List Live) (given shared new : List Span) (e : Donation) (runs : List PageRun) (k : ℕ) → IsKept m ds live given shared → gift_of k ≡ gift e → runs ≡ e.ranges
-    → ((n : ℕ) → value_at new n ≡ cond (covers runs n) (Some k) (value_at given n)) → next ≡ ds ++ e ∷ [] → IsKept m next live new shared
-IsKept-complete m ds next live given shared new e runs k kept spells runs_are at items =
-    let put : (n : ℕ) → value_at new n ≡ cond (covers e.ranges n) (Some k) (value_at given n) =
-    λ n. at n ∙ ap (λ (rs : List PageRun). cond (covers rs n) (Some k) (value_at given n)) runs_are in
-    record {
-      gifts = subst (λ (l : List Donation). AreGifts m l new) (sym items) (AreGifts-more m ds e k given new kept.gifts spells put);
-      handles = kept.handles;
-      separate = kept.separate;
-      named = kept.named;
-    }
-
--- ---- pages get the number of what is said of them
-
-pub IsKept-numbered : (m : ManifestRows) (ds : List Donation) (live : List Live) (given shared new : List Span) → IsKept m ds live given shared → AreGifts m ds new → IsKept m ds live new shared
-IsKept-numbered m ds live given shared new kept are = record {
+pub IsKept-given : (m : ManifestRows) (ds next : List Donation) (live : List Live) (given shared new : List Span) → IsKept m ds live given shared → AreGifts m next new → IsKept m next live new shared
+IsKept-given m ds next live given shared new kept are = record {
   gifts = are;
   handles = kept.handles;
   separate = kept.separate;

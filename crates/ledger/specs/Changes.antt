@@ -1,21 +1,22 @@
--- How the lists change (FF-A 1.1, "Memory management").
-use Rattle.std.specs.Prelude.{ℕ, List, [], ◌∷◌, ◌++◌, Option, Some, None}
+-- How what is shared, and what donations have left, change (FF-A 1.1, "Memory management").
+use Rattle.std.specs.Prelude.{ℕ, List, Option, Some, None}
 use Rattle.base.specs.declared.transaction.Kind.{Kind}
 use Rattle.base.specs.declared.transaction.Kind.TheVariants.{Share, Lend, Donate}
 use Rattle.base.specs.Access.{Access}
+use Rattle.base.specs.Ledger.{with_donation_of}
+use Rattle.base.specs.Manifest.{ManifestRows}
 use Rattle.base.specs.Transactions.{Live, Donation}
-pub use Rattle.base.specs.Transactions.{with_live, without, with_retrieved, with_retrieval, with_retrieval_of, completed}
+pub use Rattle.base.specs.Transactions.{with_live, without, with_retrieved, with_retrieval, with_retrieval_of, gift}
 
--- the donations that a retrieval of the transaction completes
-abbrev pub completed_by : ℕ → Access → Live → Kind → List Donation
-completed_by p access t Share = []
-completed_by p access t Lend = []
-completed_by p access t Donate = completed p access t ∷ []
+abbrev pub donations_after_kind : ManifestRows → ℕ → Access → Live → Kind → List Donation → List Donation
+donations_after_kind m p access t Share ds = ds
+donations_after_kind m p access t Lend ds = ds
+donations_after_kind m p access t Donate ds = with_donation_of m t.ranges (gift p access) ds
 
--- the donations after a retrieval of this transaction
-abbrev pub donations_after : ℕ → Access → Option Live → List Donation → List Donation
-donations_after p access None donations = donations
-donations_after p access (Some t) donations = donations ++ completed_by p access t t.kind
+-- what donations have left after a retrieval of this transaction
+abbrev pub donations_after : ManifestRows → ℕ → Access → Option Live → List Donation → List Donation
+donations_after m p access None ds = ds
+donations_after m p access (Some t) ds = donations_after_kind m p access t t.kind ds
 
 abbrev pub live_after_kind : ℕ → ℕ → Access → Kind → List Live → List Live
 live_after_kind h p access Share live = with_retrieval_of h p (Some access) live

@@ -1,18 +1,15 @@
--- What a donation gives, the number that spells it, and what that says of a page.
-use Rattle.std.specs.Prelude.{◌≡◌, ℕ, List, Option, Some, ◌/◌, ◌%◌, ◌^◌, Bool, true, false, ◌==◌, if◌then◌else◌}
+-- The number that spells an owner and a home, what it says of a page, and what donations have left by the numbers of pages.
+use Rattle.std.specs.Prelude.{◌≡◌, ℕ, List, map, Option, Some, ◌-◌, ◌/◌, ◌%◌, ◌^◌, Bool, true, false, ◌==◌, if◌then◌else◌}
 use Rattle.base.specs.declared.access.Rights.{Rights}
 use Rattle.base.specs.declared.access.Rights.TheVariants.{Ro, Rw}
 use Rattle.base.specs.declared.access.MemoryKind.TheVariants.{Normal, Device}
 use Rattle.std.specs.Option.{option_map, option_map_or, option_and_then}
 use Rattle.base.specs.Access.{Access, View}
-use Rattle.base.specs.Ledger.{owner, home}
+use Rattle.base.specs.Ledger.{owner, home, left_of}
 use Rattle.base.specs.Manifest.{ManifestRows, RegionRow, region_at, granted_in}
-use Rattle.base.specs.Transactions.{Donation}
-use Rattle.ledger.specs.declared.gift.Gift.{Gift}
-
--- what a donation gives
-abbrev pub gift : Donation → Gift
-gift d = record { taker = d.taker; access = d.access }
+use Rattle.base.specs.Runs.{valued, with_next, maximal_runs, end_of_all}
+use Rattle.base.specs.Transactions.{Gift, Donation, is_same_gift}
+use Rattle.spans.specs.Spans.{Span, value_at}
 
 -- access to normal memory
 abbrev pub normal : Rights → Bool → Access
@@ -49,3 +46,20 @@ home_by gift region =
 pub record Says (m : ManifestRows) (donations : List Donation) (n : ℕ) (gift : Option Gift) : Type 0 where
   pub owner : owner m donations n ≡ owner_by gift (region_at m n)
   pub home : home m donations n ≡ home_by gift (region_at m n)
+
+-- what the number of a page says that the manifest does not
+abbrev pub left_by : ManifestRows → Option ℕ → ℕ → Option Gift
+left_by m number n = option_and_then (λ k. left_of m (gift_of k) n) number
+
+-- the same of each page, by the intervals of numbers
+abbrev pub left_at : ManifestRows → List Span → ℕ → Option Gift
+left_at m given n = left_by m (value_at given n) n
+
+-- what donations have left, as maximal runs, upward
+unfoldable pub left : ManifestRows → List Span → List Donation
+left m given = maximal_runs is_same_gift (left_at m given) (end_of_all (map (λ s. s.run) given))
+
+-- these runs and the pages from one up to another, where something is left of them
+abbrev pub with_left : List Donation → ℕ → ℕ → Option Gift → List Donation
+with_left ds first end gift =
+    option_map_or (λ g. with_next is_same_gift ds (valued first (end - first) g)) gift ds

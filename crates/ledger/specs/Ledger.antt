@@ -6,26 +6,27 @@ use Rattle.base.specs.Handles.{high_half}
 use Rattle.base.specs.Transactions.{Live, Donation}
 use Rattle.spans.specs.Spans.{room_for}
 
--- for how many more donations and live transactions there is room, and for how many intervals of each
+-- for how many more live transactions there is room, and for how many intervals of owners and of live transactions
 pub record Room : Type 0 where
-  pub donations : ℕ
   pub live : ℕ
   pub given : ℕ
   pub shared : ℕ
 
--- the manifest, the completed donations in order, and the live transactions in ascending order of their handles
+-- the manifest, what donations have left, and the live transactions in ascending order of their handles
 pub record LedgerView : Type 0 where
   pub manifest : ManifestRows
   pub donations : List Donation
   pub live : List Live
   pub room : Room
 
--- there is room for one more donation and one more transaction, and for their intervals, if they have this many runs
-pub record IsReady (runs : ℕ) (room : Room) : Type 0 where
-  pub donations : 1 ≤ room.donations
+-- there is room for one more live transaction of so many runs
+pub record IsReadyToOpen (runs : ℕ) (room : Room) : Type 0 where
   pub live : 1 ≤ room.live
-  pub given : room_for runs ≤ room.given
   pub shared : room_for runs ≤ room.shared
+
+-- there is room for the owners of the pages of so many runs
+abbrev pub IsReadyToGive : ℕ → Room → Type 0
+IsReadyToGive runs room = room_for runs ≤ room.given
 
 -- the two differ in their room alone
 pub record IsSameButRoom (old new : LedgerView) : Type 0 where

@@ -74,7 +74,7 @@ fn is_owned_by(owner: Option<PartitionId>, p: PartitionId) -> bool
 }
 
 /// Whether there is a region, which is normal memory with exactly one grant.
-fn is_sharable(region: Option<&Region>) -> bool
+pub(crate) fn is_sharable(region: Option<&Region>) -> bool
     ensures { result ≡ option_map_or rows.is_sharable (option_map (λ r. r.now) region.entry) false }
 {
     match region {

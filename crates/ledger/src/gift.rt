@@ -1,15 +1,34 @@
-//! What a donation gives, spelled by the number that its pages have.
+//! The owner of pages and what they are to it, spelled by the number that the pages have.
 
-ghost use Rattle.std.specs.Prelude.{◌≡◌, ◌<◌};
+ghost use Rattle.std.specs.Prelude.{◌≡◌, ◌<◌, ℕ, None, Some, true, IfOk};
+ghost use Rattle.std.specs.Option.{option_map};
+ghost use Rattle.base.specs.Access.{is_reached_with};
+ghost use Rattle.base.specs.Ledger as rules;
+ghost use Rattle.base.specs.Pages.{in_run};
 ghost use Rattle.ledger.specs.Gifts as spec;
 
-use base::{Access, MemoryKind, PartitionId, Rights};
+use crate::free::{end_of_region, is_sharable};
+use base::{Access, MemoryKind, OutOfMemory, Page, PartitionId, Rights, Run};
+use manifest::{Manifest, Region};
+use spans::PageMap;
+use std::alloc::Global;
+use std::marker::Model;
 
-/// What a donation gives: the pages' new owner, and what they are to it.
-#[derive(Clone, Copy)]
+/// What a donation gives, or the manifest says: who owns pages, and what they are to it.
+#[derive(Clone, Copy, Debug, PartialEq, Eq)]
 pub(crate) struct Gift {
     pub(crate) taker: PartitionId,
     pub(crate) access: Access,
+}
+
+impl Model for Gift {
+    ghost use Rattle.base.specs.Transactions as transactions;
+
+    ghost Value = { transactions.Gift };
+
+    ghost view = { λ g. record { taker = g.taker; access = g.access } };
+
+    ghost inverse = { λ g. record { taker = g.taker; access = g.access } };
 }
 
 impl Gift {
@@ -57,5 +76,68 @@ fn access_of(code: u64) -> Access
         3 => Access::normal(Rights::Rw, true),
         4 => Access::device(Rights::Ro),
         _ => Access::device(Rights::Rw),
+    }
+}
+
+/// Whether a region says the same of its pages: its owner alone reaches them, with this access.
+#[tactic(auto, unfolding(base::specs::Ledger::is_granted_in))]
+pub(crate) fn is_granted_in(region: Option<&Region>, gift: Gift) -> bool
+    ensures { result ≡ rules.is_granted_in (option_map (λ r. r.now) region.entry) gift }
+{
+    match region {
+        Some(region) => {
+            is_sharable(Some(region))
+                && region.owner() == gift.taker
+                && is_reached_with(gift.access, region.access(region.owner()))
+        }
+        None => false,
+    }
+}
+
+fn is_reached_with(access: Access, view: Option<Access>) -> bool
+    ensures { result ≡ is_reached_with access view }
+{
+    match view {
+        Some(view) => view.is_same(access),
+        None => false,
+    }
+}
+
+/// Pages that follow one another, and what the manifest says of them.
+#[derive(Clone, Copy)]
+struct Granted {
+    run: Run,
+    gift: Gift,
+}
+
+/// A map from the pages of regions that may be given away to the numbers that spell what the manifest says.
+pub(crate) fn map_of_grants(alloc: Global, manifest: &Manifest) -> Result<PageMap, OutOfMemory>
+    ensures { IfOk result (λ map. (n : ℕ) → spec.left_at manifest.now map.spans n ≡ None) }
+{
+    let mut map = PageMap::new(alloc);
+    for region in manifest.regions() {
+        if let Some(granted) = granted_from(manifest, region.pages().first()) {
+            map.put(granted.run, granted.gift.number())?;
+        }
+    }
+    Ok(map)
+}
+
+/// What the manifest says of a page and those behind it in its region, where they may be given away.
+fn granted_from(manifest: &Manifest, page: Page) -> Option<Granted>
+    ensures { (granted : _) → result ≡ Some granted → (n : ℕ) → in_run granted.run n ≡ true
+        → rules.left_of manifest.now granted.gift n ≡ None }
+{
+    let region = manifest.region_at(page);
+    let run = Run::new(page, end_of_region(manifest, region, page) - page.number());
+    let region = region?;
+    let gift = Gift {
+        taker: region.owner(),
+        access: region.access(region.owner())?,
+    };
+    if is_granted_in(Some(region), gift) {
+        Some(Granted { run, gift })
+    } else {
+        None
     }
 }

@@ -1,7 +1,7 @@
-ghost use Rattle.std.specs.Prelude.{◌≡◌, ◌==◌, ◌++◌, ◌∷◌, [], ◌≤◌, ◌<◌, ◌^◌, ℕ, None, Some, true, is_some, length, filter, slice_index_or, vec_len, if◌then◌else◌, IsOk, OnOk, OnErr};
+ghost use Rattle.std.specs.Prelude.{◌≡◌, ◌==◌, [], ◌≤◌, ◌<◌, ◌^◌, ℕ, None, Some, true, is_some, length, filter, slice_index_or, vec_len, if◌then◌else◌, IsOk, IfOk, OnOk, OnErr};
 ghost use Rattle.std.specs.List.{remove};
 ghost use Rattle.std.specs.Option.{option_map};
-ghost use Rattle.base.specs.Pages.{in_run, covers};
+ghost use Rattle.base.specs.Pages.{covers};
 ghost use Rattle.base.specs.Ledger as rules;
 ghost use Rattle.base.specs.Manifest as rows;
 ghost use Rattle.base.specs.declared.transaction.Kind.TheVariants.{Donate};
@@ -12,17 +12,16 @@ ghost use Rattle.ledger.specs.Changes as changes;
 ghost use Rattle.ledger.specs.Gifts as gifts;
 ghost use Rattle.ledger.specs.Gifts.{Says};
 
-use crate::donation::Donation;
-use crate::free::end_of_region;
-use crate::gift::Gift;
+use crate::donation::{Donation, donations_in};
+use crate::gift::{Gift, map_of_grants};
 use crate::live::{self, Live, place_of, put_in, set_retrieved};
-use base::{Access, Handle, Kind, OutOfMemory, Page, PartitionId, Run};
+use base::{Access, Handle, Kind, OutOfMemory, Page, PartitionId};
 use manifest::{Manifest, Region};
 use spans::PageMap;
 use std::alloc::Global;
 use std::marker::Model;
 
-/// What the donations and the live transactions say of pages that follow one another.
+/// What the map of owners and the live transactions say of pages that follow one another.
 #[derive(Clone, Copy)]
 pub(crate) struct Listed {
     /// What their number spells, if they have one.
@@ -33,30 +32,21 @@ pub(crate) struct Listed {
     pub(crate) end: u32,
 }
 
-/// What is said of pages that follow one another, as what a donation gives.
-#[derive(Clone, Copy)]
-struct Said {
-    run: Run,
-    gift: Gift,
-}
-
-/// The manifest, the completed donations in order, and the live transactions, in ascending order of
-/// their handles. No two of these share a page or a handle, and each handle has its sender in its high
-/// half. A page, a handle and a sender's transactions are looked up by halving. Once a donation has been
-/// opened, pages get a number in `given` that spells their owner and what they are to it, those of the first
-/// `numbered` regions and those that were donated.
+/// The manifest, who owns the pages that may be given away, and the live transactions, in ascending order of
+/// their handles. No two of these share a page or a handle, and each handle has its sender in its high half. A
+/// page, a handle and a sender's transactions are looked up by halving. In `given` the number of a page spells its
+/// owner and what it is to its owner; pages of other regions have none, and are as the manifest says.
 #[derive(Drop)]
 pub struct Ledger {
     manifest: Manifest,
-    donations: Vec<Donation>,
     live: Vec<Live>,
     given: PageMap,
     shared: PageMap,
-    numbered: usize,
 }
 
 impl Model for Ledger {
     ghost use Rattle.std.specs.Prelude.{◌-◌, vec_len, vec_capacity};
+    ghost use Rattle.ledger.specs.Gifts.{left};
     ghost use Rattle.ledger.specs.Ledger.{LedgerView};
     ghost use Rattle.ledger.specs.Intervals.{IsKept};
 
@@ -64,35 +54,32 @@ impl Model for Ledger {
 
     ghost view = { λ l. record {
       manifest = l.manifest;
-      donations = l.donations.items;
+      donations = left l.manifest l.given.spans;
       live = l.live.items;
       room = record {
-        donations = vec_capacity l.donations - vec_len l.donations;
         live = vec_capacity l.live - vec_len l.live;
         given = l.given.room;
         shared = l.shared.room;
       };
     } };
 
-    ghost invariant = { λ l. IsKept l.manifest l.donations.items l.live.items l.given.spans l.shared.spans };
+    ghost invariant = { λ l. IsKept l.manifest (left l.manifest l.given.spans) l.live.items l.given.spans l.shared.spans };
 }
 
 impl Ledger {
-    /// Nothing is shared. This takes no memory.
-    pub fn new(alloc: Global, manifest: Manifest) -> Self
-        ensures manifest { result.manifest ≡ manifest }
-        ensures donations { result.donations ≡ [] }
-        ensures live { result.live ≡ [] }
+    /// Nothing is shared, and nothing was given away. The map of owners gets an interval for each region at most.
+    pub fn new(alloc: Global, manifest: Manifest) -> Result<Self, OutOfMemory>
+        ensures manifest { IfOk result (λ l. l.manifest ≡ manifest) }
+        ensures donations { IfOk result (λ l. l.donations ≡ []) }
+        ensures live { IfOk result (λ l. l.live ≡ []) }
     {
-        let numbered = manifest.regions().len();
-        Ledger {
+        let given = map_of_grants(alloc, &manifest)?;
+        Ok(Ledger {
             manifest,
-            donations: Vec::new(alloc),
             live: Vec::new(alloc),
-            given: PageMap::new(alloc),
+            given,
             shared: PageMap::new(alloc),
-            numbered,
-        }
+        })
     }
 
     /// The manifest.
@@ -102,11 +89,12 @@ impl Ledger {
         &self.manifest
     }
 
-    /// The completed donations, in the order of their retrievals.
-    pub fn donations(&self) -> &[Donation]
-        ensures { result.now ≡ self.now.donations }
+    /// What completed donations have left: the pages whose owner, or what they are to it, is not as the manifest has
+    /// it, upward, in maximal runs of one owner and one access. The list is made when it is asked for.
+    pub fn donations(&self, alloc: Global) -> Result<Vec<Donation>, OutOfMemory>
+        ensures { IfOk result (λ donations. donations.items ≡ self.now.donations) }
     {
-        &self.donations
+        donations_in(alloc, &self.manifest, &self.given)
     }
 
     /// The live transactions, in ascending order of their handles.
@@ -123,16 +111,16 @@ impl Ledger {
         self.given.get(page).map(Gift::from_number)
     }
 
-    /// The partition that owns a page: the taker of the last donation that covers it, else the
-    /// manifest's owner; None outside all regions.
+    /// The partition that owns a page: the taker of the last donation of it, else the manifest's owner; None
+    /// outside all regions.
     pub fn owner(&self, page: Page) -> Option<PartitionId>
         ensures { result ≡ rules.owner self.now.manifest self.now.donations page }
     {
         owner_by(self.gift_at(page), self.manifest.region_at(page))
     }
 
-    /// What a page is to its owner: the access of the last donation that covers it, else the owner's
-    /// grant; None outside all regions.
+    /// What a page is to its owner: the access of the last donation of it, else the owner's grant; None outside
+    /// all regions.
     pub fn home(&self, page: Page) -> Option<Access>
         ensures { result ≡ rules.home self.now.manifest self.now.donations page }
     {
@@ -156,8 +144,8 @@ impl Ledger {
         self.given.segment_at(page).end
     }
 
-    /// What the donations and the live transactions say of a page, and up to which page they say the
-    /// same of those behind it.
+    /// What the map of owners and the live transactions say of a page, and up to which page they say the same
+    /// of those behind it.
     pub(crate) fn listed(&self, page: Page) -> Listed
         ensures behind { page < result.end }
         ensures in_range { result.end ≤ 2 ^ 27 }
@@ -189,75 +177,30 @@ impl Ledger {
         live::live_of(&self.live, p)
     }
 
-    /// Makes room for one more donation and one more live transaction, and for an `open` or
-    /// `retrieve` of so many runs. A refusal changes nothing but the room.
-    pub fn ready(&mut self, runs: usize) -> Result<(), OutOfMemory>
+    /// Makes room for one more live transaction of so many runs, wherever they stand. A refusal changes nothing but
+    /// the room.
+    pub fn ready_to_open(&mut self, runs: usize) -> Result<(), OutOfMemory>
         ensures same { spec.IsSameButRoom self.old self.new }
-        ensures room { OnOk result (spec.IsReady runs self.new.room) }
+        ensures room { OnOk result (spec.IsReadyToOpen runs self.new.room) }
     {
-        self.number_regions()?;
-        self.donations.reserve(1)?;
         self.live.reserve(1)?;
-        self.given.ready(runs)?;
         self.shared.ready(runs)?;
         Ok(())
     }
 
-    /// Gives the pages of all regions a number, once a donation has been opened: from then on pages that are
-    /// the same to the same owner have the same number, whether they were donated or not.
-    fn number_regions(&mut self) -> Result<(), OutOfMemory>
-        ensures { spec.IsSameButRoom self.old self.new }
+    /// Makes room for the retrieval of one donation of so many runs, wherever they stand. That of a lend or a share
+    /// needs none. A refusal changes nothing but the room.
+    pub fn ready_to_retrieve(&mut self, runs: usize) -> Result<(), OutOfMemory>
+        ensures same { spec.IsSameButRoom self.old self.new }
+        ensures room { OnOk result (spec.IsReadyToGive runs self.new.room) }
     {
-        for place in self.numbered..self.manifest.regions().len() {
-            let first = self.manifest.regions()[place].pages().first();
-            self.number_pages(first)?;
-            self.numbered = place + 1;
-        }
+        self.given.ready(runs)?;
         Ok(())
     }
 
-    /// Gives a page, and those behind it of which the same is said, the number of that.
-    fn number_pages(&mut self, page: Page) -> Result<(), OutOfMemory>
-        ensures { spec.IsSameButRoom self.old self.new }
-    {
-        if let Some(said) = self.said_from(page) {
-            self.given.put(said.run, said.gift.number())?;
-        }
-        Ok(())
-    }
-
-    /// Takes the numbers of regions away again, where no donation is completed.
-    fn forget_numbers(&mut self)
-        ensures { spec.IsSameButRoom self.old self.new }
-    {
-        if self.donations.is_empty() {
-            self.given = PageMap::new(*self.live.allocator());
-            self.numbered = self.manifest.regions().len();
-        }
-    }
-
-    /// A page and those behind it of which the same is said, as what a donation gives; None where the page
-    /// has no owner, or is nothing to it.
-    fn said_from(&self, page: Page) -> Option<Said>
-        ensures { (said : _) → result ≡ Some said → (n : ℕ) → in_run said.run n ≡ true
-            → Says self.now.manifest self.now.donations n (Some said.gift) }
-    {
-        let given = self.given.segment_at(page);
-        let gift = given.value.map(Gift::from_number);
-        let region = self.manifest.region_at(page);
-        let end = given.end.min(end_of_region(&self.manifest, region, page));
-        let (taker, access) = (owner_by(gift, region), home_by(gift, region));
-        let gift = Gift {
-            taker: taker?,
-            access: access?,
-        };
-        let run = Run::new(page, end - page.number());
-        Some(Said { run, gift })
-    }
-
-    /// Adds a live transaction, for which `ready` has made room. This takes no memory.
+    /// Adds a live transaction, for which `ready_to_open` has made room. This takes no memory.
     pub fn open(&mut self, transaction: Live)
-        requires ready { spec.IsReady (length transaction.ranges) self.old.room }
+        requires ready { spec.IsReadyToOpen (length transaction.ranges) self.old.room }
         requires new { spec.found self.old.live transaction.handle ≡ None }
         requires named { spec.NamesItsSender transaction }
         requires apart { (n : ℕ) → covers transaction.ranges n ≡ true
@@ -266,13 +209,11 @@ impl Ledger {
         ensures donations { self.new.donations ≡ self.old.donations }
         ensures live { self.new.live ≡ changes.with_live transaction self.old.live }
     {
-        self.numbered = self.numbered_with(transaction.terms.kind);
-        let is_added = self.add(transaction).is_ok();
+        let is_added = self.try_open(transaction).is_ok();
         prove!(is_added);
     }
 
-    /// Adds a live transaction, and makes room for it where its pages stand; the first donation gives the pages of all
-    /// regions a number. A refusal changes nothing.
+    /// Adds a live transaction, and makes room for it where its pages stand. A refusal changes nothing.
     pub fn try_open(&mut self, transaction: Live) -> Result<(), OutOfMemory>
         requires new { spec.found self.old.live transaction.handle ≡ None }
         requires named { spec.NamesItsSender transaction }
@@ -282,31 +223,7 @@ impl Ledger {
         ensures donations { self.new.donations ≡ self.old.donations }
         ensures ok { OnOk result (self.new.live ≡ changes.with_live transaction self.old.live) }
         ensures err { OnErr result (self.new.live ≡ self.old.live) }
-    {
-        let numbered = self.numbered_with(transaction.terms.kind);
-        let is_first = numbered < self.numbered;
-        self.numbered = numbered;
-        let added = match self.number_regions() {
-            Ok(()) => self.add(transaction),
-            Err(error) => Err(error),
-        };
-        if is_first && added.is_err() {
-            self.forget_numbers();
-        }
-        added
-    }
-
-    /// Adds a live transaction. A refusal changes nothing.
-    fn add(&mut self, transaction: Live) -> Result<(), OutOfMemory>
-        requires new { spec.found self.old.live transaction.handle ≡ None }
-        requires named { spec.NamesItsSender transaction }
-        requires apart { (n : ℕ) → covers transaction.ranges n ≡ true
-            → rules.live_at self.old.live n ≡ None }
-        ensures manifest { self.new.manifest ≡ self.old.manifest }
-        ensures donations { self.new.donations ≡ self.old.donations }
-        ensures ok { OnOk result (self.new.live ≡ changes.with_live transaction self.old.live) }
-        ensures err { OnErr result (self.new.live ≡ self.old.live) }
-        ensures at_once { spec.IsReady (length transaction.ranges) self.old.room → IsOk result }
+        ensures at_once { spec.IsReadyToOpen (length transaction.ranges) self.old.room → IsOk result }
     {
         let number = transaction.handle.bits();
         self.shared.put_all(&transaction.terms.ranges, number)?;
@@ -316,15 +233,6 @@ impl Ledger {
         }
         put_in(&mut self.live, transaction);
         Ok(())
-    }
-
-    /// Before which region all have numbers, or need none, when a transaction of this kind is opened.
-    fn numbered_with(&self, kind: Kind) -> usize {
-        if matches!(kind, Kind::Donate) && self.given.is_empty() {
-            0
-        } else {
-            self.numbered
-        }
     }
 
     /// Sets what a receiver has retrieved of the transaction of a handle.
@@ -368,12 +276,12 @@ impl Ledger {
     }
 
     /// The receiver has retrieved the transaction of a handle, with this access: a donation, for which
-    /// `ready` has made room, is completed and ends. This takes no memory.
+    /// `ready_to_retrieve` has made room, is completed and ends. This takes no memory.
     pub fn retrieve(&mut self, p: PartitionId, handle: Handle, access: Access)
         requires { (t : _) → spec.found self.old.live handle ≡ Some t → t.kind ≡ Donate
-            → spec.IsReady (length t.ranges) self.old.room }
+            → spec.IsReadyToGive (length t.ranges) self.old.room }
         ensures manifest { self.new.manifest ≡ self.old.manifest }
-        ensures donations { self.new.donations ≡ changes.donations_after p access
+        ensures donations { self.new.donations ≡ changes.donations_after self.old.manifest p access
             (spec.found self.old.live handle) self.old.donations }
         ensures live { self.new.live
             ≡ changes.live_after handle p access (spec.found self.old.live handle) self.old.live }
@@ -391,13 +299,13 @@ impl Ledger {
         access: Access,
     ) -> Result<(), OutOfMemory>
         ensures manifest { self.new.manifest ≡ self.old.manifest }
-        ensures donations { OnOk result (self.new.donations ≡ changes.donations_after p access
+        ensures donations { OnOk result (self.new.donations ≡ changes.donations_after self.old.manifest p access
             (spec.found self.old.live handle) self.old.donations) }
         ensures live { OnOk result (self.new.live
             ≡ changes.live_after handle p access (spec.found self.old.live handle) self.old.live) }
         ensures err { OnErr result (spec.IsSameButRoom self.old self.new) }
         ensures at_once { ((t : _) → spec.found self.old.live handle ≡ Some t → t.kind ≡ Donate
-            → spec.IsReady (length t.ranges) self.old.room) → IsOk result }
+            → spec.IsReadyToGive (length t.ranges) self.old.room) → IsOk result }
     {
         let Some(transaction) = self.find(handle) else {
             return Ok(());
@@ -419,28 +327,20 @@ impl Ledger {
         access: Access,
     ) -> Result<(), OutOfMemory>
         ensures manifest { self.new.manifest ≡ self.old.manifest }
-        ensures donations { OnOk result ((t : _) → spec.found self.old.live handle ≡ Some t
-            → self.new.donations ≡ self.old.donations ++ changes.completed p access t ∷ []) }
+        ensures donations { OnOk result ((t : _) → spec.found self.old.live handle ≡ Some t → self.new.donations
+            ≡ rules.with_donation_of self.old.manifest t.ranges (changes.gift p access) self.old.donations) }
         ensures live { OnOk result (self.new.live ≡ changes.without handle self.old.live) }
         ensures err { OnErr result (spec.IsSameButRoom self.old self.new) }
         ensures at_once { ((t : _) → spec.found self.old.live handle ≡ Some t
-            → spec.IsReady (length t.ranges) self.old.room) → IsOk result }
+            → spec.IsReadyToGive (length t.ranges) self.old.room) → IsOk result }
     {
         let Some(place) = place_of(&self.live, handle) else {
             return Ok(());
         };
-        self.donations.reserve(1)?;
         let gift = Gift { taker: p, access };
         self.given
             .put_all(&self.live[place].terms.ranges, gift.number())?;
-        let transaction = take_at(&mut self.live, &mut self.shared, place);
-        let terms = Box::into_inner(transaction.terms);
-        self.donations.push_reserved(Donation {
-            ranges: terms.ranges,
-            giver: terms.sender,
-            taker: p,
-            access,
-        });
+        take_at(&mut self.live, &mut self.shared, place);
         Ok(())
     }
 }

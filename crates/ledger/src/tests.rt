@@ -2,7 +2,7 @@ ghost use Rattle.std.specs.Prelude.{◌≡◌, ◌<◌, ◌∷◌, [], ℕ, true
 ghost use Rattle.base.specs.Pages.{covers};
 ghost use Rattle.base.specs.Ledger.{live_at};
 
-use crate::{Ledger, Live, Receiver, Terms};
+use crate::{Donation, Ledger, Live, Receiver, Terms};
 use arrayvec::ArrayVec;
 use base::{Access, Handle, Kind, OutOfMemory, Page, PartitionId, Rights, Run};
 use manifest::common_manifest;
@@ -27,7 +27,7 @@ const EDGES: [u32; 14] = [
 
 fn common_ledger(alloc: Global) -> Result<Ledger, OutOfMemory> {
     let manifest = common_manifest(alloc)?;
-    Ok(Ledger::new(alloc, manifest))
+    Ledger::new(alloc, manifest)
 }
 
 /// `count` pages from this number on.
@@ -74,7 +74,7 @@ fn transaction(
 
 /// Opens a transaction with a handle of its sender's, where none is live.
 fn open(ledger: &mut Ledger, transaction: Live) -> Result<(), OutOfMemory> {
-    ledger.ready(transaction.terms.ranges.len())?;
+    ledger.ready_to_open(transaction.terms.ranges.len())?;
     let named = transaction.handle.high() == u32::from(transaction.terms.sender.number());
     if named && ledger.live().is_empty() {
         ledger.open(transaction);
@@ -115,7 +115,7 @@ fn retrieve(
 ) -> Result<(), OutOfMemory> {
     if let Some(transaction) = ledger.find(handle) {
         let runs = transaction.terms.ranges.len();
-        ledger.ready(runs)?;
+        ledger.ready_to_retrieve(runs)?;
         ledger.retrieve(PartitionId::new(receiver), handle, access);
     }
     Ok(())
@@ -124,6 +124,26 @@ fn retrieve(
 /// What the first receiver has retrieved.
 fn retrieved(ledger: &Ledger, handle: Handle) -> Option<Access> {
     ledger.find(handle)?.terms.receivers.first()?.retrieved
+}
+
+/// These pages are left with these owners and accesses, and no others.
+fn has_left(
+    rt: &impl Abort,
+    alloc: Global,
+    ledger: &Ledger,
+    left: &[(Run, u16, Access)],
+) -> Result<(), OutOfMemory> {
+    let donations = ledger.donations(alloc)?;
+    assert_eq!(rt; donations.len(), left.len());
+    for (donation, (pages, taker, access)) in donations.iter().zip(left) {
+        let wanted = Donation {
+            pages: *pages,
+            taker: PartitionId::new(*taker),
+            access: *access,
+        };
+        assert_eq!(rt; *donation, wanted);
+    }
+    Ok(())
 }
 
 fn donation(alloc: Global, parties: [u16; 2], run: Run) -> Result<Live, OutOfMemory> {
@@ -439,7 +459,12 @@ fn last_donation_decides(rt: HostRuntime) -> Result<(), Fail> {
     ];
     settled(&rt, &ledger, &pages);
     assert_eq!(rt; ledger.owner(Page::new(0x8_fffe)), None);
-    assert_eq!(rt; ledger.donations().len(), 2);
+    let left = [
+        (run(&rt, 0x8_0000, 1), SECOND, data),
+        (run(&rt, 0x8_0001, 1), FIRST, read_only),
+        (run(&rt, 0x8_0002, 2), SECOND, data),
+    ];
+    has_left(&rt, rt.alloc(), &ledger, &left)?;
     assert_eq!(rt; ledger.live().len(), 0);
     Ok(())
 }
@@ -482,8 +507,10 @@ fn page_that_came_back_is_as_those_that_stayed(rt: HostRuntime) -> Result<(), Fa
     let code = Access::normal(Rights::Rw, true);
     donate(&mut ledger, rt.alloc(), [FIRST, SECOND], page, code)?;
     segments(&rt, &ledger, &[(0x8_0000, false, 0x8_0001)]);
+    has_left(&rt, rt.alloc(), &ledger, &[(page, SECOND, code)])?;
     donate(&mut ledger, rt.alloc(), [SECOND, FIRST], page, code)?;
     segments(&rt, &ledger, &[(0x8_0000, false, 0x8_0400)]);
+    has_left(&rt, rt.alloc(), &ledger, &[])?;
     Ok(())
 }
 
@@ -495,8 +522,9 @@ fn both_ways_of_a_donation_come_to_the_same(rt: HostRuntime) -> Result<(), Fail>
         pair.compare_around_run(&rt, *run);
     }
     pair.compare_around_regions(&rt);
-    assert_eq!(rt; pair.ready.donations().len(), 40);
-    assert_eq!(rt; pair.trying.donations().len(), 40);
+    let left = pair.ready.donations(rt.alloc())?;
+    assert!(rt; left == pair.trying.donations(rt.alloc())?);
+    assert!(rt; !left.is_empty());
     Ok(())
 }
 
@@ -514,13 +542,13 @@ fn given_until_ends_where_pages_differ(rt: HostRuntime) -> Result<(), Fail> {
     Ok(())
 }
 
-/// Only a donation gives the pages of regions numbers, so a share asks for no memory for them.
+/// Pages that touch a region and are left with its owner, as they are to it, are one run of what is left.
 #[test]
-fn share_numbers_no_region(rt: HostRuntime) -> Result<(), Fail> {
+fn donations_over_a_border_are_one_run(rt: HostRuntime) -> Result<(), Fail> {
     let mut ledger = common_ledger(rt.alloc())?;
-    let pages = run(&rt, REGION, 1);
-    open_beside(&mut ledger, rt.alloc(), Kind::Share, [FIRST, SECOND], pages)?;
-    assert_eq!(rt; ledger.live().len(), 1);
-    assert_eq!(rt; ledger.given_until(pages.first()), Page::COUNT);
+    let data = Access::normal(Rights::Rw, false);
+    let pages = run(&rt, 0x8_03fe, 4);
+    donate(&mut ledger, rt.alloc(), [FIRST, SECOND], pages, data)?;
+    has_left(&rt, rt.alloc(), &ledger, &[(pages, SECOND, data)])?;
     Ok(())
 }

@@ -3,18 +3,16 @@ use Rattle.std.proofs.Common.{◌≡◌, ◌≢◌, ℕ, zero, suc, ◌+◌, ◌
 use Rattle.std.specs.Option.{option_map, option_and_then, option_map_or}
 use Rattle.std.proofs.lemmas.Bool.{leb-true, eqb-true, eq-eqb}
 use Rattle.std.proofs.lemmas.Bool.Decides.{nat_tests}
-use Rattle.base.specs.declared.access.Rights.{Rights}
-use Rattle.base.specs.declared.access.Rights.TheVariants.{Ro, Rw}
 use Rattle.base.specs.declared.access.MemoryKind.{MemoryKind}
-use Rattle.base.specs.declared.access.MemoryKind.TheVariants.{Normal, Device}
 use Rattle.base.specs.Pages.{PageRun, in_run, covers}
-use Rattle.base.specs.Access.{Access, View, is_same, is_same_bool, is_rw, is_normal, is_reached_with}
+use Rattle.base.specs.Access.{Access, View, is_normal, is_reached_with}
 use Rattle.base.specs.Manifest.{GrantRow, RegionRow, region_at, granted_in, access_of_grant, is_sharable}
-use Rattle.base.specs.Transactions.{Donation}
+use Rattle.base.specs.Transactions.{Gift}
 use Rattle.base.specs.Ledger.{live_at, donation_at, settled_view, is_idle}
 use Rattle.base.specs.Buffers.{is_buffer}
 use Rattle.base.specs.State.{State, is_free, free_home, is_free_with, common_home, home_of, owns, each_page, each_page_in}
 use Rattle.base.proofs.Booleans.{both}
+use Rattle.base.proofs.Accesses.{reached_with}
 
 -- ---- each page of some runs
 
@@ -41,43 +39,6 @@ each_page_in_at f (run ∷ runs) n h c =
       | true ↦ λ e. run_pages f run n b.0 e
       | false ↦ λ e. each_page_in_at f runs n b.1 (let h2 : (in_run run n || covers runs n) ≡ true = c in rw e at h2)
     ] refl
-
--- ---- two accesses that are alike are one
-
-access : Rights → Bool → MemoryKind → Access
-access rights exec kind = record { rights = rights; exec = exec; kind = kind }
-
-same_rights : (a b : Rights) → is_same_bool (is_rw a) (is_rw b) ≡ true → a ≡ b
-same_rights Ro Ro e = refl
-same_rights Ro Rw e = absurd cc
-same_rights Rw Ro e = absurd cc
-same_rights Rw Rw e = refl
-
-same_exec : (a b : Bool) → is_same_bool a b ≡ true → a ≡ b
-same_exec true true e = refl
-same_exec true false e = absurd cc
-same_exec false true e = absurd cc
-same_exec false false e = refl
-
-same_kind : (a b : MemoryKind) → is_same_bool (is_normal a) (is_normal b) ≡ true → a ≡ b
-same_kind Normal Normal e = refl
-same_kind Normal Device e = absurd cc
-same_kind Device Normal e = absurd cc
-same_kind Device Device e = refl
-
-pub same_access : (a b : Access) → is_same a b ≡ true → a ≡ b
-unfolding access
-same_access a b e =
-    let x = both (is_same_bool (is_rw a.rights) (is_rw b.rights) && is_same_bool a.exec b.exec) (is_same_bool (is_normal a.kind) (is_normal b.kind)) e in
-    let y = both (is_same_bool (is_rw a.rights) (is_rw b.rights)) (is_same_bool a.exec b.exec) x.0 in
-    let r = same_rights a.rights b.rights y.0 in
-    let i = same_exec a.exec b.exec y.1 in
-    let k = same_kind a.kind b.kind x.1 in
-    ap (λ v. access v a.exec a.kind) r ∙ ap (λ v. access b.rights v a.kind) i ∙ ap (λ v. access b.rights b.exec v) k
-
-pub reached_with : (home : Access) (view : View) → is_reached_with home view ≡ true → view ≡ Some home
-reached_with home None e = absurd cc
-reached_with home (Some a) e = ap Some (same_access a home e)
 
 -- ---- a page that is free for a partition
 
@@ -151,7 +112,7 @@ eqb_sym a b =
     ] refl
 
 -- what is granted to one partition alone is granted to no other
-only_grant : (kind : MemoryKind) (gs : List GrantRow) (p q : ℕ) (home : Access) → eqb (length gs) 1 ≡ true → option_map (access_of_grant kind) (find (λ g. eqb g.partition p) gs) ≡ Some home
+pub only_grant : (kind : MemoryKind) (gs : List GrantRow) (p q : ℕ) (home : Access) → eqb (length gs) 1 ≡ true → option_map (access_of_grant kind) (find (λ g. eqb g.partition p) gs) ≡ Some home
     → option_map (access_of_grant kind) (find (λ g. eqb g.partition q) gs) ≡ cond (eqb q p) (Some home) None
 only_grant kind [] p q home one h = absurd cc
 only_grant kind (g ∷ []) p q home one h =
@@ -167,11 +128,11 @@ only_grant kind (g ∷ []) p q home one h =
 only_grant kind (g ∷ f ∷ gs) p q home one h = absurd (omega (arith, eqb-true _ _ one))
 
 -- a page that may be shared is reached by its owner, with its home, and by no other partition
-pub settled : (g : Option Donation) (r : Option RegionRow) (p q : ℕ) (home : Access)
-    → option_map_or (λ o. eqb o p) (option_map_or (λ (d : Donation). Some d.taker) g (option_map (λ (x : RegionRow). x.owner) r)) false ≡ true
+pub settled : (g : Option Gift) (r : Option RegionRow) (p q : ℕ) (home : Access)
+    → option_map_or (λ o. eqb o p) (option_map_or (λ (d : Gift). Some d.taker) g (option_map (λ (x : RegionRow). x.owner) r)) false ≡ true
     → option_map_or is_sharable r false ≡ true
-    → option_map_or (λ (d : Donation). Some d.access) g (option_and_then (λ (x : RegionRow). granted_in x x.owner) r) ≡ Some home
-    → option_map_or (λ (d : Donation). cond (eqb d.taker q) (Some d.access) None) g (option_and_then (λ (x : RegionRow). granted_in x q) r) ≡ cond (eqb q p) (Some home) None
+    → option_map_or (λ (d : Gift). Some d.access) g (option_and_then (λ (x : RegionRow). granted_in x x.owner) r) ≡ Some home
+    → option_map_or (λ (d : Gift). cond (eqb d.taker q) (Some d.access) None) g (option_and_then (λ (x : RegionRow). granted_in x q) r) ≡ cond (eqb q p) (Some home) None
 settled (Some d) r p q home owned sharable has =
     let e : d.taker ≡ p = eqb-true _ _ owned in
     let turned : eqb p q ≡ eqb q p = eqb_sym p q in

@@ -3,6 +3,7 @@ pub mod ManifestStays
 pub mod EditsTheView
 pub mod Clears
 pub mod OneOwner
+pub mod History
 pub mod Handles
 pub mod BuffersApart
 pub mod Writers

@@ -1,4 +1,5 @@
 ghost use Rattle.rules.specs.Laws.OneOwner.{IsOwnedOnce};
+ghost use Rattle.rules.specs.Laws.History.{IsOwnedAsGiven};
 ghost use Rattle.rules.specs.Laws.Handles.{AreHandlesUsedOnce};
 ghost use Rattle.rules.specs.Laws.BuffersApart.{AreBuffersApart};
 ghost use Rattle.rules.specs.Laws.Writers.{AreWritersAllowed};
@@ -8,7 +9,8 @@ ghost use Rattle.rules.specs.Laws.EditsTheView.{Passes, EditsTheView};
 ghost use Rattle.rules.specs.Laws.Clears.{AreClearedUnreached};
 ghost use Rattle.rules.specs.Call.{CallWords};
 ghost use Rattle.rules.specs.Run.{IsReached, rule_of, step};
-ghost use Rattle.std.specs.Prelude.{◌≡◌, ◌≢◌, ℕ};
+ghost use Rattle.std.specs.Prelude.{◌≡◌, ◌≢◌, ℕ, List};
+ghost use Rattle.base.specs.Manifest.{ManifestRows};
 ghost use Rattle.base.specs.State.{State};
 ghost use Rattle.wire.specs.declared.request.Request.{Request};
 
@@ -16,6 +18,12 @@ ghost use Rattle.wire.specs.declared.request.Request.{Request};
 /// it, each live transaction's sender owns its pages, and no two live transactions share a page.
 pub fn pages_have_one_owner()
     ensures { (s : State) → IsReached s → IsOwnedOnce s }
+{}
+
+/// After any run of calls each page has the owner that the last completed donation of it gave, and is to its owner what
+/// that donation gave; a page of no donation is as the manifest has it.
+pub fn last_donation_decides()
+    ensures { (m : ManifestRows) → (calls : List CallWords) → (n : ℕ) → IsOwnedAsGiven m calls n }
 {}
 
 /// In every state that some list of calls reaches, what every partition reaches of every page after a

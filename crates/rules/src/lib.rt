@@ -6,5 +6,6 @@ mod law;
 
 pub use law::{
     buffers_are_apart, cleared_pages_are_unreached, edits_the_view, handles_are_used_once,
-    others_leave_a_partition, pages_have_one_owner, partitions_are_isolated, writers_are_allowed,
+    last_donation_decides, others_leave_a_partition, pages_have_one_owner, partitions_are_isolated,
+    writers_are_allowed,
 };

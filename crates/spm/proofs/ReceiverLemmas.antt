@@ -1,5 +1,5 @@
 -- The transaction of which a partition is a receiver.
-use Rattle.std.proofs.Common.{◌≡◌, ℕ, Bool, true, false, ◌&&◌, not, eqb, cond, List, [], ◌∷◌, ◌++◌, Option, Some, None, Result, Ok, Err, IfErr, OnOk, is_some, refl, sym, ap, ap₂, ◌∙◌, subst}
+use Rattle.std.proofs.Common.{◌≡◌, ℕ, Bool, true, false, ◌&&◌, not, eqb, cond, List, [], Option, Some, None, Result, Ok, Err, IfErr, OnOk, is_some, refl, sym, ap, ◌∙◌, subst}
 use Rattle.std.specs.Option.{option_map, option_map_or, option_and_then}
 use Rattle.base.specs.declared.status.Status.{Status}
 use Rattle.base.specs.declared.status.Status.TheVariants.{Denied}
@@ -11,11 +11,12 @@ use Rattle.base.specs.Buffers.{Mailbox, has_pair, holds_rx}
 use Rattle.base.specs.Descriptors.Retrieve as descriptors
 use Rattle.base.specs.Refusals.{first_refusal, RefusesWith}
 use Rattle.base.specs.Pages.{are_disjoint}
-use Rattle.base.specs.Transactions.{Live, Donation, with_retrieval_of, without, completed}
+use Rattle.base.specs.Ledger.{with_donation_of}
+use Rattle.base.specs.Transactions.{Live, Donation, with_retrieval_of, without, gift}
 use Rattle.base.specs.Manifest.{ManifestRows}
 use Rattle.base.specs.State.{State, PartitionState}
 use Rattle.ledger.specs.Ledger.{found, LedgerView, IsSameButRoom}
-use Rattle.ledger.specs.Changes.{completed_by, donations_after, live_after_kind, live_after}
+use Rattle.ledger.specs.Changes.{donations_after_kind, donations_after, live_after_kind, live_after}
 use Rattle.wire.specs.Replies.{ReplyWords, success, error}
 use Rattle.wire.specs.declared.request.Transfer.{Transfer}
 use Rattle.rules.specs.Call.{CallWords}
@@ -136,21 +137,17 @@ retrieve_granted s c x p t access handle edit reply reached k who is same orderl
 
 -- ---- the state after it
 
-append_none : (ds : List Donation) → ds ++ [] ≡ ds
-append_none [] = refl
-append_none (d ∷ ds) = ap (λ es. d ∷ es) (append_none ds)
-
-kind_is : (k : Kind) (s : State) (p handle : ℕ) (t : Live) (access : Access) → t.handle ≡ handle → record s { live = live_after_kind handle p access k s.live; donations = s.donations ++ completed_by p access t k } ≡ with_retrieval_of_kind k s p t access
+kind_is : (k : Kind) (s : State) (p handle : ℕ) (t : Live) (access : Access) → t.handle ≡ handle → record s { live = live_after_kind handle p access k s.live; donations = donations_after_kind s.manifest p access t k s.donations } ≡ with_retrieval_of_kind k s p t access
 unfolding with_retrieval_by with_donation
-kind_is Share s p handle t access e = ap₂ (λ (h : ℕ) (ds : List Donation). record s { live = with_retrieval_of h p (Some access) s.live; donations = ds }) (sym e) (append_none s.donations)
-kind_is Lend s p handle t access e = ap₂ (λ (h : ℕ) (ds : List Donation). record s { live = with_retrieval_of h p (Some access) s.live; donations = ds }) (sym e) (append_none s.donations)
-kind_is Donate s p handle t access e = ap (λ (h : ℕ). record s { live = without h s.live; donations = s.donations ++ completed p access t ∷ [] }) (sym e)
+kind_is Share s p handle t access e = ap (λ (h : ℕ). record s { live = with_retrieval_of h p (Some access) s.live; donations = s.donations }) (sym e)
+kind_is Lend s p handle t access e = ap (λ (h : ℕ). record s { live = with_retrieval_of h p (Some access) s.live; donations = s.donations }) (sym e)
+kind_is Donate s p handle t access e = ap (λ (h : ℕ). record s { live = without h s.live; donations = with_donation_of s.manifest t.ranges (gift p access) s.donations }) (sym e)
 
 has_one : (o : Option Live) → is_some o ≡ true → (t : Live) × (o ≡ Some t)
 has_one None e = absurd cc
 has_one (Some t) e = (t, refl)
 
-pub retrieved_state : (s : State) (p handle : ℕ) (access : Access) (live : List Live) (donations : List Donation) (boxes : List Mailbox) → CanRetrieve s p handle → donations ≡ donations_after p access (found s.live handle) s.donations → live ≡ live_after handle p access (found s.live handle) s.live → boxes ≡ pairs.with_rx p true s.mailboxes
+pub retrieved_state : (s : State) (p handle : ℕ) (access : Access) (live : List Live) (donations : List Donation) (boxes : List Mailbox) → CanRetrieve s p handle → donations ≡ donations_after s.manifest p access (found s.live handle) s.donations → live ≡ live_after handle p access (found s.live handle) s.live → boxes ≡ pairs.with_rx p true s.mailboxes
     → record s { live = live; donations = donations; mailboxes = boxes } ≡ after_retrieval s p handle access
 unfolding with_rx_filled
 retrieved_state s p handle access live donations boxes can ds ts filled =
@@ -164,7 +161,7 @@ of_parts l boxes partitions = record { manifest = l.manifest; donations = l.dona
 
 -- what the ledger and the mailboxes come to is the state after a retrieval
 pub completed_state : {A : Type 0} (filled : Result A Status) (s : State) (p handle : ℕ) (access : Access) (first last : LedgerView) (boxes after : List Mailbox) (partitions : List PartitionState) → of_parts first boxes partitions ≡ s → CanRetrieve s p handle
-    → last.manifest ≡ first.manifest → last.donations ≡ donations_after p access (found first.live handle) first.donations → last.live ≡ live_after handle p access (found first.live handle) first.live
+    → last.manifest ≡ first.manifest → last.donations ≡ donations_after first.manifest p access (found first.live handle) first.donations → last.live ≡ live_after handle p access (found first.live handle) first.live
     → IfErr filled (RefusesWith (pairs.fill_tests boxes p)) → OnOk filled (after ≡ pairs.with_rx p true boxes) → of_parts last after partitions ≡ after_retrieval s p handle access
 completed_state (Err status) s p handle access first last boxes after partitions is can manifest donations live refused ok =
     absurd (let fill = can.fills in let refuses : first_refusal (pairs.fill_tests s.mailboxes p) ≡ Some status = ap (λ (u : State). first_refusal (pairs.fill_tests u.mailboxes p)) (sym is) ∙ refused in cc)

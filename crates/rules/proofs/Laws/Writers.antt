@@ -6,7 +6,7 @@ use Rattle.base.specs.declared.transaction.Kind.{Kind}
 use Rattle.base.specs.declared.transaction.Kind.TheVariants.{Share, Lend, Donate}
 use Rattle.base.specs.Access.{View}
 use Rattle.base.specs.Manifest.{grant}
-use Rattle.base.specs.Transactions.{Live, Donation}
+use Rattle.base.specs.Transactions.{Live, Gift}
 use Rattle.base.specs.Ledger.{live_at, donation_at, kept, retrieved, view_under}
 use Rattle.base.specs.State.{State, sees, home_of}
 use Rattle.rules.specs.Run.{IsReached}
@@ -24,13 +24,13 @@ under t home p w =
       | false ↦ λ e v. inr v
     ] refl w
 
-taken : (d : Donation) (p : ℕ) → IsReadWrite (cond (eqb d.taker p) (Some d.access) None) → d.taker ≡ p
+taken : (d : Gift) (p : ℕ) → IsReadWrite (cond (eqb d.taker p) (Some d.access) None) → d.taker ≡ p
 taken d p w =
     elim (eqb d.taker p) as (λ b. eqb d.taker p ≡ b → IsReadWrite (cond b (Some d.access) None) → d.taker ≡ p) [ true ↦ λ e v. eqb-true _ _ e | false ↦ λ e v. absurd v ] refl w
 
-cases : (l : Option Live) (d : Option Donation) (home gp gq : View) (p q : ℕ)
-    → IsReadWrite (option_map_or (λ (t : Live). view_under t home p) l (option_map_or (λ (x : Donation). cond (eqb x.taker p) (Some x.access) None) d gp))
-    → IsReadWrite (option_map_or (λ (t : Live). view_under t home q) l (option_map_or (λ (x : Donation). cond (eqb x.taker q) (Some x.access) None) d gq))
+cases : (l : Option Live) (d : Option Gift) (home gp gq : View) (p q : ℕ)
+    → IsReadWrite (option_map_or (λ (t : Live). view_under t home p) l (option_map_or (λ (x : Gift). cond (eqb x.taker p) (Some x.access) None) d gp))
+    → IsReadWrite (option_map_or (λ (t : Live). view_under t home q) l (option_map_or (λ (x : Gift). cond (eqb x.taker q) (Some x.access) None) d gq))
     → (p ≡ q) ⊎ (((l ≡ None) × (d ≡ None) × IsReadWrite gp × IsReadWrite gq) ⊎ ((t : Live) × (l ≡ Some t) × WritesBy t home p × WritesBy t home q))
 cases (Some t) d home gp gq p q wp wq = inr (inr (t, refl, under t home p wp, under t home q wq))
 cases None (Some x) home gp gq p q wp wq = inl (sym (taken x p wp) ∙ taken x q wq)

@@ -21,7 +21,8 @@ use Rattle.base.specs.Descriptors.Retrieve.{Retrieve, is_retrieve, retrieve_of}
 use Rattle.base.specs.Descriptors.Send.{header_size}
 use Rattle.base.specs.Refusals.{Test, ◌otherwise◌}
 use Rattle.base.specs.State.{State, version_of}
-use Rattle.base.specs.Transactions.{Receiver, Live, without, completed}
+use Rattle.base.specs.Transactions.{Receiver, Live, without, gift}
+use Rattle.base.specs.Ledger.{with_donation_of}
 use Rattle.wire.specs.declared.request.Transfer.{Transfer}
 use Rattle.wire.specs.Replies.{ReplyWords, response, error}
 use Rattle.rules.specs.Call.{CallWords}
@@ -164,12 +165,12 @@ retrieve_tests s c x =
 
 -- ---- success
 
--- the donation is complete: its pages have a new owner, and the transaction has ended
+-- the donation is complete: the partition owns its pages, which are this to it, and the transaction has ended
 unfoldable pub with_donation : State → ℕ → Live → Access → State
 with_donation s p t access =
     record s {
       live = without t.handle s.live;
-      donations = s.donations ++ completed p access t ∷ [];
+      donations = with_donation_of s.manifest t.ranges (gift p access) s.donations;
     }
 
 -- a receiver has the transaction with this access

@@ -13,7 +13,7 @@ returns g c =
     let live = c.args.ledger.now.live in
     let t = c.args.tables.now in
     let u = c.in_ok-rebuilt.rebuilt in
-    let half : AllWalksAre u.layout (view m ds c.live.result.now) u.pool = subst (λ (x : List Donation). AllWalksAre u.layout (view m x c.live.result.now) u.pool) c.donations.ensures c.in_ok-rebuilt.ensures.agrees in
+    let half : AllWalksAre u.layout (view m ds c.live.result.now) u.pool = subst (λ (x : List Donation). AllWalksAre u.layout (view m x c.live.result.now) u.pool) (c.deref.ensures.value ∙ c.in_ok-donations.ensures) c.in_ok-rebuilt.ensures.agrees in
     let agrees : AllWalksAre u.layout (view m ds live) u.pool = subst (λ (x : List Live). AllWalksAre u.layout (view m ds x) u.pool) c.live.ensures half in
     elim c.if-same.branch [
       | then-same+in_ok-writeln w ↦

@@ -1,15 +1,23 @@
-use Rattle.std.proofs.Common.{cond, List, Some, ap, ◌∙◌}
-use Rattle.base.specs.Pages.{PageRun, covers}
+use Rattle.std.proofs.Common.{◌≡◌, ◌+◌, ◌-◌, ◌<◌, ◌∙◌, ℕ, cond, drop, length, Some, ap, arith}
+use Rattle.base.specs.Ledger.{donation_at}
+use Rattle.base.specs.Pages.{PageRun, in_run}
 use Rattle.base.specs.Transactions.{Donation}
 use Rattle.spans.specs.Spans.{value_at}
 use Rattle.audit.proofs.ListPlaces.{donation-placed}
 use Rattle.audit.proofs.lists.places_of_donations.Goals as goal
 
-pub loop-place-preserved : goal.loop-place-preserved
-loop-place-preserved c = λ n.
-    let l = c.loop-place in
-    let d = c.index-donations-place.result in
-    let runs = c.deref.ensures.value ∙ ap (λ (x : Donation). x.ranges) c.donation.view_is in
-    donation-placed c.args.donations.now l.place n d (value_at l.places.spans n) (value_at c.put_all.new.self.spans n)
-    c.loop-place-test.true c.index-donations-place.is (l.invariant n)
-    (c.in_ok-put_all.ensures.at n ∙ ap (λ (r : List PageRun). cond (covers r n) (Some l.place) (value_at l.places.spans n)) runs)
+pub loop-left-preserved : goal.loop-left-preserved
+loop-left-preserved c =
+    let l = c.loop-left in
+    let ds = c.args.donations.now in
+    let i : ℕ = l.left - 1 in
+    let some = c.loop-left-test.true in
+    let most = l.invariant.0 in
+    let lt : i < length ds = omega (arith, some, most) in
+    let at : i + 1 ≡ l.left = omega (arith, some) in (
+      omega (arith, most),
+      λ n.
+          donation-placed ds i n c.index-donations-left.result (value_at l.places.spans n) (value_at c.put.new.self.spans n) lt c.index-donations-left.is
+          (ap (λ (k : ℕ). donation_at (drop k ds) n) at ∙ l.invariant.1 n)
+          (c.in_ok-put.ensures.at n ∙ ap (λ (r : PageRun). cond (in_run r n) (Some i) (value_at l.places.spans n)) (ap (λ (d : Donation). d.run) c.donation.view_is)),
+    )

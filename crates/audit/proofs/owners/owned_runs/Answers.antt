@@ -1,5 +1,6 @@
 use Rattle.std.proofs.Common.{◌≡◌, sym, ◌∙◌, arith}
-use Rattle.audit.specs.Runs.{maximal_runs, ownership}
+use Rattle.base.specs.Runs.{maximal_runs}
+use Rattle.audit.specs.Runs.{ownership}
 use Rattle.audit.proofs.OwnedRuns.{owned-more}
 use Rattle.audit.proofs.owners.owned_runs.Goals as goal
 

@@ -1,5 +1,6 @@
 use Rattle.std.proofs.Common.{◌≡◌, ◌-◌, ◌≤◌, ◌^◌}
-use Rattle.audit.specs.Runs.{maximal_runs, ownership, is_same_ownership}
+use Rattle.base.specs.Runs.{maximal_runs}
+use Rattle.audit.specs.Runs.{ownership, is_same_ownership}
 use Rattle.audit.proofs.owners.owned_runs.Given as goal
 
 -- the runs of the pages before this one

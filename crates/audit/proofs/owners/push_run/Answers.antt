@@ -1,6 +1,6 @@
 use Rattle.std.proofs.Common.{sym, ◌∙◌}
 use Rattle.audit.specs.Runs.{is_same_ownership}
-use Rattle.audit.proofs.MaximalRuns.{grown-last, put-behind, put-first}
+use Rattle.base.proofs.MaximalRuns.{grown-last, put-behind, put-first}
 use Rattle.audit.proofs.owners.push_run.Goals as goal
 use Rattle.audit.proofs.owners.push_run.Goals.{in_default-via-in-Some+else-is_followed_by, in_default-via-in_default}
 

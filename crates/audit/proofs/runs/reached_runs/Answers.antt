@@ -1,4 +1,4 @@
-use Rattle.audit.specs.Runs.{maximal_runs}
+use Rattle.base.specs.Runs.{maximal_runs}
 use Rattle.audit.proofs.runs.reached_runs.Goals as goal
 
 pub loop-gigabyte-init : goal.loop-gigabyte-init

@@ -1,10 +1,15 @@
-use Rattle.std.proofs.Common.{◌≡◌, ◌++◌, ◌∷◌, [], List, Some, None, IsOk, length, refl, sym, ap, subst, ◌∙◌, arith, rules}
-use Rattle.base.specs.Transactions.{Live, Donation, AreAscending}
+use Rattle.std.proofs.Common.{◌≡◌, List, Some, None, IsOk, length, refl, sym, ap, subst, ◌∙◌, arith, rules}
+use Rattle.base.specs.Ledger.{with_donation_of}
+use Rattle.base.specs.Manifest.{ManifestRows}
+use Rattle.base.specs.Pages.{PageRun}
+use Rattle.base.specs.Transactions.{Live, Donation, AreAscending, gift}
 use Rattle.ledger.specs.declared.live.Terms.{Terms}
+use Rattle.ledger.specs.Gifts.{left}
 use Rattle.ledger.specs.Ledger.{LedgerView, found}
-use Rattle.ledger.specs.Changes.{without, completed}
+use Rattle.ledger.specs.Changes.{without}
+use Rattle.ledger.proofs.Donations.{says-left, left-new}
 use Rattle.ledger.proofs.Places.{IsPlace-in, HasNone-in}
-use Rattle.ledger.proofs.Kept.{found_at, found_some, at_place_pages, IsKept-close, IsKept-complete}
+use Rattle.ledger.proofs.Kept.{found_at, at_place_pages, IsKept-close, IsKept-given}
 use Rattle.ledger.proofs.Transactions.{ascending}
 use Rattle.ledger.proofs.ledger.Ledger.complete.Goals as goal
 
@@ -24,19 +29,6 @@ returns-in_default-clause-live c =
     let none = HasNone-in c.args.self.now.live c.deref.result.now c.args.handle c.place_of.result (c.deref.ensures.value ∙ lives) c.place_of.ensures c.in_default.is in
     sym none.removed
 
-pub returns-in_err-reserve-clause-at_once : goal.returns-in_err-reserve-clause-at_once
-returns-in_err-reserve-clause-at_once c = λ ready.
-    let old = c.self.inside in
-    let h = c.args.handle in
-    let i = c.in-Some.place in
-    let lives : old.live.items ≡ c.args.self.now.live = ap (λ (l : LedgerView). l.live) c.self.view_is in
-    let place = IsPlace-in old.live.items c.deref.result.now h i c.place_of.result c.deref.ensures.value c.place_of.ensures c.in-Some.is in
-    let some = found_some old.live.items h i place in
-    let room = ready some.0 (ap (λ (l : List Live). found l h) (sym lives) ∙ some.1) in
-    let left = ap (λ (l : LedgerView). l.room.donations) c.self.view_is in
-    let ok : IsOk c.reserve.result = c.reserve.ensures.succeeds (omega (arith, room.donations, left)) in
-    search rules
-
 pub returns-in_err-put_all-clause-at_once : goal.returns-in_err-put_all-clause-at_once
 returns-in_err-put_all-clause-at_once c = λ ready.
     let old = c.self.inside in
@@ -49,34 +41,29 @@ returns-in_err-put_all-clause-at_once c = λ ready.
     let room = ready t (ap (λ (l : List Live). found l h) (sym lives) ∙ is) in
     let left = ap (λ (l : LedgerView). l.room.given) c.self.view_is in
     let runs = ap length (c.deref-3.ensures.value ∙ ap (λ (t : Terms). t.ranges.items) c.deref-2.ensures ∙ ap (λ (t : Live). t.ranges) c.behind-self.view_is) in
-    let ok : IsOk c.put_all.result = c.put_all.ensures.at_once (omega (arith, room.given, left, runs)) in
+    let ok : IsOk c.put_all.result = c.put_all.ensures.at_once (omega (arith, room, left, runs)) in
     search rules
 
-pub take_at-transaction-requires-clause-pages : goal.take_at-transaction-requires-clause-pages
-take_at-transaction-requires-clause-pages c =
+pub take_at-requires-clause-pages : goal.take_at-requires-clause-pages
+take_at-requires-clause-pages c =
     let old = c.self.inside in
     let h = c.args.handle in
     let i = c.in-Some.place in
-    let lives : old.live.items ≡ c.args.self.now.live = ap (λ (l : LedgerView). l.live) c.self.view_is in
     let place = IsPlace-in old.live.items c.deref.result.now h i c.place_of.result c.deref.ensures.value c.place_of.ensures c.in-Some.is in
-    at_place_pages old.manifest old.donations.items old.live.items old.given.spans old.shared.spans h i c.self.invariant place
+    at_place_pages old.manifest (left old.manifest old.given.spans) old.live.items old.given.spans old.shared.spans h i c.self.invariant place
 
 pub invariant_of-self-2 : goal.invariant_of-self-2
 invariant_of-self-2 c =
     let old = c.self.inside in
     let h = c.args.handle in
     let i = c.in-Some.place in
-    let lives : old.live.items ≡ c.args.self.now.live = ap (λ (l : LedgerView). l.live) c.self.view_is in
     let place = IsPlace-in old.live.items c.deref.result.now h i c.place_of.result c.deref.ensures.value c.place_of.ensures c.in-Some.is in
-    let t = c.take_at-transaction.result in
-    let is : found old.live.items h ≡ Some t = found_at old.live.items h i t place (c.take_at-transaction.ensures.value t) in
-    let same : c.index.result.now ≡ t = c.index.ensures ∙ sym (c.take_at-transaction.ensures.value c.index.result.now) in
-    let runs : c.deref-3.result.now ≡ t.ranges = c.deref-3.ensures.value ∙ ap (λ (t : Terms). t.ranges.items) c.deref-2.ensures ∙ ap (λ (t : Live). t.ranges) (c.behind-self.view_is ∙ same) in
-    let e : Donation = record { ranges = c.into_inner-terms.result.ranges.items; giver = c.into_inner-terms.result.sender; taker = c.args.p; access = c.args.access } in
-    let given : e.ranges ≡ t.ranges = ap (λ (t : Terms). t.ranges.items) c.into_inner-terms.ensures ∙ ap (λ (t : Live). t.ranges) c.transaction.view_is in
-    let closed = IsKept-close old.manifest old.donations.items old.live.items c.take_at-transaction.new.live.items old.given.spans old.shared.spans c.take_at-transaction.new.shared.spans h i t t.ranges c.self.invariant place is refl c.take_at-transaction.ensures.shared c.take_at-transaction.ensures.live in
-    IsKept-complete old.manifest old.donations.items c.push_reserved.new.self.items c.take_at-transaction.new.live.items old.given.spans c.take_at-transaction.new.shared.spans c.put_all.new.self.spans
-    e c.deref-3.result.now c.number.result closed c.number.ensures (runs ∙ sym given) c.in_ok-put_all.ensures.at (c.push_reserved.ensures.items ∙ ap (λ (l : List Donation). l ++ e ∷ []) c.reserve.ensures.items)
+    let t = c.take_at.result in
+    let is : found old.live.items h ≡ Some t = found_at old.live.items h i t place (c.take_at.ensures.value t) in
+    let ds = left old.manifest old.given.spans in
+    let new = c.put_all.new.self.spans in
+    let closed = IsKept-close old.manifest ds old.live.items c.take_at.new.live.items old.given.spans old.shared.spans c.take_at.new.shared.spans h i t t.ranges c.self.invariant place is refl c.take_at.ensures.shared c.take_at.ensures.live in
+    IsKept-given old.manifest ds (left old.manifest new) c.take_at.new.live.items old.given.spans c.take_at.new.shared.spans new closed (says-left old.manifest new)
 
 pub returns-clause-donations : goal.returns-clause-donations
 returns-clause-donations c = λ u known.
@@ -85,16 +72,15 @@ returns-clause-donations c = λ u known.
     let i = c.in-Some.place in
     let lives : old.live.items ≡ c.args.self.now.live = ap (λ (l : LedgerView). l.live) c.self.view_is in
     let place = IsPlace-in old.live.items c.deref.result.now h i c.place_of.result c.deref.ensures.value c.place_of.ensures c.in-Some.is in
-    let t = c.take_at-transaction.result in
-    let is : found old.live.items h ≡ Some t = found_at old.live.items h i t place (c.take_at-transaction.ensures.value t) in
+    let t = c.index.result.now in
+    let is : found old.live.items h ≡ Some t = found_at old.live.items h i t place c.index.ensures in
     let here : found c.args.self.now.live h ≡ Some t = ap (λ (l : List Live). found l h) (sym lives) ∙ is in
     let both : Some u ≡ Some t = sym known ∙ here in
     let one : t ≡ u = cc in
-    let ds = c.args.self.now.donations in
-    c.push_reserved.ensures.items
-    ∙ ap (λ (l : List Donation). l ++ record { ranges = c.into_inner-terms.result.ranges.items; giver = c.into_inner-terms.result.sender; taker = c.args.p; access = c.args.access } ∷ []) (c.reserve.ensures.items ∙ ap (λ (l : LedgerView). l.donations) c.self.view_is)
-    ∙ ap (λ (x : Terms). ds ++ record { ranges = x.ranges.items; giver = x.sender; taker = c.args.p; access = c.args.access } ∷ []) c.into_inner-terms.ensures
-    ∙ ap (λ (x : Live). ds ++ completed c.args.p c.args.access x ∷ []) (c.transaction.view_is ∙ one)
+    let runs : c.deref-3.result.now ≡ u.ranges = c.deref-3.ensures.value ∙ ap (λ (t : Terms). t.ranges.items) c.deref-2.ensures ∙ ap (λ (t : Live). t.ranges) (c.behind-self.view_is ∙ one) in
+    left-new old.manifest c.deref-3.result.now (gift c.args.p c.args.access) c.number.result old.given.spans c.put_all.new.self.spans c.number.ensures c.in_ok-put_all.ensures.at
+    ∙ ap (λ (rs : List PageRun). with_donation_of old.manifest rs (gift c.args.p c.args.access) (left old.manifest old.given.spans)) runs
+    ∙ ap (λ (l : LedgerView). with_donation_of l.manifest u.ranges (gift c.args.p c.args.access) l.donations) c.self.view_is
 
 pub returns-clause-live : goal.returns-clause-live
 returns-clause-live c =
@@ -103,4 +89,4 @@ returns-clause-live c =
     let i = c.in-Some.place in
     let lives : old.live.items ≡ c.args.self.now.live = ap (λ (l : LedgerView). l.live) c.self.view_is in
     let place = IsPlace-in old.live.items c.deref.result.now h i c.place_of.result c.deref.ensures.value c.place_of.ensures c.in-Some.is in
-    c.take_at-transaction.ensures.live ∙ place.removed ∙ ap (without h) lives
+    c.take_at.ensures.live ∙ place.removed ∙ ap (without h) lives

@@ -1,5 +1,6 @@
 use Rattle.std.proofs.Common.{refl, sym, ap, subst, ◌∙◌}
 use Rattle.base.specs.Transactions.{AreAscending}
+use Rattle.ledger.specs.Gifts.{left}
 use Rattle.ledger.specs.Ledger.{LedgerView, found}
 use Rattle.ledger.specs.Changes.{without}
 use Rattle.ledger.proofs.Places.{IsPlace-in, HasNone-in}
@@ -25,13 +26,13 @@ returns-in_err-place-clause-live c =
 pub take_at-requires-clause-pages : goal.take_at-requires-clause-pages
 take_at-requires-clause-pages c =
     let place = IsPlace-in c.self.inside.live.items c.deref.result.now c.args.handle c.in_ok-place.place c.place_of.result c.deref.ensures.value c.place_of.ensures c.in_ok-place.was in
-    at_place_pages c.self.inside.manifest c.self.inside.donations.items c.self.inside.live.items c.self.inside.given.spans c.self.inside.shared.spans c.args.handle c.in_ok-place.place c.self.invariant place
+    at_place_pages c.self.inside.manifest (left c.self.inside.manifest c.self.inside.given.spans) c.self.inside.live.items c.self.inside.given.spans c.self.inside.shared.spans c.args.handle c.in_ok-place.place c.self.invariant place
 
 pub invariant_of-self : goal.invariant_of-self
 invariant_of-self c =
     let place = IsPlace-in c.self.inside.live.items c.deref.result.now c.args.handle c.in_ok-place.place c.place_of.result c.deref.ensures.value c.place_of.ensures c.in_ok-place.was in
     let t = c.take_at.result in
-    IsKept-close c.self.inside.manifest c.self.inside.donations.items c.self.inside.live.items c.take_at.new.live.items c.self.inside.given.spans c.self.inside.shared.spans c.take_at.new.shared.spans
+    IsKept-close c.self.inside.manifest (left c.self.inside.manifest c.self.inside.given.spans) c.self.inside.live.items c.take_at.new.live.items c.self.inside.given.spans c.self.inside.shared.spans c.take_at.new.shared.spans
     c.args.handle c.in_ok-place.place t t.ranges c.self.invariant place (found_at c.self.inside.live.items c.args.handle c.in_ok-place.place t place (c.take_at.ensures.value t)) refl c.take_at.ensures.shared c.take_at.ensures.live
 
 pub returns-clause-value : goal.returns-clause-value
