@@ -6,13 +6,13 @@ ghost use Rattle.rules.specs.Run as rules;
 ghost use Rattle.wire.specs.Replies.{filled};
 ghost use Rattle.ffaspm_c.specs.Answers as answers;
 ghost use Rattle.ffaspm_c.specs.Answers.{call_from, rx_bytes, in_front, AreBoth, IsAnswered, IsLeft, IsReply};
-ghost use Rattle.spm.specs.Machine.{unchanged};
+ghost use Rattle.spm.specs.Machine.{MayNeedMemory, unchanged};
 
 use crate::holder::Holder;
 use crate::status::{DONE, NO_MEMORY, NOT_MADE, RX_SHORT};
 use base::{OutOfMemory, PartitionId};
 use pool::ListPool;
-use spm::{Call, Reply, Spm};
+use spm::{LentCall, Reply, Spm};
 use std::alloc::Global;
 
 /// A call: registers 0 to 7, and the identifier of the partition that calls.
@@ -43,26 +43,23 @@ fn rx_size(spm: &Spm<ListPool>, p: PartitionId) -> usize
     }
 }
 
-/// Answers the call, whose TX bytes are copied.
-fn answered(
-    alloc: Global,
-    spm: &mut Spm<ListPool>,
-    call: &CallIn,
-    tx: &[u8],
-) -> Result<Reply, OutOfMemory>
+/// Answers the call. No memory is taken for its TX bytes.
+fn answered(spm: &mut Spm<ListPool>, call: &CallIn, tx: &[u8]) -> Result<Reply, OutOfMemory>
     ensures answered { OnOk result
         (IsAnswered (call_from call.now.caller call.now.regs tx.now) spm.old spm.new) }
     ensures reply { IfOk result (λ reply. reply
         ≡ rules.answer spm.old.state (call_from call.now.caller call.now.regs tx.now)) }
     ensures err { OnErr result (unchanged spm.new ≡ unchanged spm.old) }
+    ensures memory_after_the_tests { OnErr result
+        (MayNeedMemory spm.old.state (call_from call.now.caller call.now.regs tx.now)) }
 {
     let regs = call.regs;
-    let call = Call {
+    let call = LentCall {
         caller: call.caller,
         regs,
-        tx: Vec::from_slice(alloc, tx)?,
+        tx,
     };
-    spm.handle(&call)
+    spm.handle_lent(&call)
 }
 
 /// Copies bytes to the front of a room that holds them.
@@ -110,7 +107,6 @@ fn left(spm: &mut Spm<ListPool>, reply: &mut ReplyOut, status: u32) -> u32
 
 /// Answers the call where `rx` has room for the caller's whole RX buffer.
 fn serve(
-    alloc: Global,
     spm: &mut Spm<ListPool>,
     call: &CallIn,
     tx: &[u8],
@@ -128,13 +124,15 @@ fn serve(
     ensures untouched_reply { result ≢ answers.done → reply.new ≡ record reply.old { operations = 0 } }
     ensures untouched_rx { result ≢ answers.done → rx.new ≡ rx.old }
     ensures fits { result ≡ answers.rx_short → length rx.old < rx_size spm.old.state call.now.caller }
+    ensures memory_after_the_tests { result ≡ answers.no_memory →
+        MayNeedMemory spm.old.state (call_from call.now.caller call.now.regs tx.now) }
     ensures status { (result ≡ answers.done)
         ⊎ ((result ≡ answers.no_memory) ⊎ (result ≡ answers.rx_short)) }
 {
     if rx.len() < rx_size(spm, PartitionId::new(call.caller)) {
         return left(spm, reply, RX_SHORT);
     }
-    match answered(alloc, spm, call, tx) {
+    match answered(spm, call, tx) {
         Ok(answer) => {
             let regs = answer.regs;
             *reply = ReplyOut {
@@ -149,10 +147,10 @@ fn serve(
 }
 
 /// Answers a call of a partition (FF-A 1.1, "Interface overview"), by its registers and one copy of
-/// its TX buffer. It gives registers 0 to 7 of the reply, and what the caller's RX buffer is to be
+/// its TX buffer, which nobody writes meanwhile. It gives registers 0 to 7 of the reply, and what the caller's RX buffer is to be
 /// filled with.
 ///
-/// `NO_MEMORY` and `RX_SHORT` (the room for RX is smaller than the buffer that the caller has
+/// A call that is refused by its tests takes no memory. `NO_MEMORY` and `RX_SHORT` (the room for RX is smaller than the buffer that the caller has
 /// registered) change nothing, and write nothing, but that the list of operations is empty then, and their count
 /// in the reply 0: those of an earlier call are not to be replayed again. `NOT_MADE` writes this count alone.
 #[unsafe(no_mangle)]
@@ -178,6 +176,8 @@ pub extern "C" fn ffaspm_handle(
         AreBoth IsLeft holder.old.kept.manager holder.new.kept.manager }
     ensures fits { result ≡ answers.rx_short → IfSome holder.old.kept.manager (λ m.
         length rx.old < rx_size m.state call.now.caller) }
+    ensures memory_after_the_tests { result ≡ answers.no_memory → IfSome holder.old.kept.manager (λ m.
+        MayNeedMemory m.state (call_from call.now.caller call.now.regs tx.now)) }
     ensures not_made { result ≡ answers.not_made → holder.old.kept.manager ≡ None }
     ensures none { holder.old.kept.manager ≡ None → result ≡ answers.not_made }
     ensures still_none { holder.old.kept.manager ≡ None → holder.new.kept.manager ≡ None }
@@ -187,7 +187,7 @@ pub extern "C" fn ffaspm_handle(
 {
     match holder.take(alloc) {
         Some(mut spm) => {
-            let status = serve(alloc, &mut spm, call, tx, rx, reply);
+            let status = serve(&mut spm, call, tx, rx, reply);
             holder.put(spm);
             status
         }

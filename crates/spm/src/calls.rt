@@ -17,7 +17,7 @@ pub(crate) mod send;
 pub(crate) mod transfer;
 pub(crate) mod version;
 
-use crate::call::Call;
+use crate::call::LentCall;
 use crate::change::{Change, Stop};
 use crate::state::State;
 use base::Run;
@@ -27,7 +27,7 @@ use wire::Request;
 /// edit may stand in the memory of the spare list.
 pub(crate) fn check(
     state: &State,
-    call: &Call,
+    call: &LentCall<'_>,
     request: Request,
     spare: &mut Vec<Run>,
 ) -> Result<Change, Stop>

@@ -13,7 +13,7 @@ ghost use Rattle.rules.specs.Laws.OneOwner.{IsOwnedOnce};
 ghost use Rattle.spm.specs.Granted.{IsGrantedCall};
 ghost use Rattle.spm.specs.Machine.{WalksAgree, ShowsCall, HasCleared, MayNeedMemory, translated, unchanged};
 
-use crate::call::Call;
+use crate::call::{Call, LentCall};
 use crate::calls::check;
 use crate::change::{Change, Stop};
 use crate::commit::{commit, fits};
@@ -107,7 +107,7 @@ impl<M: TableMem + Drop> Spm<M> {
         &self.tables
     }
 
-    /// The live transactions and the completed donations.
+    /// The live transactions, and what completed donations have left.
     pub fn ledger(&self) -> &Ledger
         ensures manifest { result.now.manifest ≡ self.now.state.manifest }
         ensures donations { result.now.donations ≡ self.now.state.donations }
@@ -169,7 +169,6 @@ impl<M: TableMem + Drop> Spm<M> {
 
     /// Answers a call. A refused call, and one for which memory is wanting, leaves the state and the
     /// tables as they were; the list of operations of the tables is then empty.
-    #[tactic(auto, unfolding(rules::specs::Run::answer, rules::specs::Run::step, rules::specs::Run::refusal, rules::specs::Run::rule))]
     pub fn handle(&mut self, call: &Call) -> Result<Reply, OutOfMemory>
         // The reply is the definition's.
         ensures reply { IfOk result (λ reply. reply ≡ rules.answer self.old.state call.now) }
@@ -200,6 +199,26 @@ impl<M: TableMem + Drop> Spm<M> {
         ensures agrees { WalksAgree self.new.state self.new.pool }
         ensures reached { rules.IsReached self.new.state }
     {
+        self.handle_lent(&call.lent())
+    }
+
+    /// The same, of a call whose bytes of TX are lent.
+    #[tactic(auto, unfolding(rules::specs::Run::answer, rules::specs::Run::step, rules::specs::Run::refusal, rules::specs::Run::rule))]
+    pub fn handle_lent(&mut self, call: &LentCall<'_>) -> Result<Reply, OutOfMemory>
+        ensures reply { IfOk result (λ reply. reply ≡ rules.answer self.old.state call.now) }
+        ensures state { OnOk result (self.new.state ≡ rules.step self.old.state call.now) }
+        ensures refused { IsSome (rules.refusal self.old.state call.now) →
+            self.new ≡ unchanged self.old }
+        ensures moves_no_page { (rules.rule self.old.state call.now).edit ≡ None →
+            self.new.pool ≡ emptied self.old.pool }
+        ensures err { OnErr result (self.new ≡ unchanged self.old) }
+        ensures memory_after_the_tests { OnErr result (MayNeedMemory self.old.state call.now) }
+        ensures moments { ShowsCall self.old self.new }
+        ensures clears { OnOk result
+            (HasCleared (rules.clears self.old.state call.now) self.new) }
+        ensures agrees { WalksAgree self.new.state self.new.pool }
+        ensures reached { rules.IsReached self.new.state }
+    {
         self.tables.begin();
         if !self.state.is_partition(call.partition()) {
             return Ok(Reply::error(Status::Denied));
@@ -211,7 +230,7 @@ impl<M: TableMem + Drop> Spm<M> {
     }
 
     /// Answers what a partition asks for.
-    fn serve(&mut self, call: &Call, request: Request) -> Result<Reply, OutOfMemory>
+    fn serve(&mut self, call: &LentCall<'_>, request: Request) -> Result<Reply, OutOfMemory>
         requires begun { self.old.pool.operations ≡ [] }
         requires known { rows.is_partition self.old.state.manifest call.now.caller ≡ true }
         requires request_decoded { request_of call.now.regs ≡ Some request }
@@ -236,7 +255,7 @@ impl<M: TableMem + Drop> Spm<M> {
     }
 
     /// Makes the change of a request that has passed its own tests, where its edit fits.
-    fn make(&mut self, call: &Call, change: Change) -> Result<Reply, OutOfMemory>
+    fn make(&mut self, call: &LentCall<'_>, change: Change) -> Result<Reply, OutOfMemory>
         requires begun { self.old.pool.operations ≡ [] }
         requires granted { IsGrantedCall self.old.state call.now change }
         ensures reply { IfOk result (λ reply. reply ≡ rules.answer self.old.state call.now) }

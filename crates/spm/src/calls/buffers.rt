@@ -9,7 +9,7 @@ ghost use Rattle.rules.specs.Calls.Buffers as rules;
 ghost use Rattle.rules.specs.Run.{IsReached};
 ghost use Rattle.spm.specs.Granted.{IsGranted, IsStopped};
 
-use crate::call::Call;
+use crate::call::LentCall;
 use crate::change::{Change, Stop, Update};
 use crate::state::State;
 use base::{Access, Page, PartitionId, Rights, Run, Status};
@@ -19,7 +19,13 @@ use wire::Reply;
 // ---- FFA_RXTX_MAP
 
 /// The caller registers TX and RX at these addresses in bytes, with so many pages each.
-pub(crate) fn map(state: &State, call: &Call, tx: u64, rx: u64, pages: u32) -> Result<Change, Stop>
+pub(crate) fn map(
+    state: &State,
+    call: &LentCall<'_>,
+    tx: u64,
+    rx: u64,
+    pages: u32,
+) -> Result<Change, Stop>
     requires { IsReached state.now }
     ensures granted { IfOk result (λ change. IsGranted state.now call.now.caller
         (rules.map_rule state.now call.now tx rx pages) false change) }
@@ -84,7 +90,7 @@ pub(crate) fn register(state: &mut State, p: PartitionId, pair: Pair)
 // ---- FFA_RXTX_UNMAP
 
 /// The caller ends the registration of its pair, with this word in register 1.
-pub(crate) fn unmap(state: &State, call: &Call, word: u32) -> Result<Change, Stop>
+pub(crate) fn unmap(state: &State, call: &LentCall<'_>, word: u32) -> Result<Change, Stop>
     ensures granted { IfOk result (λ change. IsGranted state.now call.now.caller
         (rules.unmap_rule state.now call.now word) false change) }
     ensures stopped { IfErr result (λ stop. IsStopped
@@ -109,7 +115,7 @@ pub(crate) fn unregister(state: &mut State, p: PartitionId)
 // ---- FFA_RX_RELEASE
 
 /// The caller gives RX back.
-pub(crate) fn release_rx(state: &State, call: &Call) -> Result<Change, Stop>
+pub(crate) fn release_rx(state: &State, call: &LentCall<'_>) -> Result<Change, Stop>
     ensures granted { IfOk result (λ change. IsGranted state.now call.now.caller
         (rules.release_rule state.now call.now) false change) }
     ensures stopped { IfErr result (λ stop. IsStopped

@@ -10,7 +10,7 @@ ghost use Rattle.rules.specs.Run.{IsReached};
 ghost use Rattle.spm.specs.Checked.{IsReclaimed};
 ghost use Rattle.spm.specs.Granted.{IsGranted, IsStopped, AreSameEdits, AreOrderly};
 
-use crate::call::Call;
+use crate::call::LentCall;
 use crate::calls::clearing::may_clear_returned;
 use crate::change::{Change, Edit, Stop, Update};
 use crate::state::State;
@@ -24,7 +24,7 @@ use wire::Reply;
 /// pages as before.
 pub(crate) fn reclaim(
     state: &State,
-    call: &Call,
+    call: &LentCall<'_>,
     handle: Handle,
     flags: u32,
     spare: &mut Vec<Run>,

@@ -8,7 +8,7 @@ ghost use Rattle.rules.specs.Run.{IsReached};
 ghost use Rattle.spm.specs.Checked.{IsRelinquished};
 ghost use Rattle.spm.specs.Granted.{IsGranted, IsStopped};
 
-use crate::call::Call;
+use crate::call::LentCall;
 use crate::calls::clearing::may_clear_lent;
 use crate::calls::receiver::{received_with, receiver_edit};
 use crate::change::{Change, Stop, Update};
@@ -27,7 +27,11 @@ struct Given<'a> {
 
 /// The caller gives up what it has retrieved of the transaction that its descriptor in TX names, and
 /// reaches its pages no more.
-pub(crate) fn relinquish(state: &State, call: &Call, spare: &mut Vec<Run>) -> Result<Change, Stop>
+pub(crate) fn relinquish(
+    state: &State,
+    call: &LentCall<'_>,
+    spare: &mut Vec<Run>,
+) -> Result<Change, Stop>
     requires { IsReached state.now }
     ensures granted { IfOk result (λ change. IsGranted state.now call.now.caller
         (rules.relinquish_rule state.now call.now) true change) }
@@ -52,7 +56,7 @@ pub(crate) fn relinquish(state: &State, call: &Call, spare: &mut Vec<Run>) -> Re
 }
 
 /// The tests of a relinquish, in order.
-fn check<'a>(state: &'a State, call: &Call) -> Result<Given<'a>, Status>
+fn check<'a>(state: &'a State, call: &LentCall<'_>) -> Result<Given<'a>, Status>
     requires { IsReached state.now }
     ensures refused { IfErr result (RefusesWith (rules.relinquish_tests state.now call.now)) }
     ensures passed { IfOk result (λ given. IsRelinquished state.now call.now
@@ -62,7 +66,7 @@ fn check<'a>(state: &'a State, call: &Call) -> Result<Given<'a>, Status>
     if !state.pairs.has_pair(p) {
         return Err(Status::InvalidParameters);
     }
-    let Some(desc) = read_relinquish(&call.tx) else {
+    let Some(desc) = read_relinquish(call.tx) else {
         return Err(Status::InvalidParameters);
     };
     if desc.endpoint != p {

@@ -8,7 +8,7 @@ ghost use Rattle.rules.specs.Run.{IsReached};
 ghost use Rattle.spm.specs.Checked.{IsNamed, IsRetrieved};
 ghost use Rattle.spm.specs.Granted.{IsGranted, IsStopped, CanRetrieve, after_retrieval};
 
-use crate::call::Call;
+use crate::call::LentCall;
 use crate::calls::receiver::{received_with, receiver_edit};
 use crate::calls::transfer::{are_lengths, names_tx};
 use crate::change::{Change, Stop, Update};
@@ -36,7 +36,7 @@ struct Named<'a> {
 /// it is granted, and RX says so. A donation is complete then.
 pub(crate) fn retrieve(
     state: &State,
-    call: &Call,
+    call: &LentCall<'_>,
     transfer: Transfer,
     spare: &mut Vec<Run>,
 ) -> Result<Change, Stop>
@@ -62,7 +62,7 @@ pub(crate) fn retrieve(
 /// The tests of a retrieve, in order: they find the transaction, and what the caller is granted of it.
 fn check<'a>(
     state: &'a State,
-    call: &Call,
+    call: &LentCall<'_>,
     transfer: Transfer,
 ) -> Result<(&'a Live, Access), Status>
     requires { IsReached state.now }
@@ -84,7 +84,11 @@ fn check<'a>(
 
 /// The tests of the request itself, in order: they find what it says, and the transaction that it names.
 #[tactic(auto, unfolding(base::specs::Buffers::has_pair))]
-fn check_request<'a>(state: &'a State, call: &Call, transfer: Transfer) -> Result<Named<'a>, Status>
+fn check_request<'a>(
+    state: &'a State,
+    call: &LentCall<'_>,
+    transfer: Transfer,
+) -> Result<Named<'a>, Status>
     requires { IsReached state.now }
     ensures refused { IfErr result (RefusesWith
         (rules.request_tests state.now call.now transfer)) }
@@ -310,7 +314,7 @@ fn respond(
 /// What a retrieve of this transaction changes that has passed its tests, and is granted this.
 fn change(
     state: &State,
-    call: &Call,
+    call: &LentCall<'_>,
     transfer: Transfer,
     transaction: &Live,
     access: Access,

@@ -11,7 +11,7 @@ ghost use Rattle.rules.specs.Run.{IsReached};
 ghost use Rattle.spm.specs.Granted.{IsGranted, IsStopped, AreSameEdits, AreOrderly, CanOpen};
 ghost use Rattle.spm.specs.Checked.{IsChecked};
 
-use crate::call::Call;
+use crate::call::LentCall;
 use crate::calls::clearing::may_clear_sent;
 use crate::calls::transfer::{are_lengths, names_tx};
 use crate::change::{Change, Edit, Stop, Update};
@@ -40,7 +40,7 @@ pub(crate) struct Checked<'a> {
 /// The caller sends the memory that its descriptor in TX names.
 pub(crate) fn send(
     state: &State,
-    call: &Call,
+    call: &LentCall<'_>,
     kind: Kind,
     transfer: Transfer,
     spare: &mut Vec<Run>,
@@ -66,7 +66,7 @@ pub(crate) fn send(
 #[tactic(auto, unfolding(base::specs::Buffers::has_pair))]
 fn check<'a>(
     state: &State,
-    call: &'a Call,
+    call: &'a LentCall<'a>,
     kind: Kind,
     transfer: Transfer,
 ) -> Result<Checked<'a>, Status>
@@ -241,7 +241,7 @@ fn has_room(state: &State, p: PartitionId, sends: u32) -> bool
 /// What a send changes that has passed its tests.
 fn change(
     state: &State,
-    call: &Call,
+    call: &LentCall<'_>,
     kind: Kind,
     transfer: Transfer,
     checked: &Checked<'_>,

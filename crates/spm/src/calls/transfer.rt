@@ -3,7 +3,7 @@
 ghost use Rattle.std.specs.Prelude.{◌≡◌, ◌*◌, ◌≤◌, length, IsTrue};
 ghost use Rattle.rules.specs.Transfers as rules;
 
-use crate::call::Call;
+use crate::call::LentCall;
 use base::limits::PAGE_SIZE;
 use mailbox::Pair;
 use wire::Transfer;
@@ -18,7 +18,7 @@ pub(crate) fn names_tx(transfer: Transfer) -> bool
 
 /// Whether the lengths that the call gives agree, and its bytes and the TX buffer are as long.
 #[tactic(auto, unfolding(rules::specs::Transfers::are_lengths))]
-pub(crate) fn are_lengths(transfer: Transfer, pair: Pair, call: &Call) -> bool
+pub(crate) fn are_lengths(transfer: Transfer, pair: Pair, call: &LentCall<'_>) -> bool
     ensures value { result
         ≡ rules.are_lengths transfer (4096 * pair.tx.count) (length call.now.tx) }
     ensures inside { IsTrue result → length (rules.bytes_of call.now transfer) ≡ transfer.total }

@@ -7,7 +7,7 @@ use Rattle.pool.specs.Pool.{Pool}
 use Rattle.spm.specs.Machine.{Machine, WalksAgree, unchanged}
 use Rattle.spm.proofs.ShownLemmas.{begun-shown}
 use Rattle.spm.proofs.ClearedLemmas.{stranger_clears, unnamed_clears}
-use Rattle.spm.proofs.spm.Spm.handle.Goals as goal
+use Rattle.spm.proofs.spm.Spm.handle_lent.Goals as goal
 
 pub returns-then-not-is_partition-clause-moments : goal.returns-then-not-is_partition-clause-moments
 returns-then-not-is_partition-clause-moments g c =
