@@ -10,7 +10,7 @@ help:
 	@echo 'make lib          the C library, crates/ffaspm_c/out/libffaspm_c.a'
 	@echo 'make lib-aarch64  the same for AArch64, in the same place'
 	@echo 'make examples     runs the C examples, and the firmware in an emulator'
-	@echo 'make checks       what the gate leaves out: want of memory, leaks, the commands of the README'
+	@echo 'make checks       what the gate leaves out: want of memory, what is taken and left of it, the README'
 	@echo 'make bench        times edits of tables, calls and scripts'
 
 quick:
@@ -39,6 +39,8 @@ checks: run lib
 	checks/refusals.sh
 	checks/refused_calls.sh
 	checks/leaks.sh
+	checks/donations.sh
+	checks/bound.sh
 	checks/readme.sh
 
 bench:

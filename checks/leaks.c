@@ -3,6 +3,7 @@
  * one of which is retrieved, and a completed donation, and two calls were refused: one by FFA_ERROR, and one for want
  * of memory. Then no byte may be left. Each life has more ranges than the one before, up to 500 and from 1 again.
  */
+#include "counted_heap.h"
 #include "descriptor.h"
 #include "ffaspm.h"
 #include <stdio.h>
@@ -22,46 +23,6 @@ static void stop(const char *why)
 {
     fprintf(stderr, "checks/leaks: %s\n", why);
     exit(1);
-}
-
-/* ---- the heap: each room has its size in front */
-
-static size_t taken;
-static bool is_full;
-
-struct room {
-    size_t size;
-    size_t pad; /* malloc aligns to 16, which is the most that is asked for */
-};
-
-struct rattle_memory rattle_alloc(size_t size, size_t align)
-{
-    (void)align;
-    struct room *room = is_full ? NULL : malloc(sizeof *room + size);
-    if (room == NULL)
-        return (struct rattle_memory){false, NULL};
-    room->size = size;
-    taken += size;
-    return (struct rattle_memory){true, room + 1};
-}
-
-struct rattle_memory rattle_realloc(void *place, size_t kept, size_t size, size_t align)
-{
-    (void)kept, (void)align;
-    size_t before = ((struct room *)place - 1)->size;
-    struct room *room = is_full ? NULL : realloc((struct room *)place - 1, sizeof *room + size);
-    if (room == NULL)
-        return (struct rattle_memory){false, NULL};
-    room->size = size;
-    taken += size - before;
-    return (struct rattle_memory){true, room + 1};
-}
-
-void rattle_dealloc(void *place)
-{
-    struct room *room = (struct room *)place - 1;
-    taken -= room->size;
-    free(room);
 }
 
 /* ---- calls (FF-A 1.1, "Memory transaction descriptor") */
@@ -123,10 +84,10 @@ static void live(uint32_t ranges)
     retrieve(sent(FFA_MEM_DONATE, 0, 0x80800000, ranges), 3, 1);
     sent(FFA_MEM_LEND, 2, 0x81000000, ranges);
     answered(send(FFA_MEM_LEND, 2, 0x80000000, ranges), FFA_ERROR, "pages that are lent");
-    is_full = true;
+    heap_limit(heap_taken());
     if (send(FFA_MEM_LEND, 2, 0x82000000, ranges) != FFASPM_NO_MEMORY)
         stop("a send without memory");
-    is_full = false;
+    heap_limit(SIZE_MAX);
 }
 
 int main(void)
@@ -145,8 +106,8 @@ int main(void)
         live(i % MOST_RANGES + 1);
         if (ffaspm_end(&spm) != FFASPM_DONE)
             stop("an end");
-        if (taken != 0) {
-            fprintf(stderr, "checks/leaks: %zu bytes are left of life %u\n", taken, i + 1);
+        if (heap_taken() != 0) {
+            fprintf(stderr, "checks/leaks: %zu bytes are left of life %u\n", heap_taken(), i + 1);
             return 1;
         }
     }

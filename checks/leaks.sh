@@ -5,6 +5,6 @@ set -eu
 here=$(cd "$(dirname "$0")" && pwd)
 work=$(mktemp -d)
 trap 'rm -rf "$work"' EXIT
-"${CC:-cc}" -std=c11 -O2 -Wall -Wextra -Werror -I "$here/../include" -I "$here/../examples/c" "$here/leaks.c" \
-    "${1:-$here/../crates/ffaspm_c/out/libffaspm_c.a}" -o "$work/leaks"
+"${CC:-cc}" -std=c11 -O2 -Wall -Wextra -Werror -I "$here/../include" -I "$here/../examples/c" "$here/counted_heap.c" \
+    "$here/leaks.c" "${1:-$here/../crates/ffaspm_c/out/libffaspm_c.a}" -o "$work/leaks"
 "$work/leaks"

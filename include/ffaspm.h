@@ -123,6 +123,16 @@ uint32_t ffaspm_make(struct ffaspm *spm, const uint8_t *document, size_t length)
  */
 uint32_t ffaspm_end(struct ffaspm *spm);
 
+/*
+ * The most bytes of heap that the manager of a manifest ever has, from ffaspm_make on, where no call has more
+ * than `ranges` ranges. A call may have 512, so with 512 it holds whatever calls come: with a heap of so many bytes
+ * none is answered with FFASPM_NO_MEMORY. Bytes that a heap takes for its own use, or loses between its rooms, are
+ * not counted. The sum is tested, and not proved (docs/LINKING.md, "Memory").
+ *
+ * FFASPM_DONE; 1 to 10, the document's first fault; FFASPM_NO_MEMORY, which may come in place of any fault.
+ */
+uint32_t ffaspm_heap_bound(const uint8_t *document, size_t length, uint32_t ranges, uint64_t *bytes);
+
 /* ---- Calls (FF-A 1.1, "Interface overview") ----------------------------------------------------- */
 
 /* Registers 0 to 7, and the identifier of the partition that calls. Of a 32-bit call the low halves of
@@ -141,11 +151,13 @@ struct ffaspm_reply {
 };
 
 /*
- * Answers a call. `tx` is one copy of the caller's TX buffer, taken by the program before the call:
- * `tx_length` bytes, which may be fewer than the buffer has where the descriptor is shorter (w2 of the
- * sends and of FFA_MEM_RETRIEVE_REQ, 18 bytes for FFA_MEM_RELINQUISH), and 0 for other calls. The
+ * Answers a call. `tx` is one copy of the caller's TX buffer, taken by the program before the call,
+ * which nobody writes until it returns: the library reads it where it lies, some bytes more than once.
+ * It has `tx_length` bytes, which may be fewer than the buffer has where the descriptor is shorter (w2
+ * of the sends and of FFA_MEM_RETRIEVE_REQ, 18 bytes for FFA_MEM_RELINQUISH), and 0 for other calls. The
  * bytes of a response are written to `rx`, which has room for `rx_room` bytes: at least as many as the
- * RX buffer of the caller has (none registered: 0), FFASPM_MOST_RX at most.
+ * RX buffer of the caller has (none registered: 0), FFASPM_MOST_RX at most. A call that is refused by
+ * its tests takes no heap.
  *
  * FFASPM_DONE: the call was answered, be it with FFA_ERROR, and the operations of the call are there
  * for ffaspm_operation. After FFA_ERROR the state and the tables are as they were.

@@ -45,6 +45,11 @@ pub record IsBooted (bytes : List ℕ) (m : Machine) : Type 0 where
   pub agrees : WalksAgree m.state m.pool
   pub reached : IsReached m.state
 
+-- the bytes hold a manifest
+pub record IsDocument (bytes : List ℕ) : Type 0 where
+  pub rows : ManifestRows
+  pub manifest : IsManifestOf bytes rows
+
 -- the number is that of the first fault of the bytes, or of want of memory
 pub record IsFaultNumber (bytes : List ℕ) (number : ℕ) : Type 0 where
   pub fault : ManifestFault
