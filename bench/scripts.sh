@@ -1,6 +1,7 @@
 #!/bin/sh
 # Times script lines by the built program (`rt run` in crates/ffaspm): FFA_ID_GET, the four calls of a lend's
-# life and the release between them, and `maps` of 64 partitions. The least of 15 runs, less an empty script's.
+# life and the release between them, and `maps` of 64 partitions. The least of 15 runs, less an empty script's. Then what
+# `audit`, `owners`, `maps` and `tables` take beside 32,768 ranges, live and donated, less the script that makes them so.
 set -eu
 here=$(cd "$(dirname "$0")" && pwd)
 program=${1:-$here/../crates/ffaspm/out/ffaspm}
@@ -49,6 +50,49 @@ awk 'BEGIN {
     }
 }' > "$work/64.toml"
 awk 'BEGIN { for (i = 0; i < 64000; i++) printf "maps %x\n", 32769 + i % 64 }' > "$work/maps"
+
+# ranges KIND: 32,768 single pages, with a page between them, by 32 sends of each of two partitions.
+ranges() {
+    awk -v kind="$1" 'BEGIN {
+        print "call 8001 84000066 c0000000 c0003000 3"
+        print "call 8002 84000066 d0000000 d0003000 3"
+        for (p = 1; p <= 2; p++) for (i = 0; i < 32; i++) {
+            line = kind " 800" p " 0 800" 3 - p (kind == "lend" ? ":02 " : ":00 ")
+            for (j = 0; j < 512; j++)
+                line = line sprintf("%s%x+1", j ? "," : "", (p == 1 ? 2147483648 : 2684354560) + 8192 * (512 * i + j))
+            print line
+            if (kind == "donate") {
+                print "retrieve 800" 3 - p " 800" p sprintf("%08x", i + 1) " 800" p " 0 3 00"
+                print "call 800" 3 - p " 84000065"
+            }
+        }
+    }'
+}
+
+# beside NAME SCRIPT WORDS: a line, made 20 times behind a script.
+beside() {
+    awk -v words="$3" '{ print } END { for (i = 0; i < 20; i++) print words }' "$2" > "$work/beside"
+    nanoseconds=$(($(least "$work/ranges.toml" "$work/beside") - $(least "$work/ranges.toml" "$2")))
+    echo "$1: $((nanoseconds / 20000)) microseconds a line"
+}
+
+awk 'BEGIN {
+    print "pool = 0"
+    for (p = 1; p <= 2; p++) {
+        printf "[[partition]]\nid = 0x800%d\nquota = 200\n", p
+        printf "[[region]]\nbase = 0x%s0000000\npages = 32768\nkind = \"normal\"\nowner = 0x800%d\n", p == 1 ? "8" : "a", p
+        printf "grants = [ { id = 0x800%d, data = \"rw\", exec = false } ]\n", p
+        printf "[[region]]\nbase = 0x%s0000000\npages = 6\nkind = \"normal\"\nowner = 0x800%d\n", p == 1 ? "c" : "d", p
+        printf "grants = [ { id = 0x800%d, data = \"rw\", exec = false } ]\n", p
+    }
+}' > "$work/ranges.toml"
+ranges lend > "$work/live"
+ranges donate > "$work/donated"
+
 tell 'FFA_ID_GET' "$common" "$work/id_get" 200000
 tell 'a line of the life of a lend' "$common" "$work/life" 100000
 tell 'maps of 64 partitions' "$work/64.toml" "$work/maps" 64000
+for words in audit owners 'maps 8001' 'tables 8001'; do
+    beside "$words beside 32,768 live ranges" "$work/live" "$words"
+    beside "$words beside 32,768 donated ranges" "$work/donated" "$words"
+done
