@@ -1,8 +1,9 @@
 /*
  * A million donations of the pages of a region, to and fro between three partitions, whole, in parts and in other cuts.
  * Each life of a thousand ends with all pages at their first owner again. After the first, the heap must not take a
- * twentieth more than it did at most in that, and no hundred lives must take twice the time of the first hundred. Owners
- * and translations are compared with a list of pages.
+ * twentieth more than it did at most in that, and no hundred lives must take twice the time of the first hundred; and no
+ * call is answered out of memory over the bytes that ffaspm_heap_bound tells. Owners and translations are compared with a
+ * list of pages.
  */
 #include "counted_heap.h"
 #include "descriptor.h"
@@ -206,6 +207,10 @@ int main(void)
         "grants = [ { id = 0x8002, data = \"rw\", exec = false } ]\n"
         "[[region]]\nbase = 0xb0000000\npages = 8\nkind = \"normal\"\nowner = 0x8003\n"
         "grants = [ { id = 0x8003, data = \"rw\", exec = false } ]\n";
+    uint64_t bound;
+    if (ffaspm_heap_bound((const uint8_t *)manifest, sizeof manifest - 1, 512, &bound) != FFASPM_DONE)
+        stop("the bound");
+    heap_limit(bound);
     if (ffaspm_make(&spm, (const uint8_t *)manifest, sizeof manifest - 1) != FFASPM_DONE)
         stop("the manifest");
     for (uint32_t partition = 0; partition < PARTITIONS; partition++) {
@@ -234,7 +239,7 @@ int main(void)
         }
     }
     compare();
-    printf("%zu bytes at most, in the first life %zu\n", heap_most(), most);
+    printf("%zu bytes at most, in the first life %zu, bound %llu\n", heap_most(), most, (unsigned long long)bound);
     if (ffaspm_end(&spm) != FFASPM_DONE || heap_taken() != 0)
         stop("bytes are left");
     return 0;
