@@ -19,7 +19,8 @@ sed -n 's/^rt: must-fail \([^ ]*\)\.edit: refused, as it must be/\1 /p' "$work/p
 test -s "$work/refused" || { echo 'checks/refused_by_names: no refusal was printed' >&2; exit 1; }
 
 unnamed=0
-grep -E 'only because a proof file names|has no field|that can be named from here' "$work/refused" > "$work/listed" || true
+# A long reason is cut, so a record that lacks a field is told by how its reason begins.
+grep -E 'only because a proof file names|: record `|has no field|that can be named from here' "$work/refused" > "$work/listed" || true
 while read -r edit reason; do
     grep -qF "\`$edit\`" CONTRIBUTING.md && continue
     unnamed=$((unnamed + 1))
