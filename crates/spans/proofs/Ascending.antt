@@ -102,15 +102,6 @@ in_first run some = grind (arith, nat_tests)
 pub in_last : (run : PageRun) → 0 < run.count → in_run run (end_of run - 1) ≡ true
 in_last run some = grind (arith, nat_tests)
 
--- the number of a page of one of them
-pub value_at-here : (xs ys : List Span) (s : Span) (n : ℕ) → ascend 0 (xs ++ s ∷ ys) ≡ true → in_run s.run n ≡ true → value_at (xs ++ s ∷ ys) n ≡ Some s.value
-value_at-here xs ys s n h is =
-    let parts = and_parts (leb s.run.first n) _ is in
-    let from : s.run.first ≤ n = leb-true _ _ parts.0 in
-    let before = first_from _ s ys (ascend-right 0 xs (s ∷ ys) h) in
-    let none = value_at-behind 0 xs n (ascend-left 0 xs (s ∷ ys) h) (omega arith) in
-    value_at-append xs (s ∷ ys) n ∙ rw (none, is) refl
-
 -- ---- by index
 
 -- the end of the first i + 1

@@ -1,18 +1,14 @@
 -- Intervals in blocks: what an edit of one block does to all of them.
-use Rattle.std.proofs.Common.{◌≡◌, ℕ, zero, suc, ◌+◌, ◌-◌, ◌<◌, ◌≤◌, Bool, true, false, cond, leb, ltb, List, [], ◌∷◌, ◌++◌, length, get_or, take, drop, Option, Some, None, max, length-append, refl, sym, ap, subst, ◌∙◌, append_assoc, append-nil, arith}
+use Rattle.std.proofs.Common.{◌≡◌, ℕ, zero, suc, ◌+◌, ◌-◌, ◌<◌, ◌≤◌, Bool, true, false, cond, leb, ltb, List, [], ◌∷◌, ◌++◌, length, get_or, take, drop, Option, Some, None, max, length-append, refl, sym, ap, subst, ◌∙◌, append_assoc, arith}
 use Rattle.std.specs.Option.{option_map_or}
 use Rattle.std.specs.List.{AllByRecursion}
-use Rattle.std.proofs.Math.Seq.{drop-cons, take-append_seam, drop-append_seam}
-use Rattle.std.proofs.Math.ListN.{set}
-use Rattle.std.proofs.lemmas.List.{take-append-drop, get_or_default, take-set-le, drop-set, length-set, length-drop, get_or-drop}
+use Rattle.std.proofs.Math.Seq.{drop-cons}
+use Rattle.std.proofs.lemmas.List.{take-append-drop, length-drop, get_or-drop}
 use Rattle.std.proofs.lemmas.Bool.{leb-true, ltb-true}
 use Rattle.std.proofs.lemmas.Bool.Decides.{nat_tests}
-use Rattle.base.specs.Pages.{PageRun}
 use Rattle.spans.specs.Spans.{Span, value_at, end_of, ascend, end_from}
 use Rattle.spans.specs.Search.{begins_at}
-use Rattle.spans.specs.Taking.{IsTakenIn}
-use Rattle.spans.specs.Blocks.{all_spans, AreFilled, AreStacked, IsPutAt, IsTakenAt}
-use Rattle.spans.specs.Edits.{IsMerged}
+use Rattle.spans.specs.Blocks.{all_spans, AreFilled, AreStacked}
 use Rattle.spans.proofs.Lists.{no_items}
 use Rattle.spans.proofs.Ascending.{begins, far, ascend-cons, ascend-left, ascend-right, ascend-append, least, out, behind, value_at-append, value_at-behind, value_at-ahead, in_first, in_last}
 
@@ -209,9 +205,6 @@ module _ (bs : List (List Span)) (i : ℕ) (d : List Span) (lt : i < length bs) 
   pub block-begins : 0 < length (get_or bs i d) → (end_from 0 (all_spans (take i bs)) ≤ begins_at (get_or bs i d)) × (ascend (begins_at (get_or bs i d)) (get_or bs i d ++ all_spans (drop (i + 1) bs)) ≡ true)
   block-begins some = begins-filled (end_from 0 (all_spans (take i bs))) (get_or bs i d) (all_spans (drop (i + 1) bs)) some block-ascends
 
-  pub rest-ascends : ascend 0 (all_spans (drop (i + 1) bs)) ≡ true
-  rest-ascends = far 0 _ (all_spans (drop (i + 1) bs)) (omega arith) (ascend-right (end_from 0 (all_spans (take i bs))) (get_or bs i d) (all_spans (drop (i + 1) bs)) block-ascends)
-
 pub block_ascends : (bs : List (List Span)) (i : ℕ) (d : List Span) → AreStacked bs → i < length bs → ascend 0 (get_or bs i d) ≡ true
 block_ascends bs i d h lt =
     let block = block-ascends bs i d lt h.ascending in
@@ -246,27 +239,8 @@ at_block bs i n d h lt from none =
     ∙ at_rest (all_spans (take i bs)) (get_or bs i d ++ all_spans (drop (i + 1) bs)) n none_before
     ∙ at_front (get_or bs i d) (all_spans (drop (i + 1) bs)) n none
 
--- no page before the next block is in it or behind it
-pub none_before_next : (bs : List (List Span)) (i e n : ℕ) (d : List Span) → AreFilled bs → i < length bs → ascend e (all_spans (drop i bs)) ≡ true → n < begins_at (get_or bs i d) → value_at (all_spans (drop i bs)) n ≡ None
-none_before_next bs i e n d filled lt h less =
-    let next = all-next i bs d lt in
-    let begun = begins-filled e (get_or bs i d) (all_spans (drop (i + 1) bs)) (filled_at i bs d filled lt).0 (ap (ascend e) (sym next) ∙ h) in
-    ap (λ l. value_at l n) next ∙ value_at-ahead (begins_at (get_or bs i d)) _ n begun.1 less
-
-pub none_at_end : (bs : List (List Span)) (i n : ℕ) → length bs ≤ i → value_at (all_spans (drop i bs)) n ≡ None
-none_at_end [] zero n le = refl
-none_at_end [] (suc i) n le = refl
-none_at_end (b ∷ bs) zero n le = absurd (omega arith)
-none_at_end (b ∷ bs) (suc i) n le = none_at_end bs i n (omega arith)
-
 -- what is behind the blocks before a place, up to where the block there begins
 module _ (bs : List (List Span)) (i e next : ℕ) (f : AreFilled bs) (h : ascend e (all_spans (drop i bs)) ≡ true) (is : i < length bs → (d : List Span) → next ≡ begins_at (get_or bs i d)) where
-  pub rest_none : (n : ℕ) → n < next → value_at (all_spans (drop i bs)) n ≡ None
-  rest_none n lt = elim (ltb i (length bs)) as (λ q. ltb i (length bs) ≡ q → value_at (all_spans (drop i bs)) n ≡ None) [
-    | true ↦ λ t. let inside = ltb-true _ _ t in let at = is inside [] in none_before_next bs i e n [] f inside h (omega arith)
-    | false ↦ λ t. none_at_end bs i n (grind (arith, nat_tests))
-  ] refl
-
   pub rest_behind : (length bs ≤ i → e ≤ next) → e ≤ next
   rest_behind end = elim (ltb i (length bs)) as (λ q. ltb i (length bs) ≡ q → e ≤ next) [
     | true ↦ λ t.
@@ -276,28 +250,6 @@ module _ (bs : List (List Span)) (i e next : ℕ) (f : AreFilled bs) (h : ascend
         omega (arith, begun.0, at)
     | false ↦ λ t. end (grind (arith, nat_tests))
   ] refl
-
--- ---- one block gets other intervals
-
-pub is_put_at : (runs : List PageRun) (value : Option ℕ) (old : List (List Span)) (i : ℕ) (block was : List Span) (new : List (List Span)) → i < length old → new ≡ set old i block → was ≡ get_or old i was → IsMerged runs value was block → IsPutAt runs value old i new
-is_put_at runs value old i block was new lt is at merged =
-    record {
-      block = block;
-      merged = λ d. subst (λ (b : List Span). IsMerged runs value b block) (at ∙ get_or_default old i was d lt) merged;
-      list =
-          sym (take-append-drop i new) ∙ ap (λ l. l ++ drop i new) (ap (take i) is ∙ take-set-le i old i block (omega arith))
-          ∙ ap (λ l. take i old ++ l) (ap (drop i) is ∙ drop-set old i block lt);
-    }
-
-pub is_taken_at : (first end value : ℕ) (old : List (List Span)) (i : ℕ) (block was : List Span) (new : List (List Span)) → i < length old → new ≡ set old i block → was ≡ get_or old i was → IsTakenIn first end value was block → IsTakenAt first end value old i new
-is_taken_at first end value old i block was new lt is at taken =
-    record {
-      spans = block;
-      taken = λ d. subst (λ (b : List Span). IsTakenIn first end value b block) (at ∙ get_or_default old i was d lt) taken;
-      before = ap (take i) is ∙ take-set-le i old i block (omega arith);
-      here = ap (drop i) is ∙ drop-set old i block lt;
-      len = ap length is ∙ length-set old i block;
-    }
 
 -- what begins behind a page from a place on does so from later ones on
 pub later : (e i j : ℕ) (bs : List (List Span)) → ascend e (all_spans (drop i bs)) ≡ true → i ≤ j → ascend e (all_spans (drop j bs)) ≡ true
@@ -311,11 +263,6 @@ later e (suc i) (suc j) [] h le = refl
 later e (suc i) (suc j) (b ∷ bs) h le = later e i j bs h (omega arith)
 
 -- ---- all blocks from a place on
-
-pub filled_from : (bs : List (List Span)) (i : ℕ) (d : List Span) → i < length bs → AreFilled (drop (i + 1) bs) → IsFilled (get_or bs i d) → AreFilled (drop i bs)
-filled_from bs i d lt c b =
-    let on : suc i ≡ i + 1 = omega arith in
-    subst AreFilled (sym (drop-cons bs i d lt ∙ ap (λ (k : ℕ). get_or bs i d ∷ drop k bs) on)) (b, c)
 
 pub some_blocks : (old new : List (List Span)) → all_spans new ≡ all_spans old → AreFilled old → 0 < length old → 0 < length new
 some_blocks old [] e f some = let none = no_spans old f (sym e) in absurd (omega arith)

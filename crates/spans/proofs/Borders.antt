@@ -34,9 +34,6 @@ border-right (s ∷ xs) ys page h = in_right _ _ (border-right xs ys page h)
 pub border-first : (s : Span) (ss : List Span) → is_border (s ∷ ss) s.run.first ≡ true
 border-first s ss = in_left _ _ (in_left _ _ (same s.run.first))
 
-pub border-end : (s : Span) (ss : List Span) → is_border (s ∷ ss) (end_of s.run) ≡ true
-border-end s ss = in_left _ _ (in_right (nat_eq (end_of s.run) s.run.first) _ (same (end_of s.run)))
-
 -- where the intervals from a place on begin
 pub border-begins : (i : ℕ) (ss : List Span) → is_border ss (begins_at (drop i ss)) ≡ true
 border-begins zero [] = same (2 ^ 27)

@@ -1,14 +1,13 @@
 -- Blocks no two of which could be one, and two that became one.
-use Rattle.std.proofs.Common.{◌≡◌, ℕ, zero, suc, ◌+◌, ◌-◌, ◌*◌, ◌<◌, ◌≤◌, true, Option, List, [], ◌∷◌, ◌++◌, length, get_or, take, drop, length-append, refl, sym, ap, subst, ◌∙◌, append_assoc, arith}
+use Rattle.std.proofs.Common.{◌≡◌, ℕ, zero, suc, ◌+◌, ◌-◌, ◌*◌, ◌<◌, ◌≤◌, true, List, [], ◌∷◌, ◌++◌, length, get_or, take, drop, length-append, refl, sym, ap, subst, ◌∙◌, append_assoc, arith}
 use Rattle.std.proofs.Math.ListN.{set}
 use Rattle.std.proofs.Math.Seq.{take-append_seam, drop-append_seam, take-append-add, drop-append-add}
-use Rattle.std.proofs.lemmas.List.{length-take, length-drop, take-take, drop-append-le, drop_all}
-use Rattle.base.specs.Pages.{PageRun}
-use Rattle.spans.specs.Spans.{Span, value_at, ascend, are_joined}
-use Rattle.spans.specs.Blocks.{all_spans, needed, AreFilled, AreDense, AreStacked, AreJoinedAt, IsSettled, IsEdited}
+use Rattle.std.proofs.lemmas.List.{length-take, drop-append-le}
+use Rattle.spans.specs.Spans.{Span, ascend}
+use Rattle.spans.specs.Blocks.{all_spans, needed, AreFilled, AreDense, AreStacked, AreJoinedAt, IsSettled}
 use Rattle.spans.proofs.Ascending.{ascend-left}
-use Rattle.spans.proofs.Lists.{no_items, parts_of, set_parts}
-use Rattle.spans.proofs.Blocks.{IsFilled, all-append, all-parted, all-next, all_joined, later}
+use Rattle.spans.proofs.Lists.{parts_of, drop-cons-at, removed-get, removed-set}
+use Rattle.spans.proofs.Blocks.{IsFilled, all-append, all-parted, all_joined, later}
 use Rattle.spans.proofs.Needs.{needed-one}
 
 pub dense-drop : (i : ℕ) (bs : List (List Span)) → AreDense bs → AreDense (drop i bs)
@@ -136,108 +135,60 @@ module _ (xs : List (List Span)) (a b : List Span) (ys : List (List Span)) where
         dense = λ i lt h k. one-dense i (omega arith) h k;
       }
 
--- the last of the front, and the block that was taken from behind it
-module _ (old front rest : List (List Span)) (at : ℕ) (here next : List Span) (some : 0 < at) (list : front ++ next ∷ rest ≡ old) (long : length front ≡ at) (is : here ≡ get_or front (at - 1) here) where
+-- the block at a place is taken out, and the one before it has its intervals behind its own
+module _ (old rem : List (List Span)) (at : ℕ) (here next : List Span) (some : 0 < at) (lt : at < length old) (removed : rem ≡ take at old ++ drop (at + 1) old) (is : here ≡ get_or rem (at - 1) here) (after : next ≡ get_or old at next) where
   xs : List (List Span)
-  xs = take (at - 1) front
+  xs = take (at - 1) old
+
+  ys : List (List Span)
+  ys = drop (at + 1) old
 
   xs_long : length xs + 1 ≡ at
   unfolding xs
-  xs_long = let l = length-take (at - 1) front in omega (arith, l, some, long)
+  xs_long = let l = length-take (at - 1) old in omega (arith, l, some, lt)
 
-  none_behind : drop (at - 1 + 1) front ≡ []
-  none_behind = drop_all (at - 1 + 1) front (omega (arith, some, long))
-
-  old_is : xs ++ here ∷ next ∷ rest ≡ old
-  unfolding xs
+  old_is : xs ++ here ∷ next ∷ ys ≡ old
+  unfolding xs ys
   old_is =
-      let front_is : front ≡ take (at - 1) front ++ here ∷ [] =
-      parts_of front (at - 1) here (omega (arith, some, long)) ∙ ap (λ (x : List Span). take (at - 1) front ++ x ∷ drop (at - 1 + 1) front) (sym is) ∙ ap (λ l. take (at - 1) front ++ here ∷ l) none_behind in
-      sym (append_assoc (take (at - 1) front) (here ∷ []) (next ∷ rest)) ∙ ap (λ l. l ++ next ∷ rest) (sym front_is) ∙ list
-
-  new_is : xs ++ (here ++ next) ∷ rest ≡ set front (at - 1) (here ++ next) ++ rest
-  unfolding xs
-  new_is =
-      sym (append_assoc (take (at - 1) front) ((here ++ next) ∷ []) rest)
-      ∙ ap (λ l. l ++ rest) (sym (set_parts front (at - 1) (here ++ next) (omega (arith, some, long)) ∙ ap (λ l. take (at - 1) front ++ (here ++ next) ∷ l) none_behind))
-
-  pub joined-at : length here + length next ≤ 112 → AreJoinedAt at old (set front (at - 1) (here ++ next) ++ rest)
-  unfolding xs
-  joined-at short =
-      subst (λ (k : ℕ). AreJoinedAt k old (set front (at - 1) (here ++ next) ++ rest)) xs_long
-      (subst (λ (l : List (List Span)). AreJoinedAt (length (take (at - 1) front) + 1) l (set front (at - 1) (here ++ next) ++ rest)) old_is
-      (subst (λ (l : List (List Span)). AreJoinedAt (length (take (at - 1) front) + 1) (take (at - 1) front ++ here ∷ next ∷ rest) l) new_is (become-one (take (at - 1) front) here next rest short)))
+      let on : at - 1 + 1 ≡ at = omega (arith, some) in
+      let first : get_or old (at - 1) here ≡ here = sym (is ∙ ap (λ l. get_or l (at - 1) here) removed ∙ removed-get old at some lt here) in
+      sym (parts_of old (at - 1) here (omega (arith, some, lt))
+      ∙ ap (λ (x : List Span). take (at - 1) old ++ x ∷ drop (at - 1 + 1) old) first
+      ∙ ap (λ l. take (at - 1) old ++ here ∷ l) (ap (λ (k : ℕ). drop k old) on ∙ drop-cons-at old at next lt ∙ ap (λ (x : List Span). x ∷ drop (at + 1) old) (sym after)))
 
   pub joined-ascends : ascend 0 (all_spans (drop (at - 1) old)) ≡ true → ascend 0 (here ++ next) ≡ true
-  unfolding xs
+  unfolding xs ys
   joined-ascends up =
       let l = xs_long in
-      let on : at - 1 ≡ length (take (at - 1) front) = omega (arith, l) in
-      let parts : drop (at - 1) old ≡ here ∷ next ∷ rest = ap (drop (at - 1)) (sym old_is) ∙ ap (λ (k : ℕ). drop k (take (at - 1) front ++ here ∷ next ∷ rest)) on ∙ drop-append_seam (take (at - 1) front) (here ∷ next ∷ rest) in
-      ascend-left 0 (here ++ next) (all_spans rest) (ap (ascend 0) (append_assoc here next (all_spans rest)) ∙ ap (λ l. ascend 0 (all_spans l)) (sym parts) ∙ up)
+      let on : at - 1 ≡ length (take (at - 1) old) = omega (arith, l) in
+      let parts : drop (at - 1) old ≡ here ∷ next ∷ drop (at + 1) old = ap (drop (at - 1)) (sym old_is) ∙ ap (λ (k : ℕ). drop k (take (at - 1) old ++ here ∷ next ∷ drop (at + 1) old)) on ∙ drop-append_seam (take (at - 1) old) (here ∷ next ∷ drop (at + 1) old) in
+      ascend-left 0 (here ++ next) (all_spans (drop (at + 1) old)) (ap (ascend 0) (append_assoc here next (all_spans (drop (at + 1) old))) ∙ ap (λ l. ascend 0 (all_spans l)) (sym parts) ∙ up)
 
-  pub joined-needs : AreStacked old → (runs : _) → needed (set front (at - 1) (here ++ next) ++ rest) runs ≤ 1 + needed old runs
-  unfolding xs
-  joined-needs s runs =
-      let f = filled-parts (take (at - 1) front) (here ∷ next ∷ rest) (subst AreFilled (sym old_is) s.filled) in
-      let up = later 0 0 (length (take (at - 1) front)) (take (at - 1) front ++ here ∷ next ∷ rest) (ap (λ l. ascend 0 (all_spans l)) old_is ∙ s.ascending) (omega arith) in
-      let behind = ap (λ l. ascend 0 (all_spans l)) (sym (drop-append_seam (take (at - 1) front) (here ∷ next ∷ rest))) ∙ up in
-      let n = needed-one (take (at - 1) front) here next rest 0 f.1 behind runs in
-      let new = ap (λ l. needed l runs) new_is in
-      let was = ap (λ l. needed l runs) old_is in
-      omega (arith, n, new, was)
+  module _ (both : List Span) (same : both ≡ here ++ next) where
+    new_is : set rem (at - 1) both ≡ xs ++ (here ++ next) ∷ ys
+    unfolding xs ys
+    new_is = ap (λ l. set l (at - 1) both) removed ∙ removed-set old at some lt both ∙ ap (λ (x : List Span). take (at - 1) old ++ x ∷ drop (at + 1) old) same
+
+    pub joined-at : length here + length next ≤ 112 → AreJoinedAt at old (set rem (at - 1) both)
+    unfolding xs ys
+    joined-at short =
+        subst (λ (k : ℕ). AreJoinedAt k old (set rem (at - 1) both)) xs_long
+        (subst (λ (l : List (List Span)). AreJoinedAt (length (take (at - 1) old) + 1) l (set rem (at - 1) both)) old_is
+        (subst (λ (l : List (List Span)). AreJoinedAt (length (take (at - 1) old) + 1) (take (at - 1) old ++ here ∷ next ∷ drop (at + 1) old) l) (sym new_is)
+        (become-one (take (at - 1) old) here next (drop (at + 1) old) short)))
+
+    pub joined-needs : AreStacked old → (runs : _) → needed (set rem (at - 1) both) runs ≤ 1 + needed old runs
+    unfolding xs ys
+    joined-needs s runs =
+        let f = filled-parts (take (at - 1) old) (here ∷ next ∷ drop (at + 1) old) (subst AreFilled (sym old_is) s.filled) in
+        let up = later 0 0 (length (take (at - 1) old)) (take (at - 1) old ++ here ∷ next ∷ drop (at + 1) old) (ap (λ l. ascend 0 (all_spans l)) old_is ∙ s.ascending) (omega arith) in
+        let behind = ap (λ l. ascend 0 (all_spans l)) (sym (drop-append_seam (take (at - 1) old) (here ∷ next ∷ drop (at + 1) old))) ∙ up in
+        let n = needed-one (take (at - 1) old) here next (drop (at + 1) old) 0 f.1 behind runs in
+        let now = ap (λ l. needed l runs) new_is in
+        let was = ap (λ l. needed l runs) old_is in
+        omega (arith, n, now, was)
 
 -- ---- a block that got shorter
 
-module _ (bs : List (List Span)) (i : ℕ) (lt : i < length bs) where
-  front_long : length (take i bs) ≡ i
-  front_long = let l = length-take i bs in omega (arith, lt)
-
-  pub settled-gone : (d : List Span) → length (get_or bs i d) ≡ 0 → AreFilled (drop (i + 1) bs) → IsSettled i bs (take i bs ++ drop (i + 1) bs)
-  settled-gone d none f =
-      let rest : drop i (take i bs ++ drop (i + 1) bs) ≡ drop (i + 1) bs = ap (λ (k : ℕ). drop k (take i bs ++ drop (i + 1) bs)) (sym front_long) ∙ drop-append_seam (take i bs) (drop (i + 1) bs) in
-      record {
-        before = ap (λ (k : ℕ). take k (take i bs ++ drop (i + 1) bs)) (sym front_long) ∙ take-append_seam (take i bs) (drop (i + 1) bs);
-        spans = ap all_spans rest ∙ sym (all-next i bs d lt ∙ ap (λ l. l ++ all_spans (drop (i + 1) bs)) (no_items (get_or bs i d) none));
-        filled = subst AreFilled (sym rest) f;
-        dense = λ h. subst AreDense (sym rest) h;
-      }
-
-  pub settled-joined : (new : List (List Span)) → AreJoinedAt (i + 1) bs new → AreFilled (drop i bs) → IsSettled i bs new
-  settled-joined new j f =
-      let on : i + 1 - 1 ≡ i = omega arith in
-      let l = length-take (i + 1) bs in
-      let m = length-drop i (take (i + 1) bs) in
-      record {
-        before = ap (λ (k : ℕ). take k new) (sym on) ∙ j.before ∙ ap (λ (k : ℕ). take k bs) on;
-        spans = j.spans i (omega arith);
-        filled = j.filled i (omega arith) f;
-        dense = λ h. j.dense i (omega arith) (dense-few (drop i (take (i + 1) bs)) (omega arith)) h;
-      }
-
 pub settled-all : (i : ℕ) (old new : List (List Span)) → IsSettled i old new → all_spans new ≡ all_spans old
 settled-all i old new s = all-parted i new ∙ ap (λ l. all_spans l ++ all_spans (drop i new)) s.before ∙ ap (λ l. all_spans (take i old) ++ l) s.spans ∙ sym (all-parted i old)
-
--- ---- after an edit
-
-pub edited-on : (runs : List PageRun) (value : Option ℕ) (old : List (List Span)) (place at : ℕ) (mid new : List (List Span)) → place < at → IsEdited runs value old place mid → AreJoinedAt at mid new → IsEdited runs value old place new
-edited-on runs value old place at mid new lt e j = record {
-  before = sym (take-take place (at - 1) new (omega (arith, lt))) ∙ ap (take place) j.before ∙ take-take place (at - 1) mid (omega (arith, lt)) ∙ e.before;
-  filled = j.filled place lt e.filled;
-  ascending = ap (ascend 0) (j.spans place lt) ∙ e.ascending;
-  at = λ n. ap (λ l. value_at l n) (j.spans place lt) ∙ e.at n;
-  joined = ap are_joined (j.spans place lt) ∙ e.joined;
-}
-
--- what was made, the block behind it, and the others
-module _ (place at : ℕ) (old new : List (List Span)) (j : AreJoinedAt (at + 1) old new) (rest : AreDense (drop (at + 1) old)) where
-  pub dense-behind : AreDense (drop at new)
-  dense-behind =
-      let l = length-take (at + 1) old in
-      let m = length-drop at (take (at + 1) old) in
-      j.dense at (omega arith) (dense-few (drop at (take (at + 1) old)) (omega arith)) rest
-
-  pub dense-made : AreDense (drop place (take at old)) → AreDense (drop place (take at new))
-  dense-made made =
-      let on : at + 1 - 1 ≡ at = omega arith in
-      subst (λ (l : List (List Span)). AreDense (drop place l)) (sym (ap (λ (k : ℕ). take k new) (sym on) ∙ j.before ∙ ap (λ (k : ℕ). take k old) on)) made

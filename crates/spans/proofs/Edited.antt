@@ -1,24 +1,24 @@
 -- Runs that get a number, or none, from the block on that they belong to: what that leaves of all blocks.
-use Rattle.std.proofs.Common.{◌≡◌, ℕ, zero, suc, ◌+◌, ◌-◌, ◌<◌, ◌≤◌, Bool, true, false, ◌||◌, cond, leb, ltb, List, [], ◌∷◌, ◌++◌, length, get_or, take, drop, Option, Some, None, length-append, refl, sym, ap, subst, ◌∙◌, append_assoc, append-nil, arith}
+use Rattle.std.proofs.Common.{◌≡◌, ℕ, zero, suc, ◌+◌, ◌-◌, ◌*◌, ◌<◌, ◌≤◌, Bool, true, false, ◌||◌, cond, leb, ltb, List, [], ◌∷◌, ◌++◌, length, get_or, take, drop, Option, Some, None, length-append, refl, sym, ap, subst, ◌∙◌, append_assoc, append-nil, arith}
 use Rattle.std.specs.Option.{option_map_or}
 use Rattle.std.specs.List.{AllByRecursion}
-use Rattle.std.proofs.Math.Seq.{drop-cons, take-append_seam, drop-append_seam}
-use Rattle.std.proofs.lemmas.List.{take-append-drop, length-take, length-drop, take_more, take_all, take-take, drop-append-le, drop-take, get_or-drop, get_or_default, drop-drop, drop_all}
-use Rattle.spans.proofs.Lists.{before_next}
+use Rattle.std.proofs.lemmas.List.{take-set-le, drop-set-lt, length-set, get_or-take, take-append-drop, length-take, length-drop, take_more, take_all, take-take, drop-take, get_or-drop, drop-drop, drop_all}
 use Rattle.std.proofs.lemmas.Bool.{ltb-true, ltb-false}
 use Rattle.std.proofs.lemmas.Bool.Decides.{nat_tests}
+use Rattle.std.proofs.Math.ListN.{set}
+use Rattle.spans.proofs.Lists.{front-of, rest-of, get_or-set_at}
 use Rattle.base.specs.Pages.{PageRun, in_run, covers}
 use Rattle.spans.specs.Spans.{Span, value_at, end_of, ascend, end_from, are_joined}
 use Rattle.spans.specs.Search.{begins_at}
 use Rattle.spans.specs.Edits.{all_from, rise, IsSame, IsMerged}
-use Rattle.spans.specs.Blocks.{BlocksView, all_spans, needed, more_blocks, AreDense, AreFilled, AreStacked, ArePushed, IsGroup, IsSettled, BelongTo, IsPutAt, IsEdited, HasTakenIn}
+use Rattle.spans.specs.Blocks.{all_spans, needed, more_blocks, AreFilled, AreStacked, IsGroup, BelongTo, IsSetFrom, IsGathered, HasTakenIn, with_more, AreDense}
 use Rattle.spans.specs.declared.page_map.place.Group.{Group}
 use Rattle.spans.proofs.Ascending.{begins, far, least, ascend-left, ascend-right, ascend-append, value_at-append, value_at-behind, value_at-ahead, in_first}
-use Rattle.spans.proofs.Dense.{dense-drop, dense-grown}
+use Rattle.spans.proofs.Dense.{dense-drop}
 use Rattle.spans.proofs.Parting.{all_from-above, ascend-all_from, ascend-all_from_same, value_at-all_from}
 use Rattle.spans.proofs.Joined.{none_there, joined-left, joined-right, joined-apart, joined-both, joined-from}
 use Rattle.spans.proofs.Same.{same-self, same-before}
-use Rattle.spans.proofs.Blocks.{IsFilled, from_page, set-ascends, set-at, before-ascends, before-at, all-append, all-parted, all-next, all_joined, block-ascends, block-begins, filled_front, filled_rest, filled_at, filled_both}
+use Rattle.spans.proofs.Blocks.{from_page, set-ascends, set-at, before-ascends, before-at, all-parted, all-next, block-ascends, block-begins, filled_front, filled_rest, filled_at, filled_both}
 use Rattle.spans.proofs.Runs.{rise_low, rise_taken, rise_dropped, covers_from, covers_within}
 use Rattle.spans.proofs.Needs.{group-before, group-needs, needed-place}
 
@@ -108,7 +108,7 @@ covered_end runs last n some is rises t =
     sym (take_all (length runs - 1 + 1) runs (omega arith)) ∙ take_more runs (length runs - 1) last (omega arith) ∙ ap (λ x. take (length runs - 1) runs ++ x ∷ []) (sym is) in
     (covers_within 0 (take (length runs - 1) runs) last n (ap (rise 0) (sym whole) ∙ rises) (ap (λ (l : List PageRun). covers l n) (sym whole) ∙ t)).1
 
-covered_last : (runs : List PageRun) (i : ℕ) (last : PageRun) (n : ℕ) → i < length runs → last ≡ get_or runs i last → in_run last n ≡ true → covers runs n ≡ true
+pub covered_last : (runs : List PageRun) (i : ℕ) (last : PageRun) (n : ℕ) → i < length runs → last ≡ get_or runs i last → in_run last n ≡ true → covers runs n ≡ true
 covered_last [] i last n lt is t = absurd (omega arith)
 covered_last (r ∷ runs) zero last n lt is t = let e : in_run r n ≡ true = ap (λ (x : PageRun). in_run x n) (sym is) ∙ t in rw e refl
 covered_last (r ∷ runs) (suc i) last n lt is t = either (in_run r n) (covers runs n) (covered_last runs i last n (omega arith) is t)
@@ -214,6 +214,15 @@ module _ (here behind : List Span) (runs : List PageRun) (value : Option ℕ) (l
   pub edited-joined : are_joined (out2 ++ rest) ≡ true
   edited-joined = joined-both 0 out2 rest edited-ascends j2 (joined-right taken rest parts_joined) apart
 
+pub none-taken : (page : ℕ) (out : List Span) (bs : List (List Span)) → ascend (page + 1) (all_spans bs) ≡ true → AreFilled bs → HasTakenIn page out bs out bs
+none-taken page out bs above f = record {
+  taken = [];
+  parted = all_from-above page (all_spans bs) (far page (page + 1) (all_spans bs) (omega arith) above);
+  same = subst (λ (l : List Span). IsSame l out) (sym (append-nil out)) (same-self out);
+  above = above;
+  filled = f;
+}
+
 -- ---- all blocks from that one on
 
 module _ (old : List (List Span)) (place : ℕ) (runs : List PageRun) (value : Option ℕ) (d : List Span) (g : BelongTo runs old place) (last : PageRun) (is : last ≡ get_or runs (length runs - 1) last) where
@@ -239,137 +248,75 @@ module _ (old : List (List Span)) (place : ℕ) (runs : List PageRun) (value : O
   unfolding behind_it
   next_first = ap (λ (r : PageRun). ascend r.first (all_spans (drop (place + 1) old))) is ∙ g.next last
 
-  -- the block alone has changed
-  pub edited-there : (out : List Span) (new : List (List Span)) → IsMerged runs value (get_or old place d) out → take place new ≡ take place old → all_spans (drop place new) ≡ out ++ all_spans (drop (place + 1) old) → AreFilled (drop place new)
-      → ascend (end_of last + 1) (all_spans (drop (place + 1) old)) ≡ true → IsEdited runs value old place new
+  -- once the block, and what is taken in of those behind it, stand in other blocks
+  pub edited-by : (out out2 : List Span) (rest new : List (List Span)) → IsMerged runs value (get_or old place d) out → HasTakenIn (end_of last) out (drop (place + 1) old) out2 rest → are_joined out2 ≡ true
+      → take place new ≡ take place old → all_spans (drop place new) ≡ out2 ++ all_spans rest → IsSetFrom runs value old place new
   unfolding block behind_it
-  edited-there out new merged before spans filled above =
-      let parted : all_from (end_of last) behind_it ≡ [] ++ behind_it = all_from-above (end_of last) behind_it (far (end_of last) (end_of last + 1) behind_it (omega arith) above) in
-      let same : IsSame (out ++ []) out = subst (λ (l : List Span). IsSame l out) (sym (append-nil out)) (same-self out) in
-      let j = merged.joined (joined-left block behind_it belong-joined) in
+  edited-by out out2 rest new merged t j2 before spans = record {
+    before = before;
+    ascending = ap (ascend 0) spans ∙ edited-ascends block behind_it runs value last out out2 t.taken (all_spans rest) belong-ascends belong-joined g.some is g.rises next_first merged t.parted t.same t.above j2;
+    at = λ n.
+        ap (λ l. value_at l n) spans ∙ edited-at block behind_it runs value last out out2 t.taken (all_spans rest) belong-ascends belong-joined g.some is g.rises next_first merged t.parted t.same t.above j2 n
+        ∙ ap (λ l. cond (covers runs n) value (value_at l n)) (sym split);
+    joined = ap are_joined spans ∙ edited-joined block behind_it runs value last out out2 t.taken (all_spans rest) belong-ascends belong-joined g.some is g.rises next_first merged t.parted t.same t.above j2;
+  }
+
+  -- before they do
+  pub gathered-by : (first out out2 : List Span) (rest new : List (List Span)) → take place new ≡ take place old → get_or new place [] ≡ first → drop (place + 1) new ≡ rest → place < length new
+      → IsMerged runs value (get_or old place d) (first ++ out) → HasTakenIn (end_of last) (first ++ out) (drop (place + 1) old) (first ++ out2) rest → are_joined (first ++ out2) ≡ true
+      → (AreDense (drop (place + 1) old) → AreDense rest) → (0 < length first → length first + length out2 ≤ 128) → IsGathered runs value old place out2 new
+  gathered-by first out out2 rest new before here behind inside merged t j2 dense fits =
+      let le : place ≤ length new = omega (arith, inside) in
+      let more = (get_or new place [] ++ out2) ∷ drop (place + 1) new in
       record {
-        before = before;
-        filled = filled;
-        ascending = ap (ascend 0) spans ∙ edited-ascends block behind_it runs value last out out [] behind_it belong-ascends belong-joined g.some is g.rises next_first merged parted same above j;
-        at = λ n.
-            ap (λ l. value_at l n) spans ∙ edited-at block behind_it runs value last out out [] behind_it belong-ascends belong-joined g.some is g.rises next_first merged parted same above j n
-            ∙ ap (λ l. cond (covers runs n) value (value_at l n)) (sym split);
-        joined = ap are_joined spans ∙ edited-joined block behind_it runs value last out out [] behind_it belong-ascends belong-joined g.some is g.rises next_first merged parted same above j;
+        set =
+            edited-by (first ++ out) (first ++ out2) rest (with_more place out2 new) merged t j2 (front-of place new more le ∙ before)
+            (ap all_spans (rest-of place new more le) ∙ ap (λ (l : List Span). (l ++ out2) ++ all_spans (drop (place + 1) new)) here ∙ ap (λ l. (first ++ out2) ++ all_spans l) behind);
+        inside = inside;
+        filled = subst AreFilled (sym behind) t.filled;
+        dense = subst AreDense (sym behind) (dense (subst AreDense (drop-drop 1 place old) (dense-drop 1 (drop place old) g.dense)));
+        fits = λ some. subst (λ (l : List Span). length l + length out2 ≤ 128) (sym here) (fits (subst (λ (l : List Span). 0 < length l) here some));
       }
 
-  -- in its place, if it has an interval, or without it
-  module _ (put : List (List Span)) (p : IsPutAt runs value old place put) (above : ascend (end_of last + 1) (all_spans (drop (place + 1) old)) ≡ true) where
-    put_long : length (take place old) ≡ place
-    put_long = let l = length-take place old in omega (arith, g.inside)
+  -- of the block, some stay, and the last run does not reach the next
+  pub gathered-here : (kept : ℕ) (out : List Span) (new : List (List Span)) (first : PageRun) → first ≡ get_or runs 0 first → end_from 0 (take kept (get_or old place d)) ≤ first.first - 1 → ascend (end_of last + 1) (all_spans (drop (place + 1) old)) ≡ true
+      → length (get_or old place d) + 2 * length runs ≤ 128 → IsMerged runs value (drop kept (get_or old place d)) out → new ≡ set old place (take kept (get_or old place d)) → IsGathered runs value old place out new
+  unfolding block behind_it
+  gathered-here kept out new first is_first below above short merged put =
+      let stay = take kept block in
+      let all : IsMerged runs value block (stay ++ out) = kept-merged block out kept runs value first g.some is_first (ascend-left 0 block behind_it belong-ascends) below g.rises merged in
+      let n = length-append stay out in
+      gathered-by stay out out (drop (place + 1) old) new (ap (take place) put ∙ take-set-le place old place stay (omega arith)) (ap (λ (l : List (List Span)). get_or l place []) put ∙ get_or-set_at old place stay [] g.inside)
+      (ap (drop (place + 1)) put ∙ drop-set-lt (place + 1) old place stay (omega arith)) (omega (arith, g.inside, ap length put, length-set old place stay)) all (none-taken (end_of last) (stay ++ out) (drop (place + 1) old) above g.filled)
+      (all.joined (joined-left block behind_it belong-joined)) (λ h. h) (λ some. omega (arith, n, all.fewer, short))
 
-    put_front : take place put ≡ take place old
-    put_front = ap (take place) p.list ∙ ap (λ k. take k (take place old ++ p.block ∷ drop (place + 1) old)) (sym put_long) ∙ take-append_seam (take place old) (p.block ∷ drop (place + 1) old)
+  -- none stays
+  pub gathered-on : (out out2 : List Span) (mid new : List (List Span)) → IsMerged runs value (get_or old place d) out → mid ≡ set old place [] → take (place + 1) new ≡ take (place + 1) mid → HasTakenIn (end_of last) out (drop (place + 1) mid) out2 (drop (place + 1) new) → are_joined out2 ≡ true
+      → (AreDense (drop (place + 1) mid) → AreDense (drop (place + 1) new)) → IsGathered runs value old place out2 new
+  gathered-on out out2 mid new merged put before t j2 dense =
+      let none : List Span = [] in
+      let behind : drop (place + 1) mid ≡ drop (place + 1) old = ap (drop (place + 1)) put ∙ drop-set-lt (place + 1) old place none (omega arith) in
+      let l = length-take (place + 1) new in
+      let m = length-take (place + 1) mid in
+      let long = ap length before in
+      let q = ap length put in
+      gathered-by none out out2 (drop (place + 1) new) new
+      (sym (take-take place (place + 1) new (omega arith)) ∙ ap (take place) before ∙ take-take place (place + 1) mid (omega arith) ∙ ap (take place) put ∙ take-set-le place old place none (omega arith))
+      (sym (get_or-take (place + 1) new place none (omega arith)) ∙ ap (λ (l : List (List Span)). get_or l place none) before ∙ get_or-take (place + 1) mid place none (omega arith) ∙ ap (λ (l : List (List Span)). get_or l place none) put ∙ get_or-set_at old place none none g.inside)
+      refl (omega (arith, l, m, long, q, length-set old place none, g.inside)) merged (subst (λ (b : List (List Span)). HasTakenIn (end_of last) out b out2 (drop (place + 1) new)) behind t) j2
+      (λ h. dense (subst AreDense (sym behind) h)) (λ some. absurd (omega (arith, some)))
 
-    put_here : drop place put ≡ p.block ∷ drop (place + 1) old
-    put_here = ap (drop place) p.list ∙ ap (λ k. drop k (take place old ++ p.block ∷ drop (place + 1) old)) (sym put_long) ∙ drop-append_seam (take place old) (p.block ∷ drop (place + 1) old)
-
-    put_rest : drop (place + 1) put ≡ drop (place + 1) old
-    put_rest = sym (drop-drop 1 place put) ∙ ap (drop 1) put_here
-
-    pub put-at : (e : List Span) → get_or put place e ≡ p.block
-    put-at e =
-        let inside : place < length put = (let l = ap length p.list in let m = length-append (take place old) (p.block ∷ drop (place + 1) old) in let n = put_long in omega arith) in
-        get_or_default put place e p.block inside ∙ ap (λ l. get_or l place p.block) p.list ∙ before_next (take place old) (drop (place + 1) old) p.block place put_long
-
-    pub edited-put : 0 < length p.block → length p.block ≤ 128 → IsEdited runs value old place put
-    edited-put some short = edited-there p.block put (p.merged d) put_front (ap all_spans put_here) (subst AreFilled (sym put_here) ((some, short), g.filled)) above
-
-    pub put-ascends : ascend 0 (all_spans (drop place put)) ≡ true
-    unfolding block behind_it
-    put-ascends =
-        let parted : all_from (end_of last) behind_it ≡ [] ++ behind_it = all_from-above (end_of last) behind_it (far (end_of last) (end_of last + 1) behind_it (omega arith) above) in
-        let same : IsSame (p.block ++ []) p.block = subst (λ (l : List Span). IsSame l p.block) (sym (append-nil p.block)) (same-self p.block) in
-        let merged = p.merged d in
-        let j = merged.joined (joined-left block behind_it belong-joined) in
-        ap (λ l. ascend 0 (all_spans l)) put_here ∙ edited-ascends block behind_it runs value last p.block p.block [] behind_it belong-ascends belong-joined g.some is g.rises next_first merged parted same above j
-
-    pub put-filled : AreFilled (drop (place + 1) put)
-    put-filled = subst AreFilled (sym put_rest) g.filled
-
-    pub put-dense-behind : AreDense (drop place old) → AreDense (drop (place + 1) put)
-    put-dense-behind h = subst AreDense (sym put_rest) (subst AreDense (drop-drop 1 place old) (dense-drop 1 (drop place old) h))
-
-    pub put-dense : length (get_or old place d) ≤ length p.block → AreDense (drop place old) → AreDense (drop place put)
-    put-dense longer h =
-        let on : suc place ≡ place + 1 = omega arith in
-        let was : drop place old ≡ get_or old place d ∷ drop (place + 1) old = drop-cons old place d g.inside ∙ ap (λ (k : ℕ). get_or old place d ∷ drop k old) on in
-        subst AreDense (sym put_here) (dense-grown (get_or old place d) p.block (drop (place + 1) old) longer (subst AreDense was h))
-
-    -- gone, or one with the next
-    pub edited-settled : (new : List (List Span)) → IsSettled place put new → IsEdited runs value old place new
-    edited-settled new s = edited-there p.block new (p.merged d) (s.before ∙ put_front) (s.spans ∙ ap all_spans put_here) s.filled above
-
-  -- other blocks stand in its place
-  module _ (out out2 : List Span) (merged : IsMerged runs value (get_or old place d) out) (mid after : BlocksView) (list : mid.list ≡ take place old ++ drop (place + 1) old) (at : mid.at ≡ place) where
-    front_long : length (take place old) ≡ place
-    front_long = let l = length-take place old in omega (arith, g.inside)
-
-    pub mid-front : take mid.at mid.list ≡ take place old
-    mid-front = ap (λ k. take k mid.list) (at ∙ sym front_long) ∙ ap (take (length (take place old))) list ∙ take-append_seam (take place old) (drop (place + 1) old)
-
-    pub mid-behind : drop mid.at mid.list ≡ drop (place + 1) old
-    mid-behind = ap (λ k. drop k mid.list) (at ∙ sym front_long) ∙ ap (drop (length (take place old))) list ∙ drop-append_seam (take place old) (drop (place + 1) old)
-
-    pub mid-ascends : ascend 0 (all_spans (drop mid.at mid.list)) ≡ true
-    unfolding block behind_it
-    mid-ascends = ap (λ l. ascend 0 (all_spans l)) mid-behind ∙ far 0 (end_from 0 block) behind_it (omega arith) (ascend-right 0 block behind_it belong-ascends)
-
-    pub mid-joined : are_joined (all_spans (drop mid.at mid.list)) ≡ true
-    unfolding block behind_it
-    mid-joined = ap (λ l. are_joined (all_spans l)) mid-behind ∙ joined-right block behind_it belong-joined
-
-    module _ (t : HasTakenIn (end_of last) out mid out2 after) (j2 : are_joined out2 ≡ true) where
-      rest : List Span
-      rest = all_spans (drop after.at after.list)
-
-      parted : all_from (end_of last) behind_it ≡ t.taken ++ rest
-      unfolding behind_it rest
-      parted = ap (λ l. all_from (end_of last) (all_spans l)) (sym mid-behind) ∙ t.parted
-
-      whole_up : ascend 0 (out2 ++ rest) ≡ true
-      unfolding block behind_it rest
-      whole_up = edited-ascends block behind_it runs value last out out2 t.taken rest belong-ascends belong-joined g.some is g.rises next_first merged parted t.same t.above j2
-
-      pub anew-ascends : ascend 0 out2 ≡ true
-      unfolding rest
-      anew-ascends = ascend-left 0 out2 rest whole_up
-
-      module _ (new : BlocksView) (p : ArePushed out2 after new) where
-        stands : after.at ≡ place
-        stands = t.at ∙ at
-
-        parts : drop place new.list ≡ drop after.at (take new.at new.list) ++ drop after.at after.list
-        parts =
-            let l = length-take new.at new.list in
-            let s = stands in
-            ap (drop place) (sym (take-append-drop new.at new.list))
-            ∙ drop-append-le place (take new.at new.list) (drop new.at new.list) (omega (arith, l, s, p.from, p.inside))
-            ∙ ap (λ k. drop k (take new.at new.list) ++ drop new.at new.list) (sym stands)
-            ∙ ap (λ m. drop after.at (take new.at new.list) ++ m) p.rest
-
-        spans : all_spans (drop place new.list) ≡ out2 ++ rest
-        unfolding rest
-        spans = ap all_spans parts ∙ all-append (drop after.at (take new.at new.list)) (drop after.at after.list) ∙ ap (λ l. l ++ all_spans (drop after.at after.list)) p.made
-
-        pub edited-anew : IsEdited runs value old place new.list
-        unfolding block behind_it rest
-        edited-anew = record {
-          before = ap (λ k. take k new.list) (sym stands) ∙ p.front ∙ t.before ∙ mid-front;
-          filled = subst AreFilled (sym parts) (all_joined IsFilled (drop after.at (take new.at new.list)) (drop after.at after.list) p.filled t.filled);
-          ascending = ap (ascend 0) spans ∙ whole_up;
-          at = λ n.
-              ap (λ l. value_at l n) spans ∙ edited-at block behind_it runs value last out out2 t.taken rest belong-ascends belong-joined g.some is g.rises next_first merged parted t.same t.above j2 n
-              ∙ ap (λ l. cond (covers runs n) value (value_at l n)) (sym split);
-          joined = ap are_joined spans ∙ edited-joined block behind_it runs value last out out2 t.taken rest belong-ascends belong-joined g.some is g.rises next_first merged parted t.same t.above j2;
-        }
+-- the same intervals in other blocks
+pub edited-as : (runs : List PageRun) (value : Option ℕ) (old : List (List Span)) (place : ℕ) (mid new : List (List Span)) → IsSetFrom runs value old place mid → take place new ≡ take place mid → all_spans (drop place new) ≡ all_spans (drop place mid) → IsSetFrom runs value old place new
+edited-as runs value old place mid new e before spans = record {
+  before = before ∙ e.before;
+  ascending = ap (ascend 0) spans ∙ e.ascending;
+  at = λ n. ap (λ l. value_at l n) spans ∙ e.at n;
+  joined = ap are_joined spans ∙ e.joined;
+}
 
 -- where pages have a number, there is a block
-pub edited-some : (old new : List (List Span)) (place : ℕ) (runs : List PageRun) (value : Option ℕ) (v : ℕ) (last : PageRun) → IsEdited runs value old place new → value ≡ Some v → last ≡ get_or runs (length runs - 1) last → 0 < length runs → 0 < last.count → 0 < length new
+pub edited-some : (old new : List (List Span)) (place : ℕ) (runs : List PageRun) (value : Option ℕ) (v : ℕ) (last : PageRun) → IsSetFrom runs value old place new → value ≡ Some v → last ≡ get_or runs (length runs - 1) last → 0 < length runs → 0 < last.count → 0 < length new
 edited-some old new place runs value v last e is there some count =
     let yes = covered_last runs (length runs - 1) last last.first (omega arith) there (in_first last count) in
     let here : value_at (all_spans (drop place new)) last.first ≡ Some v = e.at last.first ∙ rw yes is in
@@ -385,7 +332,7 @@ edited-some old new place runs value v last e is there some count =
 
 module _ (old new : List (List Span)) (place : ℕ) (runs : List PageRun) (value : Option ℕ) (low : ℕ) (stacked : AreStacked old) (j : are_joined (all_spans old) ≡ true) (lt : place < length old)
     (below : end_from 0 (all_spans (take place old)) ≤ low) (above : ascend low (all_spans (drop place old)) ≡ true) (from : (n : ℕ) → covers runs n ≡ true → low ≤ n) (strict : 0 < place → (n : ℕ) → covers runs n ≡ true → low < n)
-    (e : IsEdited runs value old place new) where
+    (e : IsSetFrom runs value old place new) (filled_rest_new : AreFilled (drop place new)) where
   front : List Span
   front = all_spans (take place old)
 
@@ -416,7 +363,7 @@ module _ (old new : List (List Span)) (place : ℕ) (runs : List PageRun) (value
   pub group-stacked : AreStacked new
   group-stacked = record {
     ascending = ap (ascend 0) now_all ∙ new_up;
-    filled = filled_both place new (subst AreFilled (sym e.before) (filled_front place old stacked.filled)) e.filled;
+    filled = filled_both place new (subst AreFilled (sym e.before) (filled_front place old stacked.filled)) filled_rest_new;
   }
 
   pub group-at : (n : ℕ) → value_at (all_spans new) n ≡ cond (covers runs n) value (value_at (all_spans old) n)
@@ -515,9 +462,9 @@ module _ (old : List (List Span)) (runs : List PageRun) (left : ℕ) (group : Gr
   unfolding mine
   mine_rises = rise_dropped 0 group.from (take left runs) (rise_taken 0 left runs rises)
 
-  pub group-belong : BelongTo (drop group.from (take left runs)) old group.place
+  pub group-belong : AreDense old → BelongTo (drop group.from (take left runs)) old group.place
   unfolding mine
-  group-belong = record {
+  group-belong h = record {
     inside = lt;
     short = λ d. (filled_at group.place old d stacked.filled lt).1;
     rises = mine_rises;
@@ -527,6 +474,7 @@ module _ (old : List (List Span)) (runs : List PageRun) (left : ℕ) (group : Gr
         ∙ far 0 (end_from 0 (all_spans (take group.place old))) (get_or old group.place [] ++ all_spans (drop (group.place + 1) old)) (omega arith) (block-ascends old group.place [] lt stacked.ascending);
     joined = joined-right (all_spans (take group.place old)) (all_spans (drop group.place old)) (ap are_joined (sym (all-parted group.place old)) ∙ j);
     filled = filled_rest (group.place + 1) old stacked.filled;
+    dense = dense-drop group.place old h;
     next = λ d.
         let l = length-drop group.from (take left runs) in
         let i : ℕ = length (drop group.from (take left runs)) - 1 in
@@ -548,18 +496,18 @@ module _ (old : List (List Span)) (runs : List PageRun) (left : ℕ) (group : Gr
       let f = covers_from (k.low + 1) mine n (rise_low (k.low + 1) mine (λ d some. let s = k.strict z d in omega arith) mine_rises) t in
       omega arith
 
-  module _ (value : Option ℕ) (new : List (List Span)) (e : IsEdited (drop group.from (take left runs)) value old group.place new) where
+  module _ (value : Option ℕ) (new : List (List Span)) (e : IsSetFrom (drop group.from (take left runs)) value old group.place new) (f : AreFilled (drop group.place new)) where
     pub left-stacked : AreStacked new
     unfolding mine
-    left-stacked = let k = low in group-stacked old new group.place mine value k.low stacked j lt k.below k.above low_covers low_strict e
+    left-stacked = let k = low in group-stacked old new group.place mine value k.low stacked j lt k.below k.above low_covers low_strict e f
 
     pub left-joined : are_joined (all_spans new) ≡ true
     unfolding mine
-    left-joined = let k = low in group-joined old new group.place mine value k.low stacked j lt k.below k.above low_covers low_strict e
+    left-joined = let k = low in group-joined old new group.place mine value k.low stacked j lt k.below k.above low_covers low_strict e f
 
     pub left-at : (n : ℕ) → value_at (all_spans new) n ≡ cond (covers (drop group.from (take left runs)) n) value (value_at (all_spans old) n)
     unfolding mine
-    left-at n = let k = low in group-at old new group.place mine value k.low stacked j lt k.below k.above low_covers low_strict e n
+    left-at n = let k = low in group-at old new group.place mine value k.low stacked j lt k.below k.above low_covers low_strict e f n
 
     inside_new : group.place ≤ length new
     inside_new =
@@ -574,11 +522,11 @@ module _ (old : List (List Span)) (runs : List PageRun) (left : ℕ) (group : Gr
     left-needs d =
         let k = low in
         let l = length-take left runs in
-        let from = group-from old new group.place mine value k.low stacked j lt k.below k.above low_covers low_strict e in
+        let from = group-from old new group.place mine value k.low stacked j lt k.below k.above low_covers low_strict e f in
         let stacked_new = left-stacked in
         let none : group.place ≡ 0 → take group.from (take left runs) ≡ [] = λ z. ap (λ (n : ℕ). take n (take left runs)) (g.first z) in
         let a = group-needs old (take left runs) group d g stacked.filled stacked.ascending lt inside in
-        let b = needed-place new group.place k.low (take group.from (take left runs)) inside_new e.filled from k.most none stacked_new.filled in
+        let b = needed-place new group.place k.low (take group.from (take left runs)) inside_new f from k.most none stacked_new.filled in
         let c = ap (λ (m : List (List Span)). needed m (take group.from (take left runs))) e.before in
         let fewer : take group.from (take left runs) ≡ take group.from runs = take-take group.from left runs (omega (arith, l, inside)) in
         let f = ap (needed new) fewer in

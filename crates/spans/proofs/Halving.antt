@@ -1,16 +1,18 @@
 -- A page is looked for by halving.
-use Rattle.std.proofs.Common.{◌≡◌, ℕ, suc, ◌+◌, ◌-◌, ◌*◌, ◌^◌, ◌<◌, ◌≤◌, true, false, nat_eq, ltb, List, [], ◌∷◌, ◌++◌, length, take, drop, Some, None, refl, sym, ap, ◌∙◌, mul-le-mul, arith}
+use Rattle.std.proofs.Common.{◌≡◌, ℕ, suc, ◌+◌, ◌-◌, ◌*◌, ◌^◌, ◌<◌, ◌≤◌, true, false, cond, nat_eq, leb, ltb, List, [], ◌∷◌, ◌++◌, length, get_or, drop, min, Option, Some, None, refl, ap, ◌∙◌, mul-le-mul, arith}
 use Rattle.std.proofs.Math.Nat.{mul-le-mul_left}
-use Rattle.std.proofs.Math.Seq.{drop-cons}
-use Rattle.std.proofs.lemmas.List.{take-append-drop}
+use Rattle.std.proofs.lemmas.List.{get_or_default, get_or_past}
 use Rattle.std.proofs.lemmas.Nat.{pow-add, pow_below}
-use Rattle.std.proofs.lemmas.Bool.{eqb-true, ltb-true}
+use Rattle.std.proofs.lemmas.Bool.{eqb-true, ltb-true, ltb-false}
 use Rattle.std.proofs.lemmas.Bool.Decides.{nat_tests}
-use Rattle.base.specs.Pages.{PageRun, in_run}
-use Rattle.spans.specs.Spans.{Span, value_at, ascend, end_from, is_border, IsSpanAt}
-use Rattle.spans.specs.Search.{IsBefore, begins_at, IsFirstOf}
-use Rattle.spans.proofs.Borders.{border-right, border-end}
-use Rattle.spans.proofs.Ascending.{begins, ascend-cons, ascend-left, ascend-right, end_from-take, value_at-append, value_at-behind, value_at-ahead, value_at-here}
+use Rattle.base.specs.Pages.{in_run}
+use Rattle.spans.specs.declared.find.Segment.{Segment}
+use Rattle.spans.specs.Spans.{Span, end_of, ascend, end_from, is_border}
+use Rattle.spans.specs.Search.{IsSegment, begins_at}
+use Rattle.spans.specs.Blocks.{all_spans, AreStacked}
+use Rattle.spans.proofs.Ascending.{begins, ascend-left, value_at-append, value_at-behind, value_at-ahead}
+use Rattle.spans.proofs.Blocks.{above_page, at_block, rest_behind}
+use Rattle.spans.proofs.Borders.{border-left, border-right, border-block, border-next, border-pages}
 
 -- ---- the count of looks
 
@@ -28,13 +30,6 @@ looked p i size len le some so_far =
     let more = pow_more p i le in
     let scaled = mul-le-mul_left (2 ^ (p - i)) some in
     rw more (omega (arith, scaled, so_far))
-
--- a look more
-pub looked-once_more : (q p i len : ℕ) → i ≤ p → q ≤ p + 1 → p ≤ q → 2 ^ (p - i) ≤ len → 2 ^ (q - i) ≤ 2 * len
-looked-once_more q p i len le most least so_far = elim (nat_eq q p) as (λ b. nat_eq q p ≡ b → 2 ^ (q - i) ≤ 2 * len) [
-  | true ↦ λ t. let e : q ≡ p = eqb-true q p t in rw e (omega (arith, so_far))
-  | false ↦ λ t. let e : q ≡ p + 1 = grind (arith, nat_tests) in rw (e, pow_more p i le) (omega (arith, so_far))
-] refl
 
 -- a power of two below the next
 few : (b k most : ℕ) → 2 ^ b ≤ most → most < 2 ^ (k + 1) → 2 ^ b ≤ 2 ^ k
@@ -58,68 +53,61 @@ both-looked q p i k blocks in_block most le on first second short fewer =
     let b : 2 ^ (p - i) ≤ most = omega (arith, first, fewer) in
     rw parts (mul-le-mul a b)
 
--- ---- one look
+-- ---- what is said of a page
 
-module _ (ss : List Span) (ascending : ascend 0 ss ≡ true) (m : ℕ) (run : PageRun) (value : ℕ) (lt : m < length ss) (is : IsSpanAt ss m run value) where
-  s : Span
-  s = record { run = run; value = value }
+-- the interval that ends behind it, before others
+pub segment-more : (e page : ℕ) (s : Span) (ss : List Span) (segment : Segment) → ascend e (s ∷ ss) ≡ true → IsSegment (s ∷ []) page segment → segment.end ≤ end_of s.run → IsSegment (s ∷ ss) page segment
+segment-more e page s ss segment h is inside = record {
+  behind = is.behind;
+  in_range = is.in_range;
+  border = border-left (s ∷ []) ss segment.end is.border;
+  value = λ n from to.
+      let x = begins e s ss h in
+      let none = value_at-ahead (end_of s.run) ss n x.rest (omega (arith, to, inside)) in
+      ap (λ (o : Option ℕ). cond (in_run s.run n) (Some s.value) o) none ∙ is.value n from to;
+}
 
-  next : drop m ss ≡ s ∷ drop (suc m) ss
-  unfolding s
-  next = drop-cons ss m s lt ∙ ap (λ x. x ∷ drop (suc m) ss) (is s)
+-- behind others that end at the page or before it
+pub segment-behind : (page : ℕ) (xs ys : List Span) (segment : Segment) → ascend 0 (xs ++ ys) ≡ true → end_from 0 xs ≤ page → IsSegment ys page segment → IsSegment (xs ++ ys) page segment
+segment-behind page xs ys segment h below is = record {
+  behind = is.behind;
+  in_range = is.in_range;
+  border = border-right xs ys segment.end is.border;
+  value = λ n from to. value_at-append xs ys n ∙ rw (value_at-behind 0 xs n (ascend-left 0 xs ys h) (omega (arith, below, from))) (is.value n from to);
+}
 
-  parted : ss ≡ take m ss ++ s ∷ drop (suc m) ss
-  parted = sym (take-append-drop m ss) ∙ ap (λ l. take m ss ++ l) next
+-- where none is before it
+pub segment-none : (page next : ℕ) (ss : List Span) → ascend next ss ≡ true → page < next → next ≤ 2 ^ 27 → is_border ss next ≡ true → IsSegment ss page (record { value = None; end = next })
+segment-none page next ss above lt in_range border = record { behind = lt; in_range = in_range; border = border; value = λ n from to. value_at-ahead next ss n above to }
 
-  pub look-above : (page : ℕ) → page < run.first → ascend (page + 1) (drop m ss) ≡ true
-  unfolding s
-  look-above page before =
-      let x = begins (end_from 0 (take m ss)) s (drop (suc m) ss) (ascend-right 0 (take m ss) (s ∷ drop (suc m) ss) (ap (ascend 0) (sym parted) ∙ ascending)) in
-      rw next (ascend-cons (page + 1) s (drop (suc m) ss) (omega arith) x.some x.rest)
+-- ---- among blocks
 
-  pub look-first : begins_at (drop m ss) ≡ run.first
-  unfolding s
-  look-first = ap begins_at next
+-- where those from a place on begin
+module _ (bs : List (List Span)) (i next : ℕ) (stacked : AreStacked bs) (is : next ≡ begins_at (get_or bs i [])) where
+  pub next-ascends : ascend next (all_spans (drop i bs)) ≡ true
+  next-ascends = above_page 0 next i bs stacked.filled stacked.ascending (λ d lt. let same = ap begins_at (get_or_default bs i [] d lt) in omega (arith, is, same))
 
-  pub look-below : (page : ℕ) → run.first + run.count ≤ page → end_from 0 (take (m + 1) ss) ≤ page
-  unfolding s
-  look-below page behind =
-      let k : m + 1 ≡ suc m = omega arith in
-      rw (k, end_from-take 0 m ss s lt, is s) behind
+  pub next-border : is_border (all_spans bs) next ≡ true
+  next-border = elim (ltb i (length bs)) as (λ q. ltb i (length bs) ≡ q → is_border (all_spans bs) next ≡ true) [
+    | true ↦ λ t. ap (is_border (all_spans bs)) is ∙ border-next i bs [] (ltb-true _ _ t)
+    | false ↦ λ t. ap (is_border (all_spans bs)) (is ∙ ap begins_at (get_or_past bs i [] (ltb-false _ _ t))) ∙ border-pages (all_spans bs)
+  ] refl
 
-  pub look-inside : (n : ℕ) → in_run run n ≡ true → value_at ss n ≡ Some value
-  unfolding s
-  look-inside n here = ap (λ l. value_at l n) parted ∙ value_at-here (take m ss) (drop (suc m) ss) s n (ap (ascend 0) (sym parted) ∙ ascending) here
+  pub next-behind : (e : ℕ) → ascend e (all_spans (drop i bs)) ≡ true → e ≤ 2 ^ 27 → e ≤ next
+  next-behind e h most = rest_behind bs i e next stacked.filled h (λ lt d. is ∙ ap begins_at (get_or_default bs i [] d lt)) (λ end. let same = ap begins_at (get_or_past bs i [] end) in omega (arith, is, same, most))
 
-  pub look-border : is_border ss (run.first + run.count) ≡ true
-  unfolding s
-  look-border = ap (λ (l : List Span). is_border l (run.first + run.count)) parted ∙ border-right (take m ss) (s ∷ drop (suc m) ss) (run.first + run.count) (border-end s (drop (suc m) ss))
+border_of_two : (a b : ℕ) (ss : List Span) → is_border ss a ≡ true → is_border ss b ≡ true → is_border ss (min a b) ≡ true
+border_of_two a b ss h k = elim (leb a b) as (λ q. leb a b ≡ q → is_border ss (min a b) ≡ true) [
+  | true ↦ λ t. let e : min a b ≡ a = grind (arith, nat_tests) in rw e h
+  | false ↦ λ t. let e : min a b ≡ b = grind (arith, nat_tests) in rw e k
+] refl
 
--- ---- between two intervals
-
-pub between : (ss : List Span) (page i n : ℕ) → IsBefore ss page i → page ≤ n → ((s : Span) (rest : List Span) → drop i ss ≡ s ∷ rest → n < s.run.first) → value_at ss n ≡ None
-between ss page i n before from to =
-    let xs = take i ss in
-    let ys = drop i ss in
-    let whole = take-append-drop i ss in
-    let front : ascend 0 xs ≡ true = ascend-left 0 xs ys (ap (ascend 0) whole ∙ before.ascending) in
-    let none : value_at xs n ≡ None = value_at-behind 0 xs n front (let b = before.below in omega arith) in
-    let rest : value_at ys n ≡ None = ahead_of (page + 1) ys n before.above to in
-    ap (λ l. value_at l n) (sym whole) ∙ value_at-append xs ys n ∙ rw (none, rest) refl
-  where
-    ahead_of : (e : ℕ) (ys : List Span) (n : ℕ) → ascend e ys ≡ true → ((s : Span) (rest : List Span) → ys ≡ s ∷ rest → n < s.run.first) → value_at ys n ≡ None
-    ahead_of e [] n h to = refl
-    ahead_of e (s ∷ rest) n h to = let x = begins e s rest h in value_at-ahead s.run.first (s ∷ rest) n (ascend-cons s.run.first s rest (omega arith) x.some x.rest) (to s rest refl)
-
--- the page itself is in none
-pub none_at : (ss : List Span) (page i : ℕ) → IsBefore ss page i → value_at ss page ≡ None
-none_at ss page i before =
-    between ss page i page before (omega arith) (λ s rest is. let x = begins (page + 1) s rest (ap (ascend (page + 1)) (sym is) ∙ before.above) in omega (arith, x.from))
-
--- nor are those up to the next interval
-pub none_up_to : (ss : List Span) (page i first n : ℕ) → IsBefore ss page i → IsFirstOf ss i first → page ≤ n → n < first → value_at ss n ≡ None
-none_up_to ss page i first n before is_first from to =
-    between ss page i n before from (λ s rest is. let e : first ≡ s.run.first = is_first.same ∙ ap begins_at is in omega arith)
-
-pub within : (run : PageRun) (n : ℕ) → run.first ≤ n → n < run.first + run.count → in_run run n ≡ true
-within run n from to = grind (arith, nat_tests)
+-- the block of a page
+pub segment-block : (bs : List (List Span)) (i page next : ℕ) (d : List Span) (segment : Segment) → AreStacked bs → i < length bs → begins_at (get_or bs i d) ≤ page → next ≡ begins_at (get_or bs (i + 1) []) → page < next → IsSegment (get_or bs i d) page segment
+    → IsSegment (all_spans bs) page (record { value = segment.value; end = min segment.end next })
+segment-block bs i page next d segment stacked lt from is before here = record {
+  behind = omega (arith, before, here.behind);
+  in_range = omega (arith, here.in_range);
+  border = border_of_two segment.end next (all_spans bs) (border-block i bs d segment.end lt here.border) (next-border bs (i + 1) next stacked is);
+  value = λ n least most. at_block bs i n d stacked lt (omega (arith, from, least)) (value_at-ahead next (all_spans (drop (i + 1) bs)) n (next-ascends bs (i + 1) next stacked is) (omega (arith, most))) ∙ here.value n least (omega (arith, most));
+}

@@ -12,8 +12,10 @@ mod Merging
 mod Needs
 mod Parting
 mod Pushed
+mod Reached
 mod Runs
 mod Same
 pub mod Segments
 mod Taken
 mod Taking
+mod Written

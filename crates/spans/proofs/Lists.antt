@@ -1,47 +1,22 @@
--- A list whose second part stands backward.
-use Rattle.std.proofs.Common.{◌≡◌, ℕ, zero, suc, ◌+◌, ◌-◌, ◌<◌, ◌≤◌, List, [], ◌∷◌, ◌++◌, length, get_or, take, drop, length-append, refl, sym, ap, ◌∙◌, append_assoc, append-nil, arith}
-use Rattle.std.proofs.Common.{reverse, Result, IsOk, is_ok, if◌then◌else◌}
+-- Parts of lists.
+use Rattle.std.proofs.Common.{◌≡◌, ℕ, zero, suc, ◌+◌, ◌-◌, ◌<◌, ◌≤◌, List, [], ◌∷◌, ◌++◌, length, get_or, take, drop, length-append, refl, sym, ap, ◌∙◌, append-nil, arith}
+use Rattle.std.proofs.Common.{Result, IsOk, is_ok, if◌then◌else◌}
 use Rattle.std.proofs.Math.ListN.{set, get_or-append}
-use Rattle.std.proofs.Math.Seq.{drop-cons, take-append_seam, drop-append_seam, drop-append-add, set-append_seam, get_or-append_seam}
+use Rattle.std.proofs.Math.Seq.{drop-cons, take-append_seam, drop-append_seam, drop-append-add}
+use Rattle.std.specs.List.{copy_within}
 use borrow.Rule.Slice.PartMut.{put_mid, Post-is}
-use Rattle.std.proofs.lemmas.List.{take-append-drop, length-take, length-drop, take_all, drop_all, take-set-le, drop-set, reverse-append, length-reverse, get_or-reverse, get_or-append-add, set-append_left, set-append_right}
+use Rattle.std.proofs.lemmas.List.{take_rest, take-append-drop, length-take, length-drop, get_or_default, take_all, drop_all, take-take, take-append-le, take-set-le, drop-set, get_or-take}
 
-pub reverse-last : {A : Type 0} (xs : List A) (x : A) → reverse (xs ++ x ∷ []) ≡ x ∷ reverse xs
-reverse-last xs x = reverse-append xs (x ∷ [])
+-- what stands before a place, with other things behind it
+module _ {A : Type 0} (i : ℕ) (xs ys : List A) (le : i ≤ length xs) where
+  taken_long : length (take i xs) ≡ i
+  taken_long = let l = length-take i xs in omega arith
 
--- the last of the second part follows the first part
-pub beside : {A : Type 0} (xs ys : List A) (y : A) → (xs ++ y ∷ []) ++ reverse ys ≡ xs ++ reverse (ys ++ y ∷ [])
-beside xs ys y = append_assoc xs (y ∷ []) (reverse ys) ∙ ap (λ l. xs ++ l) (sym (reverse-last ys y))
+  pub front-of : take i (take i xs ++ ys) ≡ take i xs
+  front-of = ap (λ (k : ℕ). take k (take i xs ++ ys)) (sym taken_long) ∙ take-append_seam (take i xs) ys
 
-module _ {A : Type 0} (front back : List A) where
-  pub long : length (front ++ reverse back) ≡ length front + length back
-  long = length-append front (reverse back) ∙ ap (λ n. length front + n) (length-reverse back)
-
-  pub before_all : take (length front) (front ++ reverse back) ≡ front
-  before_all = take-append_seam front (reverse back)
-
-  pub behind_all : drop (length front) (front ++ reverse back) ≡ reverse back
-  behind_all = drop-append_seam front (reverse back)
-
-  -- the list and a place in it, as they are seen from outside
-  pub view-behind : (list : List A) (at : ℕ) → front ++ reverse back ≡ list → length front ≡ at → drop at list ≡ reverse back
-  view-behind list at is e = ap (drop at) (sym is) ∙ ap (λ (k : ℕ). drop k (front ++ reverse back)) (sym e) ∙ behind_all
-
-  pub view-before : (list : List A) (at : ℕ) → front ++ reverse back ≡ list → length front ≡ at → take at list ≡ front
-  view-before list at is e = ap (take at) (sym is) ∙ ap (λ (k : ℕ). take k (front ++ reverse back)) (sym e) ∙ before_all
-
-  pub get_or-front : (i : ℕ) (d : A) → i < length front → get_or (front ++ reverse back) i d ≡ get_or front i d
-  get_or-front i d lt = get_or-append front (reverse back) d i lt
-
-  pub get_or-back : (i : ℕ) (d : A) → length front ≤ i → i < length front + length back → get_or (front ++ reverse back) i d ≡ get_or back (length back - 1 - (i - length front)) d
-  get_or-back i d le lt =
-      let at : i ≡ length front + (i - length front) = omega arith in
-      ap (λ k. get_or (front ++ reverse back) k d) at
-      ∙ get_or-append-add front (reverse back) (i - length front) d
-      ∙ get_or-reverse back (i - length front) d (omega arith)
-
-  pub set-front : (i : ℕ) (x : A) → i < length front → set front i x ++ reverse back ≡ set (front ++ reverse back) i x
-  set-front i x lt = sym (set-append_left front (reverse back) i x lt)
+  pub rest-of : drop i (take i xs ++ ys) ≡ ys
+  rest-of = ap (λ (k : ℕ). drop k (take i xs ++ ys)) (sym taken_long) ∙ drop-append_seam (take i xs) ys
 
 pub set_parts : {A : Type 0} (xs : List A) (i : ℕ) (x : A) → i < length xs → set xs i x ≡ take i xs ++ x ∷ drop (i + 1) xs
 set_parts xs i x lt =
@@ -49,45 +24,47 @@ set_parts xs i x lt =
     ∙ ap (λ l. l ++ drop i (set xs i x)) (take-set-le i xs i x (omega arith))
     ∙ ap (λ l. take i xs ++ l) (drop-set xs i x lt)
 
+pub get_or-set_at : {A : Type 0} (xs : List A) (i : ℕ) (x d : A) → i < length xs → get_or (set xs i x) i d ≡ x
+get_or-set_at [] i x d lt = absurd (omega arith)
+get_or-set_at (y ∷ xs) zero x d lt = refl
+get_or-set_at (y ∷ xs) (suc i) x d lt = get_or-set_at xs i x d (omega arith)
+
+-- what was lent of a place in a list
+pub lent_at : {A : Type 0} (inside xs : List A) (i : ℕ) (d x : A) → inside ≡ xs → i < length xs → x ≡ get_or inside i x → get_or xs i d ≡ x
+lent_at inside xs i d x list lt is = get_or_default xs i d x lt ∙ sym (is ∙ ap (λ l. get_or l i x) list)
+
 pub parts_of : {A : Type 0} (xs : List A) (i : ℕ) (d : A) → i < length xs → xs ≡ take i xs ++ get_or xs i d ∷ drop (i + 1) xs
 parts_of xs i d lt =
     let on : suc i ≡ i + 1 = omega arith in
     sym (take-append-drop i xs) ∙ ap (λ l. take i xs ++ l) (drop-cons xs i d lt ∙ ap (λ (k : ℕ). get_or xs i d ∷ drop k xs) on)
 
-reverse_parts : {A : Type 0} (xs ys : List A) (x : A) → reverse (xs ++ x ∷ ys) ≡ reverse ys ++ x ∷ reverse xs
-reverse_parts xs ys x = reverse-append xs (x ∷ ys) ∙ ap (λ l. l ++ reverse xs) (reverse-append (x ∷ []) ys) ∙ append_assoc (reverse ys) (x ∷ []) (reverse xs)
+pub drop-cons-at : {A : Type 0} (xs : List A) (i : ℕ) (d : A) → i < length xs → drop i xs ≡ get_or xs i d ∷ drop (i + 1) xs
+drop-cons-at xs i d lt = let on : suc i ≡ i + 1 = omega arith in drop-cons xs i d lt ∙ ap (λ (k : ℕ). get_or xs i d ∷ drop k xs) on
 
-pub set-reverse : {A : Type 0} (xs : List A) (i : ℕ) (x : A) → i < length xs → reverse (set xs i x) ≡ set (reverse xs) (length xs - 1 - i) x
-set-reverse xs i x lt =
-    let d = x in
-    let y = get_or xs i d in
-    let ys = drop (i + 1) xs in
-    let zs = take i xs in
-    let whole = parts_of xs i d lt in
-    let l = length-take i xs in
-    let a = length-append zs (y ∷ ys) in
-    let w = ap length whole in
-    let r = length-reverse ys in
-    let at : length xs - 1 - i ≡ length (reverse ys) = omega arith in
-    ap reverse (set_parts xs i x lt) ∙ reverse_parts zs ys x
-    ∙ sym (ap (λ k. set (reverse xs) k x) at ∙ ap (λ m. set m (length (reverse ys)) x) (ap reverse whole ∙ reverse_parts zs ys y) ∙ set-append_seam (reverse ys) y (reverse zs) x)
+-- what stands from a place on moves to the first place
+pub moved_down : {A : Type 0} (p : ℕ) (l : List A) → p ≤ length l → take (length l - p) (copy_within l p (length l) 0) ≡ drop p l
+moved_down p l le =
+    let n = length-drop p l in
+    let r = take_rest l p in
+    ap (take (length l - p)) (ap (λ m. m ++ drop (0 + (length l - p)) l) r) ∙ ap (λ (k : ℕ). take k (drop p l ++ drop (0 + (length l - p)) l)) (sym n) ∙ take-append_seam (drop p l) (drop (0 + (length l - p)) l)
 
-pub set-back : {A : Type 0} (front back : List A) (i : ℕ) (x : A) → length front ≤ i → i < length front + length back
-    → front ++ reverse (set back (length back - 1 - (i - length front)) x) ≡ set (front ++ reverse back) i x
-set-back front back i x le lt =
-    let j : ℕ = length back - 1 - (i - length front) in
-    let at : length back - 1 - j ≡ i - length front = omega arith in
-    ap (λ l. front ++ l) (set-reverse back j x (omega arith) ∙ ap (λ k. set (reverse back) k x) at)
-    ∙ sym (set-append_right front (reverse back) (length front) i x refl le)
+-- one is taken out, and the one before it is another
+module _ {A : Type 0} (xs : List A) (at : ℕ) (some : 0 < at) (lt : at < length xs) where
+  pub removed-get : (d : A) → get_or (take at xs ++ drop (at + 1) xs) (at - 1) d ≡ get_or xs (at - 1) d
+  removed-get d = let l = length-take at xs in get_or-append (take at xs) (drop (at + 1) xs) d (at - 1) (omega arith) ∙ get_or-take at xs (at - 1) d (omega (arith, some))
+
+  pub removed-set : (x : A) → set (take at xs ++ drop (at + 1) xs) (at - 1) x ≡ take (at - 1) xs ++ x ∷ drop (at + 1) xs
+  removed-set x =
+      let l = length-take at xs in
+      let a = length-append (take at xs) (drop (at + 1) xs) in
+      let on : at - 1 + 1 ≡ at = omega (arith, some) in
+      set_parts (take at xs ++ drop (at + 1) xs) (at - 1) x (omega (arith, a, l, some, lt))
+      ∙ ap (λ m. m ++ x ∷ drop (at - 1 + 1) (take at xs ++ drop (at + 1) xs)) (take-append-le (at - 1) (take at xs) (drop (at + 1) xs) (omega (arith, l, lt)) ∙ take-take (at - 1) at xs (omega arith))
+      ∙ ap (λ m. take (at - 1) xs ++ x ∷ m) (ap (λ (k : ℕ). drop k (take at xs ++ drop (at + 1) xs)) on ∙ rest-of at xs (drop (at + 1) xs) (omega (arith, lt)))
 
 pub no_items : {A : Type 0} (xs : List A) → length xs ≡ 0 → xs ≡ []
 no_items [] e = refl
 no_items (x ∷ xs) e = absurd (omega arith)
-
-pub none_over : {A : Type 0} (place : ℕ) (l : List A) → drop place (take place l) ≡ []
-none_over zero l = refl
-none_over (suc place) [] = refl
-none_over (suc place) (s ∷ l) = none_over place l
 
 suc_on : (a b : ℕ) → suc a + b ≡ suc (a + b)
 suc_on a b = omega arith
@@ -96,18 +73,10 @@ none_taken : {A : Type 0} (n : ℕ) → take {A = A} n [] ≡ []
 none_taken zero = refl
 none_taken (suc n) = refl
 
-take_more_of : {A : Type 0} (done len : ℕ) (l : List A) → take (done + len) l ≡ take done l ++ take len (drop done l)
+pub take_more_of : {A : Type 0} (done len : ℕ) (l : List A) → take (done + len) l ≡ take done l ++ take len (drop done l)
 take_more_of zero len l = ap (λ (k : ℕ). take k l) (omega arith)
 take_more_of (suc done) len [] = none_taken (suc done + len) ∙ sym (none_taken len)
 take_more_of (suc done) len (x ∷ l) = ap (λ (k : ℕ). take k (x ∷ l)) (suc_on done len) ∙ ap (λ m. x ∷ m) (take_more_of done len l)
-
-pub take_on : {A : Type 0} (done len : ℕ) (l : List A) → take (done + len) l ≡ take done l ++ take (done + len - done) (drop done l)
-take_on done len l =
-    let n : done + len - done ≡ len = omega arith in
-    take_more_of done len l ∙ ap (λ (k : ℕ). take done l ++ take k (drop done l)) (sym n)
-
-pub before_next : {A : Type 0} (front rest : List A) (next : A) (i : ℕ) → length front ≡ i → get_or (front ++ next ∷ rest) i next ≡ next
-before_next front rest next i e = ap (λ (k : ℕ). get_or (front ++ next ∷ rest) k next) (sym e) ∙ get_or-append_seam front next rest next
 
 pub extended : {A B E : Type 0} (r : Result B E) (was more now : List A) → IsOk r → now ≡ (if is_ok r then was ++ more else was) → now ≡ was ++ more
 extended r was more now ok is = rw ok at is

@@ -1,5 +1,5 @@
 -- How many more blocks there are where runs get a number.
-use Rattle.std.proofs.Common.{◌≡◌, ℕ, suc, ◌+◌, ◌-◌, ◌<◌, ◌≤◌, Bool, true, false, cond, not, leb, ltb, filter, List, [], ◌∷◌, ◌++◌, length, get_or, take, drop, length-append, refl, sym, ap, subst, ◌∙◌, arith}
+use Rattle.std.proofs.Common.{◌≡◌, ℕ, suc, ◌+◌, ◌-◌, ◌<◌, ◌≤◌, Bool, true, false, cond, not, leb, ltb, filter, List, [], ◌∷◌, ◌++◌, length, get_or, take, drop, length-append, refl, sym, ap, subst, ◌∙◌, arith, ◌*◌, ◌/◌}
 use Rattle.std.specs.List.{AllByRecursion}
 use Rattle.std.proofs.lemmas.List.{take-append-drop, length-take, length-drop, get_or-take, get_or-drop}
 use Rattle.std.proofs.lemmas.List.Filters.{length-filter_both}
@@ -276,11 +276,10 @@ module _ (bs : List (List Span)) (runs : List PageRun) (group : Group) (d : List
       needed-place bs group.place (begins_at (get_or bs group.place d)) (take group.from runs) (omega arith) (filled_rest group.place bs f) rest group-before
       (λ e. ap (λ (k : ℕ). take k runs) (g.first e)) f
 
-pub none-needed : (bs : List (List Span)) (runs : List PageRun) → AreFilled bs → length runs ≡ 0 → 0 ≡ blocks_needed bs runs
-none-needed [] [] f e = refl
-none-needed [] (run ∷ runs) f e = absurd (omega arith)
-none-needed (b ∷ bs) [] f e = sym (needed-none (b ∷ bs) f)
-none-needed (b ∷ bs) (run ∷ runs) f e = absurd (omega arith)
+pub first-needed : (bs : List (List Span)) (runs : List PageRun) → length bs ≡ 0 → 0 < length runs → 1 + (2 * length runs - 1) / 128 ≡ blocks_needed bs runs
+first-needed [] [] e some = absurd (omega arith)
+first-needed [] (run ∷ runs) e some = let same : 2 * length (run ∷ runs) ≡ 0 + 2 * length (run ∷ runs) = omega arith in ap (λ (k : ℕ). 1 + (k - 1) / 128) same
+first-needed (b ∷ bs) runs e some = absurd (omega arith)
 
 pub some-needed : (bs : List (List Span)) (runs : List PageRun) → 0 < length bs → needed bs runs ≡ blocks_needed bs runs
 some-needed [] runs some = absurd (omega arith)

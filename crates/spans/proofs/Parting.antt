@@ -2,8 +2,8 @@
 use Rattle.std.proofs.Common.{◌≡◌, ℕ, suc, ◌<◌, ◌≤◌, Bool, true, false, ◌&&◌, not, cond, leb, ltb, List, [], ◌∷◌, ◌++◌, length, get_or, take, drop, min, max, Option, Some, None, refl, sym, ap, ◌∙◌, append_assoc, append-nil, arith}
 use Rattle.std.specs.Option.{option_map_or}
 use Rattle.std.proofs.Math.Seq.{drop-cons}
-use Rattle.std.proofs.lemmas.List.{take-append-drop, take_all, get_or_default}
-use Rattle.std.proofs.lemmas.Bool.{leb-true, ltb-true, ltb-false}
+use Rattle.std.proofs.lemmas.List.{take-append-drop, take_all}
+use Rattle.std.proofs.lemmas.Bool.{leb-true}
 use Rattle.base.specs.Pages.{PageRun, in_run}
 use Rattle.spans.specs.Spans.{Span, value_at, end_of, ascend, end_from}
 use Rattle.spans.specs.Edits.{part_of, left_of, right_of, listed, all_before, all_from, span_of, replaced}
@@ -205,12 +205,6 @@ module _ (page i : ℕ) (ss : List Span) (s : Span) (h : ascend 0 ss ≡ true) (
       ap (all_from page) parted ∙ all_from-append page xs (s ∷ ys)
       ∙ rw (all_from-below page 0 xs front below, all_from-above page ys (far page (end_of s.run) ys (omega (arith, above)) here.rest)) refl
 
-  -- those behind it have no page before
-  pub before_there : (first : ℕ) → first ≤ page → all_before first (take (suc i) ss) ≡ all_before first ss
-  unfolding ys
-  before_there first le =
-      sym (ap (all_before first) (sym (take-append-drop (suc i) ss)) ∙ all_before-append first (take (suc i) ss) ys ∙ ap (λ l. all_before first (take (suc i) ss) ++ l) (none_before first le) ∙ append-nil (all_before first (take (suc i) ss)))
-
 pub some_from : (page e : ℕ) (ss : List Span) → e ≤ page → page < end_from e ss → 0 < length (all_from page ss)
 unfolding all_from
 some_from page e [] le lt = absurd (omega arith)
@@ -232,21 +226,3 @@ fewer_before page [] = omega arith
 fewer_before page (s ∷ ss) =
     let rest = fewer_before page ss in
     elim (leb page s.run.first) as (λ b. length (listed (cond b None (Some (part_of s.run.first (min (end_of s.run) page) s))) ++ all_before page ss) ≤ length (s ∷ ss)) [ true ↦ omega arith | false ↦ omega arith ]
-
-no_part : (o : Option Span) → length (listed o) ≡ 0 → listed o ≡ []
-no_part None e = refl
-no_part (Some s) e = absurd (omega arith)
-
--- the intervals before a place, and what the one there has
-pub before_place : (page i : ℕ) (ss : List Span) → ascend 0 ss ≡ true → end_from 0 (take i ss) ≤ page → ((d : Span) → i < length ss → page < end_of (get_or ss i d).run)
-    → (part : Option Span) → ((d : Span) → i < length ss → part ≡ left_of page (get_or ss i d)) → (length ss ≤ i → length (listed part) ≡ 0) → all_before page ss ≡ take i ss ++ listed part
-before_place page i ss h below above part some none = elim (ltb i (length ss)) as (λ b. ltb i (length ss) ≡ b → all_before page ss ≡ take i ss ++ listed part) [
-  | true ↦ λ t.
-      let lt = ltb-true _ _ t in
-      let d : Span = record { run = record { first = 0; count = 1 }; value = 0 } in
-      let s = get_or ss i d in
-      before_here page i ss s h lt (get_or_default ss i d s lt) below (above d lt) ∙ ap (λ o. take i ss ++ listed o) (sym (some d lt))
-  | false ↦ λ t.
-      let le = ltb-false _ _ t in
-      before_at_end page i ss h le below ∙ sym (take_all i ss le) ∙ sym (append-nil (take i ss)) ∙ ap (λ l. take i ss ++ l) (sym (no_part part (none le)))
-] refl

@@ -3,7 +3,7 @@ use Rattle.std.proofs.Common.{◌≡◌, ℕ, zero, suc, ◌<◌, ◌≤◌, Boo
 use Rattle.std.specs.List.{AllAdjacentBelow}
 use Rattle.std.specs.List.Sorted.{IsNonDecreasingBy}
 use Rattle.std.proofs.Math.ListN.{set}
-use Rattle.std.proofs.lemmas.List.{take-append-drop, take_more, take_more_set, drop-append-le, length-take, get_or-take, get_or_default, get_or-set_same, drop-drop, get_or-drop}
+use Rattle.std.proofs.lemmas.List.{take-append-drop, take_more, take_more_set, drop-append-le, length-take, get_or-take, get_or_default, drop-drop, get_or-drop}
 use Rattle.std.proofs.lemmas.List.Folds.{list_any-append}
 use Rattle.std.proofs.Math.Seq.{drop-cons}
 use Rattle.std.proofs.lemmas.Bool.{and_parts, leb-true, ltb-true}
@@ -129,12 +129,6 @@ rest_covers runs from left n lt le =
     ap (λ (m : List PageRun). covers m n) (ap (drop from) (sym (take-append-drop left runs)) ∙ drop-append-le from (take left runs) (drop left runs) (omega arith))
     ∙ list_any-append (λ (run : PageRun). in_run run n) (drop from (take left runs)) (drop left runs)
 
--- the first of what is left, and the others
-pub covers_more : (runs : List PageRun) (i n : ℕ) (run : PageRun) → i < length runs → run ≡ get_or runs i run → covers (drop i runs) n ≡ true → (in_run run n ≡ true) ⊎ (covers (drop (suc i) runs) n ≡ true)
-covers_more runs i n run lt is h =
-    let whole : (in_run run n || covers (drop (suc i) runs) n) ≡ true = ap (λ (r : PageRun). in_run r n || covers (drop (suc i) runs) n) is ∙ ap (λ (l : List PageRun). covers l n) (sym (drop-cons runs i run lt)) ∙ h in
-    either_way (in_run run n) (covers (drop (suc i) runs) n) whole
-
 -- ---- runs that are joined
 
 pub rise_more : (e : ℕ) (runs : List PageRun) (last run : PageRun) → rise e (runs ++ last ∷ []) ≡ true → end_of last ≤ run.first → rise e ((runs ++ last ∷ []) ++ run ∷ []) ≡ true
@@ -178,15 +172,6 @@ module _ (old : List PageRun) (done next : ℕ) (last run : PageRun) (some : 0 <
         ap (λ (l : List PageRun). covers l n) now ∙ covers_one_more (take done old) run n
         ∙ ap (λ (r : PageRun). covers (take done old) n || in_run r n) (is_run ∙ get_or_default old next run d inside)
 
-    pub behind-first : (d : PageRun) → (get_or (set old done run) (done + 1 - 1) d).first ≤ (get_or old next d).first
-    behind-first d =
-        let on : done + 1 - 1 ≡ done = omega arith in
-        let here : get_or (set old done run) (done + 1 - 1) d ≡ run = ap (λ (k : ℕ). get_or (set old done run) k d) on ∙ get_or-set_same old done run d (omega arith) in
-        let there : get_or old next d ≡ run = sym (is_run ∙ get_or_default old next run d inside) in
-        let a = ap (λ (r : PageRun). r.first) here in
-        let b = ap (λ (r : PageRun). r.first) there in
-        omega arith
-
   -- as one with the last
   module _ (whole : PageRun) (first : whole.first ≡ last.first) (end : end_of whole ≡ max (end_of last) (end_of run)) (from : last.first ≤ run.first) (touches : run.first ≤ end_of last) where
     one_now : take done (set old (done - 1) whole) ≡ take (done - 1) old ++ whole ∷ []
@@ -202,14 +187,6 @@ module _ (old : List PageRun) (done next : ℕ) (last run : PageRun) (some : 0 <
         ∙ or_assoc (covers (take (done - 1) old) n) (in_run last n) (in_run run n)
         ∙ ap (λ b. b || in_run run n) (sym (ap (λ (l : List PageRun). covers l n) parts_of ∙ covers_one_more (take (done - 1) old) last n))
         ∙ ap (λ (r : PageRun). covers (take done old) n || in_run r n) (is_run ∙ get_or_default old next run d inside)
-
-    pub one-first : (d : PageRun) → (get_or (set old (done - 1) whole) (done - 1) d).first ≤ (get_or old next d).first
-    one-first d =
-        let here = get_or-set_same old (done - 1) whole d (omega arith) in
-        let there : get_or old next d ≡ run = sym (is_run ∙ get_or_default old next run d inside) in
-        let a = ap (λ (r : PageRun). r.first) here in
-        let b = ap (λ (r : PageRun). r.first) there in
-        omega arith
 
 -- ---- two lists whose ends are the same
 

@@ -1,16 +1,17 @@
 -- Intervals without those of one number.
-use Rattle.std.proofs.Common.{◌≡◌, ℕ, ◌<◌, ◌≤◌, true, false, cond, not, eqb, ltb, zero, suc, ◌+◌, List, [], ◌∷◌, ◌++◌, length, get_or, take, drop, Option, Some, None, length-append, refl, sym, ap, subst, ◌∙◌, append_assoc, append-nil, drop-drop, arith}
+use Rattle.std.proofs.Common.{◌≡◌, ℕ, ◌<◌, ◌≤◌, true, false, ◌||◌, cond, not, eqb, ltb, suc, ◌+◌, ◌-◌, List, [], ◌∷◌, ◌++◌, length, get_or, Option, Some, None, refl, sym, ap, subst, ◌∙◌, append_assoc, arith}
+use Rattle.std.specs.List.{AllByRecursion}
 use Rattle.std.specs.Option.{option_map_or}
-use Rattle.std.proofs.Math.ListN.{set}
-use Rattle.std.proofs.lemmas.List.{take-append-drop, take_more, take_more_set, drop-append-le, drop-set-lt, length-take}
+use Rattle.std.proofs.lemmas.List.{get_or_default}
 use Rattle.std.proofs.lemmas.List.Elements.{filter-append}
-use Rattle.std.proofs.lemmas.Bool.{and_parts, eqb-true, ltb-true}
+use Rattle.std.proofs.lemmas.Bool.{and_parts, eqb-true, ltb-true, ltb-false}
 use Rattle.std.proofs.lemmas.Bool.Decides.{nat_tests}
-use Rattle.base.specs.Pages.{PageRun, in_run}
-use Rattle.spans.specs.Spans.{Span, value_at, end_of, ascend, end_from}
-use Rattle.spans.specs.Search.{begins_at}
+use Rattle.base.specs.Pages.{PageRun, in_run, covers}
+use Rattle.spans.specs.Spans.{Span, value_at, end_of, ascend, end_from, are_joined}
 use Rattle.spans.specs.Taking.{has_number, others, IsTakenIn}
-use Rattle.spans.proofs.Lists.{none_over}
+use Rattle.spans.proofs.Blocks.{all_joined}
+use Rattle.spans.proofs.Edited.{covered_last}
+use Rattle.spans.proofs.Joined.{joined-apart}
 use Rattle.spans.proofs.Ascending.{begins, far, ascend-cons, ascend-left, ascend-right, ascend-append, out, value_at-append, value_at-behind, value_at-ahead}
 
 -- ---- what is left
@@ -61,7 +62,7 @@ others-others value (s ∷ ss) = elim (eqb s.value value) as (λ b. eqb s.value 
   | false ↦ λ t. rw t (ap (λ l. s ∷ l) (others-others value ss))
 ] refl
 
-fewer_others : (value : ℕ) (ss : List Span) → length (others value ss) ≤ length ss
+pub fewer_others : (value : ℕ) (ss : List Span) → length (others value ss) ≤ length ss
 fewer_others value [] = omega arith
 fewer_others value (s ∷ ss) =
     let rest = fewer_others value ss in
@@ -124,24 +125,17 @@ has_right value e (s ∷ xs) ys n h has =
     let x = begins e s (xs ++ ys) h in
     has_later value s (xs ++ ys) n x.rest (has_right value (end_of s.run) xs ys n x.rest has)
 
-first_begins : (e : ℕ) (ss : List Span) → ascend e ss ≡ true → ascend (begins_at ss) ss ≡ true
-first_begins e [] h = refl
-first_begins e (s ∷ ss) h = let x = begins e s ss h in ascend-cons s.run.first s ss (omega arith) x.some x.rest
-
 -- ---- those of a number go out between others
 
 module _ (value first end : ℕ) (xs ms ys : List Span) (h : ascend 0 (xs ++ (ms ++ ys)) ≡ true) (below : end_from 0 xs ≤ first) (above : ascend end ys ≡ true) where
-  old : List Span
-  old = xs ++ (ms ++ ys)
+  gone_old : List Span
+  gone_old = xs ++ (ms ++ ys)
 
-  new : List Span
-  new = xs ++ (others value ms ++ ys)
+  gone_new : List Span
+  gone_new = xs ++ (others value ms ++ ys)
 
-  old_at : (n : ℕ) → value_at new n ≡ value_at xs n → value_at old n ≡ value_at old n
-  old_at n e = refl
-
-  stays : (n : ℕ) → has_number value ms n ≡ false → value_at new n ≡ value_at old n
-  unfolding old new
+  stays : (n : ℕ) → has_number value ms n ≡ false → value_at gone_new n ≡ value_at gone_old n
+  unfolding gone_old gone_new
   stays n not_here =
       let whole = ascend-right 0 xs (ms ++ ys) h in
       let middle = ascend-left (end_from 0 xs) ms ys whole in
@@ -150,8 +144,8 @@ module _ (value first end : ℕ) (xs ms ys : List Span) (h : ascend 0 (xs ++ (ms
       ∙ ap (λ o. option_map_or (λ (v : ℕ). Some v) (value_at xs n) o) (value_at-append (others value ms) ys n ∙ ap (λ o. option_map_or (λ (v : ℕ). Some v) o (value_at ys n)) same ∙ sym (value_at-append ms ys n))
       ∙ sym (value_at-append xs (ms ++ ys) n)
 
-  gone_in : (n : ℕ) → first ≤ n → n < end → has_number value new n ≡ false
-  unfolding new
+  gone_in : (n : ℕ) → first ≤ n → n < end → has_number value gone_new n ≡ false
+  unfolding gone_new
   gone_in n from to =
       let none_before = value_at-behind 0 xs n (ascend-left 0 xs (ms ++ ys) h) (omega arith) in
       let none_behind = value_at-ahead end ys n above to in
@@ -163,126 +157,143 @@ module _ (value first end : ℕ) (xs ms ys : List Span) (h : ascend 0 (xs ++ (ms
       kept None = refl
       kept (Some v) = refl
 
-  had_it : (n : ℕ) → has_number value new n ≡ true → has_number value old n ≡ true
-  unfolding old
+  had_it : (n : ℕ) → has_number value gone_new n ≡ true → has_number value gone_old n ≡ true
+  unfolding gone_old
   had_it n has =
       elim (has_number value ms n) as (λ b. has_number value ms n ≡ b → has_number value (xs ++ (ms ++ ys)) n ≡ true) [
         | true ↦ λ t. has_right value 0 xs (ms ++ ys) n h (has_left value ms ys n t)
         | false ↦ λ t. ap (λ o. option_map_or (λ v. eqb v value) o false) (sym (stays n t)) ∙ has
       ] refl
 
-  pub taken_in : IsTakenIn first end value (xs ++ (ms ++ ys)) (xs ++ (others value ms ++ ys))
-  unfolding old new
-  taken_in = record {
-    rest =
-        others-append value xs (others value ms ++ ys)
-        ∙ ap (λ l. others value xs ++ l) (others-append value (others value ms) ys ∙ ap (λ l. l ++ others value ys) (others-others value ms) ∙ sym (others-append value ms ys))
-        ∙ sym (others-append value xs (ms ++ ys));
-    gone = gone_in;
-    had = had_it;
-    ascends = λ e zs k.
-        let whole : ascend e (xs ++ (ms ++ (ys ++ zs))) ≡ true = ap (ascend e) (sym (append_assoc xs (ms ++ ys) zs ∙ ap (λ l. xs ++ l) (append_assoc ms ys zs))) ∙ k in
-        ap (ascend e) (append_assoc xs (others value ms ++ ys) zs ∙ ap (λ l. xs ++ l) (append_assoc (others value ms) ys zs))
-        ∙ ascend-append e xs (others value ms ++ (ys ++ zs)) (ascend-left e xs (ms ++ (ys ++ zs)) whole)
-        (ascend-others_then value (end_from e xs) ms (ys ++ zs) (ascend-right e xs (ms ++ (ys ++ zs)) whole));
-    fewer =
-        let a = length-append xs (ms ++ ys) in
-        let b = length-append ms ys in
-        let c = length-append xs (others value ms ++ ys) in
-        let d = length-append (others value ms) ys in
-        let f = fewer_others value ms in
-        omega arith;
-  }
+-- so they go
+pub all_parts : {A : Type 0} (P : A → Type 0) (xs ys : List A) → AllByRecursion P (xs ++ ys) → AllByRecursion P xs × AllByRecursion P ys
+all_parts P [] ys f = (tt, f)
+all_parts P (x ∷ xs) ys f = let p = all_parts P xs ys f.1 in ((f.0, p.0), p.1)
 
--- ---- intervals that are gone over
+all_others : (P : Span → Type 0) (value : ℕ) (ss : List Span) → AllByRecursion P ss → AllByRecursion P (others value ss)
+all_others P value [] f = tt
+all_others P value (s ∷ ss) f = elim (eqb s.value value) as (λ b. AllByRecursion P (cond (not b) (s ∷ others value ss) (others value ss))) [
+  | true ↦ all_others P value ss f.1
+  | false ↦ (f.0, all_others P value ss f.1)
+]
 
-pub is_not : (a b : ℕ) → (a ≡ b → ⊥) → not (eqb a b) ≡ true
-is_not a b apart = rw (other_number a b apart) refl
+module _ (value first end : ℕ) (old new : List Span) (t : IsTakenIn first end value old new) where
+  pub taken-rest : others value new ≡ others value old
+  taken-rest =
+      let xs = t.before in
+      let ms = t.between in
+      let ys = t.behind in
+      ap (others value) t.now ∙ others-append value xs (others value ms ++ ys)
+      ∙ ap (λ l. others value xs ++ l) (others-append value (others value ms) ys ∙ ap (λ l. l ++ others value ys) (others-others value ms) ∙ sym (others-append value ms ys))
+      ∙ sym (ap (others value) t.was ∙ others-append value xs (ms ++ ys))
 
-pub is_one : (a b : ℕ) → a ≡ b → not (eqb a b) ≡ false
-is_one a b e = rw (same_number a b e) refl
+  pub taken-all : (P : Span → Type 0) → AllByRecursion P old → AllByRecursion P new
+  taken-all P f =
+      let p = all_parts P t.before (t.between ++ t.behind) (subst (AllByRecursion P) t.was f) in
+      let q = all_parts P t.between t.behind p.1 in
+      subst (AllByRecursion P) (sym t.now) (all_joined P t.before (others value t.between ++ t.behind) p.0 (all_joined P (others value t.between) t.behind (all_others P value t.between q.0) q.1))
 
-pub get_or_rest : {A : Type 0} (l : List A) (i : ℕ) (d : A) → get_or l i d ≡ get_or (drop i l) 0 d
-get_or_rest [] zero d = refl
-get_or_rest [] (suc i) d = refl
-get_or_rest (s ∷ l) zero d = refl
-get_or_rest (s ∷ l) (suc i) d = get_or_rest l i d
+  module _ (h : ascend 0 old ≡ true) where
+    up : ascend 0 (t.before ++ (t.between ++ t.behind)) ≡ true
+    up = ap (ascend 0) (sym t.was) ∙ h
 
-get_or-same : (old new : List Span) (i : ℕ) (d : Span) → drop i new ≡ drop i old → get_or new i d ≡ get_or old i d
-get_or-same old new i d e = get_or_rest new i d ∙ ap (λ l. get_or l 0 d) e ∙ sym (get_or_rest old i d)
+    pub taken-gone : (n : ℕ) → first ≤ n → n < end → has_number value new n ≡ false
+    unfolding gone_new
+    taken-gone n from to = ap (λ (l : List Span). has_number value l n) t.now ∙ gone_in value first end t.before t.between t.behind up t.below t.above n from to
 
-pub same_ahead : (old new : List Span) (i end : ℕ) → drop i new ≡ drop i old → length new ≡ length old → ((d : Span) → i < length new → end ≤ (get_or new i d).run.first) → (d : Span) → i < length old → end ≤ (get_or old i d).run.first
-same_ahead old new i end rest long ahead d lt = subst (λ (s : Span). end ≤ s.run.first) (get_or-same old new i d rest) (ahead d (omega (arith, long)))
+    pub taken-had : (n : ℕ) → has_number value new n ≡ true → has_number value old n ≡ true
+    unfolding gone_old gone_new
+    taken-had n has = ap (λ (l : List Span). has_number value l n) t.was ∙ had_it value first end t.before t.between t.behind up t.below t.above n (ap (λ (l : List Span). has_number value l n) (sym t.now) ∙ has)
 
--- ---- one more is gone over
+    pub taken-ascends : ascend 0 new ≡ true
+    taken-ascends = ap (ascend 0) t.now ∙ ascend-append 0 t.before (others value t.between ++ t.behind) (ascend-left 0 t.before (t.between ++ t.behind) up) (ascend-others_then value (end_from 0 t.before) t.between t.behind (ascend-right 0 t.before (t.between ++ t.behind) up))
 
-pub none_gone : (value place : ℕ) (ss : List Span) → take place ss ≡ take place ss ++ others value (drop place (take place ss))
-none_gone value place ss = sym (ap (λ l. take place ss ++ others value l) (none_over place ss) ∙ append-nil (take place ss))
+-- ---- where runs have the pages of the number
 
-one_over : (place back : ℕ) (ss : List Span) (d : Span) → place ≤ back → back < length ss → drop place (take (back + 1) ss) ≡ drop place (take back ss) ++ get_or ss back d ∷ []
-one_over place back ss d le lt =
-    let l = length-take back ss in
-    ap (drop place) (take_more ss back d lt) ∙ drop-append-le place (take back ss) (get_or ss back d ∷ []) (omega arith)
+pub record IsFirst (runs : List PageRun) (page : ℕ) : Type 0 where
+  pub place : ℕ
+  pub inside : place < length runs
+  pub here : (d : PageRun) → (get_or runs place d).first ≡ page
 
-module _ (value place front back : ℕ) (old new : List Span) (s : Span) (le : place ≤ back) where
-  module _ (gap : front ≤ back) (lt : back < length new) (long : length new ≡ length old) (other : not (eqb s.value value) ≡ true) (is : s ≡ get_or new back s)
-      (left : take front new ≡ take place old ++ others value (drop place (take back old))) (rest : drop back new ≡ drop back old) where
-    pub keep_left : take (front + 1) (set new front s) ≡ take place old ++ others value (drop place (take (back + 1) old))
-    keep_left =
-        let same : get_or old back s ≡ s = sym (is ∙ get_or-same old new back s rest) in
-        take_more_set new front s (omega arith) ∙ ap (λ l. l ++ s ∷ []) left
-        ∙ append_assoc (take place old) (others value (drop place (take back old))) (s ∷ [])
-        ∙ ap (λ l. take place old ++ l) (sym (ap (others value) (one_over place back old s le (omega arith) ∙ ap (λ x. drop place (take back old) ++ x ∷ []) same)
-        ∙ others-append value (drop place (take back old)) (s ∷ []) ∙ ap (λ b. others value (drop place (take back old)) ++ cond b (s ∷ []) []) other))
+-- it begins where a run does, if it has the number
+abbrev pub BeginsRun : ℕ → List PageRun → Span → Type 0
+BeginsRun value runs s = s.value ≡ value → IsFirst runs s.run.first
 
-  module _ (lt : back < length new) (long : length new ≡ length old) (same_one : not (eqb s.value value) ≡ false) (is : s ≡ get_or new back s)
-      (left : take front new ≡ take place old ++ others value (drop place (take back old))) (rest : drop back new ≡ drop back old) where
-    pub skip_left : take front new ≡ take place old ++ others value (drop place (take (back + 1) old))
-    skip_left =
-        let same : get_or old back s ≡ s = sym (is ∙ get_or-same old new back s rest) in
-        left
-        ∙ ap (λ l. take place old ++ l) (sym (ap (others value) (one_over place back old s le (omega arith) ∙ ap (λ x. drop place (take back old) ++ x ∷ []) same)
-        ∙ others-append value (drop place (take back old)) (s ∷ []) ∙ ap (λ b. others value (drop place (take back old)) ++ cond b (s ∷ []) []) same_one
-        ∙ append-nil (others value (drop place (take back old)))))
+record IsCoveredBy (runs : List PageRun) (page : ℕ) : Type 0 where
+  place : ℕ
+  inside : place < length runs
+  here : (d : PageRun) → in_run (get_or runs place d) page ≡ true
 
-pub skip_rest : (back : ℕ) (old new : List Span) → drop back new ≡ drop back old → drop (back + 1) new ≡ drop (back + 1) old
-skip_rest back old new rest = sym (drop-drop 1 back new) ∙ ap (drop 1) rest ∙ drop-drop 1 back old
+covered_by : (runs : List PageRun) (n : ℕ) → covers runs n ≡ true → IsCoveredBy runs n
+covered_by [] n h = absurd cc
+covered_by (run ∷ runs) n h = elim (in_run run n) as (λ b. in_run run n ≡ b → (b || covers runs n) ≡ true → IsCoveredBy (run ∷ runs) n) [
+  | true ↦ λ t k. record { place = 0; inside = omega arith; here = λ d. t }
+  | false ↦ λ t k. let c = covered_by runs n k in record { place = suc c.place; inside = omega (arith, c.inside); here = c.here }
+] refl h
 
-pub keep_rest : (front back : ℕ) (old new : List Span) (s : Span) → front ≤ back → drop back new ≡ drop back old → drop (back + 1) (set new front s) ≡ drop (back + 1) old
-keep_rest front back old new s le rest = drop-set-lt (back + 1) new front s (omega arith) ∙ skip_rest back old new rest
+has_some : (value : ℕ) (o : Option ℕ) → option_map_or (λ v. eqb v value) o false ≡ true → o ≡ Some value
+has_some value None h = absurd cc
+has_some value (Some v) h = ap (λ (x : ℕ). Some x) (eqb-true v value h)
 
--- ---- the whole list
+within : (run : PageRun) (n m : ℕ) → in_run run n ≡ true → run.first ≤ m → m ≤ n → in_run run m ≡ true
+within run n m is le le2 = grind (arith, nat_tests)
 
-whole_of : (place back : ℕ) (ss : List Span) → place ≤ back → back ≤ length ss → ss ≡ take place ss ++ (drop place (take back ss) ++ drop back ss)
-whole_of place back ss le inside =
-    let l = length-take back ss in
-    sym (take-append-drop place ss)
-    ∙ ap (λ m. take place ss ++ m) (ap (drop place) (sym (take-append-drop back ss)) ∙ drop-append-le place (take back ss) (drop back ss) (omega arith))
+from_first : (run : PageRun) (n : ℕ) → in_run run n ≡ true → run.first ≤ n
+from_first run n is = grind (arith, nat_tests)
 
-ascends_from : (ss : List Span) (i e end : ℕ) → ascend e ss ≡ true → ((d : Span) → i < length ss → end ≤ (get_or ss i d).run.first) → ascend end (drop i ss) ≡ true
-ascends_from [] zero e end h first = refl
-ascends_from [] (suc i) e end h first = refl
-ascends_from (s ∷ ss) zero e end h first = let x = begins e s ss h in ascend-cons end s ss (first s (omega arith)) x.some x.rest
-ascends_from (s ∷ ss) (suc i) e end h first = let x = begins e s ss h in ascends_from ss i (end_of s.run) end x.rest (λ d lt. first d (omega arith))
+module _ (value : ℕ) (runs : List PageRun) (all : List Span) (h : ascend 0 all ≡ true) (j : are_joined all ≡ true) (pages : (n : ℕ) → has_number value all n ≡ covers runs n) where
+  begins_here : (xs : List Span) (s : Span) (ys : List Span) → xs ++ s ∷ ys ≡ all → BeginsRun value runs s
+  begins_here xs s ys e is =
+      let up : ascend 0 (xs ++ s ∷ ys) ≡ true = ap (ascend 0) e ∙ h in
+      let x = begins (end_from 0 xs) s ys (ascend-right 0 xs (s ∷ ys) up) in
+      let n = s.run.first in
+      let here : value_at (s ∷ ys) n ≡ Some value = rw (first_page s.run x.some) (ap (λ (v : ℕ). Some v) is) in
+      let whole : value_at all n ≡ Some value = ap (λ l. value_at l n) (sym e) ∙ value_at-append xs (s ∷ ys) n ∙ rw (value_at-behind 0 xs n (ascend-left 0 xs (s ∷ ys) up) x.from) here in
+      let has : has_number value all n ≡ true = ap (λ o. option_map_or (λ v. eqb v value) o false) whole ∙ same_number value value refl in
+      let c = covered_by runs n (sym (pages n) ∙ has) in
+      record {
+        place = c.place;
+        inside = c.inside;
+        here = λ d.
+            let run = get_or runs c.place d in
+            let le = from_first run n (c.here d) in
+            elim (ltb run.first n) as (λ b. ltb run.first n ≡ b → run.first ≡ n) [
+              | true ↦ λ t.
+                  let lt = ltb-true _ _ t in
+                  let m : ℕ = n - 1 in
+                  let on : m + 1 ≡ n = omega arith in
+                  let covered = covered_last runs c.place run m c.inside (get_or_default runs c.place d run c.inside) (within run n m (c.here d) (omega arith) (omega arith)) in
+                  let had : value_at all m ≡ Some value = has_some value (value_at all m) (pages m ∙ covered) in
+                  let none : value_at (s ∷ ys) m ≡ None = value_at-ahead n (s ∷ ys) m (ascend-cons n s ys (omega arith) x.some x.rest) (omega arith) in
+                  let front : value_at xs m ≡ Some value = sym (kept (value_at xs m)) ∙ ap (λ (o : Option ℕ). option_map_or (λ (v : ℕ). Some v) (value_at xs m) o) (sym none) ∙ sym (value_at-append xs (s ∷ ys) m) ∙ ap (λ l. value_at l m) e ∙ had in
+                  absurd (joined-apart 0 xs (s ∷ ys) up (ap are_joined e ∙ j) m value front (ap (value_at (s ∷ ys)) on ∙ here))
+              | false ↦ λ t. let ge = ltb-false _ _ t in omega arith
+            ] refl;
+      }
+    where
+      kept : (o : Option ℕ) → option_map_or (λ (v : ℕ). Some v) o None ≡ o
+      kept None = refl
+      kept (Some v) = refl
 
-pub taken_out : (value first end place front back : ℕ) (old new : List Span) → ascend 0 old ≡ true → place ≤ back → back ≤ length old → end_from 0 (take place old) ≤ first
-    → take front new ≡ take place old ++ others value (drop place (take back old)) → drop back new ≡ drop back old → ((d : Span) → back < length old → end ≤ (get_or old back d).run.first)
-    → IsTakenIn first end value old (take front new ++ drop back new)
-taken_out value first end place front back old new h le inside below left rest ahead =
-    let xs = take place old in
-    let ms = drop place (take back old) in
-    let ys = drop back old in
-    let whole = whole_of place back old le inside in
-    let now : take front new ++ drop back new ≡ xs ++ (others value ms ++ ys) = ap (λ l. l ++ drop back new) left ∙ ap (λ l. (xs ++ others value ms) ++ l) rest ∙ append_assoc xs (others value ms) ys in
-    subst (λ (l : List Span). IsTakenIn first end value l (take front new ++ drop back new)) (sym whole)
-    (subst (λ (l : List Span). IsTakenIn first end value (xs ++ (ms ++ ys)) l) (sym now)
-    (taken_in value first end xs ms ys (ap (ascend 0) (sym whole) ∙ h) below (ascends_from old back 0 end h ahead)))
+  all_begin : (xs ys : List Span) → xs ++ ys ≡ all → AllByRecursion (BeginsRun value runs) ys
+  all_begin xs [] e = tt
+  all_begin xs (s ∷ ys) e = (begins_here xs s ys e, all_begin (xs ++ s ∷ []) ys (append_assoc xs (s ∷ []) ys ∙ e))
 
--- where no page has the number, there is no interval of it
-pub others_all : (value e : ℕ) (ss : List Span) → ascend e ss ≡ true → ((n : ℕ) → has_number value ss n ≡ true → ⊥) → others value ss ≡ ss
-others_all value e [] h none = refl
-others_all value e (s ∷ ss) h none =
+  pub all_begin_runs : AllByRecursion (BeginsRun value runs) all
+  all_begin_runs = all_begin [] all refl
+
+-- where no run begins in an interval of it, there is none
+pub others_all : (value e : ℕ) (runs : List PageRun) (ss : List Span) → ascend e ss ≡ true → AllByRecursion (BeginsRun value runs) ss → ((i : ℕ) (d : PageRun) → i < length runs → has_number value ss (get_or runs i d).first ≡ false) → others value ss ≡ ss
+others_all value e runs [] h f gone = refl
+others_all value e runs (s ∷ ss) h f gone =
     let x = begins e s ss h in
-    let rest = others_all value (end_of s.run) ss x.rest (λ n has. none n (has_later value s ss n x.rest has)) in
-    let other = other_number s.value value (λ is. let has : has_number value (s ∷ ss) s.run.first ≡ true = rw (first_page s.run x.some) (same_number s.value value is) in none s.run.first has) in
+    let rest = others_all value (end_of s.run) runs ss x.rest f.1 (λ i d lt. elim (has_number value ss (get_or runs i d).first) as (λ b. has_number value ss (get_or runs i d).first ≡ b → b ≡ false) [
+      | true ↦ λ t. let has = has_later value s ss (get_or runs i d).first x.rest t in let no = gone i d lt in absurd (cc)
+      | false ↦ λ t. refl
+    ] refl) in
+    let other = other_number s.value value (λ is.
+    let p = f.0 is in
+    let has : has_number value (s ∷ ss) s.run.first ≡ true = rw (first_page s.run x.some) (same_number s.value value is) in
+    let no : has_number value (s ∷ ss) s.run.first ≡ false = ap (has_number value (s ∷ ss)) (sym (p.here s.run)) ∙ gone p.place s.run p.inside in
+    absurd (cc)) in
     rw other (ap (λ l. s ∷ l) rest)

@@ -1,11 +1,10 @@
 -- Intervals that stand in blocks. A map's view names `all_spans`; the other words stand in clauses inside the crate alone.
-use Rattle.std.specs.Prelude.{◌≡◌, ℕ, ◌+◌, ◌*◌, ◌-◌, ◌/◌, ◌^◌, ◌<◌, ◌≤◌, true, nat_le, nat_lt, List, [], ◌∷◌, ◌++◌, Option, length, filter, slice_index_or, take, drop, if◌then◌else◌}
+use Rattle.std.specs.Prelude.{◌≡◌, ℕ, ◌+◌, ◌*◌, ◌-◌, ◌/◌, ◌^◌, ◌<◌, ◌≤◌, true, nat_le, nat_lt, List, [], ◌∷◌, ◌++◌, Option, length, filter, slice_index_or, take, drop}
 use Rattle.std.specs.List.{AllByRecursion}
 use Rattle.base.specs.Pages.{PageRun, covers}
-use Rattle.spans.specs.Spans.{Span, value_at, ascend, are_joined}
-use Rattle.spans.specs.Edits.{all_from, rise, IsSame, IsMerged}
+use Rattle.spans.specs.Spans.{Span, IsSet, ascend, are_joined}
+use Rattle.spans.specs.Edits.{all_from, rise, IsSame}
 use Rattle.spans.specs.Search.{begins_at}
-use Rattle.spans.specs.Taking.{IsTakenIn}
 use Rattle.spans.specs.declared.page_map.place.Group.{Group}
 
 -- a block knows where its first interval begins, and has places for 128
@@ -16,10 +15,9 @@ pub record IsBlock (begin : ℕ) (ss : List Span) (capacity : ℕ) : Type 0 wher
   pub short : length ss ≤ 128
   pub places : 128 ≤ capacity
 
--- blocks upward, before which of them a cursor stands, and how many are spare
+-- blocks upward, and how many are spare
 pub record BlocksView : Type 0 where
   pub list : List (List Span)
-  pub at : ℕ
   pub spare : ℕ
 
 -- the intervals of all blocks, one after another
@@ -45,6 +43,17 @@ AreDense (b ∷ bs) = IsLongBeside b bs × AreDense bs
 pub record AreStacked (bs : List (List Span)) : Type 0 where
   pub ascending : ascend 0 (all_spans bs) ≡ true
   pub filled : AreFilled bs
+
+-- they do so, and no two side by side could be one
+pub record AreTidy (bs : List (List Span)) : Type 0 where
+  pub stacked : AreStacked bs
+  pub dense : AreDense bs
+
+-- the blocks before a place begin before a page, and all intervals of the others behind them do not
+pub record AreBefore (bs : List (List Span)) (page place : ℕ) : Type 0 where
+  pub inside : place ≤ length bs
+  pub before : (i : ℕ) (d : List Span) → i < place → begins_at (slice_index_or bs i d) < page
+  pub behind : ascend page (all_spans (drop place bs)) ≡ true
 
 -- how many blocks a block of so many intervals becomes at most, beside itself, where so many runs get a number
 abbrev pub more_blocks : ℕ → ℕ → ℕ
@@ -73,9 +82,8 @@ blocks_needed [] (run ∷ runs) = 1 + more_blocks 0 (length (run ∷ runs))
 blocks_needed (b ∷ bs) runs = needed (b ∷ bs) runs
 
 -- there are places for so many blocks
-pub record HavePlaces (all front back spare : ℕ) : Type 0 where
-  pub in_front : all ≤ front
-  pub in_back : all ≤ back
+pub record HavePlaces (all list spare : ℕ) : Type 0 where
+  pub in_list : all ≤ list
   pub in_spare : all ≤ spare
 
 -- the block of a group of runs: the runs of the group begin behind its begin, the others do not, and what is needed is
@@ -96,14 +104,14 @@ pub record IsPageMap (blocks : BlocksView) (room runs spans : ℕ) : Type 0 wher
   pub scratch : 0 < room → 256 + 2 * room ≤ spans
   pub joined : are_joined (all_spans blocks.list) ≡ true
 
--- blocks with these intervals stand behind those that stood before the cursor, and before it then
-pub record ArePushed (spans : List Span) (old new : BlocksView) : Type 0 where
-  pub from : old.at ≤ new.at
-  pub inside : new.at ≤ length new.list
-  pub front : take old.at new.list ≡ take old.at old.list
-  pub made : all_spans (drop old.at (take new.at new.list)) ≡ spans
-  pub filled : AreFilled (drop old.at (take new.at new.list))
-  pub rest : drop new.at new.list ≡ drop old.at old.list
+-- blocks with these intervals stand before the one at a place, up to another place
+pub record AreDealt (ss : List Span) (place at : ℕ) (old new : List (List Span)) : Type 0 where
+  pub made : List (List Span)
+  pub list : new ≡ take place old ++ (made ++ drop place old)
+  pub count : at ≡ place + length made
+  pub spans : all_spans made ≡ ss
+  pub filled : AreFilled made
+  pub dense : AreDense made
 
 -- two blocks side by side became one before a place, or none did
 pub record AreJoinedAt (at : ℕ) (old new : List (List Span)) : Type 0 where
@@ -112,20 +120,38 @@ pub record AreJoinedAt (at : ℕ) (old new : List (List Span)) : Type 0 where
   pub filled : (i : ℕ) → i < at → AreFilled (drop i old) → AreFilled (drop i new)
   pub dense : (i : ℕ) → i < at → AreDense (drop i (take at old)) → AreDense (drop at old) → AreDense (drop i new)
 
--- the block at a place is gone if it has no interval, and else may be one with the next
+-- from a place on the same intervals stand in blocks as a map's
 pub record IsSettled (i : ℕ) (old new : List (List Span)) : Type 0 where
   pub before : take i new ≡ take i old
   pub spans : all_spans (drop i new) ≡ all_spans (drop i old)
   pub filled : AreFilled (drop i new)
   pub dense : AreDense (drop (i + 1) old) → AreDense (drop i new)
 
--- the block at a place has no interval of the number any more that has a page from the first up to the end
-pub record IsTakenAt (first end value : ℕ) (old : List (List Span)) (i : ℕ) (new : List (List Span)) : Type 0 where
-  pub spans : List Span
-  pub taken : (d : List Span) → IsTakenIn first end value (slice_index_or old i d) spans
-  pub before : take i new ≡ take i old
-  pub here : drop i new ≡ spans ∷ drop (i + 1) old
-  pub len : length new ≡ length old
+-- so many intervals stand in so many blocks, and not in fewer
+pub record AreParts (len parts : ℕ) : Type 0 where
+  pub some : 0 < parts
+  pub fits : len ≤ parts * 128
+  pub full : (parts - 1) * 128 < len
+
+-- so many of them go into the first, and the others into the others
+pub record IsPart (len parts part : ℕ) : Type 0 where
+  pub some : 0 < part
+  pub short : part ≤ 128
+  pub inside : part ≤ len
+  pub least : 1 < parts → 32 ≤ part
+  pub many : 2 < parts → 81 ≤ part
+  pub fits : len - part ≤ (parts - 1) * 128
+  pub full : 1 < parts → (parts - 1 - 1) * 128 < len - part
+
+-- all blocks but the one at a place are as a map's
+pub record AreTidyBut (i : ℕ) (bs : List (List Span)) : Type 0 where
+  pub inside : i < length bs
+  pub short : length (slice_index_or bs i []) ≤ 128
+  pub ascending : ascend 0 (all_spans bs) ≡ true
+  pub before : AreFilled (take i bs)
+  pub behind : AreFilled (drop (i + 1) bs)
+  pub dense_before : AreDense (take i bs)
+  pub dense_behind : AreDense (drop (i + 1) bs)
 
 -- the runs belong to the block at a place: where they get a number, none before it changes
 pub record BelongTo (runs : List PageRun) (bs : List (List Span)) (i : ℕ) : Type 0 where
@@ -136,30 +162,39 @@ pub record BelongTo (runs : List PageRun) (bs : List (List Span)) (i : ℕ) : Ty
   pub ascending : ascend 0 (all_spans (drop i bs)) ≡ true
   pub joined : are_joined (all_spans (drop i bs)) ≡ true
   pub filled : AreFilled (drop (i + 1) bs)
+  pub dense : AreDense (drop i bs)
   pub next : (d : PageRun) → ascend (slice_index_or runs (length runs - 1) d).first (all_spans (drop (i + 1) bs)) ≡ true
 
--- the pages of the runs have this number, or none, in the block at a place
-pub record IsPutAt (runs : List PageRun) (value : Option ℕ) (old : List (List Span)) (i : ℕ) (new : List (List Span)) : Type 0 where
-  pub block : List Span
-  pub merged : (d : List Span) → IsMerged runs value (slice_index_or old i d) block
-  pub list : new ≡ take i old ++ block ∷ drop (i + 1) old
+-- the blocks, but the one at a place has these intervals behind its own
+abbrev pub with_more : ℕ → List Span → List (List Span) → List (List Span)
+with_more i ss bs = take i bs ++ (slice_index_or bs i [] ++ ss) ∷ drop (i + 1) bs
 
--- the same from the block at a place on, in any blocks
-pub record IsEdited (runs : List PageRun) (value : Option ℕ) (old : List (List Span)) (i : ℕ) (new : List (List Span)) : Type 0 where
+-- the pages of the runs have this number, or none, in the blocks from a place on
+pub record IsSetFrom (runs : List PageRun) (value : Option ℕ) (old : List (List Span)) (i : ℕ) (new : List (List Span)) : Type 0 where
   pub before : take i new ≡ take i old
-  pub filled : AreFilled (drop i new)
   pub ascending : ascend 0 (all_spans (drop i new)) ≡ true
-  pub at : (n : ℕ) → value_at (all_spans (drop i new)) n
-      ≡ (if covers runs n then value else value_at (all_spans (drop i old)) n)
+  pub at : IsSet (covers runs) value (all_spans (drop i old)) (all_spans (drop i new))
   pub joined : are_joined (all_spans (drop i new)) ≡ true
 
--- what the blocks behind the cursor have before a page is gone. Some of the others went behind the intervals of a list, and
--- what is left begins behind the page
-pub record HasTakenIn (page : ℕ) (out : List Span) (old : BlocksView) (out_new : List Span) (new : BlocksView) : Type 0 where
+-- they have it, and those blocks are as a map's
+pub record IsEdited (runs : List PageRun) (value : Option ℕ) (old : List (List Span)) (i : ℕ) (new : List (List Span)) : Type 0 where
+  pub set : IsSetFrom runs value old i new
+  pub filled : AreFilled (drop i new)
+  pub dense : AreDense (drop i new)
+
+-- they have it once a list goes behind the first intervals of the block there
+pub record IsGathered (runs : List PageRun) (value : Option ℕ) (old : List (List Span)) (i : ℕ) (out : List Span) (new : List (List Span)) : Type 0 where
+  pub set : IsSetFrom runs value old i (with_more i out new)
+  pub inside : i < length new
+  pub filled : AreFilled (drop (i + 1) new)
+  pub dense : AreDense (drop (i + 1) new)
+  pub fits : 0 < length (slice_index_or new i []) → length (slice_index_or new i []) + length out ≤ 128
+
+-- what blocks have before a page is gone. Some of the others went behind the intervals of a list, and what is left begins
+-- behind the page
+pub record HasTakenIn (page : ℕ) (out : List Span) (old : List (List Span)) (out_new : List Span) (new : List (List Span)) : Type 0 where
   pub taken : List Span
-  pub parted : all_from page (all_spans (drop old.at old.list)) ≡ taken ++ all_spans (drop new.at new.list)
+  pub parted : all_from page (all_spans old) ≡ taken ++ all_spans new
   pub same : IsSame (out ++ taken) out_new
-  pub above : ascend (page + 1) (all_spans (drop new.at new.list)) ≡ true
-  pub filled : AreFilled (drop new.at new.list)
-  pub before : take new.at new.list ≡ take old.at old.list
-  pub at : new.at ≡ old.at
+  pub above : ascend (page + 1) (all_spans new) ≡ true
+  pub filled : AreFilled new

@@ -1,5 +1,5 @@
 -- Intervals in which the pages of a run get another number, or none. These words stand in clauses inside the crate alone.
-use Rattle.std.specs.Prelude.{◌≡◌, ℕ, ◌+◌, ◌*◌, ◌-◌, ◌≤◌, ◌==◌, Bool, true, ◌&&◌, nat_le, List, [], ◌∷◌, ◌++◌, Option, Some, None, length, min, max, if◌then◌else◌}
+use Rattle.std.specs.Prelude.{◌≡◌, ℕ, ◌+◌, ◌*◌, ◌-◌, ◌<◌, ◌≤◌, ◌==◌, Bool, true, ◌&&◌, nat_le, List, [], ◌∷◌, ◌++◌, Option, Some, None, length, take, slice_index_or, min, max, if◌then◌else◌}
 use Rattle.base.specs.Pages.{PageRun, covers}
 use Rattle.spans.specs.Spans.{Span, value_at, end_of, ascend, end_from, are_joined}
 
@@ -33,6 +33,12 @@ all_before page (s ∷ ss) = listed (left_of page s) ++ all_before page ss
 unfoldable pub all_from : ℕ → List Span → List Span
 all_from page [] = []
 all_from page (s ∷ ss) = listed (right_of page s) ++ all_from page ss
+
+-- the intervals before a place end at a page or before it, and the one there ends behind it
+pub record IsPlaceOf (ss : List Span) (page i : ℕ) : Type 0 where
+  pub inside : i ≤ length ss
+  pub below : end_from 0 (take i ss) ≤ page
+  pub above : (d : Span) → i < length ss → page < end_of (slice_index_or ss i d).run
 
 -- an interval with the pages of a run, where they are to have a number
 abbrev pub span_of : PageRun → Option ℕ → Option Span

@@ -17,6 +17,10 @@ abbrev pub value_at : List Span → ℕ → Option ℕ
 value_at [] n = None
 value_at (s ∷ ss) n = if in_run s.run n then Some s.value else value_at ss n
 
+-- the pages that are hit have this number, or none, and the others keep theirs
+abbrev pub IsSet : (ℕ → Bool) → Option ℕ → List Span → List Span → Type 0
+IsSet hit value old new = (n : ℕ) → value_at new n ≡ (if hit n then value else value_at old n)
+
 abbrev pub end_of : PageRun → ℕ
 end_of run = run.first + run.count
 

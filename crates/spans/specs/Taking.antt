@@ -1,7 +1,7 @@
 -- Intervals without those of one number.
-use Rattle.std.specs.Prelude.{◌≡◌, ℕ, ◌<◌, ◌≤◌, ◌==◌, Bool, true, false, not, List, ◌++◌, filter, length}
+use Rattle.std.specs.Prelude.{◌≡◌, ℕ, ◌≤◌, ◌==◌, Bool, true, false, not, List, ◌++◌, filter}
 use Rattle.std.specs.Option.{option_map_or}
-use Rattle.spans.specs.Spans.{Span, value_at, ascend}
+use Rattle.spans.specs.Spans.{Span, value_at, ascend, end_from}
 
 -- the page has the number
 abbrev pub has_number : ℕ → List Span → ℕ → Bool
@@ -11,11 +11,12 @@ has_number value ss n = option_map_or (λ v. v == value) (value_at ss n) false
 abbrev pub others : ℕ → List Span → List Span
 others value ss = filter (λ s. not (s.value == value)) ss
 
--- no page from the first up to the end has the number any more, no other page has it that had not, and the intervals of
--- other numbers stay
+-- those of a number went from between others, which end before the first page, or begin at the end or behind it
 pub record IsTakenIn (first end value : ℕ) (old new : List Span) : Type 0 where
-  pub rest : others value new ≡ others value old
-  pub gone : (n : ℕ) → first ≤ n → n < end → has_number value new n ≡ false
-  pub had : (n : ℕ) → has_number value new n ≡ true → has_number value old n ≡ true
-  pub ascends : (e : ℕ) (ys : List Span) → ascend e (old ++ ys) ≡ true → ascend e (new ++ ys) ≡ true
-  pub fewer : length new ≤ length old
+  pub before : List Span
+  pub between : List Span
+  pub behind : List Span
+  pub was : old ≡ before ++ (between ++ behind)
+  pub now : new ≡ before ++ (others value between ++ behind)
+  pub below : end_from 0 before ≤ first
+  pub above : ascend end behind ≡ true

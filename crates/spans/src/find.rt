@@ -1,13 +1,12 @@
 //! Looks pages up, by halving.
 
-ghost use Rattle.std.specs.Prelude.{◌≡◌, ℕ, ◌+◌, ◌-◌, ◌*◌, ◌^◌, ◌<◌, ◌≤◌, true, length, slice_index_or};
+ghost use Rattle.std.specs.Prelude.{◌≡◌, ◌+◌, ◌-◌, ◌*◌, ◌^◌, ◌<◌, ◌≤◌, [], ◌∷◌, true, length};
 ghost use Rattle.spans.specs.Spans as spec;
-ghost use Rattle.spans.specs.Spans.{value_at};
-ghost use Rattle.spans.specs.Search.{IsFound, IsFirstOf};
+ghost use Rattle.spans.specs.Search.{IsSegment};
 
 use crate::probes::Probes;
 use crate::spans::Span;
-use base::{Page, Run};
+use base::Page;
 use std::sync::ledger::Ledger;
 
 /// The number of a page, if it has one, and the first page behind it from which the answer may differ.
@@ -19,94 +18,49 @@ pub struct Segment {
     pub end: u32,
 }
 
-/// Where a page is.
-enum Place {
-    /// In this interval, whose pages have this number.
-    Inside(Run, u64),
-    /// In none: behind those before this place, and before all others.
-    Before(usize),
-}
-
-/// An interval among others. Counts one look.
-fn look<L: Ledger>(spans: &[Span], i: usize, probes: &mut Probes<L>) -> Span
-    requires { i < length spans.now }
-    ensures span { (d : spec.Span) → result ≡ slice_index_or spans.now i d }
-    ensures count { probes.new ≡ probes.old + 1 }
+/// What an interval says of a page before its end.
+fn segment_of(span: Span, page: u32) -> Segment
+    requires { page < spec.end_of span.run }
+    ensures segment { IsSegment (span ∷ []) page result }
+    ensures inside { result.end ≤ spec.end_of span.run }
 {
-    probes.count();
-    spans[i]
+    let first = span.run.first().number();
+    if page < first {
+        return Segment {
+            value: None,
+            end: first,
+        };
+    }
+    Segment {
+        value: Some(span.value),
+        end: span.run.end(),
+    }
 }
 
-/// The interval of a page, or the place of those behind it.
-fn place_in<L: Ledger>(spans: &[Span], page: Page, probes: &mut Probes<L>) -> Place
+/// The number of a page, and how far the pages behind it have the same. It looks at no more intervals than their count has
+/// binary digits.
+pub(crate) fn segment_in<L: Ledger>(spans: &[Span], page: Page, probes: &mut Probes<L>) -> Segment
     requires { spec.ascend 0 spans.now ≡ true }
-    ensures place { IsFound spans.now page result }
+    ensures segment { IsSegment spans.now page result }
     ensures cost { 2 ^ (probes.new - probes.old) ≤ 2 * length spans.now + 1 }
     ensures counts { probes.old ≤ probes.new }
 {
+    let mut segment = Segment {
+        value: None,
+        end: Page::COUNT,
+    };
     let mut low = 0;
     let mut high = spans.len();
     while low < high {
         let middle = low + (high - low) / 2;
-        let span = look(spans, middle, probes);
-        if page.number() < span.run.first().number() {
-            high = middle;
-        } else if span.run.end() <= page.number() {
+        probes.count();
+        let span = spans[middle];
+        if span.run.end() <= page.number() {
             low = middle + 1;
         } else {
-            return Place::Inside(span.run, span.value);
+            high = middle;
+            segment = segment_of(span, page.number());
         }
     }
-    Place::Before(low)
-}
-
-/// The number of a page. It looks at no more intervals than their count has binary digits.
-pub(crate) fn find_in<L: Ledger>(spans: &[Span], page: Page, probes: &mut Probes<L>) -> Option<u64>
-    requires { spec.ascend 0 spans.now ≡ true }
-    ensures value { result ≡ value_at spans.now page }
-    ensures cost { 2 ^ (probes.new - probes.old) ≤ 2 * length spans.now + 1 }
-    ensures counts { probes.old ≤ probes.new }
-{
-    match place_in(spans, page, probes) {
-        Place::Inside(_, value) => Some(value),
-        Place::Before(_) => None,
-    }
-}
-
-/// The number of a page, and how far the pages behind it have the same, with one look more at most.
-pub(crate) fn segment_in<L: Ledger>(spans: &[Span], page: Page, probes: &mut Probes<L>) -> Segment
-    requires { spec.ascend 0 spans.now ≡ true }
-    ensures behind { page < result.end }
-    ensures in_range { result.end ≤ 2 ^ 27 }
-    ensures border { spec.is_border spans.now result.end ≡ true }
-    ensures value { (n : ℕ) → page ≤ n → n < result.end
-        → value_at spans.now n ≡ result.value }
-    ensures cost { 2 ^ (probes.new - probes.old) ≤ 2 * (2 * length spans.now + 1) }
-    ensures counts { probes.old ≤ probes.new }
-{
-    match place_in(spans, page, probes) {
-        Place::Inside(run, value) => Segment {
-            value: Some(value),
-            end: run.end(),
-        },
-        Place::Before(place) => Segment {
-            value: None,
-            end: first_of(spans, place, probes),
-        },
-    }
-}
-
-/// Where the interval at a place begins; without one, the number of pages.
-fn first_of<L: Ledger>(spans: &[Span], place: usize, probes: &mut Probes<L>) -> u32
-    requires { spec.ascend 0 spans.now ≡ true }
-    ensures first { IsFirstOf spans.now place result }
-    ensures cost { probes.new ≤ probes.old + 1 }
-    ensures counts { probes.old ≤ probes.new }
-{
-    if place < spans.len() {
-        let span = look(spans, place, probes);
-        span.run.first().number()
-    } else {
-        Page::COUNT
-    }
+    segment
 }

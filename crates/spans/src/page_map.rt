@@ -1,6 +1,8 @@
-ghost use Rattle.std.specs.Prelude.{◌≡◌, ◌+◌, ◌-◌, ◌*◌, ◌<◌, ◌≤◌, ◌↔◌, ◌^◌, ℕ, [], Some, None, true, length, vec_capacity, if◌then◌else◌, IsTrue, IsOk, OnOk, OnErr};
+ghost use Rattle.std.specs.Prelude.{◌≡◌, ◌+◌, ◌-◌, ◌*◌, ◌<◌, ◌≤◌, ◌↔◌, ◌^◌, ℕ, [], Some, None, true, length, vec_capacity, IsTrue, IsOk, OnOk, OnErr};
 ghost use Rattle.base.specs.Pages.{in_run, covers};
 ghost use Rattle.spans.specs.Spans as spec;
+ghost use Rattle.spans.specs.Spans.{IsSet};
+ghost use Rattle.spans.specs.Search.{IsSegment};
 ghost use Rattle.spans.specs.Taking.{has_number};
 
 use crate::find::Segment;
@@ -101,8 +103,7 @@ impl PageMap {
 
     /// Gives all pages of a run this number; other pages keep theirs. A refusal changes nothing.
     pub fn put(&mut self, run: Run, value: u64) -> Result<(), OutOfMemory>
-        ensures at { OnOk result ((n : _) → spec.value_at self.new.spans n
-            ≡ (if in_run run n then Some value else spec.value_at self.old.spans n)) }
+        ensures at { OnOk result (IsSet (in_run run) (Some value) self.old.spans self.new.spans) }
         ensures err { OnErr result (self.new.spans ≡ self.old.spans) }
         ensures at_once { spec.room_for 1 ≤ self.old.room → IsOk result }
     {
@@ -112,8 +113,7 @@ impl PageMap {
     /// Gives all pages of the runs this number; other pages keep theirs. A refusal changes nothing. Runs that touch or share
     /// pages are put as one, each block that has pages of them is edited once, and beside it no other but the next.
     pub fn put_all(&mut self, runs: &[Run], value: u64) -> Result<(), OutOfMemory>
-        ensures at { OnOk result ((n : ℕ) → spec.value_at self.new.spans n
-            ≡ (if covers runs.now n then Some value else spec.value_at self.old.spans n)) }
+        ensures at { OnOk result (IsSet (covers runs.now) (Some value) self.old.spans self.new.spans) }
         ensures err { OnErr result (self.new.spans ≡ self.old.spans) }
         ensures at_once { spec.room_for (length runs.now) ≤ self.old.room → IsOk result }
     {
@@ -123,8 +123,7 @@ impl PageMap {
     /// Takes the numbers of all pages of the runs away; other pages keep theirs. A refusal changes nothing. It asks for memory
     /// as `put_all` does, since a run may part an interval in two, but for none where no page has a number.
     pub fn cut_all(&mut self, runs: &[Run]) -> Result<(), OutOfMemory>
-        ensures at { OnOk result ((n : ℕ) → spec.value_at self.new.spans n
-            ≡ (if covers runs.now n then None else spec.value_at self.old.spans n)) }
+        ensures at { OnOk result (IsSet (covers runs.now) None self.old.spans self.new.spans) }
         ensures err { OnErr result (self.new.spans ≡ self.old.spans) }
         ensures at_once { spec.room_for (length runs.now) ≤ self.old.room → IsOk result }
     {
@@ -135,8 +134,7 @@ impl PageMap {
     }
 
     fn edit_all(&mut self, runs: &[Run], value: Option<u64>) -> Result<(), OutOfMemory>
-        ensures at { OnOk result ((n : ℕ) → spec.value_at self.new.spans n
-            ≡ (if covers runs.now n then value else spec.value_at self.old.spans n)) }
+        ensures at { OnOk result (IsSet (covers runs.now) value self.old.spans self.new.spans) }
         ensures err { OnErr result (self.new.spans ≡ self.old.spans) }
         ensures at_once { spec.room_for (length runs.now) ≤ self.old.room → IsOk result }
     {
@@ -157,8 +155,7 @@ impl PageMap {
     /// behind a call that put them, they are gone over upward.
     pub fn take_out(&mut self, runs: &[Run], value: u64)
         requires { (n : ℕ) → has_number value self.old.spans n ≡ covers runs.now n }
-        ensures at { (n : ℕ) → spec.value_at self.new.spans n
-            ≡ (if covers runs.now n then None else spec.value_at self.old.spans n) }
+        ensures at { IsSet (covers runs.now) None self.old.spans self.new.spans }
         ensures room { self.old.room ≤ self.new.room }
     {
         if self.sorted.capacity() < runs.len() {
@@ -179,11 +176,8 @@ impl PageMap {
 
     /// How many intervals there are.
     pub fn len(&self) -> usize {
-        let front = self.blocks.front.iter().map(|block| block.len());
-        let back = self.blocks.back.iter().map(|block| block.len());
-        front
-            .chain(back)
-            .fold(0, |all, len| usize::saturating_add(all, len))
+        let lens = self.blocks.list.iter().map(|block| block.len());
+        lens.fold(0, |all, len| usize::saturating_add(all, len))
     }
 
     /// The number of the page after the last that has a number; 0 where none has.
@@ -205,17 +199,7 @@ impl PageMap {
     pub fn get(&self, page: Page) -> Option<u64>
         ensures { result ≡ spec.value_at self.now.spans page }
     {
-        self.get_from::<Brand>(page, Blank::new(1))
-    }
-
-    fn get_from<L: Ledger>(&self, page: Page, blank: Blank) -> Option<u64>
-        requires name { blank.name ≡ L.name }
-        requires parts { blank.parts ≡ L.parts }
-        requires some { 0 < L.parts }
-        ensures { result ≡ spec.value_at self.now.spans page }
-    {
-        let mut probes = Probes::<L>::new(blank);
-        self.find(page, &mut probes)
+        self.segment_at(page).value
     }
 
     /// The number of a page. It looks at no more blocks and intervals than the intervals have binary digits, and eight more.
@@ -224,7 +208,7 @@ impl PageMap {
         ensures cost { 2 ^ (probes.new - probes.old) ≤ 2 ^ 8 * (2 * length self.now.spans + 1) }
         ensures counts { probes.old ≤ probes.new }
     {
-        looking::find(&self.blocks, page, probes)
+        looking::segment(&self.blocks, page, probes).value
     }
 
     /// The number of a page, and how far the pages behind it have the same: up to where an interval begins or ends, or to
@@ -245,24 +229,15 @@ impl PageMap {
         requires parts { blank.parts ≡ L.parts }
         requires some { 0 < L.parts }
         ensures joined { spec.are_joined self.now.spans ≡ true }
-        ensures behind { page < result.end }
-        ensures in_range { result.end ≤ 2 ^ 27 }
-        ensures border { spec.is_border self.now.spans result.end ≡ true }
-        ensures value { (n : ℕ) → page ≤ n → n < result.end
-            → spec.value_at self.now.spans n ≡ result.value }
+        ensures segment { IsSegment self.now.spans page result }
     {
-        let mut probes = Probes::<L>::new(blank);
-        self.segment(page, &mut probes)
+        looking::segment(&self.blocks, page, &mut Probes::<L>::new(blank))
     }
 
     /// The same with a count of the looks: no more than the intervals have binary digits, and ten more.
     pub fn segment<L: Ledger>(&self, page: Page, probes: &mut Probes<L>) -> Segment
         ensures joined { spec.are_joined self.now.spans ≡ true }
-        ensures behind { page < result.end }
-        ensures in_range { result.end ≤ 2 ^ 27 }
-        ensures border { spec.is_border self.now.spans result.end ≡ true }
-        ensures value { (n : ℕ) → page ≤ n → n < result.end
-            → spec.value_at self.now.spans n ≡ result.value }
+        ensures segment { IsSegment self.now.spans page result }
         ensures cost { 2 ^ (probes.new - probes.old) ≤ 2 ^ 10 * (2 * length self.now.spans + 1) }
         ensures counts { probes.old ≤ probes.new }
     {

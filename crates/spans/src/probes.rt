@@ -3,7 +3,7 @@ ghost use Rattle.std.specs.Prelude.{◌≡◌, ◌+◌};
 use std::marker::Model;
 use std::sync::ledger::{Blank, Book, Ledger, Share};
 
-/// How many intervals were looked at. It has no bytes at run time, and only `Spans::look` counts on.
+/// How many intervals and blocks were looked at. It has no bytes at run time.
 #[derive(Drop)]
 pub struct Probes<L: Ledger> {
     book: Book<L>,

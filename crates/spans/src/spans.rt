@@ -1,9 +1,10 @@
-ghost use Rattle.std.specs.Prelude.{◌≡◌, ◌+◌, ◌*◌, ◌-◌, ◌^◌, ◌<◌, ◌≤◌, ◌↔◌, ℕ, [], Some, None, true, length, if◌then◌else◌, IsTrue, OnOk};
+ghost use Rattle.std.specs.Prelude.{◌≡◌, ◌+◌, ◌*◌, ◌-◌, ◌^◌, ◌<◌, ◌≤◌, ◌↔◌, [], Some, None, true, length, IsTrue, OnOk};
 ghost use Rattle.base.specs.Pages.{in_run, covers};
 ghost use Rattle.spans.specs.Spans as spec;
-ghost use Rattle.spans.specs.Spans.{value_at};
+ghost use Rattle.spans.specs.Spans.{value_at, IsSet};
+ghost use Rattle.spans.specs.Search.{IsSegment};
 
-use crate::find::{Segment, find_in, segment_in};
+use crate::find::{Segment, segment_in};
 use crate::probes::Probes;
 use base::{OutOfMemory, Page, Run};
 use std::alloc::Global;
@@ -15,7 +16,6 @@ mod block;
 mod merge;
 mod order;
 mod place;
-mod taking;
 #[cfg(test)]
 mod tests;
 
@@ -98,8 +98,7 @@ impl Spans {
     /// Gives all pages of a run this number; other pages keep theirs. This takes no memory.
     pub fn put(&mut self, run: Run, value: u64)
         requires { spec.room_for 1 ≤ self.old.room }
-        ensures at { (n : _) → value_at self.new.spans n
-            ≡ (if in_run run n then Some value else value_at self.old.spans n) }
+        ensures at { IsSet (in_run run) (Some value) self.old.spans self.new.spans }
         ensures room { self.old.room ≤ self.new.room + spec.room_for 1 }
     {
         self.set_all(&[run], Some(value));
@@ -108,8 +107,7 @@ impl Spans {
     /// Takes the numbers of all pages of a run away; other pages keep theirs. This takes no memory.
     pub fn cut(&mut self, run: Run)
         requires { spec.room_for 1 ≤ self.old.room }
-        ensures at { (n : _) → value_at self.new.spans n
-            ≡ (if in_run run n then None else value_at self.old.spans n) }
+        ensures at { IsSet (in_run run) None self.old.spans self.new.spans }
         ensures room { self.old.room ≤ self.new.room + spec.room_for 1 }
     {
         self.set_all(&[run], None);
@@ -118,8 +116,7 @@ impl Spans {
     /// Gives all pages of the runs this number; other pages keep theirs. This takes no memory.
     pub fn put_all(&mut self, runs: &[Run], value: u64)
         requires { spec.room_for (length runs.now) ≤ self.old.room }
-        ensures { (n : ℕ) → value_at self.new.spans n
-            ≡ (if covers runs.now n then Some value else value_at self.old.spans n) }
+        ensures { IsSet (covers runs.now) (Some value) self.old.spans self.new.spans }
     {
         self.set_all(runs, Some(value));
     }
@@ -127,16 +124,14 @@ impl Spans {
     /// Takes the numbers of all pages of the runs away; other pages keep theirs. This takes no memory.
     pub fn cut_all(&mut self, runs: &[Run])
         requires { spec.room_for (length runs.now) ≤ self.old.room }
-        ensures { (n : ℕ) → value_at self.new.spans n
-            ≡ (if covers runs.now n then None else value_at self.old.spans n) }
+        ensures { IsSet (covers runs.now) None self.old.spans self.new.spans }
     {
         self.set_all(runs, None);
     }
 
     fn set_all(&mut self, runs: &[Run], value: Option<u64>)
         requires { spec.room_for (length runs.now) ≤ self.old.room }
-        ensures at { (n : ℕ) → value_at self.new.spans n
-            ≡ (if covers runs.now n then value else value_at self.old.spans n) }
+        ensures at { IsSet (covers runs.now) value self.old.spans self.new.spans }
         ensures room { self.old.room ≤ self.new.room + spec.room_for (length runs.now) }
     {
         if runs.is_empty() {
@@ -179,7 +174,7 @@ impl Spans {
         ensures cost { 2 ^ (probes.new - probes.old) ≤ 2 * length self.now.spans + 1 }
         ensures counts { probes.old ≤ probes.new }
     {
-        find_in(&self.spans, page, probes)
+        segment_in(&self.spans, page, probes).value
     }
 
     /// The number of a page, with no count of the looks.
@@ -192,11 +187,7 @@ impl Spans {
     /// The number of a page, and how far the pages behind it have the same: up to where an interval begins or ends, or to
     /// the last page of all.
     pub fn segment_at(&self, page: Page) -> Segment
-        ensures behind { page < result.end }
-        ensures in_range { result.end ≤ 2 ^ 27 }
-        ensures border { spec.is_border self.now.spans result.end ≡ true }
-        ensures value { (n : ℕ) → page ≤ n → n < result.end
-            → value_at self.now.spans n ≡ result.value }
+        ensures { IsSegment self.now.spans page result }
     {
         self.segment_from::<Brand>(page, Blank::new(1))
     }
@@ -205,11 +196,7 @@ impl Spans {
         requires name { blank.name ≡ L.name }
         requires parts { blank.parts ≡ L.parts }
         requires some { 0 < L.parts }
-        ensures behind { page < result.end }
-        ensures in_range { result.end ≤ 2 ^ 27 }
-        ensures border { spec.is_border self.now.spans result.end ≡ true }
-        ensures value { (n : ℕ) → page ≤ n → n < result.end
-            → value_at self.now.spans n ≡ result.value }
+        ensures { IsSegment self.now.spans page result }
     {
         segment_in(&self.spans, page, &mut Probes::<L>::new(blank))
     }

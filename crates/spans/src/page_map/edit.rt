@@ -1,15 +1,15 @@
 //! Gives pages of runs a number, or none, block by block, from the last to the first.
 
-ghost use Rattle.std.specs.Prelude.{◌≡◌, ◌+◌, ◌-◌, ◌*◌, ◌^◌, ◌≤◌, ◌<◌, ◌++◌, ◌∷◌, [], ◌/◌, ℕ, Some, true, reverse, length, take, drop, slice_index_or, vec_len, vec_capacity, if◌then◌else◌, IsTrue};
+ghost use Rattle.std.specs.Prelude.{◌≡◌, ◌+◌, ◌-◌, ◌*◌, ◌^◌, ◌≤◌, ◌<◌, ◌++◌, ◌∷◌, [], ◌/◌, ℕ, Some, true, length, take, drop, slice_index_or, vec_len, vec_capacity};
 ghost use Rattle.base.specs.Pages.{covers};
 ghost use Rattle.spans.specs.Spans as spec;
-ghost use Rattle.spans.specs.Spans.{are_joined};
-ghost use Rattle.spans.specs.Blocks.{all_spans, more_blocks, needed, blocks_needed, AreDense, AreFilled, AreStacked, ArePushed, BelongTo, HasTakenIn, IsPutAt, IsEdited};
+ghost use Rattle.spans.specs.Spans.{are_joined, IsSet};
+ghost use Rattle.spans.specs.Blocks.{all_spans, more_blocks, blocks_needed, with_more, AreDealt, AreDense, AreFilled, AreParts, AreStacked, AreTidy, BelongTo, HasTakenIn, IsEdited, IsGathered, IsPart, IsSettled};
 ghost use Rattle.spans.specs.Edits.{rise, all_from};
 
 use super::blocks::Blocks;
 use super::place::{Group, last_group};
-use crate::spans::{Block, LIMIT, Span, append, place_near_end};
+use crate::spans::{LIMIT, Span, append, place_near_end};
 use base::Run;
 
 /// Where a block is parted in two, each part has a quarter of a block at least, if it can.
@@ -18,16 +18,8 @@ const LEAST: usize = LIMIT / 4;
 /// How many of so many intervals go into the first of so many parts. What stands behind all others fills a block, since
 /// more may come there; two parts are cut at the last run that was put; else all parts are alike.
 fn part_len(len: usize, parts: usize, point: usize) -> usize
-    requires some { 0 < parts }
-    requires fits { len ≤ parts * 128 }
-    requires full { (parts - 1) * 128 < len }
-    ensures some { 0 < result }
-    ensures short { result ≤ 128 }
-    ensures inside { result ≤ len }
-    ensures least { 1 < parts → 32 ≤ result }
-    ensures many { 2 < parts → 81 ≤ result }
-    ensures fits { len - result ≤ (parts - 1) * 128 }
-    ensures full { 1 < parts → (parts - 1 - 1) * 128 < len - result }
+    requires { AreParts len parts }
+    ensures { IsPart len parts result }
 {
     if parts == 1 {
         return len;
@@ -42,218 +34,143 @@ fn part_len(len: usize, parts: usize, point: usize) -> usize
     wanted.max(len - (parts - 1) * LIMIT).min(LIMIT)
 }
 
-/// Takes the pages before this one out of blocks that stand downward.
-fn drop_until(back: &mut Vec<Block>, page: u32)
-    requires { spec.ascend 0 (all_spans (reverse back.old.items)) ≡ true }
-    ensures spans { all_spans (reverse back.new.items)
-        ≡ all_from page (all_spans (reverse back.old.items)) }
-    ensures filled { AreFilled (reverse back.old.items) → AreFilled (reverse back.new.items) }
-    ensures dense { AreDense (reverse back.old.items) → AreDense (drop 1 (reverse back.new.items)) }
-    ensures len { vec_len back.new ≤ vec_len back.old }
-    ensures capacity { vec_capacity back.new ≡ vec_capacity back.old }
-{
-    while let Some(next) = back.pop() {
-        let mut next = next;
-        if page < next.end() {
-            next.drop_until(page);
-            back.push_reserved(next);
-            return;
-        }
-    }
-}
-
 impl Blocks {
-    /// Whether the blocks from a place on begin behind a page.
-    fn begin_behind(&self, place: usize, page: u32) -> bool
-        requires filled { AreFilled (drop place self.now.list) }
+    /// The place of the first block from one place on that ends behind a page.
+    fn first_behind(&self, place: usize, page: u32) -> usize
+        requires inside { place ≤ length self.now.list }
         requires ascending { spec.ascend 0 (all_spans (drop place self.now.list)) ≡ true }
-        ensures { IsTrue result → spec.ascend (page + 1) (all_spans (drop place self.now.list)) ≡ true }
+        ensures from { place ≤ result }
+        ensures inside { result ≤ length self.now.list }
+        ensures spans { all_from page (all_spans (drop result self.now.list))
+            ≡ all_from page (all_spans (drop place self.now.list)) }
+        ensures above { (d : _) → result < length self.now.list
+            → page < spec.end_from 0 (slice_index_or self.now.list result d) }
     {
-        self.len() <= place || page < self.block(place).begin()
+        let mut at = place;
+        while at < self.len() && self.block(at).end() <= page {
+            at += 1;
+        }
+        at
     }
 
-    /// Takes the pages before this one out of the blocks behind the cursor. If the next begins there then, its intervals
-    /// go behind those of a list, and it is spare.
-    fn take_in(&mut self, page: u32, out: &mut Vec<Span>)
-        requires ascending { spec.ascend 0 (all_spans (drop self.old.at self.old.list)) ≡ true }
-        requires filled { AreFilled (drop self.old.at self.old.list) }
+    /// Takes the pages before this one out of the blocks from a place on. If the block there begins at the page then, its
+    /// intervals go behind those of a list, and it is spare.
+    fn take_in(&mut self, place: usize, page: u32, out: &mut Vec<Span>)
+        requires inside { place ≤ length self.old.list }
+        requires stacked { AreStacked (drop place self.old.list) }
         requires room { vec_len out.old + 128 ≤ vec_capacity out.old }
-        ensures taken { HasTakenIn page out.old.items self.old out.new.items self.new }
-        ensures joined { are_joined out.old.items ≡ true → are_joined (all_spans (drop self.old.at self.old.list)) ≡ true
+        ensures before { take place self.new.list ≡ take place self.old.list }
+        ensures taken { HasTakenIn page out.old.items (drop place self.old.list) out.new.items (drop place self.new.list) }
+        ensures joined { are_joined out.old.items ≡ true → are_joined (all_spans (drop place self.old.list)) ≡ true
             → are_joined out.new.items ≡ true }
-        ensures dense { AreDense (drop self.old.at self.old.list) → AreDense (drop (self.new.at + 1) self.new.list) }
+        ensures dense { AreDense (drop place self.old.list) → AreDense (drop place self.new.list) }
         ensures spare { self.old.spare ≤ self.new.spare }
         ensures len { vec_len out.new + 128 * self.old.spare ≤ vec_len out.old + 128 * self.new.spare }
         ensures capacity { vec_capacity out.old ≤ vec_capacity out.new }
     {
-        drop_until(&mut self.back, page);
-        if self.begin_behind(self.front.len(), page) {
+        let at = self.first_behind(place, page);
+        drop(self.list.drain(place..at));
+        if self.list.len() <= place {
             return;
         }
-        if let Some(next) = self.back.pop() {
-            append(out, next.spans());
-            self.spare.push_reserved(next);
+        self.list[place].drop_until(page);
+        if page < self.list[place].begin() {
+            self.join(place + 1);
+            return;
         }
+        let next = self.list.remove(place);
+        append(out, next.spans());
+        self.spare.push_reserved(next);
     }
 
-    /// Puts blocks with these intervals before the cursor, as many as they take.
-    fn deal(&mut self, spans: &[Span], point: usize)
-        requires at { self.old.at ≤ length self.old.list }
+    /// Puts blocks with these intervals before the one at a place, as many as they take. It answers the place behind them.
+    fn deal(&mut self, place: usize, spans: &[Span], point: usize) -> usize
+        requires inside { place ≤ length self.old.list }
         requires ascending { spec.ascend 0 spans.now ≡ true }
         requires spare { length spans.now ≤ 128 * self.old.spare }
-        ensures pushed { ArePushed spans.now self.old self.new }
-        ensures dense { AreDense (drop self.old.at (take self.new.at self.new.list)) }
+        ensures dealt { AreDealt spans.now place result self.old.list self.new.list }
         ensures spare { self.old.spare ≤ self.new.spare + (length spans.now + 127) / 128 }
     {
         let mut parts = spans.len().div_ceil(LIMIT);
+        let mut at = place;
         let mut done = 0;
         while done < spans.len() {
             let len = part_len(spans.len() - done, parts, point.saturating_sub(done));
             let end = done + len;
-            self.push(&spans[done..end]);
+            self.insert(at, &spans[done..end]);
+            at += 1;
             parts -= 1;
             done = end;
         }
+        at
     }
 
-    /// Gives the pages of the runs this number, or none, in the block at a place, which has places for them.
-    fn edit_at(&mut self, place: usize, runs: &[Run], value: Option<u64>, scratch: &mut Vec<Span>)
+    /// Puts intervals behind those of the block at a place. Where it cannot have so many, or has none then, other blocks
+    /// stand there, parted where this page is if they are two. The last of them and the next are one then if both are short.
+    pub(super) fn settle(&mut self, place: usize, spans: &[Span], page: u32)
         requires inside { place < length self.old.list }
-        requires rise { rise 0 runs.now ≡ true }
-        requires some { 0 < length runs.now }
-        requires room { (d : _) → length (slice_index_or self.old.list place d) + 2 * length runs.now ≤ 128 }
-        requires scratch { 128 ≤ vec_capacity scratch.old }
-        ensures put { IsPutAt runs.now value self.old.list place self.new.list }
-        ensures spare { self.new.spare ≡ self.old.spare }
-        ensures capacity { vec_capacity scratch.old ≤ vec_capacity scratch.new }
+        requires ascending { spec.ascend 0 (all_spans (drop place (with_more place spans.now self.old.list))) ≡ true }
+        requires behind { AreFilled (drop (place + 1) self.old.list) }
+        requires fits { 0 < length (slice_index_or self.old.list place [])
+            → length (slice_index_or self.old.list place []) + length spans.now ≤ 128 }
+        requires spare { length spans.now ≤ 128 * self.old.spare + 128 }
+        ensures settled { IsSettled place (with_more place spans.now self.old.list) self.new.list }
+        ensures spare { self.old.spare + 1
+            ≤ self.new.spare + (length (slice_index_or self.old.list place []) + length spans.now + 127) / 128 }
     {
-        let front = self.front.len();
-        if place < front {
-            self.front[place].edit(runs, value, scratch);
-        } else {
-            let behind = place - front;
-            let at = self.back.len() - 1 - behind;
-            self.back[at].edit(runs, value, scratch);
+        let kept = self.block(place).len();
+        let len = kept + spans.len();
+        if 0 < len && len <= LIMIT {
+            self.list[place].set_from(kept, spans);
+            self.join(place + 1);
+            return;
         }
-    }
-
-    /// The same in other blocks in place of that one, and of those behind it that the last run reaches. They stand before
-    /// the cursor.
-    fn replace(&mut self, place: usize, runs: &[Run], value: Option<u64>, scratch: &mut Vec<Span>)
-        requires belong { BelongTo runs.now self.old.list place }
-        requires dense { AreDense (drop place self.old.list) }
-        requires scratch { 256 + 2 * length runs.now ≤ vec_capacity scratch.old }
-        requires in_range { place + 1 < 2 ^ 64 }
-        requires spare { (d : _) → more_blocks (length (slice_index_or self.old.list place d)) (length runs.now)
-            ≤ self.old.spare }
-        ensures edited { IsEdited runs.now value self.old.list place self.new.list }
-        ensures from { place ≤ self.new.at }
-        ensures inside { self.new.at ≤ length self.new.list }
-        ensures made { AreDense (drop place (take self.new.at self.new.list)) }
-        ensures rest { AreDense (drop (self.new.at + 1) self.new.list) }
-        ensures spare { (d : _) → self.old.spare ≤ self.new.spare
-            + more_blocks (length (slice_index_or self.old.list place d)) (length runs.now) }
-        ensures capacity { vec_capacity scratch.old ≤ vec_capacity scratch.new }
-    {
-        self.go_to(place + 1);
-        self.retire_into(scratch, runs, value);
-        let end = runs[runs.len() - 1].end();
-        let point = place_near_end(scratch, end);
-        self.take_in(end, scratch);
-        self.deal(scratch, point);
-    }
-
-    /// The same, and of the blocks from that place on no two that stand side by side are short.
-    fn edit_anew(&mut self, place: usize, runs: &[Run], value: Option<u64>, scratch: &mut Vec<Span>)
-        requires belong { BelongTo runs.now self.old.list place }
-        requires dense { AreDense (drop place self.old.list) }
-        requires scratch { 256 + 2 * length runs.now ≤ vec_capacity scratch.old }
-        requires in_range { place + 1 < 2 ^ 64 }
-        requires spare { (d : _) → more_blocks (length (slice_index_or self.old.list place d)) (length runs.now)
-            ≤ self.old.spare }
-        ensures edited { IsEdited runs.now value self.old.list place self.new.list }
-        ensures dense { AreDense (drop place self.new.list) }
-        ensures spare { (d : _) → self.old.spare ≤ self.new.spare
-            + more_blocks (length (slice_index_or self.old.list place d)) (length runs.now) }
-        ensures capacity { vec_capacity scratch.old ≤ vec_capacity scratch.new }
-    {
-        self.replace(place, runs, value, scratch);
-        let at = self.front.len();
-        self.join(at + 1);
+        self.retire(place);
+        let at = self.deal(place, spans, place_near_end(spans, page));
         if place < at {
             self.join(at);
         }
     }
 
-    /// Gives the pages of runs that belong to the block at a place this number, or none.
+    /// Fills a list with what the block at a place has behind the intervals that stay, but the pages of the runs have this
+    /// number, or none. Those before the first run stay, if all surely fit and the last run does not reach the next block;
+    /// else none does, and the list has the intervals that it reaches, too.
+    fn gather(&mut self, place: usize, runs: &[Run], value: Option<u64>, out: &mut Vec<Span>)
+        requires belong { BelongTo runs.now self.old.list place }
+        requires scratch { 256 + 2 * length runs.now ≤ vec_capacity out.old }
+        ensures gathered { IsGathered runs.now value self.old.list place out.new.items self.new.list }
+        ensures len { (d : _) → length (slice_index_or self.new.list place d) + vec_len out.new + 128 * self.old.spare
+            ≤ length (slice_index_or self.old.list place d) + 2 * length runs.now + 128 * self.new.spare }
+        ensures spare { self.old.spare ≤ self.new.spare }
+        ensures capacity { vec_capacity out.old ≤ vec_capacity out.new }
+    {
+        let end = runs[runs.len() - 1].end();
+        let block = self.block(place);
+        if LIMIT < block.len() + 2 * runs.len() || self.begin_at(place + 1) <= end {
+            self.list[place].merge_into(0, out, runs, value);
+            self.take_in(place + 1, end, out);
+            return;
+        }
+        let kept = place_near_end(block.spans(), runs[0].first().number().saturating_sub(1));
+        self.list[place].merge_into(kept, out, runs, value);
+    }
+
+    /// Gives the pages of runs that belong to the block at a place this number, or none. Of the blocks from that place on no
+    /// two that stand side by side are short.
     fn edit(&mut self, place: usize, runs: &[Run], value: Option<u64>, scratch: &mut Vec<Span>)
         requires belong { BelongTo runs.now self.old.list place }
-        requires filled { (d : _) → 0 < length (slice_index_or self.old.list place d) }
-        requires dense { AreDense (drop place self.old.list) }
         requires scratch { 256 + 2 * length runs.now ≤ vec_capacity scratch.old }
         requires spare { (d : _) → more_blocks (length (slice_index_or self.old.list place d)) (length runs.now)
             ≤ self.old.spare }
         ensures edited { IsEdited runs.now value self.old.list place self.new.list }
-        ensures dense { AreDense (drop place self.new.list) }
         ensures some { (v : ℕ) → value ≡ Some v → 0 < length self.new.list }
         ensures spare { (d : _) → self.old.spare ≤ self.new.spare
             + more_blocks (length (slice_index_or self.old.list place d)) (length runs.now) }
         ensures capacity { vec_capacity scratch.old ≤ vec_capacity scratch.new }
     {
-        let len = self.block(place).len();
-        let end = runs[runs.len() - 1].end();
-        if LIMIT < len + 2 * runs.len() || !self.begin_behind(place + 1, end) {
-            self.edit_anew(place, runs, value, scratch);
-            return;
-        }
-        self.edit_at(place, runs, value, scratch);
-        if self.block(place).len() < len {
-            self.settle(place);
-        }
+        self.gather(place, runs, value, scratch);
+        self.settle(place, scratch, runs[runs.len() - 1].end());
     }
-}
-
-/// Gives the pages of the runs this number, or none.
-fn edit_groups(blocks: &mut Blocks, runs: &[Run], value: Option<u64>, scratch: &mut Vec<Span>)
-    requires stacked { AreStacked blocks.old.list }
-    requires dense { AreDense blocks.old.list }
-    requires joined { are_joined (all_spans blocks.old.list) ≡ true }
-    requires some { 0 < length blocks.old.list }
-    requires rise { rise 0 runs.now ≡ true }
-    requires spare { needed blocks.old.list runs.now ≤ blocks.old.spare }
-    requires scratch { 256 + 2 * length runs.now ≤ vec_capacity scratch.old }
-    ensures at { (n : ℕ) → spec.value_at (all_spans blocks.new.list) n
-        ≡ (if covers runs.now n then value else spec.value_at (all_spans blocks.old.list) n) }
-    ensures stacked { AreStacked blocks.new.list }
-    ensures dense { AreDense blocks.new.list }
-    ensures joined { are_joined (all_spans blocks.new.list) ≡ true }
-{
-    let mut left = runs.len();
-    while 0 < left && 0 < blocks.len() {
-        let Group { place, from } = last_group(blocks, &runs[..left]);
-        blocks.edit(place, &runs[from..left], value, scratch);
-        if 0 < place {
-            blocks.join(place);
-        }
-        left = from;
-    }
-}
-
-/// The same where there is no block.
-fn edit_first(blocks: &mut Blocks, runs: &[Run], value: Option<u64>, scratch: &mut Vec<Span>)
-    requires none { blocks.old.list ≡ [] }
-    requires rise { rise 0 runs.now ≡ true }
-    requires some { 0 < length runs.now }
-    requires spare { 1 + more_blocks 0 (length runs.now) ≤ blocks.old.spare }
-    requires scratch { 256 + 2 * length runs.now ≤ vec_capacity scratch.old }
-    ensures at { (n : ℕ) → spec.value_at (all_spans blocks.new.list) n
-        ≡ (if covers runs.now n then value else spec.value_at (all_spans blocks.old.list) n) }
-    ensures stacked { AreStacked blocks.new.list }
-    ensures dense { AreDense blocks.new.list }
-    ensures joined { are_joined (all_spans blocks.new.list) ≡ true }
-{
-    blocks.push(&[]);
-    blocks.edit_anew(0, runs, value, scratch);
 }
 
 /// Gives all pages of the runs this number, or none. There are spare blocks for them.
@@ -263,22 +180,28 @@ pub(super) fn edit_sorted(
     value: Option<u64>,
     scratch: &mut Vec<Span>,
 )
-    requires stacked { AreStacked blocks.old.list }
-    requires dense { AreDense blocks.old.list }
+    requires tidy { AreTidy blocks.old.list }
     requires joined { are_joined (all_spans blocks.old.list) ≡ true }
     requires rise { rise 0 runs.now ≡ true }
     requires some { 0 < length runs.now }
     requires spare { blocks_needed blocks.old.list runs.now ≤ blocks.old.spare }
     requires scratch { 256 + 2 * length runs.now ≤ vec_capacity scratch.old }
-    ensures at { (n : ℕ) → spec.value_at (all_spans blocks.new.list) n
-        ≡ (if covers runs.now n then value else spec.value_at (all_spans blocks.old.list) n) }
-    ensures stacked { AreStacked blocks.new.list }
-    ensures dense { AreDense blocks.new.list }
+    ensures at { IsSet (covers runs.now) value (all_spans blocks.old.list) (all_spans blocks.new.list) }
+    ensures tidy { AreTidy blocks.new.list }
     ensures joined { are_joined (all_spans blocks.new.list) ≡ true }
 {
     if blocks.len() == 0 {
-        edit_first(blocks, runs, value, scratch);
-    } else {
-        edit_groups(blocks, runs, value, scratch);
+        blocks.insert(0, &[]);
+        blocks.edit(0, runs, value, scratch);
+        return;
+    }
+    let mut left = runs.len();
+    while 0 < left && 0 < blocks.len() {
+        let Group { place, from } = last_group(blocks, &runs[..left]);
+        blocks.edit(place, &runs[from..left], value, scratch);
+        if 0 < place {
+            blocks.join(place);
+        }
+        left = from;
     }
 }

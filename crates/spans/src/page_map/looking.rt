@@ -1,47 +1,25 @@
 //! What the blocks say of a page.
 
-ghost use Rattle.std.specs.Prelude.{◌≡◌, ◌+◌, ◌-◌, ◌*◌, ◌^◌, ◌≤◌, ◌<◌, ℕ, true, None, length, slice_index_or};
+ghost use Rattle.std.specs.Prelude.{◌≡◌, ◌+◌, ◌-◌, ◌*◌, ◌^◌, ◌≤◌, ℕ, None, length};
 ghost use Rattle.spans.specs.Spans as spec;
+ghost use Rattle.spans.specs.Search.{IsSegment};
 ghost use Rattle.spans.specs.Blocks.{all_spans, AreStacked};
 
 use super::blocks::Blocks;
-use super::place::{find_before, look_at};
-use crate::find::{Segment, find_in, segment_in};
+use super::place::{Before, find_before};
+use crate::find::{Segment, segment_in};
 use crate::probes::Probes;
 use base::Page;
 use std::sync::ledger::Ledger;
 
-/// The number of a page.
-pub(super) fn find<L: Ledger>(blocks: &Blocks, page: Page, probes: &mut Probes<L>) -> Option<u64>
-    requires { AreStacked blocks.now.list }
-    ensures value { result ≡ spec.value_at (all_spans blocks.now.list) page }
-    ensures cost { 2 ^ (probes.new - probes.old) ≤ 2 ^ 8 * (2 * length (all_spans blocks.now.list) + 1) }
-    ensures counts { probes.old ≤ probes.new }
-{
-    let count = find_before(blocks, page.number() + 1, probes);
-    if count == 0 {
-        return None;
-    }
-    find_in(blocks.block(count - 1).spans(), page, probes)
-}
-
 /// The number of a page, and how far the pages behind it have the same.
 pub(super) fn segment<L: Ledger>(blocks: &Blocks, page: Page, probes: &mut Probes<L>) -> Segment
     requires { AreStacked blocks.now.list }
-    ensures behind { page < result.end }
-    ensures in_range { result.end ≤ 2 ^ 27 }
-    ensures border { spec.is_border (all_spans blocks.now.list) result.end ≡ true }
-    ensures value { (n : ℕ) → page ≤ n → n < result.end
-        → spec.value_at (all_spans blocks.now.list) n ≡ result.value }
-    ensures cost { 2 ^ (probes.new - probes.old) ≤ 2 ^ 10 * (2 * length (all_spans blocks.now.list) + 1) }
+    ensures segment { IsSegment (all_spans blocks.now.list) page result }
+    ensures cost { 2 ^ (probes.new - probes.old) ≤ 2 ^ 8 * (2 * length (all_spans blocks.now.list) + 1) }
     ensures counts { probes.old ≤ probes.new }
 {
-    let count = find_before(blocks, page.number() + 1, probes);
-    let next = if count < blocks.len() {
-        look_at(blocks, count, probes)
-    } else {
-        Page::COUNT
-    };
+    let Before { count, next } = find_before(blocks, page.number() + 1, probes);
     if count == 0 {
         return Segment {
             value: None,

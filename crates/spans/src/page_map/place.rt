@@ -1,80 +1,59 @@
 //! The blocks before a page, and the runs that belong to the last of them.
 
-ghost use Rattle.std.specs.Prelude.{◌≡◌, ◌+◌, ◌-◌, ◌*◌, ◌^◌, ◌≤◌, ◌<◌, ℕ, true, length, drop, slice_index_or};
-ghost use Rattle.spans.specs.Spans as spec;
+ghost use Rattle.std.specs.Prelude.{◌≡◌, ◌+◌, ◌-◌, ◌*◌, ◌^◌, ◌≤◌, ◌<◌, [], true, length, slice_index_or};
 ghost use Rattle.spans.specs.Search.{begins_at};
-ghost use Rattle.spans.specs.Blocks.{all_spans, more_blocks, needed, blocks_needed, AreStacked, IsGroup};
+ghost use Rattle.spans.specs.Blocks.{blocks_needed, AreBefore, AreStacked, IsGroup};
 ghost use Rattle.spans.specs.Edits.{rise};
 ghost use Rattle.std.specs.List.Sorted.{IsNonDecreasingBy};
 
 use super::blocks::Blocks;
 use crate::probes::Probes;
 use crate::spans::LIMIT;
-use base::Run;
-use std::marker::Brand;
-use std::sync::ledger::{Blank, Ledger};
+use base::{Page, Run};
+use std::sync::ledger::Ledger;
 
-/// Where the block at a place begins. Counts one look.
-pub(super) fn look_at<L: Ledger>(blocks: &Blocks, place: usize, probes: &mut Probes<L>) -> u32
-    requires { place < length blocks.now.list }
-    ensures begin { (d : _) → result ≡ begins_at (slice_index_or blocks.now.list place d) }
-    ensures in_range { result ≤ 2 ^ 27 }
-    ensures count { probes.new ≡ probes.old + 1 }
-{
-    probes.count();
-    blocks.block(place).begin()
+/// How many blocks begin before a page, and where the next begins; without one, the number of pages.
+pub(super) struct Before {
+    pub(super) count: usize,
+    pub(super) next: u32,
 }
 
-/// How many blocks begin before a page, found by halving.
-pub(super) fn find_before<L: Ledger>(blocks: &Blocks, page: u32, probes: &mut Probes<L>) -> usize
+/// The blocks before a page, found by halving. Counts each look.
+pub(super) fn find_before<L: Ledger>(blocks: &Blocks, page: u32, probes: &mut Probes<L>) -> Before
     requires { AreStacked blocks.now.list }
-    ensures inside { result ≤ length blocks.now.list }
-    ensures before { (i : ℕ) (d : _) → i < result
-        → begins_at (slice_index_or blocks.now.list i d) < page }
-    ensures behind { spec.ascend page (all_spans (drop result blocks.now.list)) ≡ true }
+    ensures before { AreBefore blocks.now.list page result.count }
+    ensures next { result.next ≡ begins_at (slice_index_or blocks.now.list result.count []) }
+    ensures in_range { result.next ≤ 2 ^ 27 }
     ensures cost { 2 ^ (probes.new - probes.old) ≤ 2 * length blocks.now.list + 1 }
     ensures counts { probes.old ≤ probes.new }
 {
+    let mut next = Page::COUNT;
     let mut low = 0;
     let mut high = blocks.len();
     while low < high {
         let middle = low + (high - low) / 2;
-        if look_at(blocks, middle, probes) < page {
+        probes.count();
+        let begin = blocks.begin_at(middle);
+        if begin < page {
             low = middle + 1;
         } else {
             high = middle;
+            next = begin;
         }
     }
-    low
+    Before { count: low, next }
 }
 
-/// The same with no count of the looks. Mostly it is all of them, and so is found without a search.
+/// How many blocks begin before a page. Mostly it is all of them, and so is found without a search.
 pub(super) fn blocks_before(blocks: &Blocks, page: u32) -> usize
     requires { AreStacked blocks.now.list }
-    ensures inside { result ≤ length blocks.now.list }
-    ensures before { (i : ℕ) (d : _) → i < result
-        → begins_at (slice_index_or blocks.now.list i d) < page }
-    ensures behind { spec.ascend page (all_spans (drop result blocks.now.list)) ≡ true }
+    ensures { AreBefore blocks.now.list page result }
 {
     let all = blocks.len();
-    if 0 < all && blocks.block(all - 1).begin() < page {
+    if 0 < all && blocks.begin_at(all - 1) < page {
         return all;
     }
-    before_from::<Brand>(blocks, page, Blank::new(1))
-}
-
-fn before_from<L: Ledger>(blocks: &Blocks, page: u32, blank: Blank) -> usize
-    requires name { blank.name ≡ L.name }
-    requires parts { blank.parts ≡ L.parts }
-    requires some { 0 < L.parts }
-    requires stacked { AreStacked blocks.now.list }
-    ensures inside { result ≤ length blocks.now.list }
-    ensures before { (i : ℕ) (d : _) → i < result
-        → begins_at (slice_index_or blocks.now.list i d) < page }
-    ensures behind { spec.ascend page (all_spans (drop result blocks.now.list)) ≡ true }
-{
-    let mut probes = Probes::<L>::new(blank);
-    find_before(blocks, page, &mut probes)
+    blocks.list.partition_point(|block| block.begin() < page)
 }
 
 /// The runs from a place in their list on, which belong to one block: the last that begins before the first page of each,
@@ -103,49 +82,28 @@ pub(super) fn last_group(blocks: &Blocks, runs: &[Run]) -> Group
     if place == 0 {
         return Group { place, from: 0 };
     }
-    let begin = blocks.block(place).begin();
+    let begin = blocks.begin_at(place);
     let from = runs.partition_point(|run| run.first().number() <= begin);
     Group { place, from }
-}
-
-/// How many blocks a block of so many intervals becomes at most, beside itself, where so many runs get a number.
-fn more_for(len: usize, runs: usize) -> usize
-    requires len { len ≤ 128 }
-    requires runs { runs < 2 ^ 61 }
-    ensures { result ≡ more_blocks len runs }
-{
-    (len + 2 * runs).saturating_sub(1) / LIMIT
-}
-
-/// How many more blocks there are at most where the runs get a number, and there are blocks.
-fn more_by_groups(blocks: &Blocks, runs: &[Run]) -> usize
-    requires stacked { AreStacked blocks.now.list }
-    requires some { 0 < length blocks.now.list }
-    requires rise { rise 0 runs.now ≡ true }
-    ensures { result ≡ needed blocks.now.list runs.now }
-{
-    let mut need = 0;
-    let mut left = runs.len();
-    while 0 < left {
-        let Group { place, from } = last_group(blocks, &runs[..left]);
-        need += more_for(blocks.block(place).len(), left - from);
-        left = from;
-    }
-    need
 }
 
 /// How many more blocks there are at most where the runs get a number.
 pub(super) fn more_needed(blocks: &Blocks, runs: &[Run]) -> usize
     requires stacked { AreStacked blocks.now.list }
     requires rise { rise 0 runs.now ≡ true }
+    requires some { 0 < length runs.now }
     ensures same { result ≡ blocks_needed blocks.now.list runs.now }
     ensures most { result ≤ length runs.now }
 {
-    if runs.is_empty() {
-        return 0;
-    }
     if blocks.len() == 0 {
-        return 1 + more_for(0, runs.len());
+        return 1 + (2 * runs.len() - 1) / LIMIT;
     }
-    more_by_groups(blocks, runs)
+    let mut need = 0;
+    let mut left = runs.len();
+    while 0 < left {
+        let Group { place, from } = last_group(blocks, &runs[..left]);
+        need += (blocks.block(place).len() + 2 * (left - from) - 1) / LIMIT;
+        left = from;
+    }
+    need
 }

@@ -1,15 +1,14 @@
 //! Blocks: intervals that follow one another, in memory that has places for so many as a block may have.
 
-ghost use Rattle.std.specs.Prelude.{◌≡◌, ◌+◌, ◌*◌, ◌≤◌, ◌<◌, ◌^◌, ◌++◌, [], true, length, vec_capacity, IfOk};
+ghost use Rattle.std.specs.Prelude.{◌≡◌, ◌+◌, ◌*◌, ◌≤◌, ◌<◌, ◌^◌, ◌++◌, [], true, length, take, drop, vec_capacity, IfOk};
 ghost use Rattle.spans.specs.Spans as spec;
 ghost use Rattle.spans.specs.Edits.{rise, all_from, IsMerged};
 ghost use Rattle.spans.specs.Search.{begins_at};
-ghost use Rattle.spans.specs.Taking.{IsTakenIn};
+ghost use Rattle.spans.specs.Taking.{others};
 
 use super::Span;
 use super::merge::{merge, trim};
 use super::place::place_near_end;
-use super::taking::{Gap, close, take_out};
 use base::{OutOfMemory, Page, Run};
 use std::alloc::Global;
 use std::marker::Model;
@@ -96,40 +95,32 @@ impl Block {
         &self.spans
     }
 
-    /// Gives the pages of the runs this number, or none. Those of its intervals that end before the first run stay where
-    /// they are, and the others go through a list that has places for them.
-    pub(crate) fn edit(&mut self, runs: &[Run], value: Option<u64>, scratch: &mut Vec<Span>)
-        requires rise { rise 0 runs.now ≡ true }
-        requires some { 0 < length runs.now }
-        requires room { length self.old + 2 * length runs.now ≤ 128 }
-        requires scratch { 128 ≤ vec_capacity scratch.old }
-        ensures merged { IsMerged runs.now value self.old self.new }
-        ensures capacity { vec_capacity scratch.old ≤ vec_capacity scratch.new }
-    {
-        let kept = place_near_end(&self.spans, runs[0].first().number().saturating_sub(1));
-        merge(scratch, &mut self.spans[kept..], runs, value);
-        self.spans.truncate(kept);
-        let _ = self.spans.extend_from_slice(scratch);
-        self.begin = begin_of(&self.spans);
-    }
-
-    /// Fills a list with its intervals, but the pages of the runs have this number, or none. It has no interval then.
-    pub(crate) fn merge_into(&mut self, out: &mut Vec<Span>, runs: &[Run], value: Option<u64>)
+    /// Fills a list with its intervals from a place on, but the pages of the runs have this number, or none. It has those
+    /// before the place then.
+    pub(crate) fn merge_into(
+        &mut self,
+        kept: usize,
+        out: &mut Vec<Span>,
+        runs: &[Run],
+        value: Option<u64>,
+    )
+        requires inside { kept ≤ length self.old }
         requires rise { rise 0 runs.now ≡ true }
         requires room { length self.old + 2 * length runs.now ≤ vec_capacity out.old }
-        ensures merged { IsMerged runs.now value self.old out.new.items }
+        ensures kept { self.new ≡ take kept self.old }
+        ensures merged { IsMerged runs.now value (drop kept self.old) out.new.items }
         ensures capacity { vec_capacity out.old ≤ vec_capacity out.new }
     {
-        merge(out, &mut self.spans, runs, value);
-        self.spans.clear();
+        merge(out, &mut self.spans[kept..], runs, value);
+        self.spans.truncate(kept);
         self.begin = begin_of(&self.spans);
     }
 
-    /// Takes the intervals of a number out that have a page of a run.
-    pub(crate) fn take_out(&mut self, run: Run, value: u64)
-        ensures { IsTakenIn run.first (spec.end_of run) value self.old self.new }
+    /// Takes the intervals of a number out.
+    pub(crate) fn take_out(&mut self, value: u64)
+        ensures { self.new ≡ others value self.old }
     {
-        take_out(&mut self.spans, run.first().number(), run.end(), value);
+        self.spans.retain(|span| span.value != value);
         self.begin = begin_of(&self.spans);
     }
 
@@ -140,33 +131,22 @@ impl Block {
         ensures short { length self.new ≤ 128 }
     {
         let place = place_near_end(&self.spans, page);
-        let gap = Gap {
-            front: 0,
-            back: place,
-        };
         trim(&mut self.spans, place, page);
-        close(&mut self.spans, gap);
+        let left = self.spans.len() - place;
+        self.spans.copy_within(place.., 0);
+        self.spans.truncate(left);
         self.begin = begin_of(&self.spans);
     }
 
-    /// Has these intervals in place of its own.
-    pub(crate) fn fill(&mut self, spans: &[Span])
-        requires short { length spans.now ≤ 128 }
-        requires ascending { spec.ascend 0 spans.now ≡ true }
-        ensures { self.new ≡ spans.now }
+    /// Has these intervals behind the first of its own.
+    pub(crate) fn set_from(&mut self, kept: usize, spans: &[Span])
+        requires inside { kept ≤ length self.old }
+        requires short { kept + length spans.now ≤ 128 }
+        requires ascending { spec.ascend 0 (take kept self.old ++ spans.now) ≡ true }
+        ensures { self.new ≡ take kept self.old ++ spans.now }
     {
-        self.spans.clear();
+        self.spans.truncate(kept);
         let _ = self.spans.extend_from_slice(spans);
-        self.begin = begin_of(&self.spans);
-    }
-
-    /// Has those of the next block behind its own.
-    pub(crate) fn append(&mut self, next: &Block)
-        requires short { length self.old + length next.now ≤ 128 }
-        requires ascending { spec.ascend 0 (self.old ++ next.now) ≡ true }
-        ensures { self.new ≡ self.old ++ next.now }
-    {
-        let _ = self.spans.extend_from_slice(&next.spans);
         self.begin = begin_of(&self.spans);
     }
 }

@@ -1,10 +1,10 @@
 //! Sets the numbers of runs: the intervals go into another list, part by part, and the runs between them.
 
-ghost use Rattle.std.specs.Prelude.{◌≡◌, ◌+◌, ◌*◌, ◌++◌, ◌∷◌, [], ◌^◌, ◌<◌, ◌≤◌, true, length, drop, take, slice_index_or, vec_len, vec_capacity};
+ghost use Rattle.std.specs.Prelude.{◌≡◌, ◌+◌, ◌*◌, ◌++◌, ◌∷◌, [], ◌^◌, ◌<◌, ◌≤◌, true, length, drop, vec_len, vec_capacity};
 ghost use Rattle.spans.specs.Spans as spec;
 ghost use Rattle.spans.specs.Spans.{are_joined};
 ghost use Rattle.spans.specs.Edits as edits;
-ghost use Rattle.spans.specs.Edits.{listed, all_before, all_from, rise, IsSame, IsMerged};
+ghost use Rattle.spans.specs.Edits.{listed, all_before, all_from, rise, IsMerged, IsPlaceOf, IsSame};
 
 use super::Span;
 use super::place::place_near_end;
@@ -56,20 +56,6 @@ pub(crate) fn append(out: &mut Vec<Span>, spans: &[Span])
     let _ = out.extend_from_slice(rest);
 }
 
-/// What the interval at a place has before a page.
-fn part_before(spans: &[Span], place: usize, page: u32) -> Option<Span>
-    requires { page ≤ 2 ^ 27 }
-    ensures some { (d : spec.Span) → place < length spans.now
-        → result ≡ edits.left_of page (slice_index_or spans.now place d) }
-    ensures none { length spans.now ≤ place → length (listed result) ≡ 0 }
-{
-    if spans.len() <= place {
-        return None;
-    }
-    let span = spans[place];
-    span.before(page)
-}
-
 /// Puts what intervals have before a page behind the others.
 fn append_before(out: &mut Vec<Span>, spans: &[Span], page: u32)
     requires page { page ≤ 2 ^ 27 }
@@ -81,16 +67,16 @@ fn append_before(out: &mut Vec<Span>, spans: &[Span], page: u32)
 {
     let place = place_near_end(spans, page);
     append(out, &spans[..place]);
-    push_if_any(out, part_before(spans, place, page));
+    if place < spans.len() {
+        let span = spans[place];
+        push_if_any(out, span.before(page));
+    }
 }
 
 /// Takes the pages before this one out of the interval at a place, if there is one.
 pub(super) fn trim(spans: &mut [Span], place: usize, page: u32)
     requires ascending { spec.ascend 0 spans.old ≡ true }
-    requires inside { place ≤ length spans.old }
-    requires below { spec.end_from 0 (take place spans.old) ≤ page }
-    requires above { (d : spec.Span) → place < length spans.old
-        → page < spec.end_of (slice_index_or spans.old place d).run }
+    requires place { IsPlaceOf spans.old page place }
     ensures rest { drop place spans.new ≡ all_from page spans.old }
     ensures len { length spans.new ≡ length spans.old }
 {

@@ -14,9 +14,10 @@ pub(crate) fn gather(sorted: &mut Vec<Run>, runs: &[Run])
     ensures same { (n : ℕ) → covers sorted.new.items n ≡ covers runs.now n }
     ensures fewer { length sorted.new.items ≤ length runs.now }
     ensures some { 0 < length runs.now → 0 < length sorted.new.items }
-    ensures capacity { vec_capacity sorted.new ≡ vec_capacity sorted.old }
+    ensures capacity { vec_capacity sorted.old ≤ vec_capacity sorted.new }
 {
-    copy(sorted, runs);
+    sorted.clear();
+    let _ = sorted.extend_from_slice(runs);
     if lie_apart(sorted) {
         return;
     }
@@ -79,16 +80,4 @@ fn join(runs: &mut Vec<Run>)
         done = add(runs, done, next);
     }
     runs.truncate(done);
-}
-
-/// Fills a list with the runs.
-fn copy(list: &mut Vec<Run>, runs: &[Run])
-    requires { length runs.now ≤ vec_capacity list.old }
-    ensures items { list.new.items ≡ runs.now }
-    ensures capacity { vec_capacity list.new ≡ vec_capacity list.old }
-{
-    list.clear();
-    for run in runs {
-        list.push_reserved(*run);
-    }
 }

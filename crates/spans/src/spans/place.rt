@@ -1,9 +1,9 @@
 //! The place of a page among intervals, and what an interval has on each side of it.
 
-ghost use Rattle.std.specs.Prelude.{◌≡◌, ◌^◌, ◌<◌, ◌≤◌, true, IsTrue, nat_le, length, take, slice_index_or};
+ghost use Rattle.std.specs.Prelude.{◌≡◌, ◌^◌, ◌≤◌, true, nat_le};
 ghost use Rattle.spans.specs.Spans as spec;
 ghost use Rattle.spans.specs.Edits as edits;
-ghost use Rattle.spans.specs.Edits.{left_of, right_of};
+ghost use Rattle.spans.specs.Edits.{left_of, right_of, IsPlaceOf};
 
 use super::Span;
 use base::{Page, Run};
@@ -49,17 +49,6 @@ impl Span {
     }
 }
 
-/// The place of the first interval that ends behind a page.
-fn place_of(spans: &[Span], page: u32) -> usize
-    requires { spec.ascend 0 spans.now ≡ true }
-    ensures inside { result ≤ length spans.now }
-    ensures below { spec.end_from 0 (take result spans.now) ≤ page }
-    ensures above { (d : spec.Span) → result < length spans.now
-        → page < spec.end_of (slice_index_or spans.now result d).run }
-{
-    spans.partition_point(|span| span.run.end() <= page)
-}
-
 /// Whether all intervals end at a page or before it.
 fn end_before(spans: &[Span], page: u32) -> bool
     ensures { result ≡ nat_le (spec.end_from 0 spans.now) page }
@@ -75,10 +64,7 @@ fn end_before(spans: &[Span], page: u32) -> bool
 /// without a search.
 pub(crate) fn place_near_end(spans: &[Span], page: u32) -> usize
     requires { spec.ascend 0 spans.now ≡ true }
-    ensures inside { result ≤ length spans.now }
-    ensures below { spec.end_from 0 (take result spans.now) ≤ page }
-    ensures above { (d : spec.Span) → result < length spans.now
-        → page < spec.end_of (slice_index_or spans.now result d).run }
+    ensures { IsPlaceOf spans.now page result }
 {
     let len = spans.len();
     if end_before(spans, page) {
@@ -90,6 +76,6 @@ pub(crate) fn place_near_end(spans: &[Span], page: u32) -> usize
     } else if !end_before(&spans[..2], page) {
         1
     } else {
-        place_of(spans, page)
+        spans.partition_point(|span| span.run.end() <= page)
     }
 }

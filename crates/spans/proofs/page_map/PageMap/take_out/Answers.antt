@@ -20,16 +20,16 @@ map c =
     let joined = ap are_joined (taken c) ∙ joined-others c.args.value 0 (all_spans c.self.inside.blocks.list) inv.stacked.ascending inv.joined in
     elim c.if-capacity-runs.branch [
       | then-capacity-runs w ↦ rw w.self-inside-is (record {
-        stacked = w.take_runs.ensures.stacked;
-        dense = w.take_runs.ensures.dense;
+        stacked = w.take_runs.ensures.tidy.stacked;
+        dense = w.take_runs.ensures.tidy.dense;
         spare = omega (arith, inv.spare, w.take_runs.ensures.spare);
         sorted = inv.sorted;
         scratch = inv.scratch;
         joined = rw w.self-inside-is at joined;
       })
       | else-capacity-runs w ↦ rw w.self-inside-is (record {
-        stacked = w.take_runs-else-capacity-runs.ensures.stacked;
-        dense = w.take_runs-else-capacity-runs.ensures.dense;
+        stacked = w.take_runs-else-capacity-runs.ensures.tidy.stacked;
+        dense = w.take_runs-else-capacity-runs.ensures.tidy.dense;
         spare = omega (arith, inv.spare, w.take_runs-else-capacity-runs.ensures.spare);
         sorted = omega (arith, inv.sorted, w.gather.ensures.capacity);
         scratch = inv.scratch;

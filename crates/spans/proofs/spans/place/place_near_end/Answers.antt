@@ -1,10 +1,24 @@
-use Rattle.std.proofs.Common.{◌≡◌, ◌-◌, ◌∙◌, false, leb, length, arith, sym}
+use Rattle.std.proofs.Common.{◌≡◌, ◌-◌, ◌∙◌, false, leb, length, rules, arith, sym}
 use Rattle.std.proofs.lemmas.Bool.{leb-false}
-use Rattle.spans.specs.Spans.{end_from}
-use Rattle.spans.proofs.Ascending.{end_from-last}
+use Rattle.std.proofs.lemmas.List.Sorted.{IsPartitionPoint-from_clause, IsPartitionedBy-leb}
+use Rattle.spans.specs.Spans.{Span, end_of, end_from}
+use Rattle.spans.proofs.Ascending.{end_from-last, ends_ascend, ends_before}
 use Rattle.spans.proofs.spans.place.place_near_end.Goals as goal
 
-pub returns-then-end_before-2-clause-above : goal.returns-then-end_before-2-clause-above
-returns-then-end_before-2-clause-above c = λ d lt.
-    let not : leb (end_from 0 c.args.spans.now) c.args.page ≡ false = sym c.end_before.ensures ∙ c.if-end_before.false in
-    omega (arith, leb-false _ _ not, end_from-last c.args.spans.now (length c.args.spans.now - 1) d (omega arith))
+pub returns-then-end_before-2 : goal.returns-then-end_before-2
+returns-then-end_before-2 c = record {
+  inside = omega arith;
+  below = search rules;
+  above = λ d lt.
+      let not : leb (end_from 0 c.args.spans.now) c.args.page ≡ false = sym c.end_before.ensures ∙ c.if-end_before.false in
+      omega (arith, leb-false _ _ not, end_from-last c.args.spans.now (length c.args.spans.now - 1) d (omega arith));
+}
+
+pub returns-else-not-end_before-2 : goal.returns-else-not-end_before-2
+returns-else-not-end_before-2 c =
+    let point = IsPartitionPoint-from_clause (λ (s : Span). leb (end_of s.run) c.args.page) c.args.spans.now c.partition_point.result c.partition_point.ensures.partitioned (IsPartitionedBy-leb (λ (s : Span). end_of s.run) c.args.spans.now c.args.page (ends_ascend 0 c.args.spans.now c.requires)) (λ a r f k. search rules) in
+    record {
+      inside = c.partition_point.ensures.bound;
+      below = ends_before c.args.spans.now c.partition_point.result c.args.page c.partition_point.ensures.bound point.0;
+      above = λ d lt. leb-false _ _ (point.1 c.partition_point.result d (omega arith) lt);
+    }

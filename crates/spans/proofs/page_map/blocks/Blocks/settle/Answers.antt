@@ -1,27 +1,89 @@
-use Rattle.std.proofs.Common.{◌≡◌, ◌∙◌, ℕ, ◌+◌, ◌-◌, ◌++◌, List, length, take, drop, sym, ap, subst, arith}
-use Rattle.spans.specs.Spans.{Span}
-use Rattle.spans.specs.Blocks.{BlocksView, IsSettled}
-use Rattle.spans.proofs.Blocks.{filled_from}
-use Rattle.spans.proofs.Dense.{settled-gone, settled-joined}
+use Rattle.std.proofs.Common.{◌≡◌, ◌∙◌, ◌+◌, ◌++◌, [], length, get_or, sym, ap, arith}
+use Rattle.std.proofs.Math.ListN.{set}
+use Rattle.std.proofs.lemmas.List.{take_all}
+use Rattle.spans.proofs.Lists.{lent_at}
+use Rattle.spans.specs.Spans.{ascend}
+use Rattle.spans.specs.Blocks.{BlocksView}
+use Rattle.spans.proofs.Written.{here-ascends, spans-ascend, dealt-now, dealt-anew, dealt-ascends, none_kept, settled-joined, settled-none}
+use Rattle.spans.proofs.page_map.blocks.Blocks.settle.Goals.{else-len-gt0-via-then-len-gt0+else-len-le-LIMIT, else-len-gt0-via-else-len-gt0}
 use Rattle.spans.proofs.page_map.blocks.Blocks.settle.Goals as goal
 
-pub returns-then-len-eq0-clause-settled : goal.returns-then-len-eq0-clause-settled
-returns-then-len-eq0-clause-settled c =
+pub set_from-requires-clause-ascending : goal.set_from-requires-clause-ascending
+set_from-requires-clause-ascending c =
     let bs = c.args.self.now.list in
-    let i = c.args.place in
-    let d = c.block.result.now in
-    let long = ap length (c.block.ensures.block d) in
-    let list = ap (λ (v : BlocksView). v.list) c.go_to.ensures in
-    let at = ap (λ (v : BlocksView). v.at) c.go_to.ensures in
-    let on : c.go_to.new.self.at - 1 ≡ i = omega (arith, at) in
-    let gone : c.retire.new.self.list ≡ take i bs ++ drop (i + 1) bs = c.retire.ensures.list ∙ ap (λ (l : List (List Span)). take (c.go_to.new.self.at - 1) l ++ drop c.go_to.new.self.at l) list ∙ ap (λ (k : ℕ). take k bs ++ drop c.go_to.new.self.at bs) on ∙ ap (λ (k : ℕ). take i bs ++ drop k bs) at in
-    subst (IsSettled i bs) (sym gone) (settled-gone bs i c.requires.inside d (omega (arith, long, c.len.ensures.same, c.if-len-eq0.true)) c.requires.behind)
+    let place = c.args.place in
+    let b = c.index_mut.result.now in
+    let here : get_or bs place [] ≡ b = lent_at c.self.inside.list.items bs place [] b (ap (λ (v : BlocksView). v.list) c.self.view_is) c.requires.inside c.index_mut.ensures.value in
+    let long = ap length (c.block.ensures.block [] ∙ here) in
+    ap (λ l. ascend 0 (l ++ c.args.spans.now)) (take_all c.len-kept.result b (omega (arith, long, c.len-kept.ensures.same)) ∙ sym here) ∙ here-ascends place c.args.spans.now bs c.requires.inside c.requires.ascending
 
-pub returns-else-len-eq0-clause-settled : goal.returns-else-len-eq0-clause-settled
-returns-else-len-eq0-clause-settled c =
+pub place_near_end-requires : goal.place_near_end-requires
+place_near_end-requires c = spans-ascend c.args.place c.args.spans.now c.args.self.now.list c.requires.inside c.requires.ascending
+
+pub deal-at-requires-clause-ascending : goal.deal-at-requires-clause-ascending
+deal-at-requires-clause-ascending c = spans-ascend c.args.place c.args.spans.now c.args.self.now.list c.requires.inside c.requires.ascending
+
+pub join-requires-clause-ascending : goal.join-requires-clause-ascending
+join-requires-clause-ascending c =
     let bs = c.args.self.now.list in
-    let i = c.args.place in
-    let d = c.block.result.now in
-    let long = ap length (c.block.ensures.block d) in
-    settled-joined bs i c.requires.inside c.join.new.self.list c.join.ensures.joined
-    (filled_from bs i d c.requires.inside c.requires.behind (omega (arith, long, c.len.ensures.same, c.if-len-eq0.false), omega (arith, long, c.len.ensures.same, c.len.ensures.short)))
+    let place = c.args.place in
+    let spans = c.args.spans.now in
+    let long : c.len-kept.result ≡ length (get_or bs place []) = c.len-kept.ensures.same ∙ ap length (c.block.ensures.block []) in
+    let put = set c.self.inside.list.items place c.set_from.new.self in
+    let d = dealt-now c.self.inside.list.items bs place c.len-kept.result spans c.index_mut.result.now c.set_from.new.self (ap (λ (v : BlocksView). v.list) c.self.view_is) c.requires.inside c.index_mut.ensures.value long c.set_from.ensures c.if-len-gt0.true c.if-len-le-LIMIT.true in
+    dealt-ascends place (place + 1) spans bs put c.requires.inside d c.requires.ascending (omega arith)
+
+pub returns-then-len-le-LIMIT-clause-settled : goal.returns-then-len-le-LIMIT-clause-settled
+returns-then-len-le-LIMIT-clause-settled c =
+    let bs = c.args.self.now.list in
+    let place = c.args.place in
+    let spans = c.args.spans.now in
+    let long : c.len-kept.result ≡ length (get_or bs place []) = c.len-kept.ensures.same ∙ ap length (c.block.ensures.block []) in
+    let put = set c.self.inside.list.items place c.set_from.new.self in
+    let d = dealt-now c.self.inside.list.items bs place c.len-kept.result spans c.index_mut.result.now c.set_from.new.self (ap (λ (v : BlocksView). v.list) c.self.view_is) c.requires.inside c.index_mut.ensures.value long c.set_from.ensures c.if-len-gt0.true c.if-len-le-LIMIT.true in
+    settled-joined place (place + 1) spans bs put c.requires.inside d c.requires.behind c.join.new.self.list (omega arith) c.join.ensures.joined
+
+pub join-requires-then-place-at-clause-ascending : goal.join-requires-then-place-at-clause-ascending
+join-requires-then-place-at-clause-ascending c =
+    let bs = c.args.self.now.list in
+    let place = c.args.place in
+    let spans = c.args.spans.now in
+    let long : c.len-kept.result ≡ length (get_or bs place []) = c.len-kept.ensures.same ∙ ap length (c.block.ensures.block []) in
+    let put = c.deal-at.new.self.list in
+    let at = c.deal-at.result in
+    let none : length (get_or bs place []) ≡ 0 = elim c.else-len-gt0.branch [
+      | else-len-gt0-via-then-len-gt0+else-len-le-LIMIT w ↦ none_kept (length (get_or bs place [])) (length spans) c.requires.fits (omega (arith, w.if-len-le-LIMIT.false, long))
+      | else-len-gt0-via-else-len-gt0 w ↦ omega (arith, w.if-len-gt0.false, long)
+    ] in
+    let d = dealt-anew bs c.retire.new.self.list put place at spans none c.retire.ensures.list c.deal-at.ensures.dealt in
+    dealt-ascends place at spans bs put c.requires.inside d c.requires.ascending c.if-place-at.true
+
+pub returns-then-place-at-clause-settled : goal.returns-then-place-at-clause-settled
+returns-then-place-at-clause-settled c =
+    let bs = c.args.self.now.list in
+    let place = c.args.place in
+    let spans = c.args.spans.now in
+    let long : c.len-kept.result ≡ length (get_or bs place []) = c.len-kept.ensures.same ∙ ap length (c.block.ensures.block []) in
+    let put = c.deal-at.new.self.list in
+    let at = c.deal-at.result in
+    let none : length (get_or bs place []) ≡ 0 = elim c.else-len-gt0.branch [
+      | else-len-gt0-via-then-len-gt0+else-len-le-LIMIT w ↦ none_kept (length (get_or bs place [])) (length spans) c.requires.fits (omega (arith, w.if-len-le-LIMIT.false, long))
+      | else-len-gt0-via-else-len-gt0 w ↦ omega (arith, w.if-len-gt0.false, long)
+    ] in
+    let d = dealt-anew bs c.retire.new.self.list put place at spans none c.retire.ensures.list c.deal-at.ensures.dealt in
+    settled-joined place at spans bs put c.requires.inside d c.requires.behind c.join-then-place-at.new.self.list c.if-place-at.true c.join-then-place-at.ensures.joined
+
+pub returns-else-place-at-clause-settled : goal.returns-else-place-at-clause-settled
+returns-else-place-at-clause-settled c =
+    let bs = c.args.self.now.list in
+    let place = c.args.place in
+    let spans = c.args.spans.now in
+    let long : c.len-kept.result ≡ length (get_or bs place []) = c.len-kept.ensures.same ∙ ap length (c.block.ensures.block []) in
+    let put = c.deal-at.new.self.list in
+    let at = c.deal-at.result in
+    let none : length (get_or bs place []) ≡ 0 = elim c.else-len-gt0.branch [
+      | else-len-gt0-via-then-len-gt0+else-len-le-LIMIT w ↦ none_kept (length (get_or bs place [])) (length spans) c.requires.fits (omega (arith, w.if-len-le-LIMIT.false, long))
+      | else-len-gt0-via-else-len-gt0 w ↦ omega (arith, w.if-len-gt0.false, long)
+    ] in
+    let d = dealt-anew bs c.retire.new.self.list put place at spans none c.retire.ensures.list c.deal-at.ensures.dealt in
+    settled-none place at spans bs put c.requires.inside d c.requires.behind c.if-place-at.false

@@ -1,39 +1,70 @@
-use Rattle.std.proofs.Common.{◌≡◌, ◌∙◌, ℕ, ◌-◌, ◌<◌, ◌++◌, List, length, get_or, reverse, sym, ap, arith}
-use Rattle.spans.specs.Spans.{Span, end_of}
-use Rattle.spans.specs.Blocks.{BlocksView}
-use Rattle.spans.proofs.Lists.{long, get_or-front, get_or-back, set-front, set-back}
+use Rattle.std.proofs.Common.{◌≡◌, ◌∙◌, ℕ, ◌+◌, ◌-◌, ◌<◌, true, List, [], length, get_or, drop, sym, ap, subst, arith}
 use Rattle.std.proofs.Math.ListN.{set}
 use Rattle.std.proofs.lemmas.List.{get_or_default}
-use Rattle.spans.proofs.Blocks.{is_taken_at}
+use Rattle.spans.specs.Spans.{Span, ascend}
+use Rattle.spans.specs.Search.{begins_at}
+use Rattle.spans.specs.Blocks.{BlocksView, all_spans, AreTidyBut}
+use Rattle.spans.specs.Taking.{IsTakenIn}
+use Rattle.spans.proofs.Blocks.{above_page}
+use Rattle.spans.proofs.Taken.{none-taken, taken-there, tidy-but}
 use Rattle.spans.proofs.page_map.blocks.Blocks.take_at.Goals as goal
 
-pub returns-then-place-front-clause-taken : goal.returns-then-place-front-clause-taken
-returns-then-place-front-clause-taken c =
-    let front = c.self.inside.front.items in
-    let back = c.self.inside.back.items in
-    let b = c.take_out.new.self in
-    let list = ap (λ (v : BlocksView). v.list) c.self.view_is in
-    let l = long front back in
-    let lt : c.args.place < length (front ++ reverse back) = rw list c.requires in
-    let was : (d : List Span) → get_or c.args.self.now.list c.args.place d ≡ c.index_mut.result.now = λ d.
-    ap (λ (l : List (List Span)). get_or l c.args.place d) (sym list) ∙ get_or-front front back c.args.place d (omega (arith, c.if-place-front.true, c.len-front.ensures)) ∙ get_or_default front c.args.place d c.index_mut.result.now (omega (arith, c.if-place-front.true, c.len-front.ensures)) ∙ sym c.index_mut.ensures.value in
-    let is : front ++ reverse back ≡ c.args.self.now.list = list in
-    is_taken_at c.args.run.first (end_of c.args.run) c.args.value c.args.self.now.list c.args.place b c.index_mut.result.now (set front c.args.place b ++ reverse back) c.requires
-    (set-front front back c.args.place b (omega (arith, c.if-place-front.true, c.len-front.ensures)) ∙ ap (λ (m : List (List Span)). set m c.args.place b) list)
-    (sym (was c.index_mut.result.now)) c.take_out.ensures
+pub returns-then-count-eq0-clause-taken : goal.returns-then-count-eq0-clause-taken
+returns-then-count-eq0-clause-taken c =
+    let bs = c.args.self.now.list in
+    let value = c.args.value in
+    let next = c.begin_at-next.result in
+    let count = c.blocks_before-count.result in
+    let up : ascend next (all_spans (drop count bs)) ≡ true = above_page 0 next count bs c.requires.tidy.stacked.filled c.requires.tidy.stacked.ascending (λ d lt.
+    let same = ap begins_at (get_or_default bs count [] d lt) in
+    omega (arith, same, c.begin_at-next.ensures.same)) in
+    none-taken next value (all_spans bs) (subst (λ (k : ℕ). ascend next (all_spans (drop k bs)) ≡ true) c.if-count-eq0.true up)
 
-pub returns-else-place-front-clause-taken : goal.returns-else-place-front-clause-taken
-returns-else-place-front-clause-taken c =
-    let front = c.self.inside.front.items in
-    let back = c.self.inside.back.items in
-    let b = c.take_out-else-place-front.new.self in
+pub tidy-requires : goal.tidy-requires
+tidy-requires c =
+    let bs = c.args.self.now.list in
+    let value = c.args.value in
+    let next = c.begin_at-next.result in
+    let count = c.blocks_before-count.result in
+    let up : ascend next (all_spans (drop count bs)) ≡ true = above_page 0 next count bs c.requires.tidy.stacked.filled c.requires.tidy.stacked.ascending (λ d lt.
+    let same = ap begins_at (get_or_default bs count [] d lt) in
+    omega (arith, same, c.begin_at-next.ensures.same)) in
+    let place : ℕ = count - 1 in
+    let b = c.index_mut.result.now in
+    let now = c.take_out.new.self in
+    let on : count ≡ place + 1 = omega (arith, c.if-count-eq0.false) in
+    let above : ascend next (all_spans (drop (place + 1) bs)) ≡ true = subst (λ (k : ℕ). ascend next (all_spans (drop k bs)) ≡ true) on up in
+    let lt : place < length bs = omega (arith, c.blocks_before-count.ensures.inside, on) in
     let list = ap (λ (v : BlocksView). v.list) c.self.view_is in
-    let l = long front back in
-    let lt : c.args.place < length (front ++ reverse back) = rw list c.requires in
-    let at : c.len.result - 1 - (c.args.place - c.len-front.result) ≡ length back - 1 - (c.args.place - length front) = omega (arith, c.len.ensures, c.len-front.ensures) in
-    let was : (d : List Span) → get_or c.args.self.now.list c.args.place d ≡ c.index_mut-else-place-front.result.now = λ d.
-    ap (λ (l : List (List Span)). get_or l c.args.place d) (sym list) ∙ get_or-back front back c.args.place d (omega (arith, c.if-place-front.false, c.len-front.ensures)) (omega (arith, lt, l)) ∙ ap (λ (k : ℕ). get_or back k d) (sym at) ∙ get_or_default back (c.len.result - 1 - (c.args.place - c.len-front.result)) d c.index_mut-else-place-front.result.now (omega (arith, c.len.ensures, l, lt, c.if-place-front.false, c.len-front.ensures)) ∙ sym c.index_mut-else-place-front.ensures.value in
-    let is : front ++ reverse back ≡ c.args.self.now.list = list in
-    is_taken_at c.args.run.first (end_of c.args.run) c.args.value c.args.self.now.list c.args.place b c.index_mut-else-place-front.result.now (front ++ reverse (set back (c.len.result - 1 - (c.args.place - c.len-front.result)) b)) c.requires
-    (ap (λ (k : ℕ). front ++ reverse (set back k b)) at ∙ set-back front back c.args.place b (omega (arith, c.if-place-front.false, c.len-front.ensures)) (omega (arith, lt, l)) ∙ ap (λ (m : List (List Span)). set m c.args.place b) list)
-    (sym (was c.index_mut-else-place-front.result.now)) c.take_out-else-place-front.ensures
+    let is : b ≡ get_or bs place b = c.index_mut.ensures.value ∙ ap (λ (l : List (List Span)). get_or l place b) list in
+    let put : set c.self.inside.list.items place now ≡ set bs place now = ap (λ (l : List (List Span)). set l place now) list in
+    subst (AreTidyBut place) (sym put) (tidy-but value next bs place b now c.requires.tidy.stacked lt above is c.take_out.ensures c.requires.tidy.dense)
+
+taken : (c : goal.After-tidy) → IsTakenIn c.begin_at-begin.result c.begin_at-next.result c.args.value (all_spans c.args.self.now.list) (all_spans c.tidy.new.self.list)
+taken c =
+    let bs = c.args.self.now.list in
+    let value = c.args.value in
+    let next = c.begin_at-next.result in
+    let count = c.blocks_before-count.result in
+    let up : ascend next (all_spans (drop count bs)) ≡ true = above_page 0 next count bs c.requires.tidy.stacked.filled c.requires.tidy.stacked.ascending (λ d lt.
+    let same = ap begins_at (get_or_default bs count [] d lt) in
+    omega (arith, same, c.begin_at-next.ensures.same)) in
+    let place : ℕ = count - 1 in
+    let b = c.index_mut.result.now in
+    let now = c.take_out.new.self in
+    let on : count ≡ place + 1 = omega (arith, c.if-count-eq0.false) in
+    let above : ascend next (all_spans (drop (place + 1) bs)) ≡ true = subst (λ (k : ℕ). ascend next (all_spans (drop k bs)) ≡ true) on up in
+    let lt : place < length bs = omega (arith, c.blocks_before-count.ensures.inside, on) in
+    let list = ap (λ (v : BlocksView). v.list) c.self.view_is in
+    let is : b ≡ get_or bs place b = c.index_mut.ensures.value ∙ ap (λ (l : List (List Span)). get_or l place b) list in
+    let put : set c.self.inside.list.items place now ≡ set bs place now = ap (λ (l : List (List Span)). set l place now) list in
+    let begin : c.begin_at-begin.result ≡ begins_at b = c.begin_at-begin.ensures.same ∙ ap begins_at (get_or_default bs place [] b lt ∙ sym is) in
+    let same : all_spans c.tidy.new.self.list ≡ all_spans (set bs place now) = c.tidy.ensures.spans ∙ ap all_spans put in
+    subst (λ (k : ℕ). IsTakenIn k next value (all_spans bs) (all_spans c.tidy.new.self.list)) (sym begin)
+    (subst (λ (l : List Span). IsTakenIn (begins_at b) next value (all_spans bs) l) (sym same) (taken-there value next bs place b now c.requires.tidy.stacked lt above is c.take_out.ensures))
+
+pub returns-clause-taken : goal.returns-clause-taken
+returns-clause-taken c = taken c
+
+pub returns-clause-tidy : goal.returns-clause-tidy
+returns-clause-tidy c = c.tidy.ensures.tidy

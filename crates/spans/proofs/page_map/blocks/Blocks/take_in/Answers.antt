@@ -1,151 +1,161 @@
-use Rattle.std.proofs.Common.{◌≡◌, ◌∙◌, ◌+◌, ◌++◌, ◌∷◌, [], ℕ, true, List, length, take, drop, reverse, vec_len, sym, ap, subst, append-nil, rules, arith}
-use Rattle.std.proofs.Math.Seq.{drop-append-add}
+use Rattle.std.proofs.Common.{◌≡◌, ◌∙◌, ◌+◌, ◌-◌, ◌<◌, ◌++◌, ℕ, List, length, take, drop, sym, ap, subst, drop-drop, arith}
+use Rattle.std.proofs.Math.ListN.{set}
+use Rattle.std.proofs.lemmas.List.{length-set, take-set-le}
 use Rattle.spans.specs.Spans.{Span, ascend, are_joined}
-use Rattle.spans.specs.Edits.{all_from, IsSame}
-use Rattle.spans.specs.Blocks.{BlocksView, all_spans, AreDense, AreFilled}
-use Rattle.spans.proofs.Ascending.{far}
-use Rattle.spans.proofs.Dense.{dense-drop}
-use Rattle.spans.proofs.Edited.{above-next}
-use Rattle.spans.proofs.Joined.{joined-left, joined-from}
-use Rattle.spans.proofs.Lists.{reverse-last, no_items, behind_all, before_all, view-behind, view-before}
-use Rattle.spans.proofs.Parting.{ascend-all_from}
-use Rattle.spans.proofs.Same.{same-self}
+use Rattle.spans.specs.Search.{begins_at}
+use Rattle.spans.specs.Edits.{IsSame}
+use Rattle.spans.specs.Blocks.{BlocksView, all_spans, AreDense, HasTakenIn}
+use Rattle.spans.proofs.Lists.{get_or-set_at, rest-of}
+use Rattle.spans.proofs.Reached.{mid-front, end-dense, now-ascends, at-end, ends, now-rest, dense-behind, stays, goes, cut-joined, taken-on, joined-dense}
 use Rattle.spans.proofs.page_map.blocks.Blocks.take_in.Goals as goal
 
-pub begin_behind-requires-clause-ascending : goal.begin_behind-requires-clause-ascending
-begin_behind-requires-clause-ascending c =
-    let front = c.self.inside.front.items in
-    let back = c.self.inside.back.items in
-    let new = c.drop_until.new.back.items in
+pub returns-then-len-place-clause-taken : goal.returns-then-len-place-clause-taken
+returns-then-len-place-clause-taken c =
+    let bs = c.args.self.now.list in
+    let mid = c.drop.new.self.0.items in
+    let place = c.args.place in
+    let at = c.first_behind-at.result in
     let page = c.args.page in
-    let list : front ++ reverse back ≡ c.args.self.now.list = ap (λ (v : BlocksView). v.list) c.self.view_is in
-    let at : vec_len c.self.inside.front ≡ c.args.self.now.at = ap (λ (v : BlocksView). v.at) c.self.view_is in
-    let rest = view-behind front back c.args.self.now.list c.args.self.now.at list (omega (arith, at)) in
-    let left : all_spans (reverse new) ≡ all_from page (all_spans (drop c.args.self.now.at c.args.self.now.list)) = c.drop_until.ensures.spans ∙ ap (λ l. all_from page (all_spans l)) (sym rest) in
-    ap (λ l. ascend 0 (all_spans l)) (ap (λ (k : ℕ). drop k (front ++ reverse new)) (omega (arith, c.len.ensures)) ∙ behind_all front new)
-    ∙ ap (ascend 0) left ∙ far 0 page (all_from page (all_spans (drop c.args.self.now.at c.args.self.now.list))) (omega arith) (ascend-all_from page 0 (all_spans (drop c.args.self.now.at c.args.self.now.list)) c.requires.ascending)
+    let e = c.first_behind-at.ensures in
+    let kept : mid ≡ take place bs ++ drop at bs = c.drop.ensures.items ∙ c.drain.ensures.kept ∙ ap (λ (v : BlocksView). take place v.list ++ drop at v.list) c.self.view_is in
+    at-end bs mid place at page e.from e.inside c.requires.stacked.ascending c.requires.stacked.filled e.spans kept c.args.out.now.items (omega (arith, c.len.ensures, c.if-len-place.true))
 
-pub returns-then-begin_behind-clause-taken : goal.returns-then-begin_behind-clause-taken
-returns-then-begin_behind-clause-taken c =
-    let front = c.self.inside.front.items in
-    let back = c.self.inside.back.items in
-    let new = c.drop_until.new.back.items in
+here : (c : goal.After-join) → HasTakenIn c.args.page c.args.out.now.items (drop c.args.place c.args.self.now.list) c.args.out.now.items (drop c.args.place (set c.drop.new.self.0.items c.args.place c.drop_until.new.self))
+here c =
+    let bs = c.args.self.now.list in
+    let mid = c.drop.new.self.0.items in
+    let place = c.args.place in
+    let at = c.first_behind-at.result in
     let page = c.args.page in
+    let e = c.first_behind-at.ensures in
+    let kept : mid ≡ take place bs ++ drop at bs = c.drop.ensures.items ∙ c.drain.ensures.kept ∙ ap (λ (v : BlocksView). take place v.list ++ drop at v.list) c.self.view_is in
+    let b = c.index_mut.result.now in
+    let cut = c.drop_until.new.self in
+    let lt : place < length mid = omega (arith, c.len.ensures, c.if-len-place.false) in
+    let some = c.drop_until.ensures.some (ends bs mid place at page e.from e.inside c.requires.stacked.ascending c.requires.stacked.filled e.spans kept b cut lt c.index_mut.ensures.value e.above c.drop_until.ensures.spans) in
+    stays bs mid place at page e.from e.inside c.requires.stacked.ascending c.requires.stacked.filled e.spans kept b cut lt c.index_mut.ensures.value e.above c.drop_until.ensures.spans c.args.out.now.items some c.drop_until.ensures.short (omega (arith, c.if-page-begin.true, c.begin.ensures.same, ap begins_at (c.index.ensures ∙ get_or-set_at mid place cut c.index.result.now lt)))
+
+pub join-requires-clause-ascending : goal.join-requires-clause-ascending
+join-requires-clause-ascending c =
+    let bs = c.args.self.now.list in
+    let mid = c.drop.new.self.0.items in
+    let place = c.args.place in
+    let at = c.first_behind-at.result in
+    let page = c.args.page in
+    let e = c.first_behind-at.ensures in
+    let kept : mid ≡ take place bs ++ drop at bs = c.drop.ensures.items ∙ c.drain.ensures.kept ∙ ap (λ (v : BlocksView). take place v.list ++ drop at v.list) c.self.view_is in
+    let b = c.index_mut.result.now in
+    let cut = c.drop_until.new.self in
+    let lt : place < length mid = omega (arith, c.len.ensures, c.if-len-place.false) in
+    let on : place + 1 - 1 ≡ place = omega arith in
+    ap (λ (k : ℕ). ascend 0 (all_spans (drop k (set mid place cut)))) on ∙ now-ascends bs mid place at page e.from e.inside c.requires.stacked.ascending c.requires.stacked.filled e.spans kept b cut lt c.index_mut.ensures.value e.above c.drop_until.ensures.spans
+
+pub returns-then-page-begin-clause-taken : goal.returns-then-page-begin-clause-taken
+returns-then-page-begin-clause-taken c =
+    taken-on c.args.page c.args.place c.args.out.now.items c.args.out.now.items (drop c.args.place c.args.self.now.list) (set c.drop.new.self.0.items c.args.place c.drop_until.new.self) c.join.new.self.list (here c) c.join.ensures.joined
+
+pub returns-then-page-begin-clause-dense : goal.returns-then-page-begin-clause-dense
+returns-then-page-begin-clause-dense c = λ h.
+    let bs = c.args.self.now.list in
+    let mid = c.drop.new.self.0.items in
+    let place = c.args.place in
+    let at = c.first_behind-at.result in
+    let page = c.args.page in
+    let e = c.first_behind-at.ensures in
+    let kept : mid ≡ take place bs ++ drop at bs = c.drop.ensures.items ∙ c.drain.ensures.kept ∙ ap (λ (v : BlocksView). take place v.list ++ drop at v.list) c.self.view_is in
+    let b = c.index_mut.result.now in
+    let cut = c.drop_until.new.self in
+    let lt : place < length mid = omega (arith, c.len.ensures, c.if-len-place.false) in
+    let rest : drop (place + 1) (set mid place cut) ≡ drop (at + 1) bs = sym (drop-drop 1 place (set mid place cut)) ∙ ap (drop 1) (now-rest bs mid place at page e.from e.inside c.requires.stacked.ascending c.requires.stacked.filled e.spans kept b cut lt c.index_mut.ensures.value e.above c.drop_until.ensures.spans) in
+    joined-dense place (set mid place cut) c.join.new.self.list c.join.ensures.joined (subst AreDense (sym rest) (dense-behind bs mid place at page e.from e.inside c.requires.stacked.ascending c.requires.stacked.filled e.spans kept b cut lt c.index_mut.ensures.value e.above c.drop_until.ensures.spans h))
+
+pub returns-then-page-begin-clause-before : goal.returns-then-page-begin-clause-before
+returns-then-page-begin-clause-before c =
+    let bs = c.args.self.now.list in
+    let mid = c.drop.new.self.0.items in
+    let place = c.args.place in
+    let at = c.first_behind-at.result in
+    let page = c.args.page in
+    let e = c.first_behind-at.ensures in
+    let kept : mid ≡ take place bs ++ drop at bs = c.drop.ensures.items ∙ c.drain.ensures.kept ∙ ap (λ (v : BlocksView). take place v.list ++ drop at v.list) c.self.view_is in
+    let on : place + 1 - 1 ≡ place = omega arith in
+    ap (λ (k : ℕ). take k c.join.new.self.list) (sym on) ∙ c.join.ensures.joined.before ∙ ap (λ (k : ℕ). take k (set mid place c.drop_until.new.self)) on
+    ∙ take-set-le place mid place c.drop_until.new.self (omega arith) ∙ mid-front bs mid place at page e.from e.inside c.requires.stacked.ascending c.requires.stacked.filled e.spans kept
+
+-- the block that goes, and those behind it
+next_is : (c : goal.After-push_reserved) → c.remove-next.result ≡ c.drop_until.new.self
+next_is c =
+    let mid = c.drop.new.self.0.items in
+    c.remove-next.ensures.value ∙ get_or-set_at mid c.args.place c.drop_until.new.self c.remove-next.result (omega (arith, c.len.ensures, c.if-len-place.false))
+
+rest_is : (c : goal.After-push_reserved) → drop c.args.place c.remove-next.new.self.items ≡ drop (c.first_behind-at.result + 1) c.args.self.now.list
+rest_is c =
+    let bs = c.args.self.now.list in
+    let mid = c.drop.new.self.0.items in
+    let place = c.args.place in
+    let at = c.first_behind-at.result in
+    let page = c.args.page in
+    let e = c.first_behind-at.ensures in
+    let kept : mid ≡ take place bs ++ drop at bs = c.drop.ensures.items ∙ c.drain.ensures.kept ∙ ap (λ (v : BlocksView). take place v.list ++ drop at v.list) c.self.view_is in
+    let b = c.index_mut.result.now in
+    let cut = c.drop_until.new.self in
+    let lt : place < length mid = omega (arith, c.len.ensures, c.if-len-place.false) in
+    let now = set mid place cut in
+    let long : place < length now = omega (arith, lt, length-set mid place cut) in
+    ap (drop place) c.remove-next.ensures.by_index.2 ∙ rest-of place now (drop (place + 1) now) (omega (arith, long)) ∙ sym (drop-drop 1 place now) ∙ ap (drop 1) (now-rest bs mid place at page e.from e.inside c.requires.stacked.ascending c.requires.stacked.filled e.spans kept b cut lt c.index_mut.ensures.value e.above c.drop_until.ensures.spans)
+
+pub returns-clause-taken : goal.returns-clause-taken
+returns-clause-taken c =
+    let bs = c.args.self.now.list in
+    let mid = c.drop.new.self.0.items in
+    let place = c.args.place in
+    let at = c.first_behind-at.result in
+    let page = c.args.page in
+    let e = c.first_behind-at.ensures in
+    let kept : mid ≡ take place bs ++ drop at bs = c.drop.ensures.items ∙ c.drain.ensures.kept ∙ ap (λ (v : BlocksView). take place v.list ++ drop at v.list) c.self.view_is in
+    let b = c.index_mut.result.now in
+    let cut = c.drop_until.new.self in
+    let lt : place < length mid = omega (arith, c.len.ensures, c.if-len-place.false) in
+    let some = c.drop_until.ensures.some (ends bs mid place at page e.from e.inside c.requires.stacked.ascending c.requires.stacked.filled e.spans kept b cut lt c.index_mut.ensures.value e.above c.drop_until.ensures.spans) in
     let out = c.args.out.now.items in
-    let list : front ++ reverse back ≡ c.args.self.now.list = ap (λ (v : BlocksView). v.list) c.self.view_is in
-    let at : vec_len c.self.inside.front ≡ c.args.self.now.at = ap (λ (v : BlocksView). v.at) c.self.view_is in
-    let long : length front ≡ vec_len c.self.inside.front = omega arith in
-    let rest = view-behind front back c.args.self.now.list c.args.self.now.at list (omega (arith, at)) in
-    let left : all_spans (reverse new) ≡ all_from page (all_spans (drop c.args.self.now.at c.args.self.now.list)) = c.drop_until.ensures.spans ∙ ap (λ l. all_from page (all_spans l)) (sym rest) in
-    let now : drop (vec_len c.self.inside.front) (front ++ reverse new) ≡ reverse new = ap (λ (k : ℕ). drop k (front ++ reverse new)) (sym long) ∙ behind_all front new in
-    let above : ascend (page + 1) (all_spans (drop c.len.result (front ++ reverse new))) ≡ true = c.begin_behind.ensures (search rules) in
-    record {
-      taken = [];
-      parted = sym left ∙ ap all_spans (sym now);
-      same = subst (λ (l : List Span). IsSame l out) (sym (append-nil out)) (same-self out);
-      above = ap (λ (k : ℕ). ascend (page + 1) (all_spans (drop k (front ++ reverse new)))) (omega (arith, c.len.ensures)) ∙ above;
-      filled = subst AreFilled (sym now) (c.drop_until.ensures.filled (subst AreFilled rest c.requires.filled));
-      before = ap (λ (k : ℕ). take k (front ++ reverse new)) (sym long) ∙ before_all front new ∙ sym (view-before front back c.args.self.now.list c.args.self.now.at list (omega (arith, at)));
-      at = at;
-    }
+    goes bs mid place at page e.from e.inside c.requires.stacked.ascending c.requires.stacked.filled e.spans kept b cut lt c.index_mut.ensures.value e.above c.drop_until.ensures.spans out c.append.new.out.items c.remove-next.new.self.items (rest_is c) some
+    (subst (λ (l : List Span). IsSame (out ++ l) c.append.new.out.items) (c.spans.ensures ∙ next_is c) c.append.ensures.same)
 
--- behind the next block no two are short
-rest_dense : (front new : List (List Span)) (at : ℕ) → length front ≡ at → AreDense (drop 1 new) → AreDense (drop (at + 1) (front ++ new))
-rest_dense front new at e h =
-    subst AreDense (sym (ap (λ (k : ℕ). drop (k + 1) (front ++ new)) (sym e) ∙ drop-append-add front new 1)) h
-
-pub returns-then-begin_behind-clause-dense : goal.returns-then-begin_behind-clause-dense
-returns-then-begin_behind-clause-dense c = λ h.
-    let front = c.self.inside.front.items in
-    let list : front ++ reverse c.self.inside.back.items ≡ c.args.self.now.list = ap (λ (v : BlocksView). v.list) c.self.view_is in
-    let at : vec_len c.self.inside.front ≡ c.args.self.now.at = ap (λ (v : BlocksView). v.at) c.self.view_is in
-    let rest = view-behind front c.self.inside.back.items c.args.self.now.list c.args.self.now.at list (omega (arith, at)) in
-    rest_dense front (reverse c.drop_until.new.back.items) (vec_len c.self.inside.front) (omega arith) (c.drop_until.ensures.dense (subst AreDense rest h))
-
-pub returns-in-Some-clause-dense : goal.returns-in-Some-clause-dense
-returns-in-Some-clause-dense c = λ h.
-    let front = c.self.inside.front.items in
-    let pop = c.pop.new.self.items in
-    let list : front ++ reverse c.self.inside.back.items ≡ c.args.self.now.list = ap (λ (v : BlocksView). v.list) c.self.view_is in
-    let at : vec_len c.self.inside.front ≡ c.args.self.now.at = ap (λ (v : BlocksView). v.at) c.self.view_is in
-    let rest = view-behind front c.self.inside.back.items c.args.self.now.list c.args.self.now.at list (omega (arith, at)) in
-    let parts : reverse c.drop_until.new.back.items ≡ c.in-Some.next ∷ reverse pop = ap reverse c.in-Some.ensures.items ∙ reverse-last pop c.in-Some.next in
-    let left : AreDense (reverse pop) = subst (λ (l : List (List Span)). AreDense (drop 1 l)) parts (c.drop_until.ensures.dense (subst AreDense rest h)) in
-    rest_dense front (reverse pop) (vec_len c.self.inside.front) (omega arith) (dense-drop 1 (reverse pop) left)
-
-pub returns-in_default-clause-dense : goal.returns-in_default-clause-dense
-returns-in_default-clause-dense c = λ h.
-    let front = c.self.inside.front.items in
-    let none : c.pop.new.self.items ≡ [] = no_items c.pop.new.self.items (omega (arith, c.in_default.ensures.cases.1)) in
-    rest_dense front (reverse c.pop.new.self.items) (vec_len c.self.inside.front) (omega arith) (subst (λ (l : List (List Span)). AreDense (drop 1 (reverse l))) (sym none) tt)
-
-pub returns-in-Some-clause-taken : goal.returns-in-Some-clause-taken
-returns-in-Some-clause-taken c =
-    let front = c.self.inside.front.items in
-    let back = c.self.inside.back.items in
-    let new = c.drop_until.new.back.items in
-    let pop = c.pop.new.self.items in
-    let next = c.in-Some.next in
+pub returns-clause-joined : goal.returns-clause-joined
+returns-clause-joined c = λ j k.
+    let bs = c.args.self.now.list in
+    let mid = c.drop.new.self.0.items in
+    let place = c.args.place in
+    let at = c.first_behind-at.result in
     let page = c.args.page in
-    let out = c.args.out.now.items in
-    let list : front ++ reverse back ≡ c.args.self.now.list = ap (λ (v : BlocksView). v.list) c.self.view_is in
-    let at : vec_len c.self.inside.front ≡ c.args.self.now.at = ap (λ (v : BlocksView). v.at) c.self.view_is in
-    let long : length front ≡ vec_len c.self.inside.front = omega arith in
-    let old = all_spans (drop c.args.self.now.at c.args.self.now.list) in
-    let rest = view-behind front back c.args.self.now.list c.args.self.now.at list (omega (arith, at)) in
-    let parts : reverse new ≡ next ∷ reverse pop = ap reverse c.in-Some.ensures.items ∙ reverse-last pop next in
-    let left : next ++ all_spans (reverse pop) ≡ all_from page old = sym (ap all_spans parts) ∙ c.drop_until.ensures.spans ∙ ap (λ l. all_from page (all_spans l)) (sym rest) in
-    let now : drop (vec_len c.self.inside.front) (front ++ reverse pop) ≡ reverse pop = ap (λ (k : ℕ). drop k (front ++ reverse pop)) (sym long) ∙ behind_all front pop in
-    let filled = subst AreFilled parts (c.drop_until.ensures.filled (subst AreFilled rest c.requires.filled)) in
-    record {
-      taken = next;
-      parted = sym left ∙ ap (λ l. next ++ all_spans l) (sym now);
-      same = subst (λ (l : List Span). IsSame (out ++ l) c.append.new.out.items) c.spans.ensures c.append.ensures.same;
-      above = ap (λ l. ascend (page + 1) (all_spans l)) now ∙ above-next page next (all_spans (reverse pop)) filled.0.0 (ap (ascend page) left ∙ ascend-all_from page 0 old c.requires.ascending);
-      filled = subst AreFilled (sym now) filled.1;
-      before = ap (λ (k : ℕ). take k (front ++ reverse pop)) (sym long) ∙ before_all front pop ∙ sym (view-before front back c.args.self.now.list c.args.self.now.at list (omega (arith, at)));
-      at = at;
-    }
+    let e = c.first_behind-at.ensures in
+    let kept : mid ≡ take place bs ++ drop at bs = c.drop.ensures.items ∙ c.drain.ensures.kept ∙ ap (λ (v : BlocksView). take place v.list ++ drop at v.list) c.self.view_is in
+    let b = c.index_mut.result.now in
+    let cut = c.drop_until.new.self in
+    let lt : place < length mid = omega (arith, c.len.ensures, c.if-len-place.false) in
+    c.append.ensures.joined j (ap are_joined (c.spans.ensures ∙ next_is c) ∙ cut-joined bs mid place at page e.from e.inside c.requires.stacked.ascending c.requires.stacked.filled e.spans kept b cut lt c.index_mut.ensures.value e.above c.drop_until.ensures.spans k)
 
-pub returns-in-Some-clause-joined : goal.returns-in-Some-clause-joined
-returns-in-Some-clause-joined c = λ a b.
-    let front = c.self.inside.front.items in
-    let back = c.self.inside.back.items in
-    let new = c.drop_until.new.back.items in
-    let pop = c.pop.new.self.items in
-    let next = c.in-Some.next in
+pub returns-clause-dense : goal.returns-clause-dense
+returns-clause-dense c = λ h.
+    let bs = c.args.self.now.list in
+    let mid = c.drop.new.self.0.items in
+    let place = c.args.place in
+    let at = c.first_behind-at.result in
     let page = c.args.page in
-    let list : front ++ reverse back ≡ c.args.self.now.list = ap (λ (v : BlocksView). v.list) c.self.view_is in
-    let at : vec_len c.self.inside.front ≡ c.args.self.now.at = ap (λ (v : BlocksView). v.at) c.self.view_is in
-    let old = all_spans (drop c.args.self.now.at c.args.self.now.list) in
-    let rest = view-behind front back c.args.self.now.list c.args.self.now.at list (omega (arith, at)) in
-    let parts : reverse new ≡ next ∷ reverse pop = ap reverse c.in-Some.ensures.items ∙ reverse-last pop next in
-    let left : next ++ all_spans (reverse pop) ≡ all_from page old = sym (ap all_spans parts) ∙ c.drop_until.ensures.spans ∙ ap (λ l. all_from page (all_spans l)) (sym rest) in
-    c.append.ensures.joined a (ap are_joined c.spans.ensures ∙ joined-left next (all_spans (reverse pop)) (ap are_joined left ∙ joined-from page 0 old c.requires.ascending b))
+    let e = c.first_behind-at.ensures in
+    let kept : mid ≡ take place bs ++ drop at bs = c.drop.ensures.items ∙ c.drain.ensures.kept ∙ ap (λ (v : BlocksView). take place v.list ++ drop at v.list) c.self.view_is in
+    let b = c.index_mut.result.now in
+    let cut = c.drop_until.new.self in
+    let lt : place < length mid = omega (arith, c.len.ensures, c.if-len-place.false) in
+    subst AreDense (sym (rest_is c)) (dense-behind bs mid place at page e.from e.inside c.requires.stacked.ascending c.requires.stacked.filled e.spans kept b cut lt c.index_mut.ensures.value e.above c.drop_until.ensures.spans h)
 
-pub returns-in_default-clause-taken : goal.returns-in_default-clause-taken
-returns-in_default-clause-taken c =
-    let front = c.self.inside.front.items in
-    let back = c.self.inside.back.items in
-    let new = c.drop_until.new.back.items in
-    let pop = c.pop.new.self.items in
+pub returns-then-len-place-clause-dense : goal.returns-then-len-place-clause-dense
+returns-then-len-place-clause-dense c = λ h.
+    let bs = c.args.self.now.list in
+    let mid = c.drop.new.self.0.items in
+    let place = c.args.place in
+    let at = c.first_behind-at.result in
     let page = c.args.page in
-    let out = c.args.out.now.items in
-    let list : front ++ reverse back ≡ c.args.self.now.list = ap (λ (v : BlocksView). v.list) c.self.view_is in
-    let at : vec_len c.self.inside.front ≡ c.args.self.now.at = ap (λ (v : BlocksView). v.at) c.self.view_is in
-    let long : length front ≡ vec_len c.self.inside.front = omega arith in
-    let old = all_spans (drop c.args.self.now.at c.args.self.now.list) in
-    let rest = view-behind front back c.args.self.now.list c.args.self.now.at list (omega (arith, at)) in
-    let items : new ≡ pop = c.in_default.ensures.items ∙ append-nil pop in
-    let none : pop ≡ [] = no_items pop (omega (arith, c.in_default.ensures.cases.1)) in
-    let left : all_spans (reverse pop) ≡ all_from page old = ap (λ l. all_spans (reverse l)) (sym items) ∙ c.drop_until.ensures.spans ∙ ap (λ l. all_from page (all_spans l)) (sym rest) in
-    let now : drop (vec_len c.self.inside.front) (front ++ reverse pop) ≡ reverse pop = ap (λ (k : ℕ). drop k (front ++ reverse pop)) (sym long) ∙ behind_all front pop in
-    record {
-      taken = [];
-      parted = sym left ∙ ap all_spans (sym now);
-      same = subst (λ (l : List Span). IsSame l out) (sym (append-nil out)) (same-self out);
-      above = ap (λ l. ascend (page + 1) (all_spans l)) (now ∙ ap reverse none);
-      filled = subst AreFilled (sym (now ∙ ap reverse none)) tt;
-      before = ap (λ (k : ℕ). take k (front ++ reverse pop)) (sym long) ∙ before_all front pop ∙ sym (view-before front back c.args.self.now.list c.args.self.now.at list (omega (arith, at)));
-      at = at;
-    }
+    let e = c.first_behind-at.ensures in
+    let kept : mid ≡ take place bs ++ drop at bs = c.drop.ensures.items ∙ c.drain.ensures.kept ∙ ap (λ (v : BlocksView). take place v.list ++ drop at v.list) c.self.view_is in
+    end-dense bs mid place at page e.from e.inside c.requires.stacked.ascending c.requires.stacked.filled e.spans kept (omega (arith, c.len.ensures, c.if-len-place.true))

@@ -1,28 +1,22 @@
-use Rattle.std.proofs.Common.{◌∙◌, [], sym, ap, append-nil, arith, ℕ, List, subst}
-use Rattle.spans.specs.Spans.{Span, end_of, ascend}
-use Rattle.spans.specs.Taking.{IsTakenIn}
+use Rattle.std.proofs.Common.{◌≡◌, ◌∙◌, not, eqb, ap, rules, arith}
+use Rattle.std.proofs.lemmas.Fn.{filter_same}
+use Rattle.spans.specs.Spans.{Span, ascend}
 use Rattle.spans.specs.Search.{begins_at}
+use Rattle.spans.specs.Taking.{others}
+use Rattle.spans.proofs.Taking.{ascend-others}
 use Rattle.spans.proofs.spans.block.Block.take_out.Goals as goal
 
+left : (c : goal.After-self-1) → c.retain.new.self.items ≡ others c.args.value c.self.inside.spans.items
+left c = filter_same _ (λ (s : Span). not (eqb s.value c.args.value)) _ (search rules) _ _ c.retain.ensures.filtered
+
 pub invariant_of-self : goal.invariant_of-self
-invariant_of-self c =
-    let old = c.self.inside.spans.items in
-    let new = c.take_out.new.spans.items in
-    let taken = c.take_out.ensures.taken in
-    record {
-      begins = c.begin_of-self-inside.ensures.same ∙ ap begins_at c.deref.ensures.value;
-      in_range = c.begin_of-self-inside.ensures.in_range;
-      ascending = ap (ascend 0) (sym (append-nil new)) ∙ taken.ascends 0 [] (ap (ascend 0) (append-nil old) ∙ c.self.invariant.ascending);
-      short = omega (arith, taken.fewer, c.self.invariant.short);
-      places = omega (arith, c.take_out.ensures.capacity, c.self.invariant.places);
-    }
+invariant_of-self c = record {
+  begins = c.begin_of-self-inside.ensures.same ∙ ap begins_at c.deref.ensures.value;
+  in_range = c.begin_of-self-inside.ensures.in_range;
+  ascending = ap (ascend 0) (left c) ∙ ascend-others c.args.value 0 c.self.inside.spans.items c.self.invariant.ascending;
+  short = omega (arith, c.retain.ensures.bound, c.self.invariant.short);
+  places = omega (arith, c.retain.ensures.capacity, c.self.invariant.places);
+}
 
 pub returns : goal.returns
-returns c =
-    let run = c.args.run in
-    let value = c.args.value in
-    let old = c.self.inside.spans.items in
-    let new = c.take_out.new.spans.items in
-    let a : IsTakenIn run.first c.end.result value old new = subst (λ (k : ℕ). IsTakenIn k c.end.result value old new) (c.number.ensures.same ∙ c.first.ensures.same) c.take_out.ensures.taken in
-    let b : IsTakenIn run.first (end_of run) value old new = subst (λ (k : ℕ). IsTakenIn run.first k value old new) c.end.ensures.same a in
-    subst (λ (l : List Span). IsTakenIn run.first (end_of run) value l new) c.self.view_is b
+returns c = left c ∙ ap (others c.args.value) c.self.view_is
