@@ -1,5 +1,6 @@
 pub mod Counts
 pub mod Pages
+pub mod Alike
 pub mod Runs
 pub mod Access
 pub mod Manifest

@@ -1,5 +1,5 @@
 -- Pages of 4 KB by their numbers, and sets of pages as lists of runs (Arm ARM, VMSAv8-64, 4 KB granule).
-use Rattle.std.specs.Prelude.{ℕ, ◌+◌, ◌-◌, ◌/◌, ◌^◌, ◌<◌, ◌≤◌, Bool, true, ◌&&◌, ◌||◌, nat_le, nat_lt, List, [], ◌∷◌}
+use Rattle.std.specs.Prelude.{ℕ, ◌+◌, ◌-◌, ◌/◌, ◌^◌, ◌<◌, ◌≤◌, Bool, true, ◌&&◌, ◌||◌, nat_le, nat_lt, max, List, [], ◌∷◌}
 use Rattle.std.specs.List.{list_any, list_all}
 
 -- the pages first, first + 1, .., first + count - 1
@@ -31,6 +31,16 @@ are_apart a b = nat_le (a.first + a.count) b.first || nat_le (b.first + b.count)
 abbrev pub are_disjoint : List PageRun → Bool
 are_disjoint [] = true
 are_disjoint (run ∷ runs) = list_all (are_apart run) runs && are_disjoint runs
+
+-- the pages of a run and of one that begins in it, or where it ends
+abbrev pub with_run : PageRun → PageRun → PageRun
+with_run run next =
+    record { first = run.first; count = max (run.first + run.count) (next.first + next.count) - run.first }
+
+-- the runs stand upward: each begins where the one before it ends, or later, and the first at this page or later
+abbrev pub rise : ℕ → List PageRun → Bool
+rise end [] = true
+rise end (run ∷ runs) = nat_le end run.first && rise (run.first + run.count) runs
 
 -- the runs stand upward, and between each and the next there is a page
 abbrev pub rise_above : ℕ → List PageRun → Bool

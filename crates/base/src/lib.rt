@@ -4,9 +4,11 @@
 #![tactic(auto)]
 
 mod access;
+mod alike;
 mod attributes;
 mod handle;
 pub mod limits;
+mod order;
 mod page;
 mod partition;
 mod permissions;
@@ -15,8 +17,10 @@ mod status;
 mod transaction;
 
 pub use access::{Access, MemoryKind, Rights};
+pub use alike::run_until;
 pub use attributes::MemoryAttributes;
 pub use handle::Handle;
+pub use order::gather;
 pub use page::{Page, Run};
 pub use partition::{PartitionId, Version};
 pub use permissions::{DataAccess, InstructionAccess, Permissions};

@@ -1,5 +1,5 @@
-ghost use Rattle.std.specs.Prelude.{◌≡◌, ◌+◌, ◌^◌, ◌<◌, ◌≤◌};
-ghost use Rattle.base.specs.Pages.{in_run};
+ghost use Rattle.std.specs.Prelude.{◌≡◌, ◌+◌, ◌^◌, ◌<◌, ◌≤◌, nat_le, if◌then◌else◌};
+ghost use Rattle.base.specs.Pages.{in_run, with_run};
 
 use std::marker::Model;
 
@@ -113,5 +113,19 @@ impl Run {
         ensures { result ≡ in_run self page }
     {
         self.first.number() <= page.number() && page.number() < self.end()
+    }
+
+    /// Takes in the pages of a run that begins at no lower page, if it begins in this one or where this
+    /// one ends, and answers whether it does.
+    pub(crate) fn takes_in(&mut self, next: Run) -> bool
+        ensures whether { result ≡ nat_le next.first (self.old.first + self.old.count) }
+        ensures pages { self.new ≡ (if result then with_run self.old next else self.old) }
+    {
+        if self.end() < next.first().number() {
+            return false;
+        }
+        let end = self.end().max(next.end());
+        *self = Run::new(self.first, end - self.first.number());
+        true
     }
 }

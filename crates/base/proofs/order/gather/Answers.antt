@@ -1,0 +1,19 @@
+use Rattle.std.proofs.Common.{◌≡◌, ◌∙◌, length, sym, arith, rules}
+use Rattle.std.proofs.lemmas.List.Sorted.{list_any-IsPermutation, length_permutation, IsNonDecreasingBy-from_sort_by_key}
+use Rattle.base.specs.Pages.{PageRun, in_run}
+use Rattle.base.proofs.Gathering.{gathered}
+use Rattle.base.proofs.order.gather.Goals as goal
+
+pub returns : goal.returns
+returns c =
+    let sorted = c.sort_unstable_by_key.ensures in
+    let ordered = IsNonDecreasingBy-from_sort_by_key (λ (run : PageRun). run.first) _ sorted.sorted (λ a r q k. search rules) in
+    let all = gathered _ _ (λ x k b f' x' k' r. search rules) _ _ ordered c.dedup_by.ensures.filtered in
+    let long : length c.sort_unstable_by_key.new.self.items ≡ length c.args.runs.now.items = length_permutation _ _ sorted.permutation in
+    record {
+      ascending = all.rises;
+      same = λ n. all.same n ∙ sym (list_any-IsPermutation (λ (run : PageRun). in_run run n) _ _ sorted.permutation);
+      fewer = omega (arith, all.fewer, long);
+      some = λ h. all.some (omega (arith, h, long));
+      capacity = search rules;
+    }
