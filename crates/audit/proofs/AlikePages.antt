@@ -2,7 +2,7 @@
 use Rattle.std.proofs.Common.{◌≡◌, ℕ, suc, ◌+◌, ◌<◌, ◌≤◌, Bool, cond, List, [], ◌∷◌, length, get_or, Option, Some, None, find, refl, sym, ap, ap₂, ◌∙◌, arith, inl, inr}
 use Rattle.std.proofs.lemmas.Bool.{cases_lt}
 use Rattle.std.proofs.lemmas.List.{get_or_default}
-use Rattle.spans.specs.Alike.{IsAlikeUntil}
+use Rattle.base.specs.Alike.{IsAlikeUntil}
 use Rattle.audit.specs.Alike.{AreWhole}
 
 pub whole-none : {A : Type 0} (has : A → ℕ → Bool) (items : List A) (page limit : ℕ) → page < limit → AreWhole has items 0 page limit limit

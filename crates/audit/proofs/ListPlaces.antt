@@ -1,10 +1,10 @@
 -- Places in lists, by page: of the donation that has it, and of the live transaction that covers it.
-use Rattle.std.proofs.Common.{◌≡◌, ℕ, zero, suc, ◌+◌, ◌<◌, Bool, true, false, cond, List, [], ◌∷◌, ◌++◌, length, take, drop, get_or, Option, Some, None, refl, sym, ap, ◌∙◌, arith}
+use Rattle.std.proofs.Common.{◌≡◌, ℕ, zero, suc, ◌+◌, ◌<◌, Bool, true, false, ◌||◌, cond, List, [], ◌∷◌, ◌++◌, length, take, drop, get_or, Option, Some, None, refl, sym, ap, ◌∙◌, arith}
 use Rattle.std.specs.List.{slice_get, AllByRecursion}
 use Rattle.std.specs.Option.{option_or, option_map}
 use Rattle.std.proofs.lemmas.List.{take_more, drop_more}
 use Rattle.std.proofs.lemmas.List.Folds.{find-append}
-use Rattle.base.specs.Pages.{in_run, covers}
+use Rattle.base.specs.Pages.{PageRun, in_run, covers}
 use Rattle.base.specs.Ledger.{donation_at, live_at}
 use Rattle.base.specs.Transactions.{Gift, Donation, Live}
 use Rattle.base.proofs.MaximalRuns.{valued-first}
@@ -29,6 +29,14 @@ rest-of ds i d lt is = drop_more ds i d lt ∙ ap (λ (x : Donation). x ∷ drop
 value-of : (b : Bool) (d : Donation) (o : Option Donation) → option_map (λ (x : Donation). x.value) (cond b (Some d) o) ≡ cond b (Some d.value) (option_map (λ (x : Donation). x.value) o)
 value-of true d o = refl
 value-of false d o = refl
+
+or-false : (b : Bool) → (b || false) ≡ b
+or-false true = refl
+or-false false = refl
+
+-- one run alone covers its pages
+pub covers-one : (run : PageRun) (n : ℕ) → covers (run ∷ []) n ≡ in_run run n
+covers-one run n = or-false (in_run run n)
 
 -- with one donation more in front, a page that it has has its place
 pub donation-placed : (ds : List Donation) (i n : ℕ) (d : Donation) (old new : Option ℕ) → i < length ds → d ≡ get_or ds i d

@@ -2,8 +2,8 @@
 use Rattle.std.proofs.Common.{◌≡◌, ℕ, ◌+◌, ◌-◌, ◌*◌, ◌<◌, ◌≤◌, true, false, List, Some, None, refl, sym, ap, ◌∙◌, arith, inl, inr}
 use Rattle.std.proofs.lemmas.Bool.{cases_lt}
 use Rattle.base.specs.Access.{Access, View, is_same}
+use Rattle.base.specs.Alike.{IsAlikeUntil}
 use Rattle.base.specs.Need.{is_mixed, is_reached}
-use Rattle.spans.specs.Alike.{IsAlikeUntil}
 use Rattle.stage2.proofs.Counting.Needs.{alike-self, equal-first}
 use Rattle.stage2.proofs.Editing.Gigabyte.{not-reached}
 use Rattle.base.specs.Runs.{maximal_runs}

@@ -3,13 +3,12 @@
 ghost use Rattle.std.specs.Prelude.{◌≡◌, ◌<◌, ◌≤◌, ◌^◌, ℕ};
 ghost use Rattle.std.specs.List.{find};
 ghost use Rattle.std.specs.Option.{option_map};
+ghost use Rattle.base.specs.Alike.{IsAlikeUntil};
 ghost use Rattle.base.specs.Manifest as rows;
 ghost use Rattle.base.specs.Pages.{in_run};
-ghost use Rattle.spans.specs.Alike.{IsAlikeUntil};
 
-use base::Page;
+use base::{Page, run_until};
 use manifest::{Manifest, Region};
-use spans::run_until;
 
 /// The number of a page up to which all pages from a page on have its region. It is the end of that region, and
 /// behind a page outside all regions it is found by a look at each.

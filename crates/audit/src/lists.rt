@@ -47,7 +47,7 @@ fn places_of_donations(alloc: Global, donations: &[Donation]) -> Result<PageMap,
     while 0 < left {
         left -= 1;
         let donation = donations[left];
-        places.put(donation.pages, left as u64)?;
+        places.put_all(&[donation.pages], left as u64)?;
     }
     Ok(places)
 }

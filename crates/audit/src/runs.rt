@@ -5,8 +5,8 @@
 
 ghost use Rattle.std.specs.Prelude.{◌≡◌, ◌<◌, ◌≤◌, ◌+◌, ◌*◌, ◌/◌, ◌^◌, false, true, IfOk, OnOk};
 ghost use Rattle.base.specs.Access.{is_same};
+ghost use Rattle.base.specs.Alike.{IsAlikeUntil};
 ghost use Rattle.base.specs.Runs as maximal;
-ghost use Rattle.spans.specs.Alike.{IsAlikeUntil};
 ghost use Rattle.stage2.specs.Slot.{layout_of};
 ghost use Rattle.stage2.specs.Tables.{view_of};
 ghost use Rattle.audit.specs.Reads as reads;

@@ -1,10 +1,9 @@
 ghost use Rattle.std.specs.Prelude.{◌≡◌, false, ◌<◌, IfSome, IfNone};
+ghost use Rattle.base.specs.Alike.{IsAlikeUntil};
 ghost use Rattle.base.specs.Buffers as spec;
-ghost use Rattle.spans.specs.Alike.{IsAlikeUntil};
 
 use base::limits::{MOST_BUFFER_PAGES, PAGE_SIZE};
-use base::{Page, Run};
-use spans::run_until;
+use base::{Page, Run, run_until};
 use std::marker::Model;
 
 /// The TX and the RX buffer of a partition, and whether the partition holds RX (FF-A 1.1, "RX/TX

@@ -1,10 +1,10 @@
 ghost use Rattle.std.specs.Prelude.{◌≡◌, ◌<◌, ◌≤◌, ◌==◌, None, Some, length, map, true, false, IfOk, IfErr, OnOk, OnErr};
 ghost use Rattle.std.specs.List.{find};
 ghost use Rattle.std.specs.Option.{option_map};
+ghost use Rattle.base.specs.Alike.{IsAlikeUntil};
 ghost use Rattle.base.specs.Buffers as spec;
 ghost use Rattle.base.specs.Refusals.{NoneRefuses, RefusesWith};
 ghost use Rattle.mailbox.specs.Buffers.{has_buffer_at};
-ghost use Rattle.spans.specs.Alike.{IsAlikeUntil};
 
 use crate::pair::{Pair, named_pair};
 use arrayvec::ArrayVec;

@@ -3,13 +3,13 @@ use Rattle.std.proofs.Common.{◌≡◌, ℕ, zero, suc, ◌+◌, ◌-◌, ◌<�
 use Rattle.std.specs.Option.{option_map_or}
 use Rattle.std.proofs.lemmas.Bool.{cases_lt}
 use Rattle.base.specs.Access.{Access, View, is_rw, is_normal, is_same_bool, is_reached_with}
+use Rattle.base.specs.Alike.{IsAlikeUntil}
 use Rattle.base.specs.Ledger.{is_idle}
 use Rattle.base.specs.Buffers.{Pair, in_pair, is_buffer, pair_of}
 use Rattle.base.specs.State.{State, is_free, free_home, home_of, is_free_with, each_page, each_page_in}
 use Rattle.base.specs.Pages.{PageRun}
 use Rattle.rules.specs.Calls.Buffers.{may_be_buffer}
 use Rattle.rules.specs.Run.{IsReached}
-use Rattle.spans.specs.Alike.{IsAlikeUntil}
 use Rattle.ledger.specs.Free.{idle_home}
 use Rattle.spm.proofs.OwnBufferLemmas.{own_buffer}
 

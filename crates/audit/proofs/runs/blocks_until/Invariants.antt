@@ -1,5 +1,5 @@
 use Rattle.std.proofs.Common.{◌≡◌, ◌+◌, ◌-◌, ◌*◌, ◌/◌, true}
-use Rattle.spans.specs.Alike.{IsAlikeUntil}
+use Rattle.base.specs.Alike.{IsAlikeUntil}
 use Rattle.stage2.specs.Entries.{leaf_for}
 use Rattle.stage2.specs.Tables.{view_of}
 use Rattle.audit.proofs.runs.blocks_until.Given as goal

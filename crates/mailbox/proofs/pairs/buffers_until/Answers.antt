@@ -1,7 +1,7 @@
 use Rattle.std.proofs.Common.{◌||◌, refl, arith}
 use Rattle.base.specs.Buffers.{is_buffer}
 use Rattle.mailbox.specs.Buffers.{has_buffer_at}
-use Rattle.spans.proofs.Segments.{alike-more}
+use Rattle.base.proofs.Segments.{alike-more}
 use Rattle.mailbox.proofs.pairs.buffers_until.Goals as goal
 
 pub loop-mailbox-preserved : goal.loop-mailbox-preserved

@@ -1,6 +1,6 @@
 use Rattle.std.proofs.Common.{◌≤◌, ◌<◌, drop}
+use Rattle.base.specs.Alike.{IsAlikeUntil}
 use Rattle.base.specs.Buffers.{is_buffer}
-use Rattle.spans.specs.Alike.{IsAlikeUntil}
 use Rattle.mailbox.proofs.pairs.buffers_until.Given as goal
 
 -- where the mailboxes that are left leave pages alike, all do

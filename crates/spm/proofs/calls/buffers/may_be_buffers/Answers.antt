@@ -1,9 +1,9 @@
 use Rattle.std.proofs.Common.{◌+◌, ◌-◌, ◌<◌, false, sym, subst, ◌∙◌, arith}
 use Rattle.std.specs.Option.{option_map_or}
 use Rattle.base.specs.Access.{View, Access, is_rw}
+use Rattle.base.specs.Alike.{IsAlikeUntil}
 use Rattle.base.specs.State.{free_home}
 use Rattle.rules.specs.Calls.Buffers.{may_be_buffer}
-use Rattle.spans.specs.Alike.{IsAlikeUntil}
 use Rattle.spm.proofs.SegmentLemmas.{may_be_buffer-by, segment-holds, segment-fails}
 use Rattle.spm.proofs.calls.buffers.may_be_buffers.Goals as goal
 
