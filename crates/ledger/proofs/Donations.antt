@@ -1,8 +1,7 @@
 -- What the numbers of pages say, and what donations have left by them.
-use Rattle.std.proofs.Common.{◌≡◌, ℕ, zero, ◌+◌, ◌<◌, ◌≤◌, Bool, true, false, ◌||◌, cond, leb, ltb, List, [], ◌∷◌, ◌++◌, map, Option, Some, None, refl, sym, ap, ◌∙◌, arith}
+use Rattle.std.proofs.Common.{◌≡◌, ℕ, ◌+◌, ◌<◌, ◌≤◌, Bool, true, false, cond, List, [], ◌∷◌, ◌++◌, map, Option, Some, None, refl, sym, ap, ◌∙◌, arith}
 use Rattle.std.specs.Option.{option_map, option_and_then, option_map_or}
 use Rattle.std.proofs.lemmas.Bool.Decides.{nat_tests}
-use Rattle.base.specs.Access.{Access, View}
 use Rattle.base.specs.Manifest.{ManifestRows, RegionRow, region_at, granted_in}
 use Rattle.base.specs.Pages.{PageRun, covers, in_run}
 use Rattle.base.specs.Runs.{maximal_runs, end_of_all}

@@ -117,7 +117,7 @@ pub(crate) fn map_of_grants(alloc: Global, manifest: &Manifest) -> Result<PageMa
     let mut map = PageMap::new(alloc);
     for region in manifest.regions() {
         if let Some(granted) = granted_from(manifest, region.pages().first()) {
-            map.put(granted.run, granted.gift.number())?;
+            map.put_all(&[granted.run], granted.gift.number())?;
         }
     }
     Ok(map)

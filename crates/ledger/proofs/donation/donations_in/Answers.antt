@@ -1,7 +1,5 @@
-use Rattle.std.proofs.Common.{◌≡◌, ◌≤◌, sym, ◌∙◌, ap, arith}
+use Rattle.std.proofs.Common.{arith}
 use Rattle.base.specs.Runs.{maximal_runs}
-use Rattle.spans.specs.Spans.{value_at}
-use Rattle.ledger.specs.Gifts.{left_at}
 use Rattle.ledger.proofs.Donations.{left-more, left-all}
 use Rattle.ledger.proofs.donation.donations_in.Goals as goal
 
