@@ -120,22 +120,16 @@ fn donate(ledger: &mut Ledger, alloc: Global, run: Run) -> Result<(), OutOfMemor
     };
     let terms = Box::new(alloc, terms)?;
     open(ledger, Live { handle, terms })?;
-    if let Some(transaction) = ledger.find(handle) {
-        let runs = transaction.terms.ranges.len();
-        ledger.ready_to_retrieve(runs)?;
-        ledger.retrieve(PartitionId::new(0x8002), handle, data);
-    }
-    Ok(())
+    ledger.retrieve(PartitionId::new(0x8002), handle, data)
 }
 
 /// Opens a transaction with a handle of its sender's, where none is live.
 fn open(ledger: &mut Ledger, transaction: Live) -> Result<(), OutOfMemory>
     ensures { OnOk result (ledger.new.manifest ≡ ledger.old.manifest) }
 {
-    ledger.ready_to_open(transaction.terms.ranges.len())?;
     let named = transaction.handle.high() == u32::from(transaction.terms.sender.number());
     if named && ledger.live().is_empty() {
-        ledger.open(transaction);
+        ledger.open(transaction)?;
     }
     Ok(())
 }

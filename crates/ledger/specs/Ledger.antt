@@ -4,35 +4,12 @@ use Rattle.std.specs.List.{find}
 use Rattle.base.specs.Manifest.{ManifestRows}
 use Rattle.base.specs.Handles.{high_half}
 use Rattle.base.specs.Transactions.{Live, Donation}
-use Rattle.spans.specs.Spans.{room_for}
-
--- for how many more live transactions there is room, and for how many intervals of owners and of live transactions
-pub record Room : Type 0 where
-  pub live : ℕ
-  pub given : ℕ
-  pub shared : ℕ
 
 -- the manifest, what donations have left, and the live transactions in ascending order of their handles
 pub record LedgerView : Type 0 where
   pub manifest : ManifestRows
   pub donations : List Donation
   pub live : List Live
-  pub room : Room
-
--- there is room for one more live transaction of so many runs
-pub record IsReadyToOpen (runs : ℕ) (room : Room) : Type 0 where
-  pub live : 1 ≤ room.live
-  pub shared : room_for runs ≤ room.shared
-
--- there is room for the owners of the pages of so many runs
-abbrev pub IsReadyToGive : ℕ → Room → Type 0
-IsReadyToGive runs room = room_for runs ≤ room.given
-
--- the two differ in their room alone
-pub record IsSameButRoom (old new : LedgerView) : Type 0 where
-  pub manifest : new.manifest ≡ old.manifest
-  pub donations : new.donations ≡ old.donations
-  pub live : new.live ≡ old.live
 
 -- the live transaction of a handle
 abbrev pub found : List Live → ℕ → Option Live

@@ -1,10 +1,9 @@
-ghost use Rattle.std.specs.Prelude.{◌≡◌, ◌==◌, [], ◌≤◌, ◌<◌, ◌^◌, ℕ, None, Some, true, is_some, length, filter, slice_index_or, vec_len, if◌then◌else◌, IsOk, IfOk, OnOk, OnErr};
+ghost use Rattle.std.specs.Prelude.{◌≡◌, ◌==◌, [], ◌≤◌, ◌<◌, ◌^◌, ℕ, None, Some, true, is_some, length, filter, slice_index_or, vec_len, if◌then◌else◌, IfOk, OnOk, OnErr};
 ghost use Rattle.std.specs.List.{remove};
 ghost use Rattle.std.specs.Option.{option_map};
 ghost use Rattle.base.specs.Pages.{covers};
 ghost use Rattle.base.specs.Ledger as rules;
 ghost use Rattle.base.specs.Manifest as rows;
-ghost use Rattle.base.specs.declared.transaction.Kind.TheVariants.{Donate};
 ghost use Rattle.spans.specs.Spans.{value_at};
 ghost use Rattle.spans.specs.Taking.{has_number};
 ghost use Rattle.ledger.specs.Ledger as spec;
@@ -45,7 +44,6 @@ pub struct Ledger {
 }
 
 impl Model for Ledger {
-    ghost use Rattle.std.specs.Prelude.{◌-◌, vec_len, vec_capacity};
     ghost use Rattle.ledger.specs.Gifts.{left};
     ghost use Rattle.ledger.specs.Ledger.{LedgerView};
     ghost use Rattle.ledger.specs.Intervals.{IsKept};
@@ -56,11 +54,6 @@ impl Model for Ledger {
       manifest = l.manifest;
       donations = left l.manifest l.given.spans;
       live = l.live.items;
-      room = record {
-        live = vec_capacity l.live - vec_len l.live;
-        given = l.given.room;
-        shared = l.shared.room;
-      };
     } };
 
     ghost invariant = { λ l. IsKept l.manifest (left l.manifest l.given.spans) l.live.items l.given.spans l.shared.spans };
@@ -177,53 +170,17 @@ impl Ledger {
         live::live_of(&self.live, p)
     }
 
-    /// Makes room for one more live transaction of so many runs, wherever they stand. A refusal changes nothing but
-    /// the room.
-    pub fn ready_to_open(&mut self, runs: usize) -> Result<(), OutOfMemory>
-        ensures same { spec.IsSameButRoom self.old self.new }
-        ensures room { OnOk result (spec.IsReadyToOpen runs self.new.room) }
-    {
-        self.live.reserve(1)?;
-        self.shared.ready(runs)?;
-        Ok(())
-    }
-
-    /// Makes room for the retrieval of one donation of so many runs, wherever they stand. That of a lend or a share
-    /// needs none. A refusal changes nothing but the room.
-    pub fn ready_to_retrieve(&mut self, runs: usize) -> Result<(), OutOfMemory>
-        ensures same { spec.IsSameButRoom self.old self.new }
-        ensures room { OnOk result (spec.IsReadyToGive runs self.new.room) }
-    {
-        self.given.ready(runs)?;
-        Ok(())
-    }
-
-    /// Adds a live transaction, for which `ready_to_open` has made room. This takes no memory.
-    pub fn open(&mut self, transaction: Live)
-        requires ready { spec.IsReadyToOpen (length transaction.ranges) self.old.room }
+    /// Adds a live transaction, and makes room for it where its pages stand. Where there is no memory for that, the
+    /// answer is `OutOfMemory`, and nothing has changed.
+    pub fn open(&mut self, transaction: Live) -> Result<(), OutOfMemory>
         requires new { spec.found self.old.live transaction.handle ≡ None }
         requires named { spec.NamesItsSender transaction }
         requires apart { (n : ℕ) → covers transaction.ranges n ≡ true
             → rules.live_at self.old.live n ≡ None }
         ensures manifest { self.new.manifest ≡ self.old.manifest }
         ensures donations { self.new.donations ≡ self.old.donations }
-        ensures live { self.new.live ≡ changes.with_live transaction self.old.live }
-    {
-        let is_added = self.try_open(transaction).is_ok();
-        prove!(is_added);
-    }
-
-    /// Adds a live transaction, and makes room for it where its pages stand. A refusal changes nothing.
-    pub fn try_open(&mut self, transaction: Live) -> Result<(), OutOfMemory>
-        requires new { spec.found self.old.live transaction.handle ≡ None }
-        requires named { spec.NamesItsSender transaction }
-        requires apart { (n : ℕ) → covers transaction.ranges n ≡ true
-            → rules.live_at self.old.live n ≡ None }
-        ensures manifest { self.new.manifest ≡ self.old.manifest }
-        ensures donations { self.new.donations ≡ self.old.donations }
-        ensures ok { OnOk result (self.new.live ≡ changes.with_live transaction self.old.live) }
-        ensures err { OnErr result (self.new.live ≡ self.old.live) }
-        ensures at_once { spec.IsReadyToOpen (length transaction.ranges) self.old.room → IsOk result }
+        ensures live { OnOk result (self.new.live ≡ changes.with_live transaction self.old.live) }
+        ensures err { OnErr result (self.new ≡ self.old) }
     {
         let number = transaction.handle.bits();
         self.shared.put_all(&transaction.terms.ranges, number)?;
@@ -257,7 +214,7 @@ impl Ledger {
         Some(take_at(&mut self.live, &mut self.shared, place))
     }
 
-    /// Ends the transaction of a handle. This takes no memory, and needs no room.
+    /// Ends the transaction of a handle. This takes no memory.
     pub fn close(&mut self, handle: Handle)
         ensures manifest { self.new.manifest ≡ self.old.manifest }
         ensures donations { self.new.donations ≡ self.old.donations }
@@ -275,24 +232,10 @@ impl Ledger {
         self.set_retrieval(p, handle, None);
     }
 
-    /// The receiver has retrieved the transaction of a handle, with this access: a donation, for which
-    /// `ready_to_retrieve` has made room, is completed and ends. This takes no memory.
-    pub fn retrieve(&mut self, p: PartitionId, handle: Handle, access: Access)
-        requires { (t : _) → spec.found self.old.live handle ≡ Some t → t.kind ≡ Donate
-            → spec.IsReadyToGive (length t.ranges) self.old.room }
-        ensures manifest { self.new.manifest ≡ self.old.manifest }
-        ensures donations { self.new.donations ≡ changes.donations_after self.old.manifest p access
-            (spec.found self.old.live handle) self.old.donations }
-        ensures live { self.new.live
-            ≡ changes.live_after handle p access (spec.found self.old.live handle) self.old.live }
-    {
-        let is_done = self.try_retrieve(p, handle, access).is_ok();
-        prove!(is_done);
-    }
-
     /// The receiver has retrieved the transaction of a handle, with this access: a donation is completed and ends,
-    /// and takes memory where its pages stand. A refusal changes nothing.
-    pub fn try_retrieve(
+    /// and takes memory where its pages stand; a lend or a share takes none. Where there is none for it, the answer
+    /// is `OutOfMemory`, and nothing has changed. Without such a transaction nothing changes either.
+    pub fn retrieve(
         &mut self,
         p: PartitionId,
         handle: Handle,
@@ -303,9 +246,7 @@ impl Ledger {
             (spec.found self.old.live handle) self.old.donations) }
         ensures live { OnOk result (self.new.live
             ≡ changes.live_after handle p access (spec.found self.old.live handle) self.old.live) }
-        ensures err { OnErr result (spec.IsSameButRoom self.old self.new) }
-        ensures at_once { ((t : _) → spec.found self.old.live handle ≡ Some t → t.kind ≡ Donate
-            → spec.IsReadyToGive (length t.ranges) self.old.room) → IsOk result }
+        ensures err { OnErr result (self.new ≡ self.old) }
     {
         let Some(transaction) = self.find(handle) else {
             return Ok(());
@@ -319,7 +260,7 @@ impl Ledger {
         }
     }
 
-    /// The donation of a handle is completed. A refusal changes nothing.
+    /// The donation of a handle is completed. `OutOfMemory` leaves the ledger as it was.
     fn complete(
         &mut self,
         p: PartitionId,
@@ -330,9 +271,7 @@ impl Ledger {
         ensures donations { OnOk result ((t : _) → spec.found self.old.live handle ≡ Some t → self.new.donations
             ≡ rules.with_donation_of self.old.manifest t.ranges (changes.gift p access) self.old.donations) }
         ensures live { OnOk result (self.new.live ≡ changes.without handle self.old.live) }
-        ensures err { OnErr result (spec.IsSameButRoom self.old self.new) }
-        ensures at_once { ((t : _) → spec.found self.old.live handle ≡ Some t
-            → spec.IsReadyToGive (length t.ranges) self.old.room) → IsOk result }
+        ensures err { OnErr result (self.new ≡ self.old) }
     {
         let Some(place) = place_of(&self.live, handle) else {
             return Ok(());
@@ -354,7 +293,6 @@ fn take_at(live: &mut Vec<Live>, shared: &mut PageMap, place: usize) -> Live
     ensures live { live.new.items ≡ remove live.old.items place }
     ensures shared { (n : ℕ) → value_at shared.new.spans n
         ≡ (if covers result.ranges n then None else value_at shared.old.spans n) }
-    ensures room { shared.old.room ≤ shared.new.room }
 {
     let transaction = live.remove(place);
     shared.take_out(&transaction.terms.ranges, transaction.handle.bits());

@@ -19,12 +19,6 @@ const REGION: u32 = 0x8_0000;
 
 const REGION_END: u32 = 0x8_0400;
 
-/// Where the regions begin and end.
-const EDGES: [u32; 14] = [
-    0x9000, 0x9001, REGION, REGION_END, 0x9_0000, 0x9_0002, 0xa_0000, 0xa_0200, 0xb_0000, 0xb_0002,
-    0xc_0000, 0xc_0002, 0xd_0000, 0xd_0001,
-];
-
 fn common_ledger(alloc: Global) -> Result<Ledger, OutOfMemory> {
     let manifest = common_manifest(alloc)?;
     Ledger::new(alloc, manifest)
@@ -74,10 +68,9 @@ fn transaction(
 
 /// Opens a transaction with a handle of its sender's, where none is live.
 fn open(ledger: &mut Ledger, transaction: Live) -> Result<(), OutOfMemory> {
-    ledger.ready_to_open(transaction.terms.ranges.len())?;
     let named = transaction.handle.high() == u32::from(transaction.terms.sender.number());
     if named && ledger.live().is_empty() {
-        ledger.open(transaction);
+        ledger.open(transaction)?;
     }
     Ok(())
 }
@@ -94,7 +87,7 @@ fn open_beside(
     let named = transaction.handle.high() == u32::from(transaction.terms.sender.number());
     let is_new = ledger.find(transaction.handle).is_none();
     if named && is_new && is_apart(ledger, run) {
-        ledger.try_open(transaction)?;
+        ledger.open(transaction)?;
     }
     Ok(())
 }
@@ -105,20 +98,6 @@ fn is_apart(ledger: &Ledger, run: Run) -> bool
 {
     let segment = ledger.segment(run.first());
     !segment.is_live && run.end() <= segment.end
-}
-
-fn retrieve(
-    ledger: &mut Ledger,
-    receiver: u16,
-    handle: Handle,
-    access: Access,
-) -> Result<(), OutOfMemory> {
-    if let Some(transaction) = ledger.find(handle) {
-        let runs = transaction.terms.ranges.len();
-        ledger.ready_to_retrieve(runs)?;
-        ledger.retrieve(PartitionId::new(receiver), handle, access);
-    }
-    Ok(())
 }
 
 /// What the first receiver has retrieved.
@@ -160,24 +139,7 @@ fn donate(
 ) -> Result<(), OutOfMemory> {
     let [giver, taker] = parties;
     open(ledger, donation(alloc, parties, run)?)?;
-    retrieve(ledger, taker, handle_of(giver), access)
-}
-
-/// As `donate`, where each call makes the room that it needs.
-fn try_donate(
-    ledger: &mut Ledger,
-    alloc: Global,
-    parties: [u16; 2],
-    run: Run,
-    access: Access,
-) -> Result<(), OutOfMemory> {
-    let [giver, taker] = parties;
-    let donation = donation(alloc, parties, run)?;
-    let named = donation.handle.high() == u32::from(donation.terms.sender.number());
-    if named && ledger.live().is_empty() {
-        ledger.try_open(donation)?;
-    }
-    ledger.try_retrieve(PartitionId::new(taker), handle_of(giver), access)
+    ledger.retrieve(PartitionId::new(taker), handle_of(giver), access)
 }
 
 /// A donation from the first of the parties to the second.
@@ -221,79 +183,6 @@ impl Draw {
             run: run(rt, first, 1 + self.below(40)),
             access: Access::normal(Rights::Rw, self.below(2) == 0),
         }
-    }
-}
-
-/// A ledger whose room is made before each call, and one whose calls make it.
-#[derive(Drop)]
-struct Pair {
-    ready: Ledger,
-    trying: Ledger,
-}
-
-impl Pair {
-    fn new(alloc: Global) -> Result<Self, OutOfMemory> {
-        Ok(Pair {
-            ready: common_ledger(alloc)?,
-            trying: common_ledger(alloc)?,
-        })
-    }
-
-    fn donate(&mut self, alloc: Global, drawn: Drawn) -> Result<(), OutOfMemory> {
-        let Drawn {
-            parties,
-            run,
-            access,
-        } = drawn;
-        donate(&mut self.ready, alloc, parties, run, access)?;
-        try_donate(&mut self.trying, alloc, parties, run, access)
-    }
-
-    /// Both say the same of a page.
-    fn compare_at(&self, rt: &impl Abort, number: u32) {
-        let page = run(rt, number, 1).first();
-        let (ready, trying) = (&self.ready, &self.trying);
-        assert_eq!(rt; ready.segment(page), trying.segment(page), "{number:x}");
-        assert_eq!(rt; ready.owner(page), trying.owner(page), "{number:x}");
-        assert_eq!(rt; ready.home(page), trying.home(page), "{number:x}");
-        assert_eq!(rt;
-            ready.given_until(page),
-            trying.given_until(page),
-            "{number:x}"
-        );
-    }
-
-    /// Both say the same of the pages before and behind where a run or a region begins or ends.
-    fn compare_around(&self, rt: &impl Abort, number: u32) {
-        for page in number.saturating_sub(2)..number.saturating_add(2) {
-            self.compare_at(rt, page);
-        }
-    }
-
-    fn compare_around_run(&self, rt: &impl Abort, run: Run) {
-        self.compare_around(rt, run.first().number());
-        self.compare_around(rt, run.end());
-    }
-
-    fn compare_around_regions(&self, rt: &impl Abort) {
-        for edge in EDGES {
-            self.compare_around(rt, edge);
-        }
-    }
-
-    /// Drawn donations around where regions begin and end, and the runs of them.
-    fn donate_drawn(&mut self, rt: &impl Abort, alloc: Global) -> Result<Vec<Run>, OutOfMemory> {
-        let mut draw = Draw { state: 1 };
-        let mut runs = Vec::new(alloc);
-        for _ in 0..40 {
-            let edge = EDGES[draw.below(14) as usize];
-            let drawn = draw.donation(rt, edge);
-            let run = drawn.run;
-            self.donate(alloc, drawn)?;
-            self.compare_around_run(rt, run);
-            runs.push(run)?;
-        }
-        Ok(runs)
     }
 }
 
@@ -438,7 +327,7 @@ fn lend_and_share(rt: &impl Abort, alloc: Global, ledger: &mut Ledger) -> Result
 fn retrieve_and_relinquish(rt: &impl Abort, ledger: &mut Ledger) -> Result<(), OutOfMemory> {
     let handle = handle_of(FIRST);
     let data = Access::normal(Rights::Rw, false);
-    retrieve(ledger, SECOND, handle, data)?;
+    ledger.retrieve(PartitionId::new(SECOND), handle, data)?;
     assert_eq!(rt; retrieved(ledger, handle), Some(data));
     ledger.relinquish(PartitionId::new(SECOND), handle);
     assert_eq!(rt; retrieved(ledger, handle), None);
@@ -511,20 +400,6 @@ fn page_that_came_back_is_as_those_that_stayed(rt: HostRuntime) -> Result<(), Fa
     donate(&mut ledger, rt.alloc(), [SECOND, FIRST], page, code)?;
     segments(&rt, &ledger, &[(0x8_0000, false, 0x8_0400)]);
     has_left(&rt, rt.alloc(), &ledger, &[])?;
-    Ok(())
-}
-
-#[test]
-fn both_ways_of_a_donation_come_to_the_same(rt: HostRuntime) -> Result<(), Fail> {
-    let mut pair = Pair::new(rt.alloc())?;
-    let runs = pair.donate_drawn(&rt, rt.alloc())?;
-    for run in &runs {
-        pair.compare_around_run(&rt, *run);
-    }
-    pair.compare_around_regions(&rt);
-    let left = pair.ready.donations(rt.alloc())?;
-    assert!(rt; left == pair.trying.donations(rt.alloc())?);
-    assert!(rt; !left.is_empty());
     Ok(())
 }
 

@@ -15,7 +15,7 @@ use Rattle.base.specs.Ledger.{with_donation_of}
 use Rattle.base.specs.Transactions.{Live, Donation, with_retrieval_of, without, gift}
 use Rattle.base.specs.Manifest.{ManifestRows}
 use Rattle.base.specs.State.{State, PartitionState}
-use Rattle.ledger.specs.Ledger.{found, LedgerView, IsSameButRoom}
+use Rattle.ledger.specs.Ledger.{found, LedgerView}
 use Rattle.ledger.specs.Changes.{donations_after_kind, donations_after, live_after_kind, live_after}
 use Rattle.wire.specs.Replies.{ReplyWords, success, error}
 use Rattle.wire.specs.declared.request.Transfer.{Transfer}

@@ -347,7 +347,7 @@ pub(crate) fn complete(
     ensures ok { OnOk result (state.new ≡ after_retrieval state.old p handle access) }
     ensures err { OnErr result (state.new ≡ state.old) }
 {
-    state.ledger.try_retrieve(p, handle, access)?;
+    state.ledger.retrieve(p, handle, access)?;
     let _ = state.pairs.fill(p);
     Ok(())
 }

@@ -355,7 +355,7 @@ pub(crate) fn open(state: &mut State, transaction: Live) -> Result<(), OutOfMemo
     ensures err { OnErr result (state.new ≡ state.old) }
 {
     let p = transaction.terms.sender;
-    state.ledger.try_open(transaction)?;
+    state.ledger.open(transaction)?;
     count_send(&mut state.partitions, p);
     Ok(())
 }

@@ -1,8 +1,7 @@
-use Rattle.std.proofs.Common.{◌≡◌, List, Some, None, IsOk, length, refl, sym, ap, subst, ◌∙◌, arith, rules}
+use Rattle.std.proofs.Common.{◌≡◌, List, Some, None, refl, sym, ap, subst, ◌∙◌}
 use Rattle.base.specs.Ledger.{with_donation_of}
-use Rattle.base.specs.Manifest.{ManifestRows}
 use Rattle.base.specs.Pages.{PageRun}
-use Rattle.base.specs.Transactions.{Live, Donation, AreAscending, gift}
+use Rattle.base.specs.Transactions.{Live, AreAscending, gift}
 use Rattle.ledger.specs.declared.live.Terms.{Terms}
 use Rattle.ledger.specs.Gifts.{left}
 use Rattle.ledger.specs.Ledger.{LedgerView, found}
@@ -28,21 +27,6 @@ returns-in_default-clause-live c =
     let lives : c.self.inside.live.items ≡ c.args.self.now.live = ap (λ (l : LedgerView). l.live) c.self.view_is in
     let none = HasNone-in c.args.self.now.live c.deref.result.now c.args.handle c.place_of.result (c.deref.ensures.value ∙ lives) c.place_of.ensures c.in_default.is in
     sym none.removed
-
-pub returns-in_err-put_all-clause-at_once : goal.returns-in_err-put_all-clause-at_once
-returns-in_err-put_all-clause-at_once c = λ ready.
-    let old = c.self.inside in
-    let h = c.args.handle in
-    let i = c.in-Some.place in
-    let lives : old.live.items ≡ c.args.self.now.live = ap (λ (l : LedgerView). l.live) c.self.view_is in
-    let place = IsPlace-in old.live.items c.deref.result.now h i c.place_of.result c.deref.ensures.value c.place_of.ensures c.in-Some.is in
-    let t = c.index.result.now in
-    let is : found old.live.items h ≡ Some t = found_at old.live.items h i t place c.index.ensures in
-    let room = ready t (ap (λ (l : List Live). found l h) (sym lives) ∙ is) in
-    let left = ap (λ (l : LedgerView). l.room.given) c.self.view_is in
-    let runs = ap length (c.deref-3.ensures.value ∙ ap (λ (t : Terms). t.ranges.items) c.deref-2.ensures ∙ ap (λ (t : Live). t.ranges) c.behind-self.view_is) in
-    let ok : IsOk c.put_all.result = c.put_all.ensures.at_once (omega (arith, room, left, runs)) in
-    search rules
 
 pub take_at-requires-clause-pages : goal.take_at-requires-clause-pages
 take_at-requires-clause-pages c =

@@ -7,7 +7,7 @@ use Rattle.ledger.specs.Ledger.{LedgerView, found}
 use Rattle.ledger.specs.Changes.{with_live}
 use Rattle.ledger.proofs.Kept.{IsKept-open, has_put}
 use Rattle.ledger.proofs.Transactions.{ascending}
-use Rattle.ledger.proofs.ledger.Ledger.try_open.Goals as goal
+use Rattle.ledger.proofs.ledger.Ledger.open.Goals as goal
 
 pub take_out-requires : goal.take_out-requires
 take_out-requires c =
