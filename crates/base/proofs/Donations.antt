@@ -1,10 +1,10 @@
 -- What donations leave: who owns a page after one, and what the page is to it.
-use Rattle.std.proofs.Common.{◌≡◌, ℕ, ◌≤◌, Bool, true, false, ◌&&◌, cond, eqb, List, ◌++◌, map, Option, Some, None, refl, sym, ap, ◌∙◌, arith}
+use Rattle.std.proofs.Common.{◌≡◌, ℕ, ◌≤◌, Bool, true, false, ◌&&◌, cond, eqb, List, ◌++◌, map, Option, Some, None, refl, ap, ◌∙◌, arith}
 use Rattle.std.specs.Option.{option_map, option_and_then, option_map_or}
 use Rattle.std.proofs.lemmas.Bool.{eqb-true, eq-eqb}
 use Rattle.base.specs.Access.{Access, is_same, is_reached_with}
 use Rattle.base.specs.Pages.{PageRun, covers}
-use Rattle.base.specs.Runs.{ValuedRun, maximal_runs, end_of_all}
+use Rattle.base.specs.Runs.{end_of_all}
 use Rattle.base.specs.Manifest.{ManifestRows, RegionRow, region_at, granted_in, is_sharable}
 use Rattle.base.specs.Transactions.{Gift, Donation, gift, is_same_gift}
 use Rattle.base.specs.Ledger.{donation_at, is_granted_in, left_of, left_after, with_donation_of}

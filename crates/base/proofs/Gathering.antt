@@ -4,24 +4,35 @@ use Rattle.std.specs.List.{AllAdjacentBelow}
 use Rattle.std.specs.List.Retain.{DedupsFrom, IsDeduped}
 use Rattle.std.specs.List.Sorted.{IsNonDecreasingBy}
 use Rattle.std.specs.Bool.{MatchBool}
-use Rattle.std.proofs.lemmas.Bool.{leb-true}
+use Rattle.std.proofs.lemmas.Bool.{and_parts, leb-true, ltb-true}
 use Rattle.std.proofs.lemmas.Bool.Decides.{nat_tests}
-use Rattle.base.specs.Pages.{PageRun, in_run, covers, with_run, rise}
+use Rattle.base.specs.Pages.{PageRun, in_run, covers, with_run, rise, rise_above, are_normal}
 use Rattle.base.proofs.Joining.{end_of}
 
 -- ---- runs that lie apart
 
--- where each begins at the end of the one before it or later, they rise
-rise_from_adjacent : (e : ℕ) (runs : List PageRun) → AllAdjacentBelow (λ run next. true ≡ leb (end_of run) next.first) runs (length runs) → ((d : PageRun) → 0 < length runs → e ≤ (get_or runs 0 d).first) → rise e runs ≡ true
-rise_from_adjacent e [] h first = refl
-rise_from_adjacent e (run ∷ []) h first = let le : leb e run.first ≡ true = grind (arith, nat_tests, first run (omega arith)) in rw le refl
-rise_from_adjacent e (run ∷ next ∷ runs) h first =
-    let le : leb e run.first ≡ true = grind (arith, nat_tests, first run (omega arith)) in
-    let on : leb (end_of run) next.first ≡ true = sym (h 0 run (omega arith)) in
-    rw le (rise_from_adjacent (end_of run) (next ∷ runs) (λ k d lt. let e : suc k + 1 ≡ suc (k + 1) = omega arith in subst (λ (i : ℕ). true ≡ leb (end_of (get_or (next ∷ runs) k d)) (get_or (run ∷ next ∷ runs) i d).first) e (h (suc k) d (omega arith))) (λ d some. leb-true _ _ on))
+-- where there is a page between each and the next, they rise so
+above_from_adjacent : (run : PageRun) (runs : List PageRun) → AllAdjacentBelow (λ run next. true ≡ ltb (end_of run) next.first) (run ∷ runs) (length (run ∷ runs)) → rise_above (end_of run) runs ≡ true
+above_from_adjacent run [] h = refl
+above_from_adjacent run (next ∷ runs) h =
+    let on : ltb (end_of run) next.first ≡ true = sym (h 0 run (omega arith)) in
+    rw on (above_from_adjacent next runs (λ k d lt. let e : suc k + 1 ≡ suc (k + 1) = omega arith in subst (λ (i : ℕ). true ≡ ltb (end_of (get_or (next ∷ runs) k d)) (get_or (run ∷ next ∷ runs) i d).first) e (h (suc k) d (omega arith))))
 
-pub rise_from_apart : (runs : List PageRun) → AllAdjacentBelow (λ run next. true ≡ ltb (end_of run) next.first) runs (length runs) → rise 0 runs ≡ true
-rise_from_apart runs h = rise_from_adjacent 0 runs (λ k d lt. let a = h k d lt in sym (grind (arith, nat_tests))) (λ d some. omega arith)
+pub normal_from_apart : (runs : List PageRun) → AllAdjacentBelow (λ run next. true ≡ ltb (end_of run) next.first) runs (length runs) → are_normal runs ≡ true
+normal_from_apart [] h = refl
+normal_from_apart (run ∷ runs) h = above_from_adjacent run runs h
+
+rise_from_above : (e : ℕ) (runs : List PageRun) → rise_above e runs ≡ true → rise e runs ≡ true
+rise_from_above e [] h = refl
+rise_from_above e (run ∷ runs) h =
+    let parts = and_parts (ltb e run.first) (rise_above (end_of run) runs) h in
+    let here : leb e run.first ≡ true = (let lt = ltb-true _ _ parts.0 in grind (arith, nat_tests)) in
+    rw here (rise_from_above (end_of run) runs parts.1)
+
+-- maximal runs rise
+pub rise_from_normal : (runs : List PageRun) → are_normal runs ≡ true → rise 0 runs ≡ true
+rise_from_normal [] h = refl
+rise_from_normal (run ∷ runs) h = let here : leb 0 run.first ≡ true = grind (arith, nat_tests) in rw here (rise_from_above (end_of run) runs h)
 
 -- ---- runs in the order of their first pages
 
@@ -38,12 +49,15 @@ ordered_without run next now runs same h zero (suc j) d le lt = let a = h 0 (suc
 ordered_without run next now runs same h (suc i) zero d le lt = absurd (omega arith)
 ordered_without run next now runs same h (suc i) (suc j) d le lt = h (suc (suc i)) (suc (suc j)) d (omega arith) (omega arith)
 
--- the new runs rise from a page on, have the pages of the old ones, and are no more than these; there is one where there was one
-pub record IsGathered (from : ℕ) (old new : List PageRun) : Type 0 where
-  pub rises : rise from new ≡ true
+-- the new runs are maximal and begin at a page, have the pages of the old ones, and are no more than these
+pub record IsGathered (first : ℕ) (old new : List PageRun) : Type 0 where
+  pub kept : PageRun
+  pub rest : List PageRun
+  pub is : new ≡ kept ∷ rest
+  pub begins : kept.first ≡ first
+  pub rises : rise_above (end_of kept) rest ≡ true
   pub same : (n : ℕ) → covers new n ≡ covers old n
   pub fewer : length new ≤ length old
-  pub some : 0 < length old → 0 < length new
 
 in_both : (run next : PageRun) (n : ℕ) → run.first ≤ next.first → next.first ≤ end_of run → in_run (with_run run next) n ≡ (in_run run n || in_run next n)
 in_both run next n from to = grind (arith, nat_tests)
@@ -52,55 +66,81 @@ or_assoc : (a b c : Bool) → ((a || b) || c) ≡ (a || (b || c))
 or_assoc true b c = refl
 or_assoc false b c = refl
 
-gathered_as_one : (from : ℕ) (run next : PageRun) (runs new : List PageRun) → run.first ≤ next.first → next.first ≤ end_of run → IsGathered from (with_run run next ∷ runs) new → IsGathered from (run ∷ next ∷ runs) new
-gathered_as_one from run next runs new le to g = record {
+gathered_as_one : (run next : PageRun) (runs new : List PageRun) → run.first ≤ next.first → next.first ≤ end_of run → IsGathered run.first (with_run run next ∷ runs) new → IsGathered run.first (run ∷ next ∷ runs) new
+gathered_as_one run next runs new le to g = record {
+  kept = g.kept;
+  rest = g.rest;
+  is = g.is;
+  begins = g.begins;
   rises = g.rises;
   same = λ n. g.same n ∙ ap (λ b. b || covers runs n) (in_both run next n le to) ∙ or_assoc (in_run run n) (in_run next n) (covers runs n);
   fewer = omega (arith, g.fewer);
-  some = λ h. g.some (omega arith);
 }
 
-gathered_apart : (from : ℕ) (run : PageRun) (rest new : List PageRun) → from ≤ run.first → IsGathered (end_of run) rest new → IsGathered from (run ∷ rest) (run ∷ new)
-gathered_apart from run rest new le g =
-    let here : leb from run.first ≡ true = grind (arith, nat_tests) in
+gathered_apart : (run next : PageRun) (runs new : List PageRun) → end_of run < next.first → IsGathered next.first (next ∷ runs) new → IsGathered run.first (run ∷ next ∷ runs) (run ∷ new)
+gathered_apart run next runs new lt g =
+    let here : ltb (end_of run) g.kept.first ≡ true = (let b = g.begins in grind (arith, nat_tests)) in
     record {
-      rises = rw here g.rises;
+      kept = run;
+      rest = new;
+      is = refl;
+      begins = refl;
+      rises = ap (rise_above (end_of run)) g.is ∙ rw here g.rises;
       same = λ n. ap (λ b. in_run run n || b) (g.same n);
       fewer = omega (arith, g.fewer);
-      some = λ h. omega arith;
     }
+
+-- of any runs
+pub record AreGathered (old new : List PageRun) : Type 0 where
+  pub normal : are_normal new ≡ true
+  pub rises : rise 0 new ≡ true
+  pub same : (n : ℕ) → covers new n ≡ covers old n
+  pub fewer : length new ≤ length old
+  pub some : 0 < length old → 0 < length new
 
 -- each call takes a run in where it begins in the one kept or at its end, and changes nothing else
 module _ {F : Type 0} (R : F → PageRun → PageRun → Bool → F → PageRun → PageRun → Type 0) (f : F)
     (h : (x k : PageRun) (b : Bool) (f' : F) (x' k' : PageRun) → R f x k b f' x' k' → (b ≡ leb x.first (end_of k)) × (k' ≡ cond b (with_run k x) k) × (x' ≡ x) × (f' ≡ f)) where
-  gathered_from : (runs : List PageRun) (g : F) (from : ℕ) (run : PageRun) (new : List PageRun) → g ≡ f → from ≤ run.first → IsOrdered (run ∷ runs) → DedupsFrom R g run runs new → IsGathered from (run ∷ runs) new
-  gathered_from [] g from run new e le up t =
-      let here : leb from run.first ≡ true = grind (arith, nat_tests) in
-      subst (IsGathered from (run ∷ [])) (sym t) record {
-        rises = rw here refl;
-        same = λ n. refl;
-        fewer = omega arith;
-        some = λ h. omega arith;
-      }
-  gathered_from (next ∷ runs) g from run new e le up t =
+  gathered_from : (runs : List PageRun) (g : F) (run : PageRun) (new : List PageRun) → g ≡ f → IsOrdered (run ∷ runs) → DedupsFrom R g run runs new → IsGathered run.first (run ∷ runs) new
+  gathered_from [] g run new e up t = subst (IsGathered run.first (run ∷ [])) (sym t) record {
+    kept = run;
+    rest = [];
+    is = refl;
+    begins = refl;
+    rises = refl;
+    same = λ n. refl;
+    fewer = omega arith;
+  }
+  gathered_from (next ∷ runs) g run new e up t =
       let one = h next run t.0 t.1 t.2 t.3 (subst (λ (y : F). R y next run t.0 t.1 t.2 t.3) e t.4) in
       let order : run.first ≤ next.first = up 0 1 run (omega arith) (omega arith) in
-      elim t.0 as (λ b. b ≡ leb next.first (end_of run) → t.3 ≡ cond b (with_run run next) run → MatchBool b (DedupsFrom R t.1 t.3 runs new) ((zs : List PageRun) × DedupsFrom R t.1 t.2 runs zs × (new ≡ t.3 ∷ zs)) → IsGathered from (run ∷ next ∷ runs) new) [
+      elim t.0 as (λ b. b ≡ leb next.first (end_of run) → t.3 ≡ cond b (with_run run next) run → MatchBool b (DedupsFrom R t.1 t.3 runs new) ((zs : List PageRun) × DedupsFrom R t.1 t.2 runs zs × (new ≡ t.3 ∷ zs)) → IsGathered run.first (run ∷ next ∷ runs) new) [
         | true ↦ λ is now rest.
-            gathered_as_one from run next runs new order (leb-true _ _ (sym is))
-            (gathered_from runs t.1 from (with_run run next) new one.3 le (ordered_without run next (with_run run next) runs refl up) (subst (λ (k : PageRun). DedupsFrom R t.1 k runs new) now rest))
+            gathered_as_one run next runs new order (leb-true _ _ (sym is))
+            (gathered_from runs t.1 (with_run run next) new one.3 (ordered_without run next (with_run run next) runs refl up) (subst (λ (k : PageRun). DedupsFrom R t.1 k runs new) now rest))
         | false ↦ λ is now rest.
-            let above : end_of run ≤ next.first = grind (arith, nat_tests) in
-            subst (IsGathered from (run ∷ next ∷ runs)) (sym (rest.2 ∙ ap (λ (k : PageRun). k ∷ rest.0) now))
-            (gathered_apart from run (next ∷ runs) rest.0 le
-            (gathered_from runs t.1 (end_of run) next rest.0 one.3 above (ordered_rest run (next ∷ runs) up) (subst (λ (k : PageRun). DedupsFrom R t.1 k runs rest.0) one.2 rest.1)))
+            let above : end_of run < next.first = grind (arith, nat_tests) in
+            subst (IsGathered run.first (run ∷ next ∷ runs)) (sym (rest.2 ∙ ap (λ (k : PageRun). k ∷ rest.0) now))
+            (gathered_apart run next runs rest.0 above
+            (gathered_from runs t.1 next rest.0 one.3 (ordered_rest run (next ∷ runs) up) (subst (λ (k : PageRun). DedupsFrom R t.1 k runs rest.0) one.2 rest.1)))
       ] one.0 one.1 t.5
 
-  pub gathered : (runs new : List PageRun) → IsOrdered runs → IsDeduped R f runs new → IsGathered 0 runs new
-  gathered [] new up k = subst (IsGathered 0 []) (sym k.told) record {
+  pub all_gathered : (runs new : List PageRun) → IsOrdered runs → IsDeduped R f runs new → AreGathered runs new
+  all_gathered [] new up k = subst (AreGathered []) (sym k.told) record {
+    normal = refl;
     rises = refl;
     same = λ n. refl;
     fewer = omega arith;
     some = λ h. h;
   }
-  gathered (run ∷ runs) new up k = gathered_from runs f 0 run new refl (omega arith) up k.told
+  all_gathered (run ∷ runs) new up k =
+      let g = gathered_from runs f run new refl up k.told in
+      let long = ap length g.is in
+      let normal = ap are_normal g.is ∙ g.rises in
+      record {
+        normal = normal;
+        rises = rise_from_normal new normal;
+        same = g.same;
+        fewer = g.fewer;
+        some = λ h. omega (arith, long);
+      }

@@ -1,8 +1,7 @@
 -- Maximal runs, made run by run, and the value that they give a page.
-use Rattle.std.proofs.Common.{◌≡◌, ℕ, zero, suc, ◌+◌, ◌-◌, ◌<◌, ◌≤◌, Bool, true, false, ◌||◌, cond, eqb, leb, ltb, List, [], ◌∷◌, ◌++◌, map, max, length, take, set, get_or, Option, Some, None, find, refl, sym, ap, ap₂, subst, ◌∙◌, arith, eq-eqb, append_assoc}
-use Rattle.std.specs.List.{AllByRecursion}
+use Rattle.std.proofs.Common.{◌≡◌, ℕ, zero, suc, ◌+◌, ◌-◌, ◌<◌, ◌≤◌, Bool, true, false, ◌||◌, cond, eqb, leb, ltb, List, [], ◌∷◌, ◌++◌, map, length, take, set, get_or, Option, Some, None, find, refl, sym, ap, ap₂, subst, ◌∙◌, arith, eq-eqb, append_assoc}
 use Rattle.std.specs.Option.{option_map, option_map_or}
-use Rattle.std.proofs.lemmas.Bool.{eqb-true, leb-true, ltb-true}
+use Rattle.std.proofs.lemmas.Bool.{eqb-true, leb-true}
 use Rattle.std.proofs.lemmas.Bool.Decides.{nat_tests}
 use Rattle.std.proofs.lemmas.List.{set_at, take_all, take_more, length-take-le}
 use Rattle.base.proofs.Booleans.{both}

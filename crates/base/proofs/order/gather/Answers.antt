@@ -1,19 +1,23 @@
-use Rattle.std.proofs.Common.{◌≡◌, ◌∙◌, length, sym, arith, rules}
+use Rattle.std.proofs.Common.{◌≡◌, ◌∙◌, length, sym, ap, arith, rules}
 use Rattle.std.proofs.lemmas.List.Sorted.{list_any-IsPermutation, length_permutation, IsNonDecreasingBy-from_sort_by_key}
-use Rattle.base.specs.Pages.{PageRun, in_run}
-use Rattle.base.proofs.Gathering.{gathered}
+use Rattle.base.specs.Pages.{PageRun, in_run, rise}
+use Rattle.base.proofs.Gathering.{all_gathered, rise_from_normal}
 use Rattle.base.proofs.order.gather.Goals as goal
 
 pub returns : goal.returns
 returns c =
     let sorted = c.sort_unstable_by_key.ensures in
     let ordered = IsNonDecreasingBy-from_sort_by_key (λ (run : PageRun). run.first) _ sorted.sorted (λ a r q k. search rules) in
-    let all = gathered _ _ (λ x k b f' x' k' r. search rules) _ _ ordered c.dedup_by.ensures.filtered in
+    let all = all_gathered _ _ (λ x k b f' x' k' r. search rules) _ _ ordered c.dedup_by.ensures.filtered in
     let long : length c.sort_unstable_by_key.new.self.items ≡ length c.args.runs.now.items = length_permutation _ _ sorted.permutation in
     record {
+      normal = all.normal;
       ascending = all.rises;
       same = λ n. all.same n ∙ sym (list_any-IsPermutation (λ (run : PageRun). in_run run n) _ _ sorted.permutation);
       fewer = omega (arith, all.fewer, long);
       some = λ h. all.some (omega (arith, h, long));
       capacity = search rules;
     }
+
+pub returns-then-lie_apart-clause-ascending : goal.returns-then-lie_apart-clause-ascending
+returns-then-lie_apart-clause-ascending c = ap (rise 0) (sym c.deref.ensures.value) ∙ rise_from_normal c.deref.result.now (search rules)
