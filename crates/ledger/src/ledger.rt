@@ -4,6 +4,7 @@ ghost use Rattle.std.specs.Option.{option_map};
 ghost use Rattle.base.specs.Pages.{covers};
 ghost use Rattle.base.specs.Ledger as rules;
 ghost use Rattle.base.specs.Manifest as rows;
+ghost use Rattle.base.specs.declared.transaction.Kind.TheVariants.{Donate};
 ghost use Rattle.spans.specs.Spans.{value_at};
 ghost use Rattle.spans.specs.Taking.{has_number};
 ghost use Rattle.ledger.specs.Ledger as spec;
@@ -233,8 +234,8 @@ impl Ledger {
     }
 
     /// The receiver has retrieved the transaction of a handle, with this access: a donation is completed and ends,
-    /// and takes memory where its pages stand; a lend or a share takes none. Where there is none for it, the answer
-    /// is `OutOfMemory`, and nothing has changed. Without such a transaction nothing changes either.
+    /// and takes memory where its pages stand; a lend or a share takes none, and is never refused. Where there is none,
+    /// the answer is `OutOfMemory`, and nothing has changed. Without such a transaction nothing changes either.
     pub fn retrieve(
         &mut self,
         p: PartitionId,
@@ -247,6 +248,7 @@ impl Ledger {
         ensures live { OnOk result (self.new.live
             ≡ changes.live_after handle p access (spec.found self.old.live handle) self.old.live) }
         ensures err { OnErr result (self.new ≡ self.old) }
+        ensures donation { OnErr result (option_map (λ t. t.kind) (spec.found self.old.live handle) ≡ Some Donate) }
     {
         let Some(transaction) = self.find(handle) else {
             return Ok(());
