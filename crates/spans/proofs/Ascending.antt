@@ -143,3 +143,8 @@ ascend-taken i ss h = ascend-left 0 (take i ss) (drop i ss) (ap (ascend 0) (take
 
 pub ascend-dropped : (i : ℕ) (ss : List Span) → ascend 0 ss ≡ true → ascend 0 (drop i ss) ≡ true
 ascend-dropped i ss h = far 0 (end_from 0 (take i ss)) (drop i ss) (omega arith) (ascend-right 0 (take i ss) (drop i ss) (ap (ascend 0) (take-append-drop i ss) ∙ h))
+
+-- where some end behind the page, others do
+pub end_from-both : (e page : ℕ) (ss : List Span) → e ≤ page → end_from 0 ss ≤ page → end_from e ss ≤ page
+end_from-both e page [] le h = le
+end_from-both e page (s ∷ ss) le h = h

@@ -4,11 +4,18 @@ use Rattle.std.proofs.Math.ListN.{set}
 use Rattle.std.proofs.Math.Seq.{take-append_seam, drop-append_seam, take-append-add, drop-append-add}
 use Rattle.std.proofs.lemmas.List.{length-take, drop-append-le}
 use Rattle.spans.specs.Spans.{Span, ascend}
-use Rattle.spans.specs.Blocks.{all_spans, needed, AreFilled, AreDense, AreStacked, AreJoinedAt, IsSettled}
+use Rattle.spans.specs.Blocks.{all_spans, needed, AreFilled, AreDense, AreStacked, AreJoinedAt}
 use Rattle.spans.proofs.Ascending.{ascend-left}
 use Rattle.spans.proofs.Lists.{parts_of, drop-cons-at, removed-get, removed-set}
-use Rattle.spans.proofs.Blocks.{IsFilled, all-append, all-parted, all_joined, later}
+use Rattle.spans.proofs.Stacked.{IsFilled, all-append, all-parted, all_joined, later}
 use Rattle.spans.proofs.Needs.{needed-one}
+
+-- from a place on the same intervals stand in blocks as a map's
+pub record IsSettled (i : ℕ) (old new : List (List Span)) : Type 0 where
+  pub before : take i new ≡ take i old
+  pub spans : all_spans (drop i new) ≡ all_spans (drop i old)
+  pub filled : AreFilled (drop i new)
+  pub dense : AreDense (drop (i + 1) old) → AreDense (drop i new)
 
 pub dense-drop : (i : ℕ) (bs : List (List Span)) → AreDense bs → AreDense (drop i bs)
 dense-drop zero bs h = h

@@ -1,24 +1,22 @@
 -- Runs that get a number, or none, from the block on that they belong to: what that leaves of all blocks.
-use Rattle.std.proofs.Common.{◌≡◌, ℕ, zero, suc, ◌+◌, ◌-◌, ◌*◌, ◌<◌, ◌≤◌, Bool, true, false, ◌||◌, cond, leb, ltb, List, [], ◌∷◌, ◌++◌, length, get_or, take, drop, Option, Some, None, length-append, refl, sym, ap, subst, ◌∙◌, append_assoc, append-nil, arith}
+use Rattle.std.proofs.Common.{◌≡◌, ℕ, zero, suc, ◌+◌, ◌-◌, ◌<◌, ◌≤◌, Bool, true, false, ◌||◌, cond, leb, ltb, List, [], ◌∷◌, ◌++◌, length, get_or, take, drop, Option, Some, None, length-append, refl, sym, ap, subst, ◌∙◌, append_assoc, append-nil, arith}
 use Rattle.std.specs.Option.{option_map_or}
 use Rattle.std.specs.List.{AllByRecursion}
-use Rattle.std.proofs.lemmas.List.{take-set-le, drop-set-lt, length-set, get_or-take, take-append-drop, length-take, length-drop, take_more, take_all, take-take, drop-take, get_or-drop, drop-drop, drop_all}
+use Rattle.std.proofs.lemmas.List.{take-set-le, take-append-drop, length-take, length-drop, take_more, take_all, take-take, drop-take, get_or-drop, drop-set, drop_all}
 use Rattle.std.proofs.lemmas.Bool.{ltb-true, ltb-false}
 use Rattle.std.proofs.lemmas.Bool.Decides.{nat_tests}
 use Rattle.std.proofs.Math.ListN.{set}
-use Rattle.spans.proofs.Lists.{front-of, rest-of, get_or-set_at}
-use Rattle.base.specs.Pages.{PageRun, in_run, covers}
+use Rattle.base.specs.Pages.{PageRun, in_run, covers, rise}
 use Rattle.spans.specs.Spans.{Span, value_at, end_of, ascend, end_from, are_joined}
 use Rattle.spans.specs.Search.{begins_at}
-use Rattle.spans.specs.Edits.{all_from, rise, IsSame, IsMerged}
-use Rattle.spans.specs.Blocks.{all_spans, needed, more_blocks, AreFilled, AreStacked, IsGroup, BelongTo, IsSetFrom, IsGathered, HasTakenIn, with_more, AreDense}
-use Rattle.spans.specs.declared.page_map.place.Group.{Group}
-use Rattle.spans.proofs.Ascending.{begins, far, least, ascend-left, ascend-right, ascend-append, value_at-append, value_at-behind, value_at-ahead, in_first}
-use Rattle.spans.proofs.Dense.{dense-drop}
+use Rattle.spans.specs.Edits.{all_from, IsSame, IsMerged}
+use Rattle.spans.specs.Blocks.{all_spans, needed, more_blocks, AreFilled, AreStacked, IsGroup, BelongTo, IsSetFrom, HasTakenIn, AreDense}
+use Rattle.spans.specs.declared.place.Group.{Group}
+use Rattle.spans.proofs.Ascending.{far, ascend-left, ascend-right, ascend-append, value_at-append, value_at-behind, value_at-ahead, in_first}
 use Rattle.spans.proofs.Parting.{all_from-above, ascend-all_from, ascend-all_from_same, value_at-all_from}
 use Rattle.spans.proofs.Joined.{none_there, joined-left, joined-right, joined-apart, joined-both, joined-from}
 use Rattle.spans.proofs.Same.{same-self, same-before}
-use Rattle.spans.proofs.Blocks.{from_page, set-ascends, set-at, before-ascends, before-at, all-parted, all-next, block-ascends, block-begins, filled_front, filled_rest, filled_at, filled_both}
+use Rattle.spans.proofs.Stacked.{from_page, set-ascends, set-at, before-ascends, before-at, all-parted, all-next, block-ascends, block-begins, filled_front, filled_rest, filled_at, filled_both, later}
 use Rattle.spans.proofs.Runs.{rise_low, rise_taken, rise_dropped, covers_from, covers_within}
 use Rattle.spans.proofs.Needs.{group-before, group-needs, needed-place}
 
@@ -34,13 +32,6 @@ page_in e ss n v h is = (
     | false ↦ λ t. absurd (none_there (value_at ss n) v (value_at-behind e ss n h (ltb-false _ _ t)) is)
   ] refl,
 )
-
-pub above-next : (page : ℕ) (b ys : List Span) → 0 < length b → ascend page (b ++ ys) ≡ true → ascend (page + 1) ys ≡ true
-above-next page [] ys some h = absurd (omega arith)
-above-next page (s ∷ b) ys some h =
-    let x = begins page s (b ++ ys) h in
-    let l = least (end_of s.run) b (ascend-left (end_of s.run) b ys x.rest) in
-    far (page + 1) (end_from (end_of s.run) b) ys (omega (arith, x.from, x.some, l)) (ascend-right (end_of s.run) b ys x.rest)
 
 -- ---- one block, of which the first intervals stay
 
@@ -238,11 +229,11 @@ module _ (old : List (List Span)) (place : ℕ) (runs : List PageRun) (value : O
 
   pub belong-ascends : ascend 0 (get_or old place d ++ all_spans (drop (place + 1) old)) ≡ true
   unfolding block behind_it
-  belong-ascends = ap (ascend 0) (sym split) ∙ g.ascending
+  belong-ascends = ap (ascend 0) (sym split) ∙ later 0 0 place old g.map.tidy.stacked.ascending (omega arith)
 
   pub belong-joined : are_joined (get_or old place d ++ all_spans (drop (place + 1) old)) ≡ true
   unfolding block behind_it
-  belong-joined = ap are_joined (sym split) ∙ g.joined
+  belong-joined = ap are_joined (sym split) ∙ joined-right (all_spans (take place old)) (all_spans (drop place old)) (ap are_joined (sym (all-parted place old)) ∙ g.map.joined)
 
   next_first : ascend last.first behind_it ≡ true
   unfolding behind_it
@@ -261,50 +252,30 @@ module _ (old : List (List Span)) (place : ℕ) (runs : List PageRun) (value : O
     joined = ap are_joined spans ∙ edited-joined block behind_it runs value last out out2 t.taken (all_spans rest) belong-ascends belong-joined g.some is g.rises next_first merged t.parted t.same t.above j2;
   }
 
-  -- before they do
-  pub gathered-by : (first out out2 : List Span) (rest new : List (List Span)) → take place new ≡ take place old → get_or new place [] ≡ first → drop (place + 1) new ≡ rest → place < length new
-      → IsMerged runs value (get_or old place d) (first ++ out) → HasTakenIn (end_of last) (first ++ out) (drop (place + 1) old) (first ++ out2) rest → are_joined (first ++ out2) ≡ true
-      → (AreDense (drop (place + 1) old) → AreDense rest) → (0 < length first → length first + length out2 ≤ 128) → IsGathered runs value old place out2 new
-  gathered-by first out out2 rest new before here behind inside merged t j2 dense fits =
-      let le : place ≤ length new = omega (arith, inside) in
-      let more = (get_or new place [] ++ out2) ∷ drop (place + 1) new in
-      record {
-        set =
-            edited-by (first ++ out) (first ++ out2) rest (with_more place out2 new) merged t j2 (front-of place new more le ∙ before)
-            (ap all_spans (rest-of place new more le) ∙ ap (λ (l : List Span). (l ++ out2) ++ all_spans (drop (place + 1) new)) here ∙ ap (λ l. (first ++ out2) ++ all_spans l) behind);
-        inside = inside;
-        filled = subst AreFilled (sym behind) t.filled;
-        dense = subst AreDense (sym behind) (dense (subst AreDense (drop-drop 1 place old) (dense-drop 1 (drop place old) g.dense)));
-        fits = λ some. subst (λ (l : List Span). length l + length out2 ≤ 128) (sym here) (fits (subst (λ (l : List Span). 0 < length l) here some));
-      }
-
-  -- of the block, some stay, and the last run does not reach the next
-  pub gathered-here : (kept : ℕ) (out : List Span) (new : List (List Span)) (first : PageRun) → first ≡ get_or runs 0 first → end_from 0 (take kept (get_or old place d)) ≤ first.first - 1 → ascend (end_of last + 1) (all_spans (drop (place + 1) old)) ≡ true
-      → length (get_or old place d) + 2 * length runs ≤ 128 → IsMerged runs value (drop kept (get_or old place d)) out → new ≡ set old place (take kept (get_or old place d)) → IsGathered runs value old place out new
+  pub taken-ascends : (out out2 : List Span) (rest : List (List Span)) → IsMerged runs value (get_or old place d) out → HasTakenIn (end_of last) out (drop (place + 1) old) out2 rest → are_joined out2 ≡ true → ascend 0 out2 ≡ true
   unfolding block behind_it
-  gathered-here kept out new first is_first below above short merged put =
-      let stay = take kept block in
-      let all : IsMerged runs value block (stay ++ out) = kept-merged block out kept runs value first g.some is_first (ascend-left 0 block behind_it belong-ascends) below g.rises merged in
-      let n = length-append stay out in
-      gathered-by stay out out (drop (place + 1) old) new (ap (take place) put ∙ take-set-le place old place stay (omega arith)) (ap (λ (l : List (List Span)). get_or l place []) put ∙ get_or-set_at old place stay [] g.inside)
-      (ap (drop (place + 1)) put ∙ drop-set-lt (place + 1) old place stay (omega arith)) (omega (arith, g.inside, ap length put, length-set old place stay)) all (none-taken (end_of last) (stay ++ out) (drop (place + 1) old) above g.filled)
-      (all.joined (joined-left block behind_it belong-joined)) (λ h. h) (λ some. omega (arith, n, all.fewer, short))
+  taken-ascends out out2 rest merged t j2 =
+      ascend-left 0 out2 (all_spans rest) (edited-ascends block behind_it runs value last out out2 t.taken (all_spans rest) belong-ascends belong-joined g.some is g.rises next_first merged t.parted t.same t.above j2)
 
-  -- none stays
-  pub gathered-on : (out out2 : List Span) (mid new : List (List Span)) → IsMerged runs value (get_or old place d) out → mid ≡ set old place [] → take (place + 1) new ≡ take (place + 1) mid → HasTakenIn (end_of last) out (drop (place + 1) mid) out2 (drop (place + 1) new) → are_joined out2 ≡ true
-      → (AreDense (drop (place + 1) mid) → AreDense (drop (place + 1) new)) → IsGathered runs value old place out2 new
-  gathered-on out out2 mid new merged put before t j2 dense =
-      let none : List Span = [] in
-      let behind : drop (place + 1) mid ≡ drop (place + 1) old = ap (drop (place + 1)) put ∙ drop-set-lt (place + 1) old place none (omega arith) in
-      let l = length-take (place + 1) new in
-      let m = length-take (place + 1) mid in
-      let long = ap length before in
-      let q = ap length put in
-      gathered-by none out out2 (drop (place + 1) new) new
-      (sym (take-take place (place + 1) new (omega arith)) ∙ ap (take place) before ∙ take-take place (place + 1) mid (omega arith) ∙ ap (take place) put ∙ take-set-le place old place none (omega arith))
-      (sym (get_or-take (place + 1) new place none (omega arith)) ∙ ap (λ (l : List (List Span)). get_or l place none) before ∙ get_or-take (place + 1) mid place none (omega arith) ∙ ap (λ (l : List (List Span)). get_or l place none) put ∙ get_or-set_at old place none none g.inside)
-      refl (omega (arith, l, m, long, q, length-set old place none, g.inside)) merged (subst (λ (b : List (List Span)). HasTakenIn (end_of last) out b out2 (drop (place + 1) new)) behind t) j2
-      (λ h. dense (subst AreDense (sym behind) h)) (λ some. absurd (omega (arith, some)))
+  -- the block has other intervals
+  pub refilled : (b : List Span) (put : List (List Span)) → put ≡ set old place b → IsMerged runs value (get_or old place d) b → ascend (end_of last + 1) (all_spans (drop (place + 1) old)) ≡ true → IsSetFrom runs value old place put
+  unfolding block behind_it
+  refilled b put is merged above =
+      edited-by b b (drop (place + 1) old) put merged (none-taken (end_of last) b (drop (place + 1) old) above (filled_rest (place + 1) old g.map.tidy.stacked.filled)) (merged.joined (joined-left block behind_it belong-joined))
+      (ap (take place) is ∙ take-set-le place old place b (omega arith))
+      (ap all_spans (ap (drop place) is ∙ drop-set old place b g.inside))
+
+  -- a page of the runs has the number in what is merged, and in what stands for it
+  pub some-merged : (v : ℕ) (out out2 taken : List Span) → value ≡ Some v → 0 < last.count → IsMerged runs value (get_or old place d) out → IsSame (out ++ taken) out2 → 0 < length out2
+  some-merged v out out2 taken is_value count merged same =
+      let yes = covered_last runs (length runs - 1) last last.first (let s = g.some in omega arith) is (in_first last count) in
+      let there : value_at out last.first ≡ Some v = merged.at last.first ∙ rw yes is_value in
+      let here : value_at out2 last.first ≡ Some v = same.at last.first ∙ value_at-append out taken last.first ∙ rw there refl in
+      has_some out2 here
+    where
+      has_some : (ss : List Span) → value_at ss last.first ≡ Some v → 0 < length ss
+      has_some [] e = absurd cc
+      has_some (s ∷ ss) e = omega arith
 
 -- the same intervals in other blocks
 pub edited-as : (runs : List PageRun) (value : Option ℕ) (old : List (List Span)) (place : ℕ) (mid new : List (List Span)) → IsSetFrom runs value old place mid → take place new ≡ take place mid → all_spans (drop place new) ≡ all_spans (drop place mid) → IsSetFrom runs value old place new
@@ -465,16 +436,10 @@ module _ (old : List (List Span)) (runs : List PageRun) (left : ℕ) (group : Gr
   pub group-belong : AreDense old → BelongTo (drop group.from (take left runs)) old group.place
   unfolding mine
   group-belong h = record {
+    map = record { tidy = record { stacked = stacked; dense = h }; joined = j };
     inside = lt;
-    short = λ d. (filled_at group.place old d stacked.filled lt).1;
     rises = mine_rises;
     some = let l = long in omega (arith, l, length-take left runs, inside);
-    ascending =
-        ap (ascend 0) (all-next group.place old [] lt)
-        ∙ far 0 (end_from 0 (all_spans (take group.place old))) (get_or old group.place [] ++ all_spans (drop (group.place + 1) old)) (omega arith) (block-ascends old group.place [] lt stacked.ascending);
-    joined = joined-right (all_spans (take group.place old)) (all_spans (drop group.place old)) (ap are_joined (sym (all-parted group.place old)) ∙ j);
-    filled = filled_rest (group.place + 1) old stacked.filled;
-    dense = dense-drop group.place old h;
     next = λ d.
         let l = length-drop group.from (take left runs) in
         let i : ℕ = length (drop group.from (take left runs)) - 1 in

@@ -11,7 +11,7 @@ use Rattle.spans.specs.Spans.{Span, end_of, ascend, end_from, is_border}
 use Rattle.spans.specs.Search.{IsSegment, begins_at}
 use Rattle.spans.specs.Blocks.{all_spans, AreStacked}
 use Rattle.spans.proofs.Ascending.{begins, ascend-left, value_at-append, value_at-behind, value_at-ahead}
-use Rattle.spans.proofs.Blocks.{above_page, at_block, rest_behind}
+use Rattle.spans.proofs.Stacked.{above_page, at_block, rest_behind}
 use Rattle.spans.proofs.Borders.{border-left, border-right, border-block, border-next, border-pages}
 
 -- ---- the count of looks

@@ -1,13 +1,14 @@
 -- Intervals that touch and have one number are one: parts of such a list, and what that says page by page.
-use Rattle.std.proofs.Common.{◌≡◌, ℕ, ◌+◌, ◌-◌, ◌<◌, ◌≤◌, Bool, true, false, ◌&&◌, not, cond, eqb, leb, ltb, List, [], ◌∷◌, ◌++◌, max, Option, Some, None, refl, sym, ap, ◌∙◌, arith}
-use Rattle.std.proofs.lemmas.Bool.{and_parts, and_from, ltb-true, ltb-false}
+use Rattle.std.proofs.Common.{◌≡◌, ℕ, ◌+◌, ◌-◌, ◌<◌, ◌≤◌, Bool, true, false, ◌&&◌, not, cond, eqb, leb, ltb, List, [], ◌∷◌, ◌++◌, max, min, Option, Some, None, refl, sym, ap, ◌∙◌, arith}
+use Rattle.std.proofs.lemmas.Bool.{and_parts, and_from, leb-true, ltb-true, ltb-false}
 use Rattle.std.proofs.lemmas.Bool.Decides.{nat_tests}
 use Rattle.base.specs.Pages.{PageRun, in_run}
 use Rattle.spans.specs.Spans.{Span, value_at, end_of, ascend, end_from, is_apart, are_joined}
 use Rattle.spans.specs.Taking.{others}
-use Rattle.spans.specs.Edits.{part_of, listed, all_from, joined}
+use Rattle.spans.specs.Edits.{part_of, left_of, listed, all_before, all_from, joined}
 use Rattle.spans.proofs.Ascending.{begins, far, ascend-left, ascend-right, least, out, ahead, value_at-ahead, in_first, in_last}
-use Rattle.spans.proofs.Parting.{all_from-above}
+use Rattle.spans.proofs.Cutting.{whole_left}
+use Rattle.spans.proofs.Parting.{all_before-above, all_from-above}
 
 -- ---- parts of a list
 
@@ -161,6 +162,34 @@ joined-from page e (s ∷ ss) h j =
           let same : end_of w.run ≡ end_of s.run = omega (arith, x.some) in
           ap (λ (l : List Span). are_joined (w ∷ l)) rest ∙ joined-as s w ss refl same j
     ] refl
+
+-- ---- before a page
+
+before_apart : (page e : ℕ) (s : Span) (ss : List Span) → ascend e ss ≡ true → is_apart s ss ≡ true → is_apart s (all_before page ss) ≡ true
+unfolding all_before
+before_apart page e s [] h a = refl
+before_apart page e s (t ∷ ss) h a =
+    let y = begins e t ss h in
+    elim (leb page t.run.first) as (λ b. leb page t.run.first ≡ b → is_apart s (listed (cond b None (Some (part_of t.run.first (min (end_of t.run) page) t))) ++ all_before page ss) ≡ true) [
+      | true ↦ λ q. rw (all_before-above page ss (far page (end_of t.run) ss (let l = leb-true _ _ q in omega arith) y.rest)) refl
+      | false ↦ λ q. a
+    ] refl
+
+pub joined-before : (page e : ℕ) (ss : List Span) → ascend e ss ≡ true → are_joined ss ≡ true → are_joined (all_before page ss) ≡ true
+unfolding all_before
+joined-before page e [] h j = refl
+joined-before page e (s ∷ ss) h j =
+    let x = begins e s ss h in
+    let parts = and_parts (is_apart s ss) (are_joined ss) j in
+    let rest = joined-before page (end_of s.run) ss x.rest parts.1 in
+    elim (leb (end_of s.run) page) as (λ b. leb (end_of s.run) page ≡ b → are_joined (listed (left_of page s) ++ all_before page ss) ≡ true) [
+      | true ↦ λ t. rw (whole_left page s x.some (leb-true _ _ t)) (and_from (is_apart s (all_before page ss)) (are_joined (all_before page ss)) (before_apart page (end_of s.run) s ss x.rest parts.0) rest)
+      | false ↦ λ t. rw (all_before-above page ss (far page (end_of s.run) ss (grind (arith, nat_tests)) x.rest)) (one_joined (left_of page s))
+    ] refl
+  where
+    one_joined : (o : Option Span) → are_joined (listed o ++ []) ≡ true
+    one_joined None = refl
+    one_joined (Some w) = refl
 
 -- ---- without those of one number
 

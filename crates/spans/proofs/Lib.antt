@@ -1,5 +1,4 @@
 mod Ascending
-mod Blocks
 mod Borders
 mod Cutting
 mod Dense
@@ -10,12 +9,12 @@ mod Joining
 mod Lists
 mod Merging
 mod Needs
+mod Others
 mod Parting
 mod Pushed
 mod Reached
 mod Runs
 mod Same
-pub mod Segments
+mod Stacked
 mod Taken
-mod Taking
 mod Written

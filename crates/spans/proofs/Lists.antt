@@ -1,11 +1,9 @@
 -- Parts of lists.
-use Rattle.std.proofs.Common.{◌≡◌, ℕ, zero, suc, ◌+◌, ◌-◌, ◌<◌, ◌≤◌, List, [], ◌∷◌, ◌++◌, length, get_or, take, drop, length-append, refl, sym, ap, ◌∙◌, append-nil, arith}
+use Rattle.std.proofs.Common.{◌≡◌, ℕ, zero, suc, ◌+◌, ◌-◌, ◌<◌, ◌≤◌, List, [], ◌∷◌, ◌++◌, length, get_or, take, drop, length-append, refl, sym, ap, ◌∙◌, arith}
 use Rattle.std.proofs.Common.{Result, IsOk, is_ok, if◌then◌else◌}
 use Rattle.std.proofs.Math.ListN.{set, get_or-append}
-use Rattle.std.proofs.Math.Seq.{drop-cons, take-append_seam, drop-append_seam, drop-append-add}
-use Rattle.std.specs.List.{copy_within}
-use borrow.Rule.Slice.PartMut.{put_mid, Post-is}
-use Rattle.std.proofs.lemmas.List.{take_rest, take-append-drop, length-take, length-drop, get_or_default, take_all, drop_all, take-take, take-append-le, take-set-le, drop-set, get_or-take}
+use Rattle.std.proofs.Math.Seq.{drop-cons, take-append_seam, drop-append_seam}
+use Rattle.std.proofs.lemmas.List.{take-append-drop, length-take, length-drop, get_or_default, take_all, take-take, take-append-le, take-set-le, drop-set, get_or-take}
 
 -- what stands before a place, with other things behind it
 module _ {A : Type 0} (i : ℕ) (xs ys : List A) (le : i ≤ length xs) where
@@ -41,13 +39,6 @@ parts_of xs i d lt =
 pub drop-cons-at : {A : Type 0} (xs : List A) (i : ℕ) (d : A) → i < length xs → drop i xs ≡ get_or xs i d ∷ drop (i + 1) xs
 drop-cons-at xs i d lt = let on : suc i ≡ i + 1 = omega arith in drop-cons xs i d lt ∙ ap (λ (k : ℕ). get_or xs i d ∷ drop k xs) on
 
--- what stands from a place on moves to the first place
-pub moved_down : {A : Type 0} (p : ℕ) (l : List A) → p ≤ length l → take (length l - p) (copy_within l p (length l) 0) ≡ drop p l
-moved_down p l le =
-    let n = length-drop p l in
-    let r = take_rest l p in
-    ap (take (length l - p)) (ap (λ m. m ++ drop (0 + (length l - p)) l) r) ∙ ap (λ (k : ℕ). take k (drop p l ++ drop (0 + (length l - p)) l)) (sym n) ∙ take-append_seam (drop p l) (drop (0 + (length l - p)) l)
-
 -- one is taken out, and the one before it is another
 module _ {A : Type 0} (xs : List A) (at : ℕ) (some : 0 < at) (lt : at < length xs) where
   pub removed-get : (d : A) → get_or (take at xs ++ drop (at + 1) xs) (at - 1) d ≡ get_or xs (at - 1) d
@@ -81,38 +72,6 @@ take_more_of (suc done) len (x ∷ l) = ap (λ (k : ℕ). take k (x ∷ l)) (suc
 pub extended : {A B E : Type 0} (r : Result B E) (was more now : List A) → IsOk r → now ≡ (if is_ok r then was ++ more else was) → now ≡ was ++ more
 extended r was more now ok is = rw ok at is
 
--- what was lent of a list is given back
-pub given_back : {A : Type 0} (lent rest : List A) (n : ℕ) → n ≡ length lent → take n (lent ++ rest) ≡ lent
-given_back lent rest n e = ap (λ (k : ℕ). take k (lent ++ rest)) e ∙ take-append_seam lent rest
-
--- what was lent of a list from a place on is given back
-module _ {A : Type 0} (a : ℕ) (xs ys : List A) (le : a ≤ length xs) where
-  pub rest_lent : take (length xs - a) (drop a xs) ≡ drop a xs
-  rest_lent = let l = length-drop a xs in take_all (length xs - a) (drop a xs) (omega arith)
-
-  module _ (long : length ys ≡ length (take (length xs - a) (drop a xs))) where
-    pub rest_back : put_mid a (length xs - a) xs ys ≡ take a xs ++ ys
-    rest_back =
-        ap (λ l. take a xs ++ (ys ++ l)) (Post-is a (length xs) xs le ∙ drop_all (length xs) xs (omega arith))
-        ∙ ap (λ l. take a xs ++ l) (append-nil ys)
-
-    pub back-front : take a (put_mid a (length xs - a) xs ys) ≡ take a xs
-    back-front =
-        let l = length-take a xs in
-        let long : length (take a xs) ≡ a = omega arith in
-        ap (take a) rest_back ∙ ap (λ (k : ℕ). take k (take a xs ++ ys)) (sym long) ∙ take-append_seam (take a xs) ys
-
-    pub back-rest : (i : ℕ) → drop (a + i) (put_mid a (length xs - a) xs ys) ≡ drop i ys
-    back-rest i =
-        let l = length-take a xs in
-        let long : length (take a xs) ≡ a = omega arith in
-        ap (drop (a + i)) rest_back ∙ ap (λ (k : ℕ). drop (k + i) (take a xs ++ ys)) (sym long) ∙ drop-append-add (take a xs) ys i
-
-    pub back-length : length (put_mid a (length xs - a) xs ys) ≡ length xs
-    back-length =
-        let l = length-take a xs in
-        let d = length-drop a xs in
-        let r = ap length rest_lent in
-        let n = length-append (take a xs) ys in
-        let b = ap length rest_back in
-        omega arith
+-- what is lent of a list from a place on
+pub rest_lent : {A : Type 0} (a : ℕ) (xs : List A) → a ≤ length xs → take (length xs - a) (drop a xs) ≡ drop a xs
+rest_lent a xs le = let l = length-drop a xs in take_all (length xs - a) (drop a xs) (omega arith)

@@ -1,11 +1,12 @@
 -- A run between intervals: what they have before it, the run, and what they have behind it.
-use Rattle.std.proofs.Common.{◌≡◌, ℕ, suc, ◌+◌, ◌<◌, ◌≤◌, true, false, cond, leb, List, [], ◌∷◌, ◌++◌, length, min, max, Option, Some, None, length-append, refl, ap, subst, ◌∙◌, append_assoc, arith}
+use Rattle.std.proofs.Common.{◌≡◌, ℕ, suc, ◌+◌, ◌<◌, ◌≤◌, true, false, cond, leb, List, [], ◌∷◌, ◌++◌, length, get_or, take, drop, min, max, Option, Some, None, length-append, refl, sym, ap, subst, ◌∙◌, append_assoc, arith}
+use Rattle.std.proofs.lemmas.Bool.{leb-true}
 use Rattle.std.proofs.lemmas.Bool.Decides.{nat_tests}
 use Rattle.base.specs.Pages.{PageRun, in_run}
 use Rattle.spans.specs.Spans.{Span, value_at, end_of, ascend, end_from}
-use Rattle.spans.specs.Edits.{part_of, right_of, listed, all_before, all_from, span_of, replaced, IsSame}
+use Rattle.spans.specs.Edits.{part_of, left_of, right_of, listed, all_before, all_from, IsSame}
 use Rattle.spans.proofs.Ascending.{begins, far, ascend-left, ascend-right, end_from-append}
-use Rattle.spans.proofs.Parting.{all_before-append, all_before-above, all_before-below, all_from-append, all_from-above, all_from-below, end_from-all_before, value_at-replaced, ascend-replaced}
+use Rattle.spans.proofs.Parting.{span_of, replaced, all_before-append, all_before-above, all_before-below, all_from-append, all_from-above, all_from-below, ascend-all_from, from_here, end_from-all_before, value_at-replaced, ascend-replaced}
 use Rattle.spans.proofs.Same.{same-before}
 
 -- no interval is in two parts but one
@@ -84,3 +85,36 @@ module _ (out rest new left : List Span) (run : PageRun) (value : Option ℕ) (h
       let d = fewer-parts run.first (end_of run) (end_from 0 out) rest (omega arith) behind in
       let l = ap length is in
       omega (arith, a, b, c, d, l, same.fewer)
+
+-- ---- what is appended
+
+some_right : (page : ℕ) (s : Span) → page < end_of s.run → right_of page s ≡ Some (part_of (max s.run.first page) (end_of s.run) s)
+some_right page s lt = let e : leb (end_of s.run) page ≡ false = grind (arith, nat_tests) in rw e refl
+
+none_left : (page : ℕ) (s : Span) → left_of page s ≡ None → page ≤ s.run.first
+none_left page s e = elim (leb page s.run.first) as (λ b. leb page s.run.first ≡ b → cond b None (Some (part_of s.run.first (min (end_of s.run) page) s)) ≡ None → page ≤ s.run.first) [
+  | true ↦ λ t h. leb-true _ _ t
+  | false ↦ λ t h. absurd cc
+] refl e
+
+module _ (from to place : ℕ) (ss : List Span) (s : Span) (h : ascend 0 ss ≡ true) (lt : place < length ss) (is : s ≡ get_or ss place s) (below : end_from 0 (take place ss) ≤ from) (above : from < end_of s.run) where
+  pub first_part : Span
+  first_part = part_of (max s.run.first from) (end_of s.run) s
+
+  pub part-right : right_of from s ≡ Some first_part
+  unfolding first_part
+  part-right = some_right from s above
+
+  pub part-rest : all_from from ss ≡ first_part ∷ drop (suc place) ss
+  part-rest = from_here from place ss s h lt is below above ∙ ap (λ o. listed o ++ drop (suc place) ss) part-right
+
+  pub part-some : (part : Span) → left_of to first_part ≡ Some part → all_before to (all_from from ss) ≡ part ∷ all_before to (drop (suc place) ss)
+  unfolding all_before
+  part-some part e = ap (all_before to) part-rest ∙ ap (λ o. listed o ++ all_before to (drop (suc place) ss)) e
+
+  pub part-none : left_of to first_part ≡ None → all_before to (all_from from ss) ≡ []
+  unfolding all_before
+  part-none e =
+      let x = begins from first_part (drop (suc place) ss) (ap (ascend from) (sym part-rest) ∙ ascend-all_from from 0 ss h) in
+      let le = none_left to first_part e in
+      ap (all_before to) part-rest ∙ ap (λ o. listed o ++ all_before to (drop (suc place) ss)) e ∙ all_before-above to (drop (suc place) ss) (far to (end_of first_part.run) (drop (suc place) ss) (omega (arith, le)) x.rest)

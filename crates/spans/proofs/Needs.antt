@@ -10,9 +10,9 @@ use Rattle.base.specs.Pages.{PageRun}
 use Rattle.spans.specs.Spans.{Span, ascend, end_from}
 use Rattle.spans.specs.Search.{begins_at}
 use Rattle.spans.specs.Blocks.{all_spans, AreFilled, more_blocks, runs_before, runs_after, needed, blocks_needed, IsGroup}
-use Rattle.spans.specs.declared.page_map.place.Group.{Group}
+use Rattle.spans.specs.declared.place.Group.{Group}
 use Rattle.spans.proofs.Ascending.{far, ascend-right}
-use Rattle.spans.proofs.Blocks.{all-next, block-begins, begins-filled, begins_upward, filled_front, filled_rest, filled_at}
+use Rattle.spans.proofs.Stacked.{all-next, block-begins, begins-filled, begins_upward, filled_front, filled_rest, filled_at}
 
 -- ---- of one block
 

@@ -4,11 +4,22 @@ use Rattle.std.specs.Option.{option_map_or}
 use Rattle.std.proofs.Math.Seq.{drop-cons}
 use Rattle.std.proofs.lemmas.List.{take-append-drop, take_all}
 use Rattle.std.proofs.lemmas.Bool.{leb-true}
+use Rattle.std.proofs.lemmas.Bool.Decides.{nat_tests}
 use Rattle.base.specs.Pages.{PageRun, in_run}
 use Rattle.spans.specs.Spans.{Span, value_at, end_of, ascend, end_from}
-use Rattle.spans.specs.Edits.{part_of, left_of, right_of, listed, all_before, all_from, span_of, replaced}
+use Rattle.spans.specs.Edits.{part_of, left_of, right_of, listed, all_before, all_from}
 use Rattle.spans.proofs.Ascending.{Begins, begins, far, ascend-cons, least, ascend-left, ascend-right, ascend-append, value_at-append}
 use Rattle.spans.proofs.Cutting.{no_left, no_right, whole_left, whole_right, left_at, right_at, outside, is_left, is_right}
+
+-- an interval with the pages of a run, where they are to have a number
+abbrev pub span_of : PageRun → Option ℕ → Option Span
+span_of run None = None
+span_of run (Some value) = Some (record { run = run; value = value })
+
+-- the intervals where the pages of a run have another number, or none
+abbrev pub replaced : PageRun → Option ℕ → List Span → List Span
+replaced run value ss =
+    all_before run.first ss ++ (listed (span_of run value) ++ all_from (end_of run) ss)
 
 -- ---- of two lists
 
@@ -226,3 +237,52 @@ fewer_before page [] = omega arith
 fewer_before page (s ∷ ss) =
     let rest = fewer_before page ss in
     elim (leb page s.run.first) as (λ b. length (listed (cond b None (Some (part_of s.run.first (min (end_of s.run) page) s))) ++ all_before page ss) ≤ length (s ∷ ss)) [ true ↦ omega arith | false ↦ omega arith ]
+
+-- ---- from a page on, and before another
+
+right_within : (page m : ℕ) (s : Span) (r : Option Span) (rest : List Span) → 0 < s.run.count → right_of page s ≡ r → end_of s.run ≤ m → all_before m rest ≡ rest → all_before m (listed r ++ rest) ≡ listed r ++ rest
+unfolding all_before
+right_within page m s None rest some is le e = e
+right_within page m s (Some x) rest some is le e =
+    let r = is_right page s x some is in
+    rw (whole_left m x r.some (omega (arith, r.end, le)), e) refl
+
+-- all end at the second page or before it
+pub before-from : (page m e : ℕ) (ss : List Span) → ascend e ss ≡ true → end_from e ss ≤ m → all_before m (all_from page ss) ≡ all_from page ss
+unfolding all_from
+before-from page m e [] h le = all_before-above m [] refl
+before-from page m e (s ∷ ss) h le =
+    let x = begins e s ss h in
+    let b = least (end_of s.run) ss x.rest in
+    right_within page m s (right_of page s) (all_from page ss) x.some refl (omega (arith, b)) (before-from page m (end_of s.run) ss x.rest le)
+
+same_right : (b : ℕ) (w s : Span) → end_of w.run ≡ end_of s.run → max w.run.first b ≡ max s.run.first b → w.value ≡ s.value → right_of b w ≡ right_of b s
+same_right b w s e f v = rw (e, f, v) refl
+
+right_again : (a b : ℕ) (s : Span) → 0 < s.run.count → a ≤ b → all_from b (listed (right_of a s)) ≡ listed (right_of b s)
+unfolding all_from
+right_again a b s some le = elim (leb (end_of s.run) a) as (λ t. leb (end_of s.run) a ≡ t → all_from b (listed (cond t None (Some (part_of (max s.run.first a) (end_of s.run) s)))) ≡ listed (right_of b s)) [
+  | true ↦ λ t. sym (ap listed (no_right b s (let q = leb-true _ _ t in omega arith)))
+  | false ↦ λ t.
+      let lt : a < end_of s.run = grind (arith, nat_tests) in
+      let w = part_of (max s.run.first a) (end_of s.run) s in
+      let end : end_of w.run ≡ end_of s.run = omega arith in
+      let first : max w.run.first b ≡ max s.run.first b = omega arith in
+      append-nil (listed (right_of b w)) ∙ ap listed (same_right b w s end first refl)
+] refl
+
+-- a later page
+pub from-later : (a b e : ℕ) (ss : List Span) → ascend e ss ≡ true → a ≤ b → all_from b (all_from a ss) ≡ all_from b ss
+unfolding all_from
+from-later a b e [] h le = refl
+from-later a b e (s ∷ ss) h le =
+    let x = begins e s ss h in
+    all_from-append b (listed (right_of a s)) (all_from a ss)
+    ∙ ap (λ l. l ++ all_from b (all_from a ss)) (right_again a b s x.some le)
+    ∙ ap (λ l. listed (right_of b s) ++ l) (from-later a b (end_of s.run) ss x.rest le)
+
+-- of those that end at the page or before it, none is there
+pub from-dropped : (page i : ℕ) (ss : List Span) → ascend 0 ss ≡ true → end_from 0 (take i ss) ≤ page → all_from page (drop i ss) ≡ all_from page ss
+from-dropped page i ss h below =
+    let front = ascend-left 0 (take i ss) (drop i ss) (ap (ascend 0) (take-append-drop i ss) ∙ h) in
+    sym (ap (all_from page) (sym (take-append-drop i ss)) ∙ all_from-append page (take i ss) (drop i ss) ∙ ap (λ l. l ++ all_from page (drop i ss)) (all_from-below page 0 (take i ss) front below))

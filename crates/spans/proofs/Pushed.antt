@@ -1,13 +1,12 @@
 -- Blocks that are put before the one at a place.
 use Rattle.std.proofs.Common.{◌≡◌, ℕ, ◌+◌, ◌-◌, true, false, ltb, ◌<◌, ◌≤◌, List, [], ◌∷◌, ◌++◌, length, take, drop, length-append, refl, sym, ap, ◌∙◌, append_assoc, append-nil, arith}
-use Rattle.std.proofs.Math.ListN.{set}
 use Rattle.std.proofs.Math.Seq.{take-append_seam, drop-append_seam}
 use Rattle.std.proofs.lemmas.List.{take-append-drop, length-take, length-drop}
 use Rattle.spans.specs.Spans.{Span}
 use Rattle.spans.specs.Blocks.{all_spans, AreDealt, AreParts, IsPart}
 use Rattle.std.proofs.lemmas.Bool.{ltb-true, ltb-false}
-use Rattle.spans.proofs.Lists.{front-of, rest-of, set_parts, take_more_of}
-use Rattle.spans.proofs.Blocks.{IsFilled, all-append, all_joined}
+use Rattle.spans.proofs.Lists.{front-of, rest-of, take_more_of}
+use Rattle.spans.proofs.Stacked.{IsFilled, all-append, all_joined}
 use Rattle.spans.proofs.Dense.{last_long, last_long-more, dense-more}
 
 -- the first of the intervals stand in blocks, and so many parts are left
@@ -114,20 +113,6 @@ dealing-more spans done len parts place at old mid new p le list lt a e =
           one = λ k q. omega (arith, is, e.fits, k, q, e.inside, a.full, l, m);
           last = λ k two. omega (arith, is, e.many (omega (arith, two)), l, m, e.inside);
         }
-
--- the block there has them
-pub dealt-one : (place : ℕ) (old : List (List Span)) (ss : List Span) → place < length old → 0 < length ss → length ss ≤ 128 → AreDealt ss place (place + 1) (take place old ++ drop (place + 1) old) (set old place ss)
-dealt-one place old ss lt some short = record {
-  made = ss ∷ [];
-  list =
-      set_parts old place ss lt
-      ∙ sym (ap (λ l. l ++ (ss ∷ drop place (take place old ++ drop (place + 1) old))) (front-of place old (drop (place + 1) old) (omega arith))
-      ∙ ap (λ l. take place old ++ ss ∷ l) (rest-of place old (drop (place + 1) old) (omega arith)));
-  count = omega arith;
-  spans = append-nil ss;
-  filled = ((some, short), tt);
-  dense = (tt, tt);
-}
 
 -- in place of the block there
 module _ (spans : List Span) (place at : ℕ) (mid new : List (List Span)) (lt : place < length mid) (p : AreDealt spans place at (take place mid ++ drop (place + 1) mid) new) where

@@ -1,15 +1,15 @@
 -- The intervals of one number go out of a block.
-use Rattle.std.proofs.Common.{◌≡◌, ℕ, ◌+◌, ◌<◌, ◌≤◌, true, List, [], ◌∷◌, ◌++◌, length, get_or, take, drop, refl, sym, ap, subst, ◌∙◌, arith}
+use Rattle.std.proofs.Common.{◌≡◌, ℕ, ◌+◌, ◌-◌, ◌<◌, ◌≤◌, true, List, [], ◌∷◌, ◌++◌, length, get_or, take, drop, refl, sym, ap, subst, ◌∙◌, arith}
 use Rattle.std.proofs.Math.ListN.{set}
-use Rattle.std.proofs.lemmas.List.{length-set, take-set-le, drop-set, drop-set-lt}
+use Rattle.std.proofs.lemmas.List.{length-set, length-take, length-drop, take-set-le, drop-set, drop-set-lt}
 use Rattle.spans.specs.Spans.{Span, ascend, end_from}
 use Rattle.spans.specs.Search.{begins_at}
-use Rattle.spans.specs.Blocks.{all_spans, AreDense, AreFilled, AreStacked, AreTidyBut}
+use Rattle.spans.specs.Blocks.{all_spans, AreDense, AreFilled, AreStacked, AreTidyBut, AreJoinedAt}
 use Rattle.spans.specs.Taking.{others, IsTakenIn}
-use Rattle.spans.proofs.Blocks.{all-parted, all-next, block-begins, filled_front, filled_rest, filled_at}
-use Rattle.spans.proofs.Dense.{dense-take, dense-drop}
-use Rattle.spans.proofs.Lists.{get_or-set_at}
-use Rattle.spans.proofs.Taking.{fewer_others, taken-ascends}
+use Rattle.spans.proofs.Stacked.{all-parted, all-next, block-begins, filled_front, filled_rest, filled_at}
+use Rattle.spans.proofs.Dense.{IsSettled, dense-few, dense-take, dense-drop}
+use Rattle.spans.proofs.Lists.{drop-cons-at, front-of, get_or-set_at, no_items, rest-of}
+use Rattle.spans.proofs.Others.{fewer_others, taken-ascends}
 
 pub none-taken : (end value : ℕ) (ss : List Span) → ascend end ss ≡ true → IsTakenIn 0 end value ss ss
 none-taken end value ss h = record { before = []; between = []; behind = ss; was = refl; now = refl; below = omega arith; above = h }
@@ -58,3 +58,30 @@ module _ (value end : ℕ) (old : List (List Span)) (place : ℕ) (block now : L
     dense_before = subst AreDense (sym front) (dense-take place old h);
     dense_behind = subst AreDense (sym behind-same) (dense-drop (place + 1) old h);
   }
+
+-- ---- a block that may have lost its intervals
+
+module _ (bs new : List (List Span)) (place : ℕ) (lt : place < length bs) (f : AreFilled (drop (place + 1) bs)) where
+  -- it has none, and goes
+  pub settled-gone : length (get_or bs place []) ≡ 0 → new ≡ take place bs ++ drop (place + 1) bs → IsSettled place bs new
+  settled-gone none is =
+      let rest : drop place new ≡ drop (place + 1) bs = ap (drop place) is ∙ rest-of place bs (drop (place + 1) bs) (omega (arith, lt)) in
+      record {
+        before = ap (take place) is ∙ front-of place bs (drop (place + 1) bs) (omega (arith, lt));
+        spans = ap all_spans rest ∙ sym (all-next place bs [] lt ∙ ap (λ (l : List Span). l ++ all_spans (drop (place + 1) bs)) (no_items (get_or bs place []) none));
+        filled = subst AreFilled (sym rest) f;
+        dense = λ h. subst AreDense (sym rest) h;
+      }
+
+  -- it has some, and the next may go into it
+  pub settled-kept : 0 < length (get_or bs place []) → length (get_or bs place []) ≤ 128 → AreJoinedAt (place + 1) bs new → IsSettled place bs new
+  settled-kept some short j =
+      let on : place + 1 - 1 ≡ place = omega arith in
+      let l = length-take (place + 1) bs in
+      let m = length-drop place (take (place + 1) bs) in
+      record {
+        before = ap (λ (k : ℕ). take k new) (sym on) ∙ j.before ∙ ap (λ (k : ℕ). take k bs) on;
+        spans = j.spans place (omega arith);
+        filled = j.filled place (omega arith) (subst AreFilled (sym (drop-cons-at bs place [] lt)) ((some, short), f));
+        dense = λ h. j.dense place (omega arith) (dense-few (drop place (take (place + 1) bs)) (omega (arith, l, m))) h;
+      }

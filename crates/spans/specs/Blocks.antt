@@ -1,11 +1,11 @@
 -- Intervals that stand in blocks. A map's view names `all_spans`; the other words stand in clauses inside the crate alone.
-use Rattle.std.specs.Prelude.{◌≡◌, ℕ, ◌+◌, ◌*◌, ◌-◌, ◌/◌, ◌^◌, ◌<◌, ◌≤◌, true, nat_le, nat_lt, List, [], ◌∷◌, ◌++◌, Option, length, filter, slice_index_or, take, drop}
+use Rattle.std.specs.Prelude.{◌≡◌, ℕ, ◌+◌, ◌*◌, ◌-◌, ◌/◌, ◌^◌, ◌<◌, ◌≤◌, true, nat_le, nat_lt, List, [], ◌∷◌, ◌++◌, Option, Some, length, filter, slice_index_or, take, drop}
 use Rattle.std.specs.List.{AllByRecursion}
-use Rattle.base.specs.Pages.{PageRun, covers}
+use Rattle.base.specs.Pages.{PageRun, covers, rise}
 use Rattle.spans.specs.Spans.{Span, IsSet, ascend, are_joined}
-use Rattle.spans.specs.Edits.{all_from, rise, IsSame}
+use Rattle.spans.specs.Edits.{all_from, IsSame}
 use Rattle.spans.specs.Search.{begins_at}
-use Rattle.spans.specs.declared.page_map.place.Group.{Group}
+use Rattle.spans.specs.declared.place.Group.{Group}
 
 -- a block knows where its first interval begins, and has places for 128
 pub record IsBlock (begin : ℕ) (ss : List Span) (capacity : ℕ) : Type 0 where
@@ -94,15 +94,11 @@ pub record IsGroup (bs : List (List Span)) (runs : List PageRun) (group : Group)
   pub behind : (i : ℕ) (d : PageRun) (b : List Span) → 0 < group.place → group.from ≤ i → i < length runs → begins_at (slice_index_or bs group.place b) < (slice_index_or runs i d).first
   pub next : (i : ℕ) (d : PageRun) → i < length runs → ascend (slice_index_or runs i d).first (all_spans (drop (group.place + 1) bs)) ≡ true
 
--- the blocks of a map stand upward, no two side by side could be one, intervals that touch and have one number are one over
--- their borders, too, and there is room for a call with so many runs
-pub record IsPageMap (blocks : BlocksView) (room runs spans : ℕ) : Type 0 where
-  pub stacked : AreStacked blocks.list
-  pub dense : AreDense blocks.list
-  pub spare : room ≤ blocks.spare
-  pub sorted : room ≤ runs
-  pub scratch : 0 < room → 256 + 2 * room ≤ spans
-  pub joined : are_joined (all_spans blocks.list) ≡ true
+-- the blocks of a map stand upward, no two side by side could be one, and intervals that touch and have one number are one,
+-- over the borders of blocks, too
+pub record IsPageMap (bs : List (List Span)) : Type 0 where
+  pub tidy : AreTidy bs
+  pub joined : are_joined (all_spans bs) ≡ true
 
 -- blocks with these intervals stand before the one at a place, up to another place
 pub record AreDealt (ss : List Span) (place at : ℕ) (old new : List (List Span)) : Type 0 where
@@ -119,13 +115,6 @@ pub record AreJoinedAt (at : ℕ) (old new : List (List Span)) : Type 0 where
   pub spans : (i : ℕ) → i < at → all_spans (drop i new) ≡ all_spans (drop i old)
   pub filled : (i : ℕ) → i < at → AreFilled (drop i old) → AreFilled (drop i new)
   pub dense : (i : ℕ) → i < at → AreDense (drop i (take at old)) → AreDense (drop at old) → AreDense (drop i new)
-
--- from a place on the same intervals stand in blocks as a map's
-pub record IsSettled (i : ℕ) (old new : List (List Span)) : Type 0 where
-  pub before : take i new ≡ take i old
-  pub spans : all_spans (drop i new) ≡ all_spans (drop i old)
-  pub filled : AreFilled (drop i new)
-  pub dense : AreDense (drop (i + 1) old) → AreDense (drop i new)
 
 -- so many intervals stand in so many blocks, and not in fewer
 pub record AreParts (len parts : ℕ) : Type 0 where
@@ -153,21 +142,13 @@ pub record AreTidyBut (i : ℕ) (bs : List (List Span)) : Type 0 where
   pub dense_before : AreDense (take i bs)
   pub dense_behind : AreDense (drop (i + 1) bs)
 
--- the runs belong to the block at a place: where they get a number, none before it changes
+-- the runs belong to the block at a place of a map: where they get a number, none before it changes
 pub record BelongTo (runs : List PageRun) (bs : List (List Span)) (i : ℕ) : Type 0 where
+  pub map : IsPageMap bs
   pub inside : i < length bs
-  pub short : (d : List Span) → length (slice_index_or bs i d) ≤ 128
   pub rises : rise 0 runs ≡ true
   pub some : 0 < length runs
-  pub ascending : ascend 0 (all_spans (drop i bs)) ≡ true
-  pub joined : are_joined (all_spans (drop i bs)) ≡ true
-  pub filled : AreFilled (drop (i + 1) bs)
-  pub dense : AreDense (drop i bs)
   pub next : (d : PageRun) → ascend (slice_index_or runs (length runs - 1) d).first (all_spans (drop (i + 1) bs)) ≡ true
-
--- the blocks, but the one at a place has these intervals behind its own
-abbrev pub with_more : ℕ → List Span → List (List Span) → List (List Span)
-with_more i ss bs = take i bs ++ (slice_index_or bs i [] ++ ss) ∷ drop (i + 1) bs
 
 -- the pages of the runs have this number, or none, in the blocks from a place on
 pub record IsSetFrom (runs : List PageRun) (value : Option ℕ) (old : List (List Span)) (i : ℕ) (new : List (List Span)) : Type 0 where
@@ -176,19 +157,11 @@ pub record IsSetFrom (runs : List PageRun) (value : Option ℕ) (old : List (Lis
   pub at : IsSet (covers runs) value (all_spans (drop i old)) (all_spans (drop i new))
   pub joined : are_joined (all_spans (drop i new)) ≡ true
 
--- they have it, and those blocks are as a map's
-pub record IsEdited (runs : List PageRun) (value : Option ℕ) (old : List (List Span)) (i : ℕ) (new : List (List Span)) : Type 0 where
-  pub set : IsSetFrom runs value old i new
+-- they have this number, and those blocks are as a map's
+pub record IsEdited (runs : List PageRun) (value : ℕ) (old : List (List Span)) (i : ℕ) (new : List (List Span)) : Type 0 where
+  pub set : IsSetFrom runs (Some value) old i new
   pub filled : AreFilled (drop i new)
   pub dense : AreDense (drop i new)
-
--- they have it once a list goes behind the first intervals of the block there
-pub record IsGathered (runs : List PageRun) (value : Option ℕ) (old : List (List Span)) (i : ℕ) (out : List Span) (new : List (List Span)) : Type 0 where
-  pub set : IsSetFrom runs value old i (with_more i out new)
-  pub inside : i < length new
-  pub filled : AreFilled (drop (i + 1) new)
-  pub dense : AreDense (drop (i + 1) new)
-  pub fits : 0 < length (slice_index_or new i []) → length (slice_index_or new i []) + length out ≤ 128
 
 -- what blocks have before a page is gone. Some of the others went behind the intervals of a list, and what is left begins
 -- behind the page

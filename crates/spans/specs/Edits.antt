@@ -1,5 +1,5 @@
 -- Intervals in which the pages of a run get another number, or none. These words stand in clauses inside the crate alone.
-use Rattle.std.specs.Prelude.{◌≡◌, ℕ, ◌+◌, ◌*◌, ◌-◌, ◌<◌, ◌≤◌, ◌==◌, Bool, true, ◌&&◌, nat_le, List, [], ◌∷◌, ◌++◌, Option, Some, None, length, take, slice_index_or, min, max, if◌then◌else◌}
+use Rattle.std.specs.Prelude.{◌≡◌, ℕ, ◌+◌, ◌*◌, ◌-◌, ◌<◌, ◌≤◌, ◌==◌, true, ◌&&◌, nat_le, List, [], ◌∷◌, ◌++◌, Option, Some, None, length, take, slice_index_or, min, max, if◌then◌else◌}
 use Rattle.base.specs.Pages.{PageRun, covers}
 use Rattle.spans.specs.Spans.{Span, value_at, end_of, ascend, end_from, are_joined}
 
@@ -40,27 +40,12 @@ pub record IsPlaceOf (ss : List Span) (page i : ℕ) : Type 0 where
   pub below : end_from 0 (take i ss) ≤ page
   pub above : (d : Span) → i < length ss → page < end_of (slice_index_or ss i d).run
 
--- an interval with the pages of a run, where they are to have a number
-abbrev pub span_of : PageRun → Option ℕ → Option Span
-span_of run None = None
-span_of run (Some value) = Some (record { run = run; value = value })
-
--- the intervals where the pages of a run have another number, or none
-abbrev pub replaced : PageRun → Option ℕ → List Span → List Span
-replaced run value ss =
-    all_before run.first ss ++ (listed (span_of run value) ++ all_from (end_of run) ss)
-
 -- an interval and the next as one, where they touch and have the same number
 abbrev pub joined : Span → Span → Option Span
 joined s t =
     if s.value == t.value && end_of s.run == t.run.first then
     Some (record { run = record { first = s.run.first; count = s.run.count + t.run.count }; value = s.value })
     else None
-
--- the runs stand upward: each begins where the one before it ends, or later
-abbrev pub rise : ℕ → List PageRun → Bool
-rise end [] = true
-rise end (run ∷ runs) = nat_le end run.first && rise (end_of run) runs
 
 -- the second list says of each page what the first says, and is no longer
 pub record IsSame (old new : List Span) : Type 0 where

@@ -1,4 +1,3 @@
-pub mod Alike
 pub mod Spans
 pub mod Edits
 pub mod Search

@@ -1,5 +1,5 @@
 -- Maps from pages to numbers as intervals.
-use Rattle.std.specs.Prelude.{◌≡◌, ℕ, ◌+◌, ◌*◌, ◌^◌, ◌==◌, Bool, true, not, ◌&&◌, ◌||◌, nat_le, nat_lt, List, [], ◌∷◌, Option, Some, None, slice_index_or, if◌then◌else◌}
+use Rattle.std.specs.Prelude.{◌≡◌, ℕ, ◌+◌, ◌^◌, ◌==◌, Bool, true, not, ◌&&◌, ◌||◌, nat_le, nat_lt, List, [], ◌∷◌, Option, Some, None, if◌then◌else◌}
 use Rattle.base.specs.Pages.{PageRun, in_run}
 
 -- the pages of a run, and the number that each of them has
@@ -7,10 +7,9 @@ pub record Span : Type 0 where
   pub run : PageRun
   pub value : ℕ
 
--- the intervals, and for how many more of them there is room
-pub record SpansView : Type 0 where
+-- the intervals of a map
+pub record PageMapView : Type 0 where
   pub spans : List Span
-  pub room : ℕ
 
 -- the number of a page
 abbrev pub value_at : List Span → ℕ → Option ℕ
@@ -44,15 +43,7 @@ abbrev pub end_from : ℕ → List Span → ℕ
 end_from end [] = end
 end_from end (s ∷ ss) = end_from (end_of s.run) ss
 
--- the interval at a place
-abbrev pub IsSpanAt : List Span → ℕ → PageRun → ℕ → Type 0
-IsSpanAt ss i run value = (d : Span) → slice_index_or ss i d ≡ record { run = run; value = value }
-
 -- an interval begins or ends at the page, or the pages end there
 abbrev pub is_border : List Span → ℕ → Bool
 is_border [] page = page == 2 ^ 27
 is_border (s ∷ ss) page = (page == s.run.first || page == end_of s.run) || is_border ss page
-
--- a run splits an interval at two places, and stands between them
-abbrev pub room_for : ℕ → ℕ
-room_for calls = calls * 3

@@ -1,11 +1,12 @@
-//! Looks pages up, by halving.
+//! Looks pages up among intervals, by halving.
 
 ghost use Rattle.std.specs.Prelude.{◌≡◌, ◌+◌, ◌-◌, ◌*◌, ◌^◌, ◌<◌, ◌≤◌, [], ◌∷◌, true, length};
 ghost use Rattle.spans.specs.Spans as spec;
+ghost use Rattle.spans.specs.Edits.{IsPlaceOf};
 ghost use Rattle.spans.specs.Search.{IsSegment};
 
 use crate::probes::Probes;
-use crate::spans::Span;
+use crate::span::Span;
 use base::Page;
 use std::sync::ledger::Ledger;
 
@@ -63,4 +64,37 @@ pub(crate) fn segment_in<L: Ledger>(spans: &[Span], page: Page, probes: &mut Pro
         }
     }
     segment
+}
+
+/// Where the last of the intervals ends; without one, the first page.
+pub(crate) fn end_of(spans: &[Span]) -> u32
+    ensures same { result ≡ spec.end_from 0 spans.now }
+    ensures in_range { result ≤ 2 ^ 27 }
+{
+    if spans.is_empty() {
+        return 0;
+    }
+    let last = spans[spans.len() - 1];
+    last.run.end()
+}
+
+/// The place of the first interval that ends behind a page. Mostly it is near an end of the list, and so is found
+/// without a search.
+pub(crate) fn place_near_end(spans: &[Span], page: u32) -> usize
+    requires { spec.ascend 0 spans.now ≡ true }
+    ensures place { IsPlaceOf spans.now page result }
+    ensures in_range { spec.end_from 0 spans.now ≤ 2 ^ 27 }
+{
+    let len = spans.len();
+    if end_of(spans) <= page {
+        len
+    } else if end_of(&spans[..len - 1]) <= page {
+        len - 1
+    } else if page < end_of(&spans[..1]) {
+        0
+    } else if page < end_of(&spans[..2]) {
+        1
+    } else {
+        spans.partition_point(|span| span.run.end() <= page)
+    }
 }

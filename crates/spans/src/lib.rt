@@ -1,14 +1,17 @@
-//! Maps from pages to numbers, kept as intervals and searched by halving.
+//! A map from pages to numbers, kept as intervals in blocks and searched by halving.
 #![tactic(auto)]
 
-mod alike;
+mod block;
+mod blocks;
+mod edit;
 mod find;
+mod merge;
 mod page_map;
+mod place;
 mod probes;
-mod spans;
+mod span;
+mod taking;
 
-pub use alike::run_until;
 pub use find::Segment;
 pub use page_map::PageMap;
 pub use probes::Probes;
-pub use spans::Spans;

@@ -1,75 +1,62 @@
-ghost use Rattle.std.specs.Prelude.{◌≡◌, ◌+◌, ◌-◌, ◌*◌, ◌<◌, ◌≤◌, ◌↔◌, ◌^◌, ℕ, [], Some, None, true, length, vec_capacity, IsTrue, IsOk, OnOk, OnErr};
-ghost use Rattle.base.specs.Pages.{in_run, covers};
+ghost use Rattle.std.specs.Prelude.{◌≡◌, ◌+◌, ◌-◌, ◌*◌, ◌<◌, ◌≤◌, ◌^◌, ℕ, [], Some, None, true, length, vec_capacity, OnOk, OnErr};
+ghost use Rattle.base.specs.Pages.{covers};
 ghost use Rattle.spans.specs.Spans as spec;
 ghost use Rattle.spans.specs.Spans.{IsSet};
 ghost use Rattle.spans.specs.Search.{IsSegment};
 ghost use Rattle.spans.specs.Taking.{has_number};
 
-use crate::find::Segment;
+use crate::block::LIMIT;
+use crate::blocks::Blocks;
+use crate::edit::put_sorted;
+use crate::find::{Segment, end_of};
+use crate::place::{more_needed, segment};
 use crate::probes::Probes;
-use crate::spans::{LIMIT, Span, gather};
-use base::{OutOfMemory, Page, Run};
+use crate::span::Span;
+use crate::taking::take_runs;
+use base::{OutOfMemory, Page, Run, gather};
 use std::alloc::Global;
 use std::marker::{Brand, Model};
 use std::sync::ledger::{Blank, Ledger};
 
-mod blocks;
-mod edit;
-mod looking;
-mod place;
-mod taking;
 #[cfg(test)]
 mod tests;
 
-use blocks::Blocks;
-use edit::edit_sorted;
-use place::more_needed;
-use taking::take_runs;
-
-/// A map from pages to numbers as `Spans` is, whose intervals stand in blocks of the same size, so that an edit moves
+/// A map from pages to numbers: intervals of pages in ascending order, in blocks of the same size, so that an edit moves
 /// only those of the blocks that it touches. All intervals of a block end before the next block begins, and intervals that
-/// touch and have one number are one, over the borders of blocks, too. A call that gives pages a number, or takes it away,
-/// makes room for just that; where it is refused, nothing has changed.
+/// touch and have one number are one, over the borders of blocks, too. A call that gives pages a number makes room for just
+/// that; where it is refused, nothing has changed.
 #[derive(Drop)]
 pub struct PageMap {
     blocks: Blocks,
     sorted: Vec<Run>,
     scratch: Vec<Span>,
-    room: usize,
 }
 
 impl Model for PageMap {
-    ghost use Rattle.std.specs.Prelude.{vec_capacity};
-    ghost use Rattle.spans.specs.Spans.{SpansView, room_for};
+    ghost use Rattle.spans.specs.Spans.{PageMapView};
     ghost use Rattle.spans.specs.Blocks.{all_spans, IsPageMap};
 
-    ghost Value = { SpansView };
+    ghost Value = { PageMapView };
 
-    ghost view = { λ m. record {
-      spans = all_spans m.blocks.list;
-      room = room_for m.room;
-    } };
+    ghost view = { λ m. record { spans = all_spans m.blocks.list } };
 
-    ghost invariant = { λ m. IsPageMap m.blocks m.room (vec_capacity m.sorted) (vec_capacity m.scratch) };
+    ghost invariant = { λ m. IsPageMap m.blocks.list };
 }
 
-/// Makes room in both lists for so many runs, and for the intervals of two blocks and those runs.
+/// Fills a list with runs, and makes room in another for the intervals of two blocks and those runs.
 fn ready_lists(
     sorted: &mut Vec<Run>,
     scratch: &mut Vec<Span>,
-    runs: usize,
+    runs: &[Run],
 ) -> Result<(), OutOfMemory>
-    ensures sorted { OnOk result (runs ≤ vec_capacity sorted.new) }
-    ensures scratch { OnOk result (256 + 2 * runs ≤ vec_capacity scratch.new) }
-    ensures at_once { runs ≤ vec_capacity sorted.old → 256 + 2 * runs ≤ vec_capacity scratch.old → IsOk result }
-    ensures kept { vec_capacity sorted.old ≤ vec_capacity sorted.new }
-    ensures kept_scratch { vec_capacity scratch.old ≤ vec_capacity scratch.new }
+    ensures sorted { OnOk result (sorted.new.items ≡ runs.now) }
+    ensures scratch { OnOk result (256 + 2 * length runs.now ≤ vec_capacity scratch.new) }
 {
-    let Some(spans) = runs.checked_mul(2) else {
+    let Some(spans) = runs.len().checked_mul(2) else {
         return Err(OutOfMemory);
     };
     sorted.clear();
-    sorted.reserve(runs)?;
+    sorted.extend_from_slice(runs)?;
     scratch.clear();
     scratch.reserve(spans.saturating_add(2 * LIMIT))?;
     Ok(())
@@ -84,30 +71,7 @@ impl PageMap {
             blocks: Blocks::new(alloc),
             sorted: Vec::new(alloc),
             scratch: Vec::new(alloc),
-            room: 0,
         }
-    }
-
-    /// Makes room for one call of `put_all` with so many runs, wherever they stand, or of `put` for one. That can take a
-    /// block for each run; a call without it asks for those alone that it needs. A refusal changes no number.
-    pub fn ready(&mut self, runs: usize) -> Result<(), OutOfMemory>
-        ensures spans { self.new.spans ≡ self.old.spans }
-        ensures room { OnOk result (spec.room_for runs ≤ self.new.room) }
-    {
-        self.room = 0;
-        ready_lists(&mut self.sorted, &mut self.scratch, runs)?;
-        self.blocks.ready(runs)?;
-        self.room = runs;
-        Ok(())
-    }
-
-    /// Gives all pages of a run this number; other pages keep theirs. A refusal changes nothing.
-    pub fn put(&mut self, run: Run, value: u64) -> Result<(), OutOfMemory>
-        ensures at { OnOk result (IsSet (in_run run) (Some value) self.old.spans self.new.spans) }
-        ensures err { OnErr result (self.new.spans ≡ self.old.spans) }
-        ensures at_once { spec.room_for 1 ≤ self.old.room → IsOk result }
-    {
-        self.put_all(&[run], value)
     }
 
     /// Gives all pages of the runs this number; other pages keep theirs. A refusal changes nothing. Runs that touch or share
@@ -115,56 +79,26 @@ impl PageMap {
     pub fn put_all(&mut self, runs: &[Run], value: u64) -> Result<(), OutOfMemory>
         ensures at { OnOk result (IsSet (covers runs.now) (Some value) self.old.spans self.new.spans) }
         ensures err { OnErr result (self.new.spans ≡ self.old.spans) }
-        ensures at_once { spec.room_for (length runs.now) ≤ self.old.room → IsOk result }
-    {
-        self.edit_all(runs, Some(value))
-    }
-
-    /// Takes the numbers of all pages of the runs away; other pages keep theirs. A refusal changes nothing. It asks for memory
-    /// as `put_all` does, since a run may part an interval in two, but for none where no page has a number.
-    pub fn cut_all(&mut self, runs: &[Run]) -> Result<(), OutOfMemory>
-        ensures at { OnOk result (IsSet (covers runs.now) None self.old.spans self.new.spans) }
-        ensures err { OnErr result (self.new.spans ≡ self.old.spans) }
-        ensures at_once { spec.room_for (length runs.now) ≤ self.old.room → IsOk result }
-    {
-        if self.is_empty() {
-            return Ok(());
-        }
-        self.edit_all(runs, None)
-    }
-
-    fn edit_all(&mut self, runs: &[Run], value: Option<u64>) -> Result<(), OutOfMemory>
-        ensures at { OnOk result (IsSet (covers runs.now) value self.old.spans self.new.spans) }
-        ensures err { OnErr result (self.new.spans ≡ self.old.spans) }
-        ensures at_once { spec.room_for (length runs.now) ≤ self.old.room → IsOk result }
     {
         if runs.is_empty() {
             return Ok(());
         }
-        ready_lists(&mut self.sorted, &mut self.scratch, runs.len())?;
-        gather(&mut self.sorted, runs);
+        ready_lists(&mut self.sorted, &mut self.scratch, runs)?;
+        gather(&mut self.sorted);
         self.blocks.ready(more_needed(&self.blocks, &self.sorted))?;
-        self.room = 0;
-        edit_sorted(&mut self.blocks, &self.sorted, value, &mut self.scratch);
-        self.blocks.trim(0);
+        put_sorted(&mut self.blocks, &self.sorted, value, &mut self.scratch);
+        self.blocks.trim();
         Ok(())
     }
 
     /// Takes a number away from all pages that have it, where those are the pages of the runs; other pages keep theirs.
-    /// This takes no memory and needs no room, since whole intervals go. Where the list has places for the runs, as it has
-    /// behind a call that put them, they are gone over upward.
+    /// This takes no memory and needs no room, since whole intervals go.
     pub fn take_out(&mut self, runs: &[Run], value: u64)
         requires { (n : ℕ) → has_number value self.old.spans n ≡ covers runs.now n }
-        ensures at { IsSet (covers runs.now) None self.old.spans self.new.spans }
-        ensures room { self.old.room ≤ self.new.room }
+        ensures { IsSet (covers runs.now) None self.old.spans self.new.spans }
     {
-        if self.sorted.capacity() < runs.len() {
-            take_runs(&mut self.blocks, runs, value);
-        } else {
-            gather(&mut self.sorted, runs);
-            take_runs(&mut self.blocks, &self.sorted, value);
-        }
-        self.blocks.trim(self.room);
+        take_runs(&mut self.blocks, runs, value);
+        self.blocks.trim();
     }
 
     /// How many blocks the intervals stand in: at most two for 113 intervals, and one. Each has 2 KB of memory.
@@ -174,25 +108,15 @@ impl PageMap {
         self.blocks.len()
     }
 
-    /// How many intervals there are.
-    pub fn len(&self) -> usize {
-        let lens = self.blocks.list.iter().map(|block| block.len());
-        lens.fold(0, |all, len| usize::saturating_add(all, len))
-    }
-
     /// The number of the page after the last that has a number; 0 where none has.
     pub fn end(&self) -> u32
         ensures in_range { result ≤ 2 ^ 27 }
         ensures behind { (n : ℕ) → result ≤ n → spec.value_at self.now.spans n ≡ None }
     {
-        looking::end(&self.blocks)
-    }
-
-    /// Whether no page has a number.
-    pub fn is_empty(&self) -> bool
-        ensures { IsTrue result ↔ (self.now.spans ≡ []) }
-    {
-        self.blocks.len() == 0
+        match self.blocks.len().checked_sub(1) {
+            Some(last) => end_of(self.blocks.block(last).spans()),
+            None => 0,
+        }
     }
 
     /// The number of a page.
@@ -200,15 +124,6 @@ impl PageMap {
         ensures { result ≡ spec.value_at self.now.spans page }
     {
         self.segment_at(page).value
-    }
-
-    /// The number of a page. It looks at no more blocks and intervals than the intervals have binary digits, and eight more.
-    pub fn find<L: Ledger>(&self, page: Page, probes: &mut Probes<L>) -> Option<u64>
-        ensures value { result ≡ spec.value_at self.now.spans page }
-        ensures cost { 2 ^ (probes.new - probes.old) ≤ 2 ^ 8 * (2 * length self.now.spans + 1) }
-        ensures counts { probes.old ≤ probes.new }
-    {
-        looking::segment(&self.blocks, page, probes).value
     }
 
     /// The number of a page, and how far the pages behind it have the same: up to where an interval begins or ends, or to
@@ -231,16 +146,16 @@ impl PageMap {
         ensures joined { spec.are_joined self.now.spans ≡ true }
         ensures segment { IsSegment self.now.spans page result }
     {
-        looking::segment(&self.blocks, page, &mut Probes::<L>::new(blank))
+        self.segment(page, &mut Probes::<L>::new(blank))
     }
 
-    /// The same with a count of the looks: no more than the intervals have binary digits, and ten more.
+    /// The same with a count of the looks at blocks and intervals: no more than the intervals have binary digits, and eight.
     pub fn segment<L: Ledger>(&self, page: Page, probes: &mut Probes<L>) -> Segment
         ensures joined { spec.are_joined self.now.spans ≡ true }
         ensures segment { IsSegment self.now.spans page result }
-        ensures cost { 2 ^ (probes.new - probes.old) ≤ 2 ^ 10 * (2 * length self.now.spans + 1) }
+        ensures cost { 2 ^ (probes.new - probes.old) ≤ 2 ^ 8 * (2 * length self.now.spans + 1) }
         ensures counts { probes.old ≤ probes.new }
     {
-        looking::segment(&self.blocks, page, probes)
+        segment(&self.blocks, page, probes)
     }
 }

@@ -1,15 +1,13 @@
 ghost use Rattle.std.specs.Prelude.{◌≤◌, OnOk};
 
 use super::{Blocks, PageMap};
-use crate::find::Segment;
-use crate::spans::{LIMIT, Spans};
 use base::{OutOfMemory, Page, Run};
 use std::alloc::Global;
 use std::process::Abort;
 use std::test::Fail;
 
-/// Pages that the edits are drawn from, and some behind them.
-const PAGES: u32 = 20_000;
+/// Pages that edits are drawn from, and behind them some more that have no number.
+const PAGES: u32 = 32_768;
 
 /// Drawn numbers, the same each time.
 #[derive(Drop)]
@@ -52,60 +50,50 @@ fn add(runs: &mut Vec<Run>, run: Run) -> Result<(), OutOfMemory> {
     Ok(())
 }
 
-/// A map in blocks, and one with the same numbers in one list.
+/// A map, and a list with the number of each page.
 #[derive(Drop)]
 struct Pair {
     alloc: Global,
     map: PageMap,
-    list: Spans,
+    list: Vec<Option<u64>>,
 }
 
 impl Pair {
-    fn new(alloc: Global) -> Self {
-        Pair {
+    fn new(alloc: Global) -> Result<Self, OutOfMemory> {
+        let mut list = Vec::new(alloc);
+        for _ in 0..PAGES {
+            list.push(None)?;
+        }
+        Ok(Pair {
             alloc,
             map: PageMap::new(alloc),
-            list: Spans::new(alloc),
-        }
+            list,
+        })
     }
 
-    /// Sets the pages of the runs in both maps. Where memory is refused once, the second time it is there.
+    /// Gives the pages of runs a number in both. Where memory is refused once, the second time it is there, and all
+    /// numbers and blocks are as before.
     fn put(&mut self, rt: &impl Abort, runs: &[Run], value: u64) -> Result<(), OutOfMemory> {
         let had = self.capacity();
         if self.map.put_all(runs, value).is_err() {
-            self.put_again(rt, runs, value, had)?;
+            self.compare(rt);
+            assert_eq!(rt; self.capacity(), had);
+            self.map.put_all(runs, value)?;
         }
-        if self.list.ready(runs.len()).is_err() {
-            self.list.ready(runs.len())?;
+        for run in runs {
+            self.mark(rt, *run, value);
         }
-        self.list.put_all(runs, value);
         Ok(())
     }
 
-    /// Takes the numbers of the pages of the runs away in both maps. Where memory is refused once, the second time it is
-    /// there.
-    fn cut(&mut self, runs: &[Run]) -> Result<(), OutOfMemory> {
-        if self.map.cut_all(runs).is_err() {
-            self.map.cut_all(runs)?;
+    /// Gives the pages of a run a number in the list.
+    fn mark(&mut self, rt: &impl Abort, run: Run, value: u64) {
+        let first = run.first().number() as usize;
+        let end = run.end() as usize;
+        assert!(rt; end <= self.list.len());
+        for i in first..end {
+            self.list[i] = Some(value);
         }
-        if self.list.ready(runs.len()).is_err() {
-            self.list.ready(runs.len())?;
-        }
-        self.list.cut_all(runs);
-        Ok(())
-    }
-
-    /// Where memory was refused, all numbers and blocks are as before.
-    fn put_again(
-        &mut self,
-        rt: &impl Abort,
-        runs: &[Run],
-        value: u64,
-        had: [usize; 2],
-    ) -> Result<(), OutOfMemory> {
-        self.compare(rt);
-        assert_eq!(rt; self.capacity(), had);
-        self.map.put_all(runs, value)
     }
 
     /// The runs of a shape, the last of them first if they are to go down.
@@ -119,50 +107,38 @@ impl Pair {
         for i in 0..shape.count {
             let place = if goes_down { shape.count - 1 - i } else { i };
             let first = shape.first.wrapping_add(place.wrapping_mul(shape.step));
-            assert!(rt; first < 20 * PAGES && 0 < shape.pages && shape.pages < 2 * PAGES);
+            assert!(rt; first < PAGES && 0 < shape.pages && shape.pages < PAGES);
             add(&mut runs, Run::new(Page::new(first), shape.pages))?;
         }
         Ok(runs)
     }
 
-    /// The pages behind a page that have its number in the list, over intervals that touch.
-    fn stretch(&self, rt: &impl Abort, number: u32) -> Segment {
-        assert!(rt; number < Page::COUNT);
-        let mut segment = self.list.segment_at(Page::new(number));
-        for _ in 0..PAGES {
-            if segment.end == Page::COUNT {
-                break;
-            }
-            assert!(rt; segment.end < Page::COUNT);
-            let next = self.list.segment_at(Page::new(segment.end));
-            if next.value != segment.value {
-                break;
-            }
-            segment.end = next.end;
-        }
-        segment
-    }
-
-    /// Both say the same of all pages, and the map has no interval too many, and one spare block at most.
-    fn compare(&self, rt: &impl Abort) {
+    /// Both say the same of all pages, no two intervals that touch have one number, and there is one spare block at most.
+    /// It answers how many intervals there are.
+    fn compare(&self, rt: &impl Abort) -> usize {
         assert!(rt; self.map.blocks.spare.len() < 2);
-        let mut number = 0;
-        let mut len: usize = 0;
-        while number < Page::COUNT {
-            let stretch = self.stretch(rt, number);
-            let page = Page::new(number);
-            assert_eq!(rt; self.map.segment_at(page), stretch, "from {number}");
-            assert_eq!(rt; self.map.get(page), stretch.value, "at {number}");
-            len = len.saturating_add(usize::from(stretch.value.is_some()));
-            assert!(rt; number < stretch.end);
-            number = stretch.end;
+        let mut last = None;
+        let mut end = 0;
+        let mut count: usize = 0;
+        for (number, value) in self.list.iter().enumerate() {
+            let number = u32::try_from(number).unwrap_or(0);
+            assert!(rt; number < Page::COUNT);
+            if number == end {
+                let segment = self.map.segment_at(Page::new(number));
+                assert!(rt; number == 0 || segment.value != last, "at {number}");
+                last = segment.value;
+                end = segment.end;
+                count = count.saturating_add(usize::from(last.is_some()));
+            }
+            assert_eq!(rt; last, *value, "at {number}");
         }
-        assert_eq!(rt; self.map.len(), len);
+        assert!(rt; end == Page::COUNT || end == PAGES);
+        count
     }
 
-    /// How many blocks there are, in both lists.
+    /// How many blocks there are.
     fn blocks(&self) -> usize {
-        self.map.blocks.len()
+        self.map.blocks()
     }
 
     /// How many blocks there are, and how many are spare.
@@ -173,7 +149,7 @@ impl Pair {
 
 /// A drawn shape: long runs, runs that share pages, or mostly such as stand apart.
 fn drawn_shape(draw: &mut Draw) -> Shape {
-    let first = draw.below(PAGES / 2);
+    let first = draw.below(PAGES / 3);
     let (most, step, pages) = match draw.below(8) {
         0 => (3, 800, 1_600),
         1 => (40, 5, 8),
@@ -189,8 +165,8 @@ fn drawn_shape(draw: &mut Draw) -> Shape {
 }
 
 #[test]
-fn many_edits_leave_what_they_leave_in_one_list(rt: HostRuntime) -> Result<(), Fail> {
-    let mut pair = Pair::new(rt.alloc());
+fn many_edits_leave_what_they_leave_in_a_list(rt: HostRuntime) -> Result<(), Fail> {
+    let mut pair = Pair::new(rt.alloc())?;
     let mut draw = Draw { state: 1 };
     let mut most = 0;
     for _ in 0..200 {
@@ -223,7 +199,6 @@ fn put_each_other(
         };
         let runs = pair.shape(rt, shape, goes_down)?;
         pair.put(rt, &runs, value)?;
-        assert_eq!(rt; pair.map.len(), pair.list.len());
     }
     Ok(())
 }
@@ -234,7 +209,7 @@ fn put_long(rt: &impl Abort, pair: &mut Pair, first: u32, value: u64) -> Result<
         first,
         count: 1,
         step: 0,
-        pages: PAGES,
+        pages: 20_000,
     };
     let runs = pair.shape(rt, long, false)?;
     pair.put(rt, &runs, value)
@@ -242,23 +217,22 @@ fn put_long(rt: &impl Abort, pair: &mut Pair, first: u32, value: u64) -> Result<
 
 #[test]
 fn borders_of_blocks_part_nothing_that_came_back(rt: HostRuntime) -> Result<(), Fail> {
-    let mut pair = Pair::new(rt.alloc());
+    let mut pair = Pair::new(rt.alloc())?;
     put_long(&rt, &mut pair, 10_000, 7)?;
     for round in 0..6_u32 {
         let first = 10_001 + 301 * round;
         put_each_other(&rt, &mut pair, first, 8, round % 2 == 0)?;
         assert!(&rt; 60 < pair.blocks());
         put_each_other(&rt, &mut pair, first, 7, round % 3 == 0)?;
-        assert_eq!(&rt; pair.map.len(), 1);
+        assert_eq!(&rt; pair.compare(&rt), 1);
         assert_eq!(&rt; pair.blocks(), 1);
-        pair.compare(&rt);
     }
     Ok(())
 }
 
 #[test]
 fn runs_that_cross_blocks_are_put(rt: HostRuntime) -> Result<(), Fail> {
-    let mut pair = Pair::new(rt.alloc());
+    let mut pair = Pair::new(rt.alloc())?;
     put_each_other(&rt, &mut pair, 0, 7, false)?;
     assert!(&rt; 30 < pair.blocks());
     let long = Shape {
@@ -272,63 +246,59 @@ fn runs_that_cross_blocks_are_put(rt: HostRuntime) -> Result<(), Fail> {
         pair.put(&rt, &runs, value)?;
         pair.compare(&rt);
     }
+    put_long(&rt, &mut pair, 0, 8)?;
+    assert_eq!(&rt; pair.blocks(), 1);
+    assert_eq!(&rt; pair.compare(&rt), 1);
     Ok(())
 }
 
-#[test]
-fn blocks_vanish_with_their_intervals(rt: HostRuntime) -> Result<(), Fail> {
-    let mut pair = Pair::new(rt.alloc());
-    assert!(&rt; pair.map.is_empty());
-    put_each_other(&rt, &mut pair, 1, 7, true)?;
-    assert!(&rt; 30 < pair.blocks() && !pair.map.is_empty());
-    put_long(&rt, &mut pair, 0, 8)?;
-    assert_eq!(&rt; pair.blocks(), 1);
-    assert_eq!(&rt; pair.map.len(), 1);
-    pair.compare(&rt);
+/// Shapes that are put one after another, and how many blocks there are behind them.
+fn put_shapes(
+    rt: &impl Abort,
+    pair: &mut Pair,
+    shapes: &[(u32, u32)],
+    blocks: usize,
+) -> Result<(), OutOfMemory> {
+    for (first, count) in shapes {
+        let shape = Shape {
+            first: *first,
+            count: *count,
+            step: 2,
+            pages: 1,
+        };
+        let runs = pair.shape(rt, shape, false)?;
+        pair.put(rt, &runs, 7)?;
+    }
+    assert_eq!(rt; pair.blocks(), blocks);
+    pair.compare(rt);
     Ok(())
 }
 
 #[test]
 fn block_is_parted_beyond_its_limit(rt: HostRuntime) -> Result<(), Fail> {
-    let mut pair = Pair::new(rt.alloc());
-    for (place, blocks) in [(0, 1), (1, 2)] {
-        let shape = Shape {
-            first: 2 * 128 * place,
-            count: if place == 0 { 128 } else { 1 },
-            step: 2,
-            pages: 1,
-        };
-        let runs = pair.shape(&rt, shape, false)?;
-        pair.put(&rt, &runs, 7)?;
-        assert_eq!(&rt; pair.blocks(), blocks);
-        pair.compare(&rt);
-    }
+    let mut pair = Pair::new(rt.alloc())?;
+    put_shapes(&rt, &mut pair, &[(0, 128)], 1)?;
+    put_shapes(&rt, &mut pair, &[(256, 1)], 2)?;
     Ok(())
 }
 
 #[test]
 fn run_that_touches_a_full_block_is_joined_to_it(rt: HostRuntime) -> Result<(), Fail> {
     for (first, blocks) in [(255, 2), (256, 3)] {
-        let mut pair = Pair::new(rt.alloc());
-        for (first, count) in [(0, 128), (1_000, 128), (first, 1)] {
-            let shape = Shape {
-                first,
-                count,
-                step: 2,
-                pages: 1,
-            };
-            let runs = pair.shape(&rt, shape, false)?;
-            pair.put(&rt, &runs, 7)?;
-        }
-        assert_eq!(&rt; pair.blocks(), blocks, "behind {first}");
-        pair.compare(&rt);
+        let mut pair = Pair::new(rt.alloc())?;
+        put_shapes(
+            &rt,
+            &mut pair,
+            &[(0, 128), (1_000, 128), (first, 1)],
+            blocks,
+        )?;
     }
     Ok(())
 }
 
 #[test]
 fn blocks_that_become_short_are_joined(rt: HostRuntime) -> Result<(), Fail> {
-    let mut pair = Pair::new(rt.alloc());
+    let mut pair = Pair::new(rt.alloc())?;
     put_each_other(&rt, &mut pair, 0, 7, false)?;
     assert!(&rt; 30 < pair.blocks());
     let most = Shape {
@@ -342,30 +312,5 @@ fn blocks_that_become_short_are_joined(rt: HostRuntime) -> Result<(), Fail> {
     assert!(&rt; pair.blocks() < 9, "there are {} blocks", pair.blocks());
     assert_eq!(&rt; pair.map.blocks.spare.len(), 1);
     pair.compare(&rt);
-    Ok(())
-}
-
-#[test]
-fn pages_that_are_cut_have_no_number(rt: HostRuntime) -> Result<(), Fail> {
-    let mut pair = Pair::new(rt.alloc());
-    put_each_other(&rt, &mut pair, 0, 7, false)?;
-    for (first, count, step, pages) in [
-        (1_000, 3, 2_000, 601),
-        (1, 512, 4, 2),
-        (5_000, 512, 6, 3),
-        (0, 1, 0, PAGES),
-    ] {
-        let shape = Shape {
-            first,
-            count,
-            step,
-            pages,
-        };
-        let runs = pair.shape(&rt, shape, count == 512)?;
-        pair.cut(&runs)?;
-        pair.compare(&rt);
-    }
-    assert!(&rt; pair.map.is_empty());
-    assert_eq!(&rt; pair.blocks(), 0);
     Ok(())
 }
