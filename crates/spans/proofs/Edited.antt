@@ -229,11 +229,11 @@ module _ (old : List (List Span)) (place : ℕ) (runs : List PageRun) (value : O
 
   pub belong-ascends : ascend 0 (get_or old place d ++ all_spans (drop (place + 1) old)) ≡ true
   unfolding block behind_it
-  belong-ascends = ap (ascend 0) (sym split) ∙ later 0 0 place old g.map.tidy.stacked.ascending (omega arith)
+  belong-ascends = ap (ascend 0) (sym split) ∙ later 0 0 place old g.tidy.stacked.ascending (omega arith)
 
   pub belong-joined : are_joined (get_or old place d ++ all_spans (drop (place + 1) old)) ≡ true
   unfolding block behind_it
-  belong-joined = ap are_joined (sym split) ∙ joined-right (all_spans (take place old)) (all_spans (drop place old)) (ap are_joined (sym (all-parted place old)) ∙ g.map.joined)
+  belong-joined = ap are_joined (sym split) ∙ joined-right (all_spans (take place old)) (all_spans (drop place old)) (ap are_joined (sym (all-parted place old)) ∙ g.joined)
 
   next_first : ascend last.first behind_it ≡ true
   unfolding behind_it
@@ -261,7 +261,7 @@ module _ (old : List (List Span)) (place : ℕ) (runs : List PageRun) (value : O
   pub refilled : (b : List Span) (put : List (List Span)) → put ≡ set old place b → IsMerged runs value (get_or old place d) b → ascend (end_of last + 1) (all_spans (drop (place + 1) old)) ≡ true → IsSetFrom runs value old place put
   unfolding block behind_it
   refilled b put is merged above =
-      edited-by b b (drop (place + 1) old) put merged (none-taken (end_of last) b (drop (place + 1) old) above (filled_rest (place + 1) old g.map.tidy.stacked.filled)) (merged.joined (joined-left block behind_it belong-joined))
+      edited-by b b (drop (place + 1) old) put merged (none-taken (end_of last) b (drop (place + 1) old) above (filled_rest (place + 1) old g.tidy.stacked.filled)) (merged.joined (joined-left block behind_it belong-joined))
       (ap (take place) is ∙ take-set-le place old place b (omega arith))
       (ap all_spans (ap (drop place) is ∙ drop-set old place b g.inside))
 
@@ -436,8 +436,9 @@ module _ (old : List (List Span)) (runs : List PageRun) (left : ℕ) (group : Gr
   pub group-belong : AreDense old → BelongTo (drop group.from (take left runs)) old group.place
   unfolding mine
   group-belong h = record {
-    map = record { tidy = record { stacked = stacked; dense = h }; joined = j };
     inside = lt;
+    tidy = record { stacked = stacked; dense = h };
+    joined = j;
     rises = mine_rises;
     some = let l = long in omega (arith, l, length-take left runs, inside);
     next = λ d.

@@ -1,5 +1,5 @@
 -- Intervals in blocks: what an edit of one block does to all of them.
-use Rattle.std.proofs.Common.{◌≡◌, ℕ, zero, suc, ◌+◌, ◌-◌, ◌<◌, ◌≤◌, Bool, true, false, cond, leb, ltb, List, [], ◌∷◌, ◌++◌, length, get_or, take, drop, Option, Some, None, max, length-append, refl, sym, ap, subst, ◌∙◌, append_assoc, arith}
+use Rattle.std.proofs.Common.{◌≡◌, ℕ, zero, suc, ◌+◌, ◌-◌, ◌*◌, ◌<◌, ◌≤◌, Bool, true, false, cond, leb, ltb, List, [], ◌∷◌, ◌++◌, length, get_or, take, drop, Option, Some, None, is_some, max, length-append, refl, sym, ap, subst, ◌∙◌, append_assoc, arith}
 use Rattle.std.specs.Option.{option_map_or}
 use Rattle.std.specs.List.{AllByRecursion}
 use Rattle.std.proofs.Math.Seq.{drop-cons}
@@ -293,3 +293,35 @@ value_at-end bs i n b h last is from =
     let begun : begins_at (get_or bs i b) ≤ n = omega (arith, begins_before-end (get_or bs i b) (filled_at i bs b h.filled lt).0 up, ends) in
     let none : drop (i + 1) bs ≡ [] = no_items (drop (i + 1) bs) (length-drop (i + 1) bs ∙ (omega (arith, last))) in
     at_block bs i n b h lt begun (ap (λ (x : List (List Span)). value_at (all_spans x) n) none) ∙ value_at-behind 0 (get_or bs i b) n up ends
+
+-- the last page of some has a number
+number_of_last : (e : ℕ) (ss : List Span) → ascend e ss ≡ true → 0 < length ss → is_some (value_at ss (end_from e ss - 1)) ≡ true
+number_of_last e [] h some = absurd (omega arith)
+number_of_last e (s ∷ []) h some = let x = begins e s [] h in rw (in_last s.run x.some) refl
+number_of_last e (s ∷ t ∷ ss) h some =
+    let x = begins e s (t ∷ ss) h in
+    let y = begins (end_of s.run) t ss x.rest in
+    let l = least (end_of t.run) ss y.rest in
+    let n : ℕ = end_from (end_of s.run) (t ∷ ss) - 1 in
+    ap (λ (o : Option ℕ). is_some o) (out s (t ∷ ss) n (behind s.run n (omega (arith, y.from, y.some, l)))) ∙ number_of_last (end_of s.run) (t ∷ ss) x.rest (omega arith)
+
+-- and so has that of the last block
+pub value_at-last : (bs : List (List Span)) (i : ℕ) (b : List Span) → AreStacked bs → i + 1 ≡ length bs → b ≡ get_or bs i b → is_some (value_at (all_spans bs) (end_from 0 b - 1)) ≡ true
+value_at-last bs i b h last is =
+    let lt : i < length bs = omega (arith, last) in
+    let up = block_ascends bs i b h lt in
+    let some = (filled_at i bs b h.filled lt).0 in
+    let here : is_some (value_at (get_or bs i b) (end_from 0 (get_or bs i b) - 1)) ≡ true = number_of_last 0 (get_or bs i b) up some in
+    let none : drop (i + 1) bs ≡ [] = no_items (drop (i + 1) bs) (length-drop (i + 1) bs ∙ (omega (arith, last))) in
+    let begun = begins_before-last (get_or bs i b) some up in
+    subst (λ (x : List Span). is_some (value_at (all_spans bs) (end_from 0 x - 1)) ≡ true) (sym is)
+    (ap (λ (o : Option ℕ). is_some o) (at_block bs i (end_from 0 (get_or bs i b) - 1) b h lt begun (ap (λ (x : List (List Span)). value_at (all_spans x) (end_from 0 (get_or bs i b) - 1)) none)) ∙ here)
+  where
+    begins_before-last : (ss : List Span) → 0 < length ss → ascend 0 ss ≡ true → begins_at ss ≤ end_from 0 ss - 1
+    begins_before-last [] some up = absurd (omega (arith, some))
+    begins_before-last (s ∷ ss) some up = let x = begins 0 s ss up in omega (arith, x.some, least (end_of s.run) ss x.rest)
+
+-- each block has 128 at most
+pub few_in_each : (bs : List (List Span)) → AreFilled bs → length (all_spans bs) ≤ 128 * length bs
+few_in_each [] f = omega arith
+few_in_each (b ∷ bs) f = let l = length-append b (all_spans bs) in let r = few_in_each bs f.1 in omega (arith, l, r, f.0.1)

@@ -68,11 +68,11 @@ module _ (old : List (List Span)) (place : ℕ) (runs : List PageRun) (value : �
     refilled-edited new j =
         let some = some-merged old place runs (Some value) [] g last is value now now [] refl count all (subst (λ (l : List Span). IsSame l now) (sym (append-nil now)) (record { at = λ n. refl; ascends = λ e h. h; ends = λ e. refl; fewer = omega arith })) in
         let a = all in
-        let filled : AreFilled (drop place put) = subst AreFilled (sym rest) ((some, omega (arith, a.fewer, short)), filled_rest (place + 1) old g.map.tidy.stacked.filled) in
+        let filled : AreFilled (drop place put) = subst AreFilled (sym rest) ((some, omega (arith, a.fewer, short)), filled_rest (place + 1) old g.tidy.stacked.filled) in
         let l = length-take (place + 1) put in
         let m = length-drop place (take (place + 1) put) in
         let behind : drop (place + 1) put ≡ drop (place + 1) old = ap (drop (place + 1)) put_is ∙ drop-set-lt (place + 1) old place now (omega arith) in
-        edited-joined_at old put new place (place + 1) runs value refilled-set (omega arith) filled (dense-few (drop place (take (place + 1) put)) (omega (arith, l, m))) (subst AreDense (sym behind) (dense-drop (place + 1) old g.map.tidy.dense)) j
+        edited-joined_at old put new place (place + 1) runs value refilled-set (omega arith) filled (dense-few (drop place (take (place + 1) put)) (omega (arith, l, m))) (subst AreDense (sym behind) (dense-drop (place + 1) old g.tidy.dense)) j
 
   -- other blocks stand in its place
   module _ (count : 0 < last.count) (out out2 : List Span) (mid rem put : List (List Span)) (at : ℕ) (merged : IsMerged runs (Some value) (get_or old place []) out) (t : HasTakenIn (end_of last) out (drop (place + 1) old) out2 (drop (place + 1) mid)) (front : take (place + 1) mid ≡ take (place + 1) old)

@@ -95,10 +95,11 @@ pub record IsGroup (bs : List (List Span)) (runs : List PageRun) (group : Group)
   pub next : (i : ℕ) (d : PageRun) → i < length runs → ascend (slice_index_or runs i d).first (all_spans (drop (group.place + 1) bs)) ≡ true
 
 -- the blocks of a map stand upward, no two side by side could be one, and intervals that touch and have one number are one,
--- over the borders of blocks, too
-pub record IsPageMap (bs : List (List Span)) : Type 0 where
-  pub tidy : AreTidy bs
-  pub joined : are_joined (all_spans bs) ≡ true
+-- over the borders of blocks, too; one block is spare at most
+pub record IsPageMap (blocks : BlocksView) : Type 0 where
+  pub tidy : AreTidy blocks.list
+  pub joined : are_joined (all_spans blocks.list) ≡ true
+  pub spare : blocks.spare ≤ 1
 
 -- blocks with these intervals stand before the one at a place, up to another place
 pub record AreDealt (ss : List Span) (place at : ℕ) (old new : List (List Span)) : Type 0 where
@@ -144,8 +145,9 @@ pub record AreTidyBut (i : ℕ) (bs : List (List Span)) : Type 0 where
 
 -- the runs belong to the block at a place of a map: where they get a number, none before it changes
 pub record BelongTo (runs : List PageRun) (bs : List (List Span)) (i : ℕ) : Type 0 where
-  pub map : IsPageMap bs
   pub inside : i < length bs
+  pub tidy : AreTidy bs
+  pub joined : are_joined (all_spans bs) ≡ true
   pub rises : rise 0 runs ≡ true
   pub some : 0 < length runs
   pub next : (d : PageRun) → ascend (slice_index_or runs (length runs - 1) d).first (all_spans (drop (i + 1) bs)) ≡ true

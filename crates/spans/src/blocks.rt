@@ -1,6 +1,6 @@
 //! Blocks upward, and spare ones.
 
-ghost use Rattle.std.specs.Prelude.{◌≡◌, ◌≤◌, ◌<◌, ◌+◌, ◌-◌, ◌^◌, ◌++◌, ◌∷◌, [], true, length, take, drop, slice_index_or, vec_len, vec_capacity, OnOk, OnErr, ℕ};
+ghost use Rattle.std.specs.Prelude.{◌≡◌, ◌≤◌, ◌<◌, ◌+◌, ◌-◌, ◌^◌, ◌++◌, ◌∷◌, [], true, length, take, drop, slice_index_or, max, vec_len, vec_capacity, OnOk, OnErr, ℕ};
 ghost use Rattle.spans.specs.Spans as spec;
 ghost use Rattle.spans.specs.Search.{begins_at};
 ghost use Rattle.spans.specs.Blocks.{all_spans, needed, AreJoinedAt, AreStacked};
@@ -35,7 +35,8 @@ impl Model for Blocks {
 impl Blocks {
     /// There is none. This takes no memory.
     pub(crate) fn new(alloc: Global) -> Self
-        ensures { result.list ≡ [] }
+        ensures list { result.list ≡ [] }
+        ensures spare { result.spare ≡ 0 }
     {
         Blocks {
             list: Vec::new(alloc),
@@ -74,7 +75,7 @@ impl Blocks {
     /// Makes so many blocks spare. Where one is refused, there are as many as before.
     pub(crate) fn ready(&mut self, spare: usize) -> Result<(), OutOfMemory>
         ensures list { self.new.list ≡ self.old.list }
-        ensures enough { OnOk result (spare ≤ self.new.spare) }
+        ensures enough { OnOk result (self.new.spare ≡ max spare self.old.spare) }
         ensures refused { OnErr result (self.new.spare ≡ self.old.spare) }
     {
         let had = self.spare.len();
@@ -97,7 +98,8 @@ impl Blocks {
     /// Gives the spare blocks back but for one: so that what a call reckoned with and did not take is there for others, and
     /// what comes and goes behind a full block asks for no memory each time.
     pub(crate) fn trim(&mut self)
-        ensures { self.new.list ≡ self.old.list }
+        ensures list { self.new.list ≡ self.old.list }
+        ensures spare { self.new.spare ≤ 1 }
     {
         self.spare.truncate(1);
     }

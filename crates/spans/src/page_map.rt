@@ -1,4 +1,4 @@
-ghost use Rattle.std.specs.Prelude.{◌≡◌, ◌+◌, ◌-◌, ◌*◌, ◌<◌, ◌≤◌, ◌^◌, ℕ, [], Some, None, true, length, vec_capacity, OnOk, OnErr};
+ghost use Rattle.std.specs.Prelude.{◌≡◌, ◌+◌, ◌-◌, ◌*◌, ◌<◌, ◌≤◌, ◌^◌, ℕ, [], Some, None, true, is_some, length, vec_capacity, OnOk, OnErr};
 ghost use Rattle.base.specs.Pages.{covers};
 ghost use Rattle.spans.specs.Spans as spec;
 ghost use Rattle.spans.specs.Spans.{IsSet};
@@ -40,7 +40,7 @@ impl Model for PageMap {
 
     ghost view = { λ m. record { spans = all_spans m.blocks.list } };
 
-    ghost invariant = { λ m. IsPageMap m.blocks.list };
+    ghost invariant = { λ m. IsPageMap m.blocks };
 }
 
 /// Fills a list with runs, and makes room in another for the intervals of two blocks and those runs.
@@ -104,6 +104,7 @@ impl PageMap {
     /// How many blocks the intervals stand in: at most two for 113 intervals, and one. Each has 2 KB of memory.
     pub fn blocks(&self) -> usize
         ensures most { 113 * result ≤ 2 * length self.now.spans + 113 }
+        ensures least { length self.now.spans ≤ 128 * result }
     {
         self.blocks.len()
     }
@@ -112,6 +113,7 @@ impl PageMap {
     pub fn end(&self) -> u32
         ensures in_range { result ≤ 2 ^ 27 }
         ensures behind { (n : ℕ) → result ≤ n → spec.value_at self.now.spans n ≡ None }
+        ensures last { 0 < result → is_some (spec.value_at self.now.spans (result - 1)) ≡ true }
     {
         match self.blocks.len().checked_sub(1) {
             Some(last) => end_of(self.blocks.block(last).spans()),

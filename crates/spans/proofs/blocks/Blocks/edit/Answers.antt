@@ -36,7 +36,7 @@ set_from-requires-clause-ascending c =
     let last = c.index-runs-runs.result in
     let before = ap (λ (l : List Span). end_from 0 (take kept l)) spans in
     let below : end_from 0 (take kept b) ≤ first.first - 1 = omega (arith, before, c.place_near_end-kept.ensures.place.below, c.saturating_sub.ensures, c.number.ensures.same, c.first.ensures.same) in
-    let above = far_next old place (end_of last) g.map.tidy.stacked (λ lt. omega (arith, c.begin_at.ensures.same, c.if-end-begin_at.true, c.end-end.ensures.same)) in
+    let above = far_next old place (end_of last) g.tidy.stacked (λ lt. omega (arith, c.begin_at.ensures.same, c.if-end-begin_at.true, c.end-end.ensures.same)) in
     let l = ap length spans in
     let short : length b + 2 * length runs ≤ 128 = omega (arith, l, c.if-spans-runs-le-LIMIT.true) in
     ap (ascend 0) (ap (λ l. take kept l ++ c.deref.result.now) here ∙ ap (λ l. take kept b ++ l) c.deref.ensures.value)
@@ -61,7 +61,7 @@ join-requires-clause-ascending c =
     let last = c.index-runs-runs.result in
     let before = ap (λ (l : List Span). end_from 0 (take kept l)) spans in
     let below : end_from 0 (take kept b) ≤ first.first - 1 = omega (arith, before, c.place_near_end-kept.ensures.place.below, c.saturating_sub.ensures, c.number.ensures.same, c.first.ensures.same) in
-    let above = far_next old place (end_of last) g.map.tidy.stacked (λ lt. omega (arith, c.begin_at.ensures.same, c.if-end-begin_at.true, c.end-end.ensures.same)) in
+    let above = far_next old place (end_of last) g.tidy.stacked (λ lt. omega (arith, c.begin_at.ensures.same, c.if-end-begin_at.true, c.end-end.ensures.same)) in
     let l = ap length spans in
     let short : length b + 2 * length runs ≤ 128 = omega (arith, l, c.if-spans-runs-le-LIMIT.true) in
     let now = c.set_from.new.self in
@@ -89,7 +89,7 @@ edited_here c =
     let last = c.index-runs-runs.result in
     let before = ap (λ (l : List Span). end_from 0 (take kept l)) spans in
     let below : end_from 0 (take kept b) ≤ first.first - 1 = omega (arith, before, c.place_near_end-kept.ensures.place.below, c.saturating_sub.ensures, c.number.ensures.same, c.first.ensures.same) in
-    let above = far_next old place (end_of last) g.map.tidy.stacked (λ lt. omega (arith, c.begin_at.ensures.same, c.if-end-begin_at.true, c.end-end.ensures.same)) in
+    let above = far_next old place (end_of last) g.tidy.stacked (λ lt. omega (arith, c.begin_at.ensures.same, c.if-end-begin_at.true, c.end-end.ensures.same)) in
     let l = ap length spans in
     let short : length b + 2 * length runs ≤ 128 = omega (arith, l, c.if-spans-runs-le-LIMIT.true) in
     let now = c.set_from.new.self in
@@ -121,7 +121,7 @@ place_near_end-requires c =
     let mid = c.take_in.new.self.list in
     let out2 = c.take_in.new.out.items in
     let t : HasTakenIn (end_of last) out (drop (place + 1) old) out2 (drop (place + 1) mid) = subst (λ k. HasTakenIn k out (drop (place + 1) old) out2 (drop (place + 1) mid)) c.end-end.ensures.same c.take_in.ensures.taken in
-    let j2 : are_joined out2 ≡ true = c.take_in.ensures.joined (merged.joined (joined-left b (all_spans (drop (place + 1) old)) (belong-joined old place runs (Some value) [] g last c.index-runs-runs.is))) g.map.joined in
+    let j2 : are_joined out2 ≡ true = c.take_in.ensures.joined (merged.joined (joined-left b (all_spans (drop (place + 1) old)) (belong-joined old place runs (Some value) [] g last c.index-runs-runs.is))) g.joined in
     ap (ascend 0) c.deref-3.ensures.value ∙ taken-ascends old place runs (Some value) [] g last c.index-runs-runs.is out out2 (drop (place + 1) mid) merged t j2
 
 pub deal-at-requires-clause-ascending : goal.deal-at-requires-clause-ascending
@@ -139,7 +139,7 @@ deal-at-requires-clause-ascending c =
     let mid = c.take_in.new.self.list in
     let out2 = c.take_in.new.out.items in
     let t : HasTakenIn (end_of last) out (drop (place + 1) old) out2 (drop (place + 1) mid) = subst (λ k. HasTakenIn k out (drop (place + 1) old) out2 (drop (place + 1) mid)) c.end-end.ensures.same c.take_in.ensures.taken in
-    let j2 : are_joined out2 ≡ true = c.take_in.ensures.joined (merged.joined (joined-left b (all_spans (drop (place + 1) old)) (belong-joined old place runs (Some value) [] g last c.index-runs-runs.is))) g.map.joined in
+    let j2 : are_joined out2 ≡ true = c.take_in.ensures.joined (merged.joined (joined-left b (all_spans (drop (place + 1) old)) (belong-joined old place runs (Some value) [] g last c.index-runs-runs.is))) g.joined in
     ap (ascend 0) c.deref-2.ensures.value ∙ taken-ascends old place runs (Some value) [] g last c.index-runs-runs.is out out2 (drop (place + 1) mid) merged t j2
 
 pub join-requires-2-clause-some : goal.join-requires-2-clause-some
@@ -157,9 +157,9 @@ join-requires-2-clause-some c =
     let mid = c.take_in.new.self.list in
     let out2 = c.take_in.new.out.items in
     let t : HasTakenIn (end_of last) out (drop (place + 1) old) out2 (drop (place + 1) mid) = subst (λ k. HasTakenIn k out (drop (place + 1) old) out2 (drop (place + 1) mid)) c.end-end.ensures.same c.take_in.ensures.taken in
-    let j2 : are_joined out2 ≡ true = c.take_in.ensures.joined (merged.joined (joined-left b (all_spans (drop (place + 1) old)) (belong-joined old place runs (Some value) [] g last c.index-runs-runs.is))) g.map.joined in
+    let j2 : are_joined out2 ≡ true = c.take_in.ensures.joined (merged.joined (joined-left b (all_spans (drop (place + 1) old)) (belong-joined old place runs (Some value) [] g last c.index-runs-runs.is))) g.joined in
     let dealt : AreDealt out2 place c.deal-at.result c.retire.new.self.list c.deal-at.new.self.list = subst (λ (l : List Span). AreDealt l place c.deal-at.result c.retire.new.self.list c.deal-at.new.self.list) c.deref-2.ensures.value c.deal-at.ensures.dealt in
-    let dense = c.take_in.ensures.dense g.map.tidy.dense in
+    let dense = c.take_in.ensures.dense g.tidy.dense in
     let some = dealt-some old place runs value g last c.index-runs-runs.is (c.end-end.ensures.in_range.0) out out2 mid c.retire.new.self.list c.deal-at.new.self.list c.deal-at.result merged t c.take_in.ensures.before j2 dense c.retire.ensures.list dealt in
     omega (arith, some)
 
@@ -178,9 +178,9 @@ join-requires-2-clause-ascending c =
     let mid = c.take_in.new.self.list in
     let out2 = c.take_in.new.out.items in
     let t : HasTakenIn (end_of last) out (drop (place + 1) old) out2 (drop (place + 1) mid) = subst (λ k. HasTakenIn k out (drop (place + 1) old) out2 (drop (place + 1) mid)) c.end-end.ensures.same c.take_in.ensures.taken in
-    let j2 : are_joined out2 ≡ true = c.take_in.ensures.joined (merged.joined (joined-left b (all_spans (drop (place + 1) old)) (belong-joined old place runs (Some value) [] g last c.index-runs-runs.is))) g.map.joined in
+    let j2 : are_joined out2 ≡ true = c.take_in.ensures.joined (merged.joined (joined-left b (all_spans (drop (place + 1) old)) (belong-joined old place runs (Some value) [] g last c.index-runs-runs.is))) g.joined in
     let dealt : AreDealt out2 place c.deal-at.result c.retire.new.self.list c.deal-at.new.self.list = subst (λ (l : List Span). AreDealt l place c.deal-at.result c.retire.new.self.list c.deal-at.new.self.list) c.deref-2.ensures.value c.deal-at.ensures.dealt in
-    let dense = c.take_in.ensures.dense g.map.tidy.dense in
+    let dense = c.take_in.ensures.dense g.tidy.dense in
     dealt-ascends old place runs value g last c.index-runs-runs.is (c.end-end.ensures.in_range.0) out out2 mid c.retire.new.self.list c.deal-at.new.self.list c.deal-at.result merged t c.take_in.ensures.before j2 dense c.retire.ensures.list dealt
 
 edited_on : (c : goal.After-join-2) → IsEdited c.args.runs.now c.args.value c.args.self.now.list c.args.place c.join-2.new.self.list
@@ -198,9 +198,9 @@ edited_on c =
     let mid = c.take_in.new.self.list in
     let out2 = c.take_in.new.out.items in
     let t : HasTakenIn (end_of last) out (drop (place + 1) old) out2 (drop (place + 1) mid) = subst (λ k. HasTakenIn k out (drop (place + 1) old) out2 (drop (place + 1) mid)) c.end-end.ensures.same c.take_in.ensures.taken in
-    let j2 : are_joined out2 ≡ true = c.take_in.ensures.joined (merged.joined (joined-left b (all_spans (drop (place + 1) old)) (belong-joined old place runs (Some value) [] g last c.index-runs-runs.is))) g.map.joined in
+    let j2 : are_joined out2 ≡ true = c.take_in.ensures.joined (merged.joined (joined-left b (all_spans (drop (place + 1) old)) (belong-joined old place runs (Some value) [] g last c.index-runs-runs.is))) g.joined in
     let dealt : AreDealt out2 place c.deal-at.result c.retire.new.self.list c.deal-at.new.self.list = subst (λ (l : List Span). AreDealt l place c.deal-at.result c.retire.new.self.list c.deal-at.new.self.list) c.deref-2.ensures.value c.deal-at.ensures.dealt in
-    let dense = c.take_in.ensures.dense g.map.tidy.dense in
+    let dense = c.take_in.ensures.dense g.tidy.dense in
     dealt-edited old place runs value g last c.index-runs-runs.is (c.end-end.ensures.in_range.0) out out2 mid c.retire.new.self.list c.deal-at.new.self.list c.deal-at.result merged t c.take_in.ensures.before j2 dense c.retire.ensures.list dealt c.join-2.new.self.list c.join-2.ensures.joined
 
 pub returns-clause-edited : goal.returns-clause-edited
