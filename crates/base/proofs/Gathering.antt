@@ -1,6 +1,5 @@
 -- Runs in the order of their first pages, of which those that touch or share pages become one.
-use Rattle.std.proofs.Common.{◌≡◌, ℕ, zero, suc, ◌<◌, ◌≤◌, ◌+◌, Bool, true, false, cond, ◌||◌, leb, ltb, List, [], ◌∷◌, length, get_or, refl, sym, ap, subst, ◌∙◌, arith}
-use Rattle.std.specs.List.{AllAdjacentBelow}
+use Rattle.std.proofs.Common.{◌≡◌, ℕ, zero, suc, ◌<◌, ◌≤◌, Bool, true, false, cond, ◌||◌, leb, ltb, List, [], ◌∷◌, length, refl, sym, ap, subst, ◌∙◌, arith}
 use Rattle.std.specs.List.Retain.{DedupsFrom, IsDeduped}
 use Rattle.std.specs.List.Sorted.{IsNonDecreasingBy}
 use Rattle.std.specs.Bool.{MatchBool}
@@ -9,18 +8,7 @@ use Rattle.std.proofs.lemmas.Bool.Decides.{nat_tests}
 use Rattle.base.specs.Pages.{PageRun, in_run, covers, with_run, rise, rise_above, are_normal}
 use Rattle.base.proofs.Joining.{end_of}
 
--- ---- runs that lie apart
-
--- where there is a page between each and the next, they rise so
-above_from_adjacent : (run : PageRun) (runs : List PageRun) → AllAdjacentBelow (λ run next. true ≡ ltb (end_of run) next.first) (run ∷ runs) (length (run ∷ runs)) → rise_above (end_of run) runs ≡ true
-above_from_adjacent run [] h = refl
-above_from_adjacent run (next ∷ runs) h =
-    let on : ltb (end_of run) next.first ≡ true = sym (h 0 run (omega arith)) in
-    rw on (above_from_adjacent next runs (λ k d lt. let e : suc k + 1 ≡ suc (k + 1) = omega arith in subst (λ (i : ℕ). true ≡ ltb (end_of (get_or (next ∷ runs) k d)) (get_or (run ∷ next ∷ runs) i d).first) e (h (suc k) d (omega arith))))
-
-pub normal_from_apart : (runs : List PageRun) → AllAdjacentBelow (λ run next. true ≡ ltb (end_of run) next.first) runs (length runs) → are_normal runs ≡ true
-normal_from_apart [] h = refl
-normal_from_apart (run ∷ runs) h = above_from_adjacent run runs h
+-- ---- maximal runs
 
 rise_from_above : (e : ℕ) (runs : List PageRun) → rise_above e runs ≡ true → rise e runs ≡ true
 rise_from_above e [] h = refl

@@ -1,9 +1,10 @@
 //! Puts runs in ascending order.
 
-ghost use Rattle.std.specs.Prelude.{◌≡◌, ◌≤◌, ◌<◌, ℕ, true, length, vec_capacity, IsTrue};
+ghost use Rattle.std.specs.Prelude.{◌≡◌, ◌≤◌, ◌<◌, ℕ, true, length, vec_capacity};
 ghost use Rattle.base.specs.Pages.{are_normal, covers, rise};
 
 use crate::page::Run;
+use crate::runs::are_normal;
 
 /// Makes maximal runs of these, in ascending order: those that touch or share pages become one. This
 /// takes no memory.
@@ -15,16 +16,9 @@ pub fn gather(runs: &mut Vec<Run>)
     ensures some { 0 < length runs.old.items → 0 < length runs.new.items }
     ensures capacity { vec_capacity runs.old ≤ vec_capacity runs.new }
 {
-    if lie_apart(runs) {
+    if are_normal(runs) {
         return;
     }
     runs.sort_unstable_by_key(|run| run.first().number());
     runs.dedup_by(|next, run| run.takes_in(*next));
-}
-
-/// Whether there is a page between each run and the next.
-fn lie_apart(runs: &[Run]) -> bool
-    ensures { IsTrue result → are_normal runs.now ≡ true }
-{
-    runs.is_sorted_by(|run, next| run.end() < next.first().number())
 }

@@ -63,7 +63,7 @@ fn normal_of_many(
 }
 
 /// Whether the runs are maximal already, and in ascending order.
-fn are_normal(runs: &[Run]) -> bool
+pub(crate) fn are_normal(runs: &[Run]) -> bool
     ensures { result ≡ are_normal runs.now }
 {
     let Some((first, others)) = runs.split_first() else {

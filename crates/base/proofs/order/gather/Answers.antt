@@ -19,5 +19,5 @@ returns c =
       capacity = search rules;
     }
 
-pub returns-then-lie_apart-clause-ascending : goal.returns-then-lie_apart-clause-ascending
-returns-then-lie_apart-clause-ascending c = ap (rise 0) (sym c.deref.ensures.value) ∙ rise_from_normal c.deref.result.now (search rules)
+pub returns-then-are_normal-clause-ascending : goal.returns-then-are_normal-clause-ascending
+returns-then-are_normal-clause-ascending c = ap (rise 0) (sym c.deref.ensures.value) ∙ rise_from_normal c.deref.result.now (sym c.are_normal.ensures ∙ c.if-are_normal.true)
