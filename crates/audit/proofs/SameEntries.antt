@@ -1,5 +1,7 @@
 -- Views that are alike have the same entries, and what is compared partition by partition.
-use Rattle.std.proofs.Common.{◌≡◌, ℕ, zero, suc, ◌+◌, ◌*◌, ◌^◌, ◌<◌, ◌≤◌, Bool, true, false, ◌||◌, eqb, List, [], ◌∷◌, length, get_or, refl, sym, ap, subst, ◌∙◌, arith, inl, inr, eq-eqb, codes}
+use Rattle.std.proofs.Common.{◌≡◌, ℕ, zero, suc, ◌+◌, ◌*◌, ◌^◌, ◌<◌, ◌≤◌, Bool, true, false, ◌||◌, eqb, List, [], ◌∷◌, length, get_or, refl, sym, ap, subst, ◌∙◌, arith, inl, inr, eq-eqb, codes, ◌++◌, map, ap₂}
+use Rattle.std.proofs.lemmas.List.{map-append}
+use Rattle.stage2.specs.Reading.{TableEntry, shown, PassTheSame}
 use Rattle.std.specs.List.{list_any}
 use Rattle.std.proofs.lemmas.Bool.{cases_lt}
 use Rattle.base.specs.Access.{View}
@@ -13,7 +15,7 @@ use Rattle.stage2.specs.Orderly.{answer_of}
 use Rattle.stage2.specs.Tables.{TablesView, view_of}
 use Rattle.stage2.proofs.Editing.ChunkKeeps.{answer-walked}
 use Rattle.audit.specs.Audit.{HaveEntriesOf, HaveSameEntries, Tells, IsAuditText}
-use Rattle.audit.specs.Entries.{leaf_entries, page_entries, chunk_entries, gigabyte_entries, entries}
+use Rattle.stage2.specs.Listing.{leaf_entries, page_entries, chunk_entries, gigabyte_entries, entries}
 use Rattle.audit.proofs.EachBelow.{each-same}
 
 module _ (v w : ℕ → View) (alike : (n : ℕ) → n < 2 ^ 27 → w n ≡ v n) where
@@ -115,3 +117,25 @@ module _ (m : ManifestRows) (ds : List Donation) (live : List Live) (t u : Table
     where
       no_answer : (b : Bool) → b ≡ true → b ≡ false → ⊥
       no_answer b x y = cc
+
+-- ---- entries side by side
+
+tail-same : {A : Type 0} (x y : A) (xs ys : List A) → x ∷ xs ≡ y ∷ ys → xs ≡ ys
+tail-same x y xs ys same = cc
+
+front-same : {A : Type 0} (front xs ys : List A) → front ++ xs ≡ front ++ ys → xs ≡ ys
+front-same [] xs ys same = same
+front-same (x ∷ front) xs ys same = front-same front xs ys (tail-same x x (front ++ xs) (front ++ ys) same)
+
+module _ (ours theirs mid other_mid new other_new : List TableEntry) (e o : TableEntry) (our : ours ≡ e ∷ mid) (their : theirs ≡ o ∷ other_mid) (passed : PassTheSame mid new other_mid other_new) where
+  shown-ours : map shown ours ≡ shown e ∷ (map shown passed.passed ++ map shown new)
+  shown-ours = ap (map shown) our ∙ ap (λ (xs : List TableEntry). shown e ∷ map shown xs) passed.ours ∙ ap (λ xs. shown e ∷ xs) (map-append shown passed.passed new)
+
+  shown-theirs : map shown theirs ≡ shown o ∷ (map shown passed.passed ++ map shown other_new)
+  shown-theirs = ap (map shown) their ∙ ap (λ (xs : List TableEntry). shown o ∷ map shown xs) passed.theirs ∙ ap (λ xs. shown o ∷ xs) (map-append shown passed.passed other_new)
+
+  pub same-left : map shown ours ≡ map shown theirs → map shown new ≡ map shown other_new
+  same-left same = front-same (map shown passed.passed) (map shown new) (map shown other_new) (tail-same (shown e) (shown o) _ _ (sym shown-ours ∙ same ∙ shown-theirs))
+
+  pub same-all : shown e ≡ shown o → map shown new ≡ map shown other_new → map shown ours ≡ map shown theirs
+  same-all first rest = shown-ours ∙ ap₂ (λ x xs. x ∷ (map shown passed.passed ++ xs)) first rest ∙ sym shown-theirs

@@ -4,7 +4,7 @@ use Rattle.base.specs.Ledger.{view}
 use Rattle.base.specs.Manifest.{ManifestRows, is_partition}
 use Rattle.base.specs.Transactions.{Donation, Live}
 use Rattle.stage2.specs.Tables.{TablesView, view_of}
-use Rattle.audit.specs.Entries.{entries}
+use Rattle.stage2.specs.Listing.{entries}
 
 -- the tables of each partition have the entries that its views by these lists give
 pub record HaveEntriesOf (m : ManifestRows) (ds : List Donation) (live : List Live) (t : TablesView) : Type 0 where

@@ -48,14 +48,9 @@ abbrev pub with_owned : List OwnedRun → ℕ → ℕ → Option Ownership → L
 with_owned runs first end value =
     option_map_or (λ a. with_next is_same_ownership runs (valued first (end - first) a)) value runs
 
--- ---- pages that are reached
+-- ---- runs that come one behind another
 
--- these runs and so many pages from one on, where they are reached
-abbrev pub with_reached : List ReachedRun → ℕ → ℕ → View → List ReachedRun
-with_reached runs first count view =
-    option_map_or (λ a. with_next is_same runs (valued first count a)) view runs
-
--- how much more the word of a page so many pages on is, where both pages are reached alike: the address field grows,
--- by 4,096 for each page; a word 0 stays 0
-abbrev pub step_from : ℕ → ℕ → ℕ
-step_from word pages = if word == 0 then 0 else 4096 * pages
+-- the run that waits for the next, if there is one
+abbrev pub waiting : {A : Type 0} → Option A → List A
+waiting None = []
+waiting (Some run) = run ∷ []

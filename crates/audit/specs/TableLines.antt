@@ -1,13 +1,12 @@
--- The lines of the entries of tables, and what their words say of them.
-use Rattle.std.specs.Prelude.{◌≡◌, ℕ, ◌/◌, ◌<◌, ◌^◌, List, [], ◌++◌, ◌==◌, codes, if◌then◌else◌}
+-- The lines of the entries of tables, by their words.
+use Rattle.std.specs.Prelude.{ℕ, ◌++◌, List, codes}
 use Rattle.std.specs.Fmt.{decimal}
-use Rattle.std.specs.List.{flat_map}
-use Rattle.audit.specs.Entries.{TableEntry}
-use Rattle.audit.specs.Texts.{hex, address_text, entry_line}
-
--- a line for each entry
-unfoldable pub lines_of : List TableEntry → List ℕ
-lines_of entries = flat_map entry_line entries
+use Rattle.std.specs.Option.{option_map_or}
+use Rattle.stage2.specs.Level.{number_of}
+use Rattle.stage2.specs.Reading.{TableEntry, access_by}
+use Rattle.stage2.specs.declared.table_page.Level.{Level}
+use Rattle.stage2.specs.declared.table_page.Level.TheVariants.{First, Second, Third}
+use Rattle.audit.specs.Texts.{hex, address_text}
 
 -- the line of a block or a page that has this word
 unfoldable pub leaf_line : ℕ → ℕ → ℕ → List ℕ
@@ -21,13 +20,17 @@ table_line level first =
     codes "L" ++ decimal level ++ codes " " ++ address_text first ++ codes " " ++ codes "table"
     ++ codes "\n"
 
--- the line of a word, and none where that is 0
-unfoldable pub word_lines : ℕ → ℕ → ℕ → List ℕ
-word_lines level first word = if word == 0 then [] else leaf_line level first word
+-- that of an entry of a root or of a level 2 table
+abbrev pub upper_line : TableEntry → List ℕ
+upper_line e =
+    option_map_or (λ a. leaf_line (number_of e.level) e.first e.word) (access_by e)
+    (table_line (number_of e.level) e.first)
 
--- the line of a page that has this word, and whose address has the first four digits of those of a chunk
-pub record IsPageLine (c word : ℕ) (line : List ℕ) : Type 0 where
-  pub page : ℕ
-  pub inside : page < 2 ^ 27
-  pub near : page / 4096 ≡ c / 8
-  pub spelled : line ≡ leaf_line 3 page word
+abbrev pub line_at : Level → TableEntry → List ℕ
+line_at First e = upper_line e
+line_at Second e = upper_line e
+line_at Third e = leaf_line 3 e.first e.word
+
+-- the line of an entry, by its word
+unfoldable pub line_of : TableEntry → List ℕ
+line_of e = line_at e.level e

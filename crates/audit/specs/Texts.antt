@@ -6,7 +6,7 @@ use Rattle.base.specs.Access.{Access, View, is_rw, is_normal}
 use Rattle.base.specs.Manifest.{PartitionRow, ManifestRows, grant}
 use Rattle.base.specs.Need.{need}
 use Rattle.words.specs.Words.{leaf_word_of}
-use Rattle.audit.specs.Entries.{TableEntry, entries}
+use Rattle.stage2.specs.Listing.{Listed, entries}
 use Rattle.base.specs.Transactions.{Donation}
 use Rattle.base.specs.Runs.{ValuedRun}
 use Rattle.audit.specs.Runs.{Ownership, OwnedRun, reached_runs, owned_runs}
@@ -91,7 +91,7 @@ content_text level first None = codes "table"
 content_text level first (Some a) = hex 16 (leaf_word_of (level == 2) first a)
 
 -- the line of an entry
-abbrev pub entry_line : TableEntry → List ℕ
+abbrev pub entry_line : Listed → List ℕ
 entry_line e =
     codes "L" ++ decimal e.level ++ codes " " ++ address_text e.first ++ codes " "
     ++ content_text e.level e.first e.leaf ++ codes "\n"

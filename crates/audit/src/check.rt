@@ -5,7 +5,8 @@ ghost use Rattle.base.specs.Manifest.{grant};
 ghost use Rattle.base.specs.Need.{need};
 ghost use Rattle.audit.specs.Texts as spec;
 
-use crate::text::write_id;
+use crate::digits::append_decimal;
+use crate::text::append_id;
 use base::OutOfMemory;
 use manifest::{Manifest, Partition};
 use std::alloc::Global;
@@ -15,20 +16,31 @@ use std::alloc::Global;
 pub fn check_text(alloc: Global, manifest: &Manifest) -> Result<String, OutOfMemory>
     ensures { IfOk result (λ text. string_bytes text ≡ spec.check_text manifest.now) }
 {
-    let mut text = String::new(alloc);
-    for row in manifest.partitions() {
-        let need = manifest.need(row.id);
-        write_line(&mut text, *row, need)?;
+    let mut text = Vec::new(alloc);
+    append_check(&mut text, manifest)?;
+    match String::from_utf8(text) {
+        Ok(text) => Ok(text),
+        Err(_) => unreachable!(),
     }
-    Ok(text)
 }
 
-fn write_line(text: &mut String, row: Partition, need: u32) -> Result<(), OutOfMemory>
-    ensures { OnOk result
-        (string_bytes text.new ≡ string_bytes text.old ++ spec.check_line row need) }
+/// Appends the text that `check_text` makes.
+pub fn append_check(text: &mut Vec<u8>, manifest: &Manifest) -> Result<(), OutOfMemory>
+    ensures { OnOk result (text.new.items ≡ text.old.items ++ spec.check_text manifest.now) }
 {
-    let quota = row.quota;
-    write_id(text, row.id)?;
-    writeln!(text, " need {need} quota {quota}")?;
+    for row in manifest.partitions() {
+        append_line(text, *row, manifest.need(row.id))?;
+    }
     Ok(())
+}
+
+fn append_line(text: &mut Vec<u8>, row: Partition, need: u32) -> Result<(), OutOfMemory>
+    ensures { OnOk result (text.new.items ≡ text.old.items ++ spec.check_line row need) }
+{
+    append_id(text, row.id)?;
+    text.extend_from_slice(b" need ")?;
+    append_decimal(text, u64::from(need))?;
+    text.extend_from_slice(b" quota ")?;
+    append_decimal(text, u64::from(row.quota))?;
+    Ok(text.extend_from_slice(b"\n")?)
 }

@@ -1,12 +1,11 @@
-//! Digits at the end of a text.
+//! Digits of numbers.
 
-ghost use Rattle.std.specs.Prelude.{◌≡◌, ◌^◌, ◌<◌, ◌≤◌, ◌++◌, false, length, OnOk, string_bytes};
+ghost use Rattle.std.specs.Prelude.{◌≡◌, ◌^◌, ◌<◌, ◌≤◌, ◌++◌, false, length, OnOk};
 ghost use Rattle.std.specs.Fmt.{decimal, digit_glyph};
 ghost use Rattle.audit.specs.Texts.{hex};
 
+use base::OutOfMemory;
 use itoa::Buffer;
-use std::alloc::AllocError;
-use std::str;
 
 /// The digits by their values.
 const DIGITS: &[u8; 16] = b"0123456789abcdef";
@@ -34,24 +33,22 @@ fn digit(value: u8) -> u8
 }
 
 /// Appends a number in N lower-case hexadecimal digits.
-pub(crate) fn push_hex<const N: usize>(text: &mut String, number: u64) -> Result<(), AllocError>
+pub fn append_hex<const N: usize>(text: &mut Vec<u8>, number: u64) -> Result<(), OutOfMemory>
     requires some { 0 < N }
     requires most { N ≤ 16 }
     requires fits { number < 16 ^ N }
-    ensures { OnOk result (string_bytes text.new ≡ string_bytes text.old ++ hex N number) }
+    ensures { OnOk result (text.new.items ≡ text.old.items ++ hex N number) }
 {
     let mut digits = [b'0'; N];
     fill_digits(number, &mut digits);
-    match str::from_utf8(&digits) {
-        Ok(digits) => text.push_str(digits),
-        Err(_) => unreachable!(),
-    }
+    Ok(text.extend_from_slice(&digits)?)
 }
 
 /// Appends a number in decimal digits.
-pub(crate) fn push_decimal(text: &mut String, number: u64) -> Result<(), AllocError>
-    ensures { OnOk result (string_bytes text.new ≡ string_bytes text.old ++ decimal number) }
+#[inline(always)]
+pub fn append_decimal(text: &mut Vec<u8>, number: u64) -> Result<(), OutOfMemory>
+    ensures { OnOk result (text.new.items ≡ text.old.items ++ decimal number) }
 {
     let mut buffer = Buffer::new();
-    text.push_str(buffer.format(number))
+    Ok(text.extend_from_slice(buffer.format(number).as_bytes())?)
 }

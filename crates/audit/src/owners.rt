@@ -1,15 +1,15 @@
 //! The text of who owns which pages.
 
-ghost use Rattle.std.specs.Prelude.{◌≡◌, ◌++◌, ℕ, ◌<◌, ◌≤◌, ◌^◌, true, length, codes, IfOk, OnOk, string_bytes};
-ghost use Rattle.std.specs.Str.{IsUtf8};
-ghost use Rattle.base.specs.Runs as maximal;
+ghost use Rattle.std.specs.Prelude.{◌≡◌, ◌++◌, ℕ, ◌<◌, ◌≤◌, ◌^◌, None, length, codes, IfOk, OnOk, string_bytes};
+ghost use Rattle.std.specs.List.{flat_map};
 ghost use Rattle.audit.specs.Runs as runs;
-ghost use Rattle.audit.specs.Runs.{ownership, ownership_of, is_same_ownership};
+ghost use Rattle.audit.specs.Runs.{ownership, ownership_of, waiting};
 ghost use Rattle.audit.specs.Texts as spec;
 
 use crate::alike::region_until;
-use crate::digits::{fill_digits, push_decimal};
-use crate::text::{push_access, push_extent};
+use crate::digits::{append_decimal, fill_digits};
+use crate::joined::{Common, Joining, Valued};
+use crate::text::{append_access, append_extent, bring_forward};
 use base::{Access, OutOfMemory, Page, PartitionId, Run};
 use ledger::Ledger;
 use manifest::Manifest;
@@ -43,54 +43,20 @@ impl Ownership {
             _ => None,
         }
     }
+}
 
-    fn is_same(self, other: Self) -> bool
-        ensures { result ≡ is_same_ownership self other }
-    {
+impl Common for Ownership {
+    ghost use Rattle.audit.specs.Runs.{is_same_ownership};
+
+    ghost same = { is_same_ownership };
+
+    fn is_same(self, other: Self) -> bool {
         self.owner == other.owner && self.home.is_same(other.home)
-    }
-}
-
-/// Pages with one owner and one home.
-#[derive(Clone, Copy, Debug, PartialEq, Eq)]
-struct Owned {
-    run: Run,
-    ownership: Ownership,
-}
-
-impl Model for Owned {
-    ghost use Rattle.audit.specs.Runs as runs;
-
-    ghost Value = { runs.OwnedRun };
-
-    ghost view = { λ o. record { run = o.run; value = o.ownership } };
-
-    ghost inverse = { λ o. record { run = o.run; ownership = o.value } };
-}
-
-impl Owned {
-    /// Whether the next pages begin where these end, and have the same owner and home.
-    fn is_followed_by(self, next: Self) -> bool
-        ensures { result ≡ maximal.is_followed_by is_same_ownership self next }
-    {
-        self.run.end() == next.run.first().number() && self.ownership.is_same(next.ownership)
-    }
-
-    /// These pages and the next, which follow them.
-    fn joined(self, next: Self) -> Self
-        requires { maximal.is_followed_by is_same_ownership self next ≡ true }
-        ensures { result ≡ maximal.joined self next }
-    {
-        Owned {
-            run: Run::new(self.run.first(), self.run.count() + next.run.count()),
-            ownership: self.ownership,
-        }
     }
 }
 
 /// `owners N`, and then the N maximal runs of pages with one owner and one home, upward, as
 /// `ADDRESS COUNT OWNER ACCESS KIND`. The manifest is that of the ledger.
-#[tactic(auto, unfolding(crate::specs::Texts::owners_text))]
 pub fn owners_text(
     alloc: Global,
     manifest: &Manifest,
@@ -100,38 +66,56 @@ pub fn owners_text(
     ensures { IfOk result
         (λ text. string_bytes text ≡ spec.owners_text manifest.now ledger.now.donations) }
 {
-    let runs = owned_runs(alloc, manifest, ledger)?;
-    let mut text = String::new(alloc);
-    write_header(&mut text, runs.len())?;
-    let mut bytes = text.into_bytes();
-    for owned in &runs {
-        push_line(&mut bytes, *owned)?;
-    }
-    match String::from_utf8(bytes) {
+    let mut text = Vec::new(alloc);
+    append_owners(&mut text, manifest, ledger)?;
+    match String::from_utf8(text) {
         Ok(text) => Ok(text),
         Err(_) => unreachable!(),
     }
 }
 
-/// The maximal runs of pages with one owner and one home, upward.
-fn owned_runs(
-    alloc: Global,
+/// Appends the text that `owners_text` makes. The manifest is that of the ledger.
+#[tactic(auto, unfolding(crate::specs::Texts::owners_text))]
+pub fn append_owners(
+    text: &mut Vec<u8>,
     manifest: &Manifest,
     ledger: &Ledger,
-) -> Result<Vec<Owned>, OutOfMemory>
+) -> Result<(), OutOfMemory>
     requires manifest { ledger.now.manifest ≡ manifest.now }
-    ensures { IfOk result
-        (λ found. found.items ≡ runs.owned_runs manifest.now ledger.now.donations) }
+    ensures { OnOk result (text.new.items
+        ≡ text.old.items ++ spec.owners_text manifest.now ledger.now.donations) }
 {
-    let mut found = Vec::new(alloc);
+    let start = text.len();
+    let count = append_lines(text, manifest, ledger)?;
+    let end = text.len();
+    append_header(text, count)?;
+    bring_forward(text, start, end);
+    Ok(())
+}
+
+/// Appends the lines of all runs, and says how many they are.
+fn append_lines(
+    text: &mut Vec<u8>,
+    manifest: &Manifest,
+    ledger: &Ledger,
+) -> Result<usize, OutOfMemory>
+    requires manifest { ledger.now.manifest ≡ manifest.now }
+    ensures count { IfOk result
+        (λ count. count ≡ length (runs.owned_runs manifest.now ledger.now.donations)) }
+    ensures lines { OnOk result (text.new.items ≡ text.old.items
+        ++ flat_map spec.owners_line (runs.owned_runs manifest.now ledger.now.donations)) }
+{
+    let mut joining = Joining::new();
+    let mut count = 0;
     let mut number = 0;
     while number < Page::COUNT {
         let page = Page::new(number);
         let Stretch { ownership, end } = stretch_from(manifest, ledger, page);
-        push_pages(&mut found, ownership, page, end)?;
+        let complete = push_pages(&mut joining, ownership, page, end);
+        count += append_line(text, complete)?;
         number = end;
     }
-    Ok(found)
+    Ok(count + append_line(text, joining.finish())?)
 }
 
 /// Pages that follow one another and have the same owner and home, or none.
@@ -176,70 +160,58 @@ fn owned_until(manifest: &Manifest, ledger: &Ledger, page: Page) -> u32
     end.min(ledger.given_until(page))
 }
 
-/// Appends the pages up to an end, which have one owner and one home, if they have an owner.
+/// Takes the pages up to an end, which have one owner and one home, if they have an owner. Gives the run before
+/// them, if that is complete.
 fn push_pages(
-    found: &mut Vec<Owned>,
+    joining: &mut Joining<Ownership>,
     ownership: Option<Ownership>,
     page: Page,
     end: u32,
-) -> Result<(), OutOfMemory>
+) -> Option<Valued<Ownership>>
     requires some { page < end }
     requires in_range { end ≤ 2 ^ 27 }
-    ensures { OnOk result
-        (found.new.items ≡ runs.with_owned found.old.items page end ownership) }
+    ensures runs { waiting result ++ waiting joining.new.last
+        ≡ runs.with_owned (waiting joining.old.last) page end ownership }
+    ensures waits { joining.new.last ≡ None → (joining.old.last ≡ None) × (result ≡ None) }
 {
     match ownership {
         Some(ownership) => {
             let run = Run::new(page, end - page.number());
-            push_run(found, Owned { run, ownership })
+            joining.push(Valued::new(run, ownership))
         }
-        None => Ok(()),
+        None => None,
     }
 }
 
-/// Appends pages, to the last run where they follow it with the same owner and home.
-fn push_run(found: &mut Vec<Owned>, next: Owned) -> Result<(), OutOfMemory>
-    ensures { OnOk result
-        (found.new.items ≡ maximal.with_next is_same_ownership found.old.items next) }
+/// Appends the line of a run, if there is one, and says how many lines that are.
+fn append_line(text: &mut Vec<u8>, run: Option<Valued<Ownership>>) -> Result<usize, OutOfMemory>
+    ensures count { IfOk result (λ count. count ≡ length (waiting run)) }
+    ensures line { OnOk result
+        (text.new.items ≡ text.old.items ++ flat_map spec.owners_line (waiting run)) }
 {
-    match found.last() {
-        Some(last) if last.is_followed_by(next) => {
-            let both = last.joined(next);
-            let place = found.len() - 1;
-            found[place] = both;
+    match run {
+        Some(run) => {
+            let Ownership { owner, home } = run.value();
+            append_extent(text, run.run())?;
+            append_owner(text, owner)?;
+            append_access(text, home)?;
+            Ok(1)
         }
-        _ => found.push(next)?,
+        None => Ok(0),
     }
-    Ok(())
 }
 
-fn write_header(text: &mut String, count: usize) -> Result<(), OutOfMemory>
-    ensures { OnOk result
-        (string_bytes text.new ≡ string_bytes text.old ++ spec.owners_header count) }
+fn append_header(text: &mut Vec<u8>, count: usize) -> Result<(), OutOfMemory>
+    ensures { OnOk result (text.new.items ≡ text.old.items ++ spec.owners_header count) }
 {
-    text.push_str("owners ")?;
-    push_decimal(text, count as u64)?;
-    Ok(text.push_str("\n")?)
-}
-
-fn push_line(text: &mut Vec<u8>, owned: Owned) -> Result<(), OutOfMemory>
-    requires utf8 { IsUtf8 text.old.items }
-    ensures line { OnOk result (text.new.items ≡ text.old.items ++ spec.owners_line owned) }
-    ensures utf8 { OnOk result (IsUtf8 text.new.items) }
-{
-    let Owned { run, ownership } = owned;
-    push_extent(text, run)?;
-    push_owner(text, ownership.owner)?;
-    push_access(text, ownership.home)?;
-    Ok(())
+    text.extend_from_slice(b"owners ")?;
+    append_decimal(text, count as u64)?;
+    Ok(text.extend_from_slice(b"\n")?)
 }
 
 /// Appends ` OWNER`.
-fn push_owner(text: &mut Vec<u8>, owner: PartitionId) -> Result<(), OutOfMemory>
-    requires utf8 { IsUtf8 text.old.items }
-    ensures owner { OnOk result
-        (text.new.items ≡ text.old.items ++ codes " " ++ spec.hex 4 owner) }
-    ensures utf8 { OnOk result (IsUtf8 text.new.items) }
+fn append_owner(text: &mut Vec<u8>, owner: PartitionId) -> Result<(), OutOfMemory>
+    ensures { OnOk result (text.new.items ≡ text.old.items ++ codes " " ++ spec.hex 4 owner) }
 {
     let mut digits = *b" 0000";
     fill_digits(u64::from(owner.number()), &mut digits[1..5]);

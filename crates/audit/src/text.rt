@@ -1,43 +1,47 @@
 //! Words that several texts have.
 
-ghost use Rattle.std.specs.Prelude.{◌≡◌, ◌++◌, codes, OnOk, string_bytes};
+ghost use Rattle.std.specs.Prelude.{◌≡◌, ◌≤◌, ◌++◌, codes, length, take, drop, OnOk};
 ghost use Rattle.std.specs.Fmt.{decimal};
-ghost use Rattle.std.specs.Str.{IsUtf8};
 ghost use Rattle.audit.specs.Texts as spec;
 
-use crate::digits::{fill_digits, push_hex};
+use crate::digits::{append_decimal, append_hex, fill_digits};
 use base::{Access, MemoryKind, OutOfMemory, PartitionId, Rights, Run};
-use itoa::Buffer;
 
 /// Appends an identifier in four hexadecimal digits.
-pub(crate) fn write_id(text: &mut String, p: PartitionId) -> Result<(), OutOfMemory>
-    ensures { OnOk result (string_bytes text.new ≡ string_bytes text.old ++ spec.hex 4 p) }
+pub(crate) fn append_id(text: &mut Vec<u8>, p: PartitionId) -> Result<(), OutOfMemory>
+    ensures { OnOk result (text.new.items ≡ text.old.items ++ spec.hex 4 p) }
 {
-    Ok(push_hex::<4>(text, u64::from(p.number()))?)
+    append_hex::<4>(text, u64::from(p.number()))
 }
 
 /// Appends `ADDRESS COUNT` of pages. An address ends in three zeros.
-pub(crate) fn push_extent(text: &mut Vec<u8>, run: Run) -> Result<(), OutOfMemory>
-    requires utf8 { IsUtf8 text.old.items }
-    ensures extent { OnOk result (text.new.items
+pub(crate) fn append_extent(text: &mut Vec<u8>, run: Run) -> Result<(), OutOfMemory>
+    ensures { OnOk result (text.new.items
         ≡ text.old.items ++ spec.address_text run.first ++ codes " " ++ decimal run.count) }
-    ensures utf8 { OnOk result (IsUtf8 text.new.items) }
 {
     let mut address = *b"0000000000 ";
     fill_digits(u64::from(run.first().number()), &mut address[0..7]);
     text.extend_from_slice(&address)?;
-    let mut count = Buffer::new();
-    Ok(text.extend_from_slice(count.format(run.count()).as_bytes())?)
+    append_decimal(text, u64::from(run.count()))
 }
 
 /// Appends ` ACCESS KIND` and ends the line.
-pub(crate) fn push_access(text: &mut Vec<u8>, access: Access) -> Result<(), OutOfMemory>
-    requires utf8 { IsUtf8 text.old.items }
-    ensures access { OnOk result (text.new.items ≡ text.old.items ++ codes " "
+pub(crate) fn append_access(text: &mut Vec<u8>, access: Access) -> Result<(), OutOfMemory>
+    ensures { OnOk result (text.new.items ≡ text.old.items ++ codes " "
         ++ spec.access_text access ++ codes " " ++ spec.kind_text access ++ codes "\n") }
-    ensures utf8 { OnOk result (IsUtf8 text.new.items) }
 {
     Ok(text.extend_from_slice(line_end(access).as_bytes())?)
+}
+
+/// Brings what stands behind an end to a place before it.
+pub(crate) fn bring_forward(text: &mut Vec<u8>, start: usize, end: usize)
+    requires ordered { start ≤ end }
+    requires inside { end ≤ length text.old.items }
+    ensures { text.new.items ≡ take start text.old.items
+        ++ (drop end text.old.items ++ drop start (take end text.old.items)) }
+{
+    let count = text.len() - end;
+    text[start..].rotate_right(count);
 }
 
 /// What ends the line of pages with this access.

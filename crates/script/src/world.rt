@@ -15,7 +15,7 @@ ghost use Rattle.script.specs.Texts.{reply_text};
 
 use crate::operations::write_operations;
 use crate::replies::write_reply;
-use audit::{audit_text, maps_text, owners_text, tables_text};
+use audit::{append_audit, append_maps, append_owners, append_tables};
 use base::{Handle, Kind, MemoryAttributes, OutOfMemory, PartitionId};
 use descw::{
     HeaderFields, RelinquishFields, RetrieveFields, SendFields, write_relinquish, write_retrieve,
@@ -215,8 +215,7 @@ impl<M: TableMem + Drop> World<M> {
         ensures { OnOk result (text.new.items
             ≡ text.old.items ++ texts.maps_text id (state.sees self.now.spm.state id)) }
     {
-        let maps = maps_text(self.alloc, self.spm.manifest(), self.spm.tables(), id)?;
-        Ok(text.extend_from_slice(maps.as_bytes())?)
+        append_maps(text, self.spm.tables(), id)
     }
 
     /// The entries of a partition's tables.
@@ -224,8 +223,7 @@ impl<M: TableMem + Drop> World<M> {
         ensures { OnOk result (text.new.items
             ≡ text.old.items ++ texts.tables_text id (state.sees self.now.spm.state id)) }
     {
-        let entries = tables_text(self.alloc, self.spm.manifest(), self.spm.tables(), id)?;
-        Ok(text.extend_from_slice(entries.as_bytes())?)
+        append_tables(text, self.spm.tables(), id)
     }
 
     /// Who owns which pages.
@@ -233,8 +231,7 @@ impl<M: TableMem + Drop> World<M> {
         ensures { OnOk result (text.new.items
             ≡ text.old.items ++ texts.owners_text self.now.spm.state.manifest self.now.spm.state.donations) }
     {
-        let owners = owners_text(self.alloc, self.spm.manifest(), self.spm.ledger())?;
-        Ok(text.extend_from_slice(owners.as_bytes())?)
+        append_owners(text, self.spm.manifest(), self.spm.ledger())
     }
 
     /// Whether the tables are those that are made again from the ledger.
@@ -243,8 +240,14 @@ impl<M: TableMem + Drop> World<M> {
             ≡ text.old.items ++ codes "equal\n") }
     {
         let manifest = self.spm.manifest();
-        let audited = audit_text(self.alloc, manifest, self.spm.tables(), self.spm.ledger())?;
-        Ok(text.extend_from_slice(audited.as_bytes())?)
+        append_audit(
+            text,
+            self.alloc,
+            manifest,
+            self.spm.tables(),
+            self.spm.ledger(),
+        )?;
+        Ok(())
     }
 }
 

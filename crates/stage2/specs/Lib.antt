@@ -1,7 +1,10 @@
 pub mod Slot
 pub mod Level
+pub mod Listing
 pub mod Walk
+pub mod Reading
 pub mod Sound
+pub mod Readings
 pub mod Change
 pub mod Parts
 pub mod Orderly

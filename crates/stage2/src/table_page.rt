@@ -3,6 +3,7 @@
 
 ghost use Rattle.std.specs.Prelude.{◌≡◌, ◌≤◌};
 ghost use Rattle.stage2.specs.Level.{number_of};
+ghost use Rattle.stage2.specs.Reading.{pages_at};
 
 use std::marker::Model;
 
@@ -67,8 +68,8 @@ impl Row {
 }
 
 /// The level of a table: a root has level 1.
-#[derive(Clone, Copy)]
-pub(crate) enum Level {
+#[derive(Clone, Copy, Debug, PartialEq, Eq)]
+pub enum Level {
     /// Level 1: a word for each gigabyte.
     First,
     /// Level 2: a word for each chunk of a gigabyte.
@@ -79,7 +80,7 @@ pub(crate) enum Level {
 
 impl Level {
     /// The number of the level.
-    pub(crate) fn number(self) -> u8
+    pub fn number(self) -> u8
         ensures same { result ≡ number_of self }
         ensures least { 1 ≤ result }
         ensures most { result ≤ 3 }
@@ -88,6 +89,16 @@ impl Level {
             Level::First => 1,
             Level::Second => 2,
             Level::Third => 3,
+        }
+    }
+    /// How many pages a word of such a table stands for: a gigabyte, a chunk or one.
+    pub fn pages(self) -> u32
+        ensures { result ≡ pages_at self }
+    {
+        match self {
+            Level::First => 262_144,
+            Level::Second => 512,
+            Level::Third => 1,
         }
     }
 }

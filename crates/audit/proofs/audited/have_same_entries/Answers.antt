@@ -1,7 +1,7 @@
 use Rattle.std.proofs.Common.{◌≡◌, ℕ, ◌<◌, List, length, get_or, refl, ap, subst, inl, arith}
 use Rattle.base.specs.Manifest.{PartitionRow}
 use Rattle.stage2.specs.Tables.{view_of}
-use Rattle.audit.specs.Entries.{entries}
+use Rattle.stage2.specs.Listing.{entries}
 use Rattle.audit.proofs.SameEntries.{holds-more, holds-all}
 use Rattle.audit.proofs.audited.have_same_entries.Goals as goal
 
@@ -15,7 +15,7 @@ loop-partition-preserved g c =
     let lt : i < length m.partitions = subst (λ (xs : List PartitionRow). i < length xs) same c.loop-partition-test.true in
     let is : item ≡ get_or m.partitions i item = subst (λ (xs : List PartitionRow). item ≡ get_or xs i item) same c.partition-item.is in
     let id : c.partition.inside.id ≡ item.id = ap (λ (x : PartitionRow). x.id) c.partition.view_is in
-    holds-more m P i item lt is c.loop-partition.invariant (subst P id (c.in_ok-has_same_entries.ensures.0 c.if-not-branch.false))
+    holds-more m P i item lt is c.loop-partition.invariant (subst P id (c.has_same_entries.ensures.0 c.if-not-has_same_entries.false))
 
 pub returns : goal.returns
 returns g c =

@@ -1,6 +1,6 @@
 use Rattle.std.proofs.Common.{◌≡◌}
 use Rattle.stage2.specs.Tables.{view_of}
-use Rattle.audit.specs.Entries.{entries}
+use Rattle.stage2.specs.Listing.{entries}
 use Rattle.audit.proofs.SameEntries.{HoldsBelow}
 use Rattle.audit.proofs.audited.have_same_entries.Given as goal
 

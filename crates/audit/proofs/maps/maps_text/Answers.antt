@@ -1,16 +1,12 @@
-use Rattle.std.proofs.Common.{arith}
-use Rattle.std.proofs.lemmas.Grind.{common_steps}
-use Rattle.std.proofs.lemmas.Str.{IsUtf8-string_bytes}
+use Rattle.std.proofs.Common.{rules, List, ℕ, ◌++◌, subst, sym, ap, ◌∙◌}
+use Rattle.std.specs.Str.{IsUtf8}
+use Rattle.stage2.specs.Tables.{view_of}
+use Rattle.audit.specs.Texts.{maps_text}
+use Rattle.audit.proofs.TextBytes.{maps-utf8}
 use Rattle.audit.proofs.maps.maps_text.Goals as goal
 
-pub loop-reached-init : goal.loop-reached-init
-loop-reached-init g c = record {
-  lines = grind (arith, common_steps);
-  utf8 = rw c.into_bytes-bytes.ensures.value (IsUtf8-string_bytes c.write_header.new.text);
-}
-
-pub loop-reached-preserved : goal.loop-reached-preserved
-loop-reached-preserved g c = record {
-  lines = grind (arith, common_steps);
-  utf8 = c.in_ok-push_line.ensures.utf8;
-}
+pub unreachable-requires : goal.unreachable-requires
+unreachable-requires g c =
+    let text = c.in_ok-append_maps.ensures ∙ ap (λ t. t ++ maps_text c.args.p (view_of c.args.tables.now c.args.p)) c.new-text.ensures.items in
+    let utf8 : IsUtf8 c.append_maps.new.text.items = subst IsUtf8 (sym text) (maps-utf8 c.args.p (view_of c.args.tables.now c.args.p)) in
+    search rules

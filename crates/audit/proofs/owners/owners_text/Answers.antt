@@ -1,16 +1,11 @@
-use Rattle.std.proofs.Common.{arith}
-use Rattle.std.proofs.lemmas.Grind.{common_steps}
-use Rattle.std.proofs.lemmas.Str.{IsUtf8-string_bytes}
+use Rattle.std.proofs.Common.{rules, List, ℕ, ◌++◌, subst, sym, ap, ◌∙◌}
+use Rattle.std.specs.Str.{IsUtf8}
+use Rattle.audit.specs.Texts.{owners_text}
+use Rattle.audit.proofs.TextBytes.{owners-utf8}
 use Rattle.audit.proofs.owners.owners_text.Goals as goal
 
-pub loop-owned-init : goal.loop-owned-init
-loop-owned-init c = record {
-  lines = grind (arith, common_steps);
-  utf8 = rw c.into_bytes-bytes.ensures.value (IsUtf8-string_bytes c.write_header.new.text);
-}
-
-pub loop-owned-preserved : goal.loop-owned-preserved
-loop-owned-preserved c = record {
-  lines = grind (arith, common_steps);
-  utf8 = c.in_ok-push_line.ensures.utf8;
-}
+pub unreachable-requires : goal.unreachable-requires
+unreachable-requires c =
+    let text = c.in_ok-append_owners.ensures ∙ ap (λ t. t ++ owners_text c.args.manifest.now c.args.ledger.now.donations) c.new-text.ensures.items in
+    let utf8 : IsUtf8 c.append_owners.new.text.items = subst IsUtf8 (sym text) (owners-utf8 c.args.manifest.now c.args.ledger.now.donations) in
+    search rules

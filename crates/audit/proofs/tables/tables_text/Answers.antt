@@ -1,5 +1,12 @@
-use Rattle.std.proofs.lemmas.Str.{IsUtf8-string_bytes}
+use Rattle.std.proofs.Common.{rules, List, ℕ, ◌++◌, subst, sym, ap, ◌∙◌}
+use Rattle.std.specs.Str.{IsUtf8}
+use Rattle.stage2.specs.Tables.{view_of}
+use Rattle.audit.specs.Texts.{tables_text}
+use Rattle.audit.proofs.TextBytes.{tables-utf8}
 use Rattle.audit.proofs.tables.tables_text.Goals as goal
 
-pub push_lines-requires-clause-utf8 : goal.push_lines-requires-clause-utf8
-push_lines-requires-clause-utf8 g c = rw c.into_bytes-bytes.ensures.value (IsUtf8-string_bytes c.write_header.new.text)
+pub unreachable-requires : goal.unreachable-requires
+unreachable-requires g c =
+    let text = c.in_ok-append_tables.ensures ∙ ap (λ t. t ++ tables_text c.args.p (view_of c.args.tables.now c.args.p)) c.new-text.ensures.items in
+    let utf8 : IsUtf8 c.append_tables.new.text.items = subst IsUtf8 (sym text) (tables-utf8 c.args.p (view_of c.args.tables.now c.args.p)) in
+    search rules

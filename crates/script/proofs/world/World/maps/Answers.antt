@@ -11,4 +11,4 @@ returns g c =
     let s = c.args.self.now.spm.state in
     let t = c.tables.result.now in
     rw (sym (maps-same c.args.id (sees s c.args.id) (view_of t c.args.id) (tables_show s t c.args.self.now.spm.pool c.tables.ensures.layout c.tables.ensures.pool c.tables.ensures.agrees c.args.id)))
-    (grind (arith, common_steps))
+    c.append_maps.ensures

@@ -8,7 +8,7 @@ use Rattle.stage2.proofs.tables.Tables.edit.Goals as goal
 pub edit_row-requires-clause-free : goal.edit_row-requires-clause-free
 edit_row-requires-clause-free g c =
     let layout = c.self.inside.layout in
-    let row = row-found layout.ids c.args.p c.in-Some.row (sym c.row.ensures ∙ c.in-Some.is) in
+    let row = row-found layout.ids c.args.p c.in-Some.row (sym c.row.ensures.row ∙ c.in-Some.is) in
     let m = c.self.inside.memory in
     fits-row (view layout (g.M.TableMem.state m) (g.M.TableMem.room m)) c.args.p c.in-Some.row c.args.runs.now c.args.access.now row
     (subst (λ (t : TablesView). Fits c.args.p c.args.runs.now c.args.access.now t) (sym c.self.view_is) c.requires.fits)
@@ -16,7 +16,7 @@ edit_row-requires-clause-free g c =
 pub edit_row-requires-clause-room : goal.edit_row-requires-clause-room
 edit_row-requires-clause-room g c =
     let layout = c.self.inside.layout in
-    let row = row-found layout.ids c.args.p c.in-Some.row (sym c.row.ensures ∙ c.in-Some.is) in
+    let row = row-found layout.ids c.args.p c.in-Some.row (sym c.row.ensures.row ∙ c.in-Some.is) in
     let m = c.self.inside.memory in
     room-row (view layout (g.M.TableMem.state m) (g.M.TableMem.room m)) c.args.p c.in-Some.row c.args.runs.now row
     (subst (λ (t : TablesView). edit_operations c.args.p c.args.runs.now t ≤ t.room) (sym c.self.view_is) c.requires.ready)
@@ -26,7 +26,7 @@ edit : (g : Over) (c : goal.After-edit_row g) → IsEdited c.args.p c.args.runs.
 edit g c =
     let layout = c.self.inside.layout in
     let new = c.edit_row.new.memory in
-    let row = row-found layout.ids c.args.p c.in-Some.row (sym c.row.ensures ∙ c.in-Some.is) in
+    let row = row-found layout.ids c.args.p c.in-Some.row (sym c.row.ensures.row ∙ c.in-Some.is) in
     subst (λ (t : TablesView). IsEdited c.args.p c.args.runs.now c.args.access.now t (view layout (g.M.TableMem.state new) (g.M.TableMem.room new))) c.self.view_is
     (edited-rooted layout (g.M.TableMem.state c.self.inside.memory) (g.M.TableMem.state new) (g.M.TableMem.room c.self.inside.memory) (g.M.TableMem.room new) c.args.p c.in-Some.row c.args.runs.now c.args.access.now
     row c.self.invariant c.edit_row.ensures.edits c.edit_row.ensures.in_step c.edit_row.ensures.room)
@@ -54,7 +54,7 @@ returns-in-Some-clause-canonical g c =
 -- and where it has none
 no-edit : (g : Over) (c : goal.In_default g) → IsEdited c.args.p c.args.runs.now c.args.access.now c.args.self.now c.args.self.now
 no-edit g c =
-    let none = ap (λ (x : TablesView). position (λ id. eqb id c.args.p) x.layout.ids) (sym c.self.view_is) ∙ sym c.row.ensures ∙ c.in_default.is in
+    let none = ap (λ (x : TablesView). position (λ id. eqb id c.args.p) x.layout.ids) (sym c.self.view_is) ∙ sym c.row.ensures.row ∙ c.in_default.is in
     let root : has_root c.args.self.now c.args.p ≡ false = found-none c.args.self.now.layout.ids c.args.p none in
     let rows : length c.args.self.now.layout.ids ≡ length c.args.self.now.pool.memory.quotas = subst (λ (t : TablesView). length t.layout.ids ≡ length t.pool.memory.quotas) c.self.view_is c.self.invariant.orderly.rows in
     edited-rootless c.args.self.now c.args.p c.args.runs.now c.args.access.now root

@@ -1,0 +1,207 @@
+-- Entries in a row: what they reach, and that no table hangs at them.
+use Rattle.std.proofs.Common.{◌≡◌, not, eqb, ap₂, inl, inr, ℕ, zero, suc, ◌+◌, ◌*◌, ◌%◌, ◌^◌, ◌<◌, ◌≤◌, IsTrue, Bool, true, false, List, [], ◌∷◌, ◌++◌, Some, None, refl, sym, ap, subst, ◌∙◌, append_assoc, arith, lit<}
+use Rattle.std.specs.List.{flat_map}
+use Rattle.std.specs.Option.{option_map_or}
+use Rattle.std.proofs.lemmas.List.Concat.{flat_map-append}
+use Rattle.std.proofs.lemmas.Bool.{cases_Bool, eqb-true}
+use Rattle.base.specs.declared.access.Rights.{Rights}
+use Rattle.base.specs.declared.access.Rights.TheVariants.{Ro, Rw}
+use Rattle.base.specs.declared.access.MemoryKind.{MemoryKind}
+use Rattle.base.specs.declared.access.MemoryKind.TheVariants.{Normal, Device}
+use Rattle.base.specs.Access.{Access}
+use Rattle.words.specs.declared.word.Entry.{Entry}
+use Rattle.words.specs.declared.word.Entry.TheVariants.{Invalid, Table, Leaf, Wrong}
+use Rattle.words.specs.Words.{entry_of, leaf_fields, leaf_word_of, leaf_level}
+use Rattle.words.proofs.RoundTrip.{word-table, word-leaf, odd-leaf, type-leaf, type-table, entry-page, entry-block}
+use Rattle.pool.specs.Pool.{Words}
+use Rattle.stage2.specs.Level.{number_of}
+use Rattle.stage2.specs.declared.cursor.Cursor.{Cursor}
+use Rattle.stage2.specs.declared.table_page.Level.{Level}
+use Rattle.stage2.specs.declared.table_page.Level.TheVariants.{First, Second, Third}
+use Rattle.stage2.specs.Reading.{TableEntry, pages_at, access_of, table_in, table_entries, entry_row, with_pages, with_chunks, left_in, left_of, StandBehind, StandInRow}
+use Rattle.stage2.proofs.Reading.Cursors.{pages-suc}
+
+-- ---- the words of blocks
+
+-- a block's word is no table's
+block-no-table : (base pages word : ℕ) → word % 4 ≡ 1 → table_in base pages (entry_of 2 word) ≡ None
+block-no-table base pages word block = go (entry_of 2 word) refl
+  where
+    go : (e : Entry) → entry_of 2 word ≡ e → table_in base pages e ≡ None
+    go Invalid is = refl
+    go (Table page) is =
+        let spelled = (word-table 2 word page is).spelled in
+        let three = type-table page in
+        absurd (omega (arith, block, three, ap (λ n. n % 4) spelled))
+    go (Leaf page a) is = refl
+    go Wrong is = refl
+
+row-alone : (base pages : ℕ) (words : Words) (first word n : ℕ) → word % 4 ≡ 1 → flat_map (with_pages base pages words) (entry_row Second first word n) ≡ entry_row Second first word n
+unfolding entry_row with_pages
+row-alone base pages words first word zero block = refl
+row-alone base pages words first word (suc n) block =
+    let e : TableEntry = record { level = Second; first = first; word = word } in
+    ap (λ o. e ∷ (option_map_or (λ k. table_entries Third first (words k)) o [] ++ flat_map (with_pages base pages words) (entry_row Second (first + 512) (word + 4096 * 512) n))) (block-no-table base pages word block)
+    ∙ ap (λ (xs : List TableEntry). e ∷ xs) (row-alone base pages words (first + 512) (word + 4096 * 512) n (omega (arith, block)))
+
+-- ---- rows of what is left
+
+module _ (base pages : ℕ) (words : Words) (root second third : Cursor) where
+  pub third-row : (row : List TableEntry) (new : Cursor) → left_in words third ≡ row ++ left_in words new → left_of base pages words root second third ≡ row ++ left_of base pages words root second new
+  unfolding left_of
+  third-row row new is =
+      let rest = flat_map (with_pages base pages words) (left_in words second) ++ flat_map (with_chunks base pages words) (left_in words root) in
+      ap (λ (xs : List TableEntry). xs ++ rest) is ∙ append_assoc row (left_in words new) rest
+
+  pub second-row : (first word n : ℕ) (new : Cursor) → left_in words third ≡ [] → word % 4 ≡ 1 → left_in words second ≡ entry_row Second first word n ++ left_in words new → left_of base pages words root second third ≡ entry_row Second first word n ++ left_of base pages words root new third
+  unfolding left_of
+  second-row first word n new none block is =
+      let f = with_pages base pages words in
+      let row = entry_row Second first word n in
+      let rest = flat_map (with_chunks base pages words) (left_in words root) in
+      ap (λ (xs : List TableEntry). xs ++ (flat_map f (left_in words second) ++ rest)) none
+      ∙ ap (λ (xs : List TableEntry). flat_map f xs ++ rest) is
+      ∙ ap (λ (xs : List TableEntry). xs ++ rest) (flat_map-append f row (left_in words new) ∙ ap (λ (xs : List TableEntry). xs ++ flat_map f (left_in words new)) (row-alone base pages words first word n block))
+      ∙ append_assoc row (flat_map f (left_in words new)) rest
+      ∙ ap (λ (xs : List TableEntry). row ++ (xs ++ (flat_map f (left_in words new) ++ rest))) (sym none)
+
+-- ---- what is reached
+
+third-leaf : (block : Bool) → 3 ≡ leaf_level block → block ≡ false
+third-leaf true e = absurd (omega arith)
+third-leaf false e = refl
+
+second-leaf : (block : Bool) → 2 ≡ leaf_level block → block ≡ true
+second-leaf true e = refl
+second-leaf false e = absurd (omega arith)
+
+first-leaf : (block : Bool) → 1 ≡ leaf_level block → ⊥
+first-leaf true e = omega arith
+first-leaf false e = omega arith
+
+shifted : (block : Bool) (page steps i : ℕ) (a : Access) → leaf_word_of block page a + 4096 * steps ≡ leaf_word_of block (page + steps) a
+unfolding leaf_word_of
+shifted block page steps i a = omega arith
+
+-- pages behind a page that is mapped to itself are reached as it is, where their words are those behind its word
+pub row-alike : (level : Level) (first word page n : ℕ) (a : Access) → entry_of (number_of level) word ≡ Leaf page a → page ≡ first → first + pages_at level * (n + 1) ≤ 2 ^ 27 → (i : ℕ) → i < n + 1 → access_of (entry_of (number_of level) (word + 4096 * pages_at level * i)) ≡ Some a
+row-alike First first word page n a leaf at range i lt =
+    let w = word-leaf 1 word page a leaf in
+    absurd (first-leaf w.block w.at_level)
+row-alike Second first word page n a leaf at range i lt =
+    let w = word-leaf 2 word page a leaf in
+    let block = second-leaf w.block w.at_level in
+    let spelled : word ≡ leaf_word_of true page a = w.spelled ∙ ap (λ b. leaf_word_of b page a) block in
+    let aligned : page % 512 ≡ 0 = w.aligned (subst (λ b. IsTrue b) (sym block) refl) in
+    let there : word + 4096 * 512 * i ≡ leaf_word_of true (page + 512 * i) a = ap (λ w. w + 4096 * 512 * i) spelled ∙ (let steps : 4096 * 512 * i ≡ 4096 * (512 * i) = omega arith in ap (λ k. leaf_word_of true page a + k) steps) ∙ shifted true page (512 * i) i a in
+    ap (λ w. access_of (entry_of 2 w)) there ∙ ap access_of (entry-block (page + 512 * i) a (omega (arith, at, range, lt)) w.legal (omega (arith, aligned)))
+row-alike Third first word page n a leaf at range i lt =
+    let w = word-leaf 3 word page a leaf in
+    let block = third-leaf w.block w.at_level in
+    let spelled : word ≡ leaf_word_of false page a = w.spelled ∙ ap (λ b. leaf_word_of b page a) block in
+    let there : word + 4096 * 1 * i ≡ leaf_word_of false (page + i) a = ap (λ w. w + 4096 * 1 * i) spelled ∙ (let steps : 4096 * 1 * i ≡ 4096 * i = omega arith in ap (λ k. leaf_word_of false page a + k) steps) ∙ shifted false page i i a in
+    ap (λ w. access_of (entry_of 3 w)) there ∙ ap access_of (entry-page (page + i) a (omega (arith, at, range, lt)) w.legal)
+
+-- ---- the word of a block or page
+
+fields-small : (block : Bool) (r : Rights) (e : Bool) (k : MemoryKind) → leaf_fields block (record { rights = r; exec = e; kind = k }) < 2 ^ 62
+unfolding leaf_fields
+fields-small true Ro true Normal = lit< tt
+fields-small true Ro true Device = lit< tt
+fields-small true Ro false Normal = lit< tt
+fields-small true Ro false Device = lit< tt
+fields-small true Rw true Normal = lit< tt
+fields-small true Rw true Device = lit< tt
+fields-small true Rw false Normal = lit< tt
+fields-small true Rw false Device = lit< tt
+fields-small false Ro true Normal = lit< tt
+fields-small false Ro true Device = lit< tt
+fields-small false Ro false Normal = lit< tt
+fields-small false Ro false Device = lit< tt
+fields-small false Rw true Normal = lit< tt
+fields-small false Rw true Device = lit< tt
+fields-small false Rw false Normal = lit< tt
+fields-small false Rw false Device = lit< tt
+
+fields-odd : (block : Bool) (r : Rights) (e : Bool) (k : MemoryKind) → leaf_fields block (record { rights = r; exec = e; kind = k }) % 2 ≡ 1
+unfolding leaf_fields
+fields-odd true Ro true Normal = refl
+fields-odd true Ro true Device = refl
+fields-odd true Ro false Normal = refl
+fields-odd true Ro false Device = refl
+fields-odd true Rw true Normal = refl
+fields-odd true Rw true Device = refl
+fields-odd true Rw false Normal = refl
+fields-odd true Rw false Device = refl
+fields-odd false Ro true Normal = refl
+fields-odd false Ro true Device = refl
+fields-odd false Ro false Normal = refl
+fields-odd false Ro false Device = refl
+fields-odd false Rw true Normal = refl
+fields-odd false Rw true Device = refl
+fields-odd false Rw false Normal = refl
+fields-odd false Rw false Device = refl
+
+pub odd-leaf-word : (block : Bool) (n : ℕ) (a : Access) → leaf_word_of block n a % 2 ≡ 0 → ⊥
+unfolding leaf_word_of
+odd-leaf-word block n a even = let odd = fields-odd block a.rights a.exec a.kind in omega (arith, odd, even)
+
+pub leaf-small : (level : Level) (word page : ℕ) (a : Access) → entry_of (number_of level) word ≡ Leaf page a → word < 2 ^ 63
+unfolding leaf_word_of
+leaf-small level word page a leaf =
+    let w = word-leaf (number_of level) word page a leaf in
+    let small = fields-small w.block a.rights a.exec a.kind in
+    let spelled = w.spelled in
+    let range = w.in_range in
+    omega (arith, small, spelled, range)
+
+pub leaf-odd : (level : Level) (word page : ℕ) (a : Access) → entry_of (number_of level) word ≡ Leaf page a → word % 2 ≡ 1
+leaf-odd level word page a leaf =
+    let w = word-leaf (number_of level) word page a leaf in
+    ap (λ n. n % 2) w.spelled ∙ odd-leaf w.block page a w.legal
+
+pub leaf-block : (word page : ℕ) (a : Access) → entry_of 2 word ≡ Leaf page a → word % 4 ≡ 1
+leaf-block word page a leaf =
+    let w = word-leaf 2 word page a leaf in
+    let type = type-leaf true page a w.legal in
+    let spelled : word ≡ leaf_word_of true page a = w.spelled ∙ ap (λ b. leaf_word_of b page a) (second-leaf w.block w.at_level) in
+    omega (arith, type, ap (λ n. n % 4) spelled)
+
+-- none behind an entry
+pub none-behind : (e : TableEntry) (entries : List TableEntry) → e.first + pages_at e.level ≤ 2 ^ 27 → StandBehind e 0 entries entries
+unfolding entry_row
+none-behind e entries range = record { entries = refl; range = (let one : pages_at e.level * (0 + 1) ≡ pages_at e.level = omega arith in omega (arith, range, one)) }
+
+-- so many that a table of its level has left
+pub stand-behind : (e : TableEntry) (level : Level) (first word count : ℕ) (old new : List TableEntry) → e.level ≡ level → first ≡ e.first + pages_at level → first + pages_at level * count ≤ 2 ^ 27 → word ≡ e.word → old ≡ entry_row level first (word + 4096 * pages_at level) count ++ new → StandBehind e count old new
+stand-behind e level first word count old new at from range is so =
+    let more = pages-suc level count in
+    let one : count + 1 ≡ suc count = omega arith in
+    let same = ap (λ n. pages_at level * n) one in
+    let all : (old ≡ entry_row level (e.first + pages_at level) (e.word + 4096 * pages_at level) count ++ new) × (e.first + pages_at level * (count + 1) ≤ 2 ^ 27)
+    = (so ∙ ap₂ (λ (f w : ℕ). entry_row level f (w + 4096 * pages_at level) count ++ new) from is, omega (arith, from, range, more, same)) in
+    let both = subst (λ l. (old ≡ entry_row l (e.first + pages_at l) (e.word + 4096 * pages_at l) count ++ new) × (e.first + pages_at l * (count + 1) ≤ 2 ^ 27)) (sym at) all in
+    record { entries = both.0; range = both.1 }
+
+same-page : (page first : ℕ) (b : Bool) → b ≡ not (eqb page first) → b ≡ false → page ≡ first
+same-page page first b is other = elim (cases_Bool (eqb page first)) [
+  | inl same ↦ eqb-true page first same
+  | inr differ ↦ let bad : b ≡ true = is ∙ ap not differ in absurd (cc)
+]
+
+-- they are reached as it is, where it is mapped to itself
+pub in-row-behind : (e : TableEntry) (page count first : ℕ) (a : Access) (differ : Bool) (old new : List TableEntry) → entry_of (number_of e.level) e.word ≡ Leaf page a → first ≡ e.first → differ ≡ not (eqb page first) → differ ≡ false → StandBehind e count old new → StandInRow e a count old new
+in-row-behind e page count first a differ old new leaf at is other behind = record {
+  behind = behind;
+  alike = row-alike e.level e.first e.word page count a leaf (same-page page first differ is other ∙ at) behind.range;
+}
+
+-- and itself
+pub in-row-alone : (e : TableEntry) (page : ℕ) (a : Access) (entries : List TableEntry) → entry_of (number_of e.level) e.word ≡ Leaf page a → e.first + pages_at e.level ≤ 2 ^ 27 → StandInRow e a 0 entries entries
+in-row-alone e page a entries leaf range = record {
+  behind = none-behind e entries range;
+  alike = λ i lt.
+      let none : i ≡ 0 = omega (arith, lt) in
+      let here : e.word + 4096 * pages_at e.level * i ≡ e.word = ap (λ k. e.word + 4096 * pages_at e.level * k) none ∙ (let zero : e.word + 4096 * pages_at e.level * 0 ≡ e.word = omega arith in zero) in
+      ap (λ w. access_of (entry_of (number_of e.level) w)) here ∙ ap access_of leaf;
+}

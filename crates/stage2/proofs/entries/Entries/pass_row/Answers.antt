@@ -1,0 +1,31 @@
+use Rattle.std.proofs.Common.{sym, ap, ◌∙◌}
+use Rattle.words.specs.Words.{entry_of}
+use Rattle.stage2.specs.Level.{number_of}
+use Rattle.stage2.proofs.Reading.Rows.{in-row-behind, in-row-alone, leaf-small, leaf-odd, leaf-block}
+use Rattle.stage2.proofs.entries.Entries.pass_row.Goals as goal
+
+pub pass_pages-requires-clause-odd : goal.pass_pages-requires-clause-odd
+pass_pages-requires-clause-odd g c = leaf-odd c.args.entry.level c.args.entry.word c.args.page c.args.access c.requires
+
+pub pass_pages-requires-clause-small : goal.pass_pages-requires-clause-small
+pass_pages-requires-clause-small g c = leaf-small c.args.entry.level c.args.entry.word c.args.page c.args.access c.requires
+
+pub pass_blocks-requires-clause-block : goal.pass_blocks-requires-clause-block
+pass_blocks-requires-clause-block g c =
+    let level = sym c.level.ensures ∙ c.in-Second.is in
+    leaf-block c.args.entry.word c.args.page c.args.access (ap (λ l. entry_of (number_of l) c.args.entry.word) (sym level) ∙ c.requires)
+
+pub pass_blocks-requires-clause-small : goal.pass_blocks-requires-clause-small
+pass_blocks-requires-clause-small g c = leaf-small c.args.entry.level c.args.entry.word c.args.page c.args.access c.requires
+
+pub returns-then-ne : goal.returns-then-ne
+returns-then-ne g c = in-row-alone c.args.entry c.args.page c.args.access c.args.self.now c.requires c.first.ensures.in_range
+
+pub returns-in-Third : goal.returns-in-Third
+returns-in-Third g c = in-row-behind c.args.entry c.args.page c.pass_pages.result c.first.result c.args.access c.ne.result c.args.self.now _ c.requires c.first.ensures.same c.ne.ensures c.if-ne.false c.pass_pages.ensures
+
+pub returns-in-Second : goal.returns-in-Second
+returns-in-Second g c = in-row-behind c.args.entry c.args.page c.pass_blocks.result c.first.result c.args.access c.ne.result c.args.self.now _ c.requires c.first.ensures.same c.ne.ensures c.if-ne.false c.pass_blocks.ensures
+
+pub returns-in-First : goal.returns-in-First
+returns-in-First g c = in-row-alone c.args.entry c.args.page c.args.access c.args.self.now c.requires c.first.ensures.in_range
