@@ -38,7 +38,7 @@ pub fn audit_text<M: TableMem + Drop>(
     }
 }
 
-/// Appends the text that `audit_text` makes.
+/// Appends the text that `audit_text` makes. Without memory the bytes may end in a part of it.
 pub fn append_audit<M: TableMem + Drop>(
     text: &mut Vec<u8>,
     alloc: Global,

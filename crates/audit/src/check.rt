@@ -24,7 +24,7 @@ pub fn check_text(alloc: Global, manifest: &Manifest) -> Result<String, OutOfMem
     }
 }
 
-/// Appends the text that `check_text` makes.
+/// Appends the text that `check_text` makes. Without memory the bytes may end in a part of it.
 pub fn append_check(text: &mut Vec<u8>, manifest: &Manifest) -> Result<(), OutOfMemory>
     ensures { OnOk result (text.new.items ≡ text.old.items ++ spec.check_text manifest.now) }
 {

@@ -38,7 +38,7 @@ pub fn maps_text<M: TableMem + Drop>(
     }
 }
 
-/// Appends the text that `maps_text` makes.
+/// Appends the text that `maps_text` makes. Without memory the bytes may end in a part of it.
 #[tactic(auto, unfolding(crate::specs::Texts::maps_text))]
 pub fn append_maps<M: TableMem + Drop>(
     text: &mut Vec<u8>,

@@ -74,7 +74,7 @@ pub fn owners_text(
     }
 }
 
-/// Appends the text that `owners_text` makes. The manifest is that of the ledger.
+/// Appends the text that `owners_text` makes. Without memory the bytes may end in a part of it. The manifest is that of the ledger.
 #[tactic(auto, unfolding(crate::specs::Texts::owners_text))]
 pub fn append_owners(
     text: &mut Vec<u8>,

@@ -38,7 +38,7 @@ pub fn tables_text<M: TableMem + Drop>(
     }
 }
 
-/// Appends the text that `tables_text` makes.
+/// Appends the text that `tables_text` makes. Without memory the bytes may end in a part of it.
 #[tactic(auto, unfolding(crate::specs::Texts::tables_text))]
 pub fn append_tables<M: TableMem + Drop>(
     text: &mut Vec<u8>,

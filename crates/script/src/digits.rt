@@ -1,33 +1,31 @@
 //! Digits at the end of a text.
 
-ghost use Rattle.std.specs.Prelude.{◌≡◌, ◌^◌, ◌<◌, ◌≤◌, ◌++◌, false, drop, replicate, OnOk};
-ghost use Rattle.std.specs.Fmt.{digit_glyph, digits, decimal};
+ghost use Rattle.std.specs.Prelude.{◌≡◌, ◌<◌, ◌≤◌, ◌++◌, false, drop, replicate, OnOk};
+ghost use Rattle.std.specs.Fmt.{digit_glyph, digits};
 ghost use Rattle.audit.specs.Texts.{hex};
 
-use audit::fill_digits;
-use itoa::Buffer;
-use std::alloc::AllocError;
+use base::OutOfMemory;
 
 /// The widest number.
 const MOST_WIDTH: usize = 16;
 
 /// Appends a number in lower-case hexadecimal digits, with zeros in front up to a width.
-pub(crate) fn push_hex(text: &mut Vec<u8>, width: usize, number: u64) -> Result<(), AllocError>
+pub(crate) fn push_hex(text: &mut Vec<u8>, width: usize, number: u64) -> Result<(), OutOfMemory>
     requires { width ≤ 16 }
     ensures { OnOk result (text.new.items ≡ text.old.items ++ hex width number) }
 {
     let mut digits = [b'0'; 64];
     let first = write_digits(number, &mut digits);
     push_zeros(text, width.saturating_sub(64 - first))?;
-    text.extend_from_slice(&digits[first..])
+    Ok(text.extend_from_slice(&digits[first..])?)
 }
 
-fn push_zeros(text: &mut Vec<u8>, count: usize) -> Result<(), AllocError>
+fn push_zeros(text: &mut Vec<u8>, count: usize) -> Result<(), OutOfMemory>
     requires { count ≤ 16 }
     ensures { OnOk result (text.new.items ≡ text.old.items ++ replicate count 48) }
 {
     let zeros = [b'0'; MOST_WIDTH];
-    text.extend_from_slice(&zeros[..count])
+    Ok(text.extend_from_slice(&zeros[..count])?)
 }
 
 /// Writes the hexadecimal digits of a number up to the end, and answers where they begin.
@@ -48,18 +46,6 @@ fn write_digits(number: u64, out: &mut [u8; 64]) -> usize
     i
 }
 
-/// Appends a number in N lower-case hexadecimal digits.
-pub(crate) fn push_digits<const N: usize>(text: &mut Vec<u8>, number: u64) -> Result<(), AllocError>
-    requires some { 0 < N }
-    requires few { N ≤ 16 }
-    requires fits { number < 16 ^ N }
-    ensures { OnOk result (text.new.items ≡ text.old.items ++ hex N number) }
-{
-    let mut digits = [b'0'; N];
-    fill_digits(number, &mut digits);
-    text.extend_from_slice(&digits)
-}
-
 fn digit(value: u8) -> u8
     requires { value < 16 }
     ensures { result ≡ digit_glyph false value }
@@ -69,12 +55,4 @@ fn digit(value: u8) -> u8
     } else {
         b'a' - 10 + value
     }
-}
-
-/// Appends a number in decimal digits.
-pub(crate) fn push_decimal(text: &mut Vec<u8>, number: u64) -> Result<(), AllocError>
-    ensures { OnOk result (text.new.items ≡ text.old.items ++ decimal number) }
-{
-    let mut buffer = Buffer::new();
-    text.extend_from_slice(buffer.format(number).as_bytes())
 }

@@ -5,13 +5,13 @@ ghost use Rattle.std.specs.List.{flat_map};
 ghost use Rattle.audit.specs.Texts.{hex};
 ghost use Rattle.script.specs.Texts as spec;
 
-use crate::digits::{push_digits, push_hex};
-use audit::fill_digits;
-use std::alloc::AllocError;
+use crate::digits::push_hex;
+use audit::{append_hex, fill_digits};
+use base::OutOfMemory;
 use wire::Reply;
 
 /// Writes `reply` and the eight registers, and where RX was filled `rx` and its bytes.
-pub(crate) fn write_reply(reply: &Reply, text: &mut Vec<u8>) -> Result<(), AllocError>
+pub(crate) fn write_reply(reply: &Reply, text: &mut Vec<u8>) -> Result<(), OutOfMemory>
     ensures { OnOk result (text.new.items ≡ text.old.items ++ spec.reply_text reply.now) }
 {
     text.extend_from_slice(b"reply")?;
@@ -24,7 +24,7 @@ pub(crate) fn write_reply(reply: &Reply, text: &mut Vec<u8>) -> Result<(), Alloc
 }
 
 /// Appends a blank and eight digits for each register.
-fn push_registers(registers: &[u64], text: &mut Vec<u8>) -> Result<(), AllocError>
+fn push_registers(registers: &[u64], text: &mut Vec<u8>) -> Result<(), OutOfMemory>
     ensures { OnOk result
         (text.new.items ≡ text.old.items ++ flat_map spec.register_text registers.now) }
 {
@@ -35,11 +35,11 @@ fn push_registers(registers: &[u64], text: &mut Vec<u8>) -> Result<(), AllocErro
 }
 
 /// Appends a blank and eight digits, or more where the register has more. Most registers are 0.
-fn push_register(register: u64, text: &mut Vec<u8>) -> Result<(), AllocError>
+fn push_register(register: u64, text: &mut Vec<u8>) -> Result<(), OutOfMemory>
     ensures { OnOk result (text.new.items ≡ text.old.items ++ spec.register_text register) }
 {
     if register == 0 {
-        return text.extend_from_slice(b" 00000000");
+        return Ok(text.extend_from_slice(b" 00000000")?);
     }
     if register >= 0x1_0000_0000 {
         text.extend_from_slice(b" ")?;
@@ -47,23 +47,23 @@ fn push_register(register: u64, text: &mut Vec<u8>) -> Result<(), AllocError>
     }
     let mut digits = [b' '; 9];
     fill_digits(register, &mut digits[1..]);
-    text.extend_from_slice(&digits)
+    Ok(text.extend_from_slice(&digits)?)
 }
 
 /// Writes `rx` and two digits for each byte.
-fn write_rx(bytes: &[u8], text: &mut Vec<u8>) -> Result<(), AllocError>
+fn write_rx(bytes: &[u8], text: &mut Vec<u8>) -> Result<(), OutOfMemory>
     ensures { OnOk result (text.new.items ≡ text.old.items ++ spec.filled_text bytes.now) }
 {
     text.extend_from_slice(b"rx ")?;
     push_bytes(bytes, text)?;
-    text.extend_from_slice(b"\n")
+    Ok(text.extend_from_slice(b"\n")?)
 }
 
-fn push_bytes(bytes: &[u8], text: &mut Vec<u8>) -> Result<(), AllocError>
+fn push_bytes(bytes: &[u8], text: &mut Vec<u8>) -> Result<(), OutOfMemory>
     ensures { OnOk result (text.new.items ≡ text.old.items ++ flat_map (hex 2) bytes.now) }
 {
     for byte in bytes {
-        push_digits::<2>(text, u64::from(*byte))?;
+        append_hex::<2>(text, u64::from(*byte))?;
     }
     Ok(())
 }
