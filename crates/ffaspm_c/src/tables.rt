@@ -9,8 +9,8 @@ ghost use Rattle.ffaspm_c.specs.Tables.{pool_pages, operation_out, IsOperationAt
 use crate::holder::Holder;
 use crate::status::{DONE, NOT_MADE, NOTHING_THERE};
 use base::PartitionId;
-use manifest::{Manifest, Partition};
-use pool::Op;
+use manifest::Manifest;
+use pool::{Op, row_in};
 use std::alloc::Global;
 
 /// One thing that the last call did (Arm ARM, "Break-before-make sequence"). Fields that an operation
@@ -133,19 +133,12 @@ pub extern "C" fn ffaspm_pool(
     DONE
 }
 
-/// The place of a partition among the others.
-fn place_of(partitions: &[Partition], p: PartitionId) -> Option<usize>
-    ensures { result ≡ position (λ row. row.id == p) partitions.now }
-{
-    partitions.iter().position(|row| row.id == p)
-}
-
 /// The page of the pool where a partition's root lies: as many partitions have a lower identifier.
 fn root_of(manifest: &Manifest, p: PartitionId) -> Option<u32>
     ensures some { IfSome result (IsRoot manifest.now p) }
     ensures none { IfNone result (rows.is_partition manifest.now p ≡ false) }
 {
-    match place_of(manifest.partitions(), p) {
+    match row_in(manifest.partitions(), p) {
         Some(row) => Some(row as u32),
         None => None,
     }

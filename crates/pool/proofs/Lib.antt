@@ -9,5 +9,6 @@ pub mod RunWords
 pub mod Applying
 mod Contents
 mod Held
+mod Rows
 mod CellMemory
 mod CellSharing

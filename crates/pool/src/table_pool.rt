@@ -6,6 +6,7 @@ ghost use Rattle.pool.specs.Pool as shares;
 
 use crate::image::Image;
 use crate::operation::Op;
+use crate::places::{row_of, share_start, total};
 use crate::replace::{Replacement, replace_words};
 use crate::runs::{RunWords, set_runs};
 use crate::stretch::{Stretch, recounted, write_words};
@@ -94,21 +95,6 @@ fn filled<S: WordStore>(alloc: Global, pages: usize, first: usize) -> Result<S, 
     Ok(store)
 }
 
-/// The row of a partition.
-fn row_of(ids: &[PartitionId], p: PartitionId) -> Option<usize>
-    ensures { result ≡ position (λ id. id == p) ids.now }
-{
-    ids.iter().position(|id| *id == p)
-}
-
-/// The sum of the quotas.
-fn total(quotas: &[u32]) -> u32
-    requires { sum quotas.now < 2 ^ 32 }
-    ensures { result ≡ sum quotas.now }
-{
-    quotas.iter().sum()
-}
-
 /// Whether so many pages that follow one another, from this one on, as are looked at at once, are all taken.
 #[inline(always)]
 fn are_taken(taken: &[bool], first: u32) -> bool
@@ -134,15 +120,6 @@ fn taken_until(taken: &[bool], first: u32) -> u32
         page += AT_ONCE;
     }
     page
-}
-
-/// The first page of a row's share.
-fn share_start(quotas: &[u32], row: usize) -> u32
-    requires partition { row ≤ length quotas.now }
-    requires fits { page_count quotas.now ≤ 2 ^ 27 }
-    ensures { result ≡ shares.share_start quotas.now row }
-{
-    quotas.len() as u32 + total(&quotas[..row])
 }
 
 impl<S: WordStore> TableMem for TablePool<S> {

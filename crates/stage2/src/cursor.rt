@@ -7,17 +7,12 @@ ghost use Rattle.stage2.specs.declared.table_page.Level.{Level};
 ghost use Rattle.stage2.specs.Reading as spec;
 ghost use Rattle.stage2.specs.Reading.{left_in, IsCursor, PassTheSame, pages_at};
 
+use crate::place::{PAGE_STEP, WORDS};
 use crate::read::AT_ONCE;
 use crate::source::WordSource;
 use crate::table_entry::TableEntry;
 use crate::table_page::{Level, TablePage};
 use base::Page;
-
-/// How many words a table has.
-const WORDS: u32 = 512;
-
-/// By how much the address in a word grows with each page.
-const PAGE_STEP: u64 = 4096;
 
 /// The words of a table from an index on.
 #[derive(Clone, Copy, Debug)]
@@ -84,6 +79,7 @@ impl Cursor {
         }
         None
     }
+
     /// Passes the entries that stand in a row from the index on, of which the first has this word, and says
     /// how many they are.
     pub(crate) fn pass_row<W: WordSource>(&mut self, words: &W, level: Level, word: u64) -> u32
@@ -129,6 +125,7 @@ impl Cursor {
     {
         self.left == 0 || self.index >= WORDS
     }
+
     /// Passes words of two tables that are the same, 64 at once, as far as both stand for the same pages and are
     /// read up to the same index.
     pub(crate) fn pass_same<W: WordSource, V: WordSource>(

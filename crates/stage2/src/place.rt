@@ -7,7 +7,10 @@ use base::{Page, Run};
 use std::marker::Model;
 
 /// How many words a table has: so many pages has a chunk, and so many chunks a gigabyte.
-const WORDS: u32 = 512;
+pub(crate) const WORDS: u32 = 512;
+
+/// By how much the address in a word grows with each page.
+pub(crate) const PAGE_STEP: u64 = 4096;
 
 /// How many pages a gigabyte has.
 const GIGABYTE: u32 = WORDS * WORDS;

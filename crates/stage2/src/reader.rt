@@ -18,8 +18,8 @@ use crate::source::{ImageWords, WordSource};
 use crate::table_page::{Level, Row, TablePage};
 use crate::walked::{Slot, Walked};
 use base::{Page, PartitionId};
-use manifest::{Manifest, Partition};
-use pool::Image;
+use manifest::Manifest;
+use pool::{Image, row_in};
 use std::marker::Model;
 use words::read_entry;
 
@@ -59,17 +59,10 @@ impl<'a> Source<'a> {
 fn find_row(manifest: &Manifest, p: PartitionId) -> Option<Row>
     ensures { result ≡ position (λ id. id == p) (layout_of manifest.now).ids }
 {
-    match row_of(manifest.partitions(), p) {
+    match row_in(manifest.partitions(), p) {
         Some(row) => Some(Row::new(row as u32)),
         None => None,
     }
-}
-
-/// The place of a partition among the others.
-fn row_of(partitions: &[Partition], p: PartitionId) -> Option<usize>
-    ensures { result ≡ position (λ row. row.id == p) partitions.now }
-{
-    partitions.iter().position(|row| row.id == p)
 }
 
 /// Reads the tables of all partitions, word by word, as a processor does.
@@ -159,6 +152,7 @@ impl<'a, W: WordSource + Drop> Reader<'a, W> {
             _ => Walked::Wrong,
         }
     }
+
     /// The rest of a walk from a level 2 table on.
     fn walk_chunk(&self, second: TablePage, page: Page) -> Walked
         requires table { second < self.now.layout.pages }

@@ -91,6 +91,7 @@ impl Level {
             Level::Third => 3,
         }
     }
+
     /// How many pages a word of such a table stands for: a gigabyte, a chunk or one.
     pub fn pages(self) -> u32
         ensures { result ≡ pages_at self }

@@ -1,12 +1,11 @@
-use Rattle.std.proofs.Common.{List, Some, eqb, position, sym, ap, ◌∙◌}
-use Rattle.base.specs.Manifest.{PartitionRow}
-use Rattle.stage2.proofs.Tree.Rows.{position-ids}
+use Rattle.std.proofs.Common.{List, ◌==◌, Some, position, sym, ap, ◌∙◌}
+use Rattle.base.specs.Manifest.{PartitionRow, ids_of}
 use Rattle.stage2.proofs.reader.find_row.Goals as goal
 
 pub returns-in-Some : goal.returns-in-Some
 returns-in-Some c =
-    ap (λ row. Some row) c.new.ensures ∙ sym (position-ids c.args.manifest.now.partitions c.args.p ∙ ap (λ (rows : List PartitionRow). position (λ row. eqb row.id c.args.p) rows) (sym c.partitions.ensures.same) ∙ sym c.row_of.ensures ∙ c.in-Some.is)
+    ap (λ row. Some row) c.new.ensures ∙ sym c.in-Some.is ∙ c.row_in.ensures ∙ ap (λ (rows : List PartitionRow). position (λ id. id == c.args.p) (ids_of rows)) c.partitions.ensures.same
 
 pub returns-in-None : goal.returns-in-None
 returns-in-None c =
-    sym (position-ids c.args.manifest.now.partitions c.args.p ∙ ap (λ (rows : List PartitionRow). position (λ row. eqb row.id c.args.p) rows) (sym c.partitions.ensures.same) ∙ sym c.row_of.ensures ∙ c.in-None.is)
+    sym c.in-None.is ∙ c.row_in.ensures ∙ ap (λ (rows : List PartitionRow). position (λ id. id == c.args.p) (ids_of rows)) c.partitions.ensures.same

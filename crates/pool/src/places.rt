@@ -1,0 +1,68 @@
+//! Where things lie in the table pool. Its first pages are the partitions' roots, in ascending order of
+//! identifier; behind all roots lie their shares, in the same order, each of as many pages as its quota.
+
+ghost use Rattle.std.specs.Prelude.{◌≡◌, ◌+◌, ◌-◌, ◌<◌, ◌≤◌, ◌^◌, ◌==◌, ◌&&◌, length, position, sum, Some, None, nat_le, nat_lt, if◌then◌else◌};
+ghost use Rattle.base.specs.Manifest.{ids_of, page_count};
+ghost use Rattle.pool.specs.Pool as shares;
+
+use base::{Page, PartitionId};
+use manifest::Partition;
+
+/// The row of a partition among these, which is also the pool page of its root.
+pub fn row_of(ids: &[PartitionId], p: PartitionId) -> Option<usize>
+    ensures { result ≡ position (λ id. id == p) ids.now }
+{
+    ids.iter().position(|id| *id == p)
+}
+
+/// The row of a partition among those of a manifest.
+pub fn row_in(partitions: &[Partition], p: PartitionId) -> Option<usize>
+    ensures { result ≡ position (λ id. id == p) (ids_of partitions.now) }
+{
+    place_of(partitions, p)
+}
+
+fn place_of(partitions: &[Partition], p: PartitionId) -> Option<usize>
+    ensures { result ≡ position (λ row. row.id == p) partitions.now }
+{
+    partitions.iter().position(|row| row.id == p)
+}
+
+/// The sum of quotas.
+pub(crate) fn total(quotas: &[u32]) -> u32
+    requires { sum quotas.now < 2 ^ 32 }
+    ensures { result ≡ sum quotas.now }
+{
+    quotas.iter().sum()
+}
+
+/// The first page of a row's share.
+pub(crate) fn share_start(quotas: &[u32], row: usize) -> u32
+    requires partition { row ≤ length quotas.now }
+    requires fits { page_count quotas.now ≤ 2 ^ 27 }
+    ensures { result ≡ shares.share_start quotas.now row }
+{
+    quotas.len() as u32 + total(&quotas[..row])
+}
+
+/// The page of memory of a pool page, in a pool that begins at this page of memory.
+pub fn address_of(base: u32, page: u32) -> Page
+    requires { base + page < 2 ^ 27 }
+    ensures { result ≡ base + page }
+{
+    Page::new(base + page)
+}
+
+/// The pool page that is this page of memory, in a pool of so many pages that begins at a page of memory.
+pub fn page_at(base: u32, pages: u32, address: Page) -> Option<u32>
+    requires { base + pages ≤ 2 ^ 27 }
+    ensures { result ≡ (if nat_le base address && nat_lt address (base + pages)
+        then Some (address - base) else None) }
+{
+    let number = address.number();
+    if base <= number && number < base + pages {
+        Some(number - base)
+    } else {
+        None
+    }
+}
