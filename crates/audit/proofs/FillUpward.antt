@@ -4,17 +4,15 @@ use Rattle.std.proofs.lemmas.Bool.{cases_lt}
 use Rattle.std.proofs.lemmas.Bool.Decides.{nat_tests}
 use Rattle.base.specs.Access.{Access, View}
 use Rattle.base.specs.Manifest.{ManifestRows, row_of}
-use Rattle.base.specs.Need.{is_alike, need, grow}
+use Rattle.base.specs.Need.{need, grow}
 use Rattle.base.specs.Pages.{PageRun, covers}
 use Rattle.manifest.specs.Valid.{quota_of}
-use Rattle.manifest.proofs.Tables.{alike-same}
 use Rattle.stage2.specs.Boot.{IsEdge, view_below}
 use Rattle.stage2.specs.Chunks.{edited}
 use Rattle.stage2.specs.Orderly.{answer_of}
 use Rattle.stage2.specs.Slot.{Layout, layout_of}
 use Rattle.stage2.specs.Tables.{TablesView, walk_in, view_of, AreCanonical, Fits, quota_in, ReachSo}
 use Rattle.stage2.specs.Walk.{walked}
-use Rattle.stage2.proofs.Counting.Needs.{alike-self}
 use Rattle.stage2.proofs.Editing.BootRegions.{fronts-fit}
 use Rattle.stage2.proofs.Editing.ChunkKeeps.{answer-walked}
 use Rattle.audit.specs.Filling.{pending_runs, CanMap, IsFilling, KeepsOthers, IsFilled}
@@ -118,22 +116,14 @@ others-none p a = record { walks = λ q n small other. refl }
 -- ---- from one segment to the next
 
 -- the next pages are not as the pending ones: there is an edge before them
-pub edge-between : (m : ManifestRows) (seen : ℕ → View) (p first number : ℕ) (access : View) (t : TablesView) → IsFilling m seen p first number access t → is_alike access (seen number) ≡ false → IsEdge seen number
+pub edge-between : (m : ManifestRows) (seen : ℕ → View) (p first number : ℕ) (access : View) (t : TablesView) → IsFilling m seen p first number access t → (access ≡ seen number → ⊥) → IsEdge seen number
 edge-between m seen p first number access t h unlike = elim (cases_lt first number) [
-  | inl lt ↦ inr (λ same.
-      let last : seen (number - 1) ≡ access = h.alike (number - 1) (omega (arith, lt)) (omega (arith, lt)) in
-      let both : access ≡ seen number = sym last ∙ same in
-      let alike : is_alike access (seen number) ≡ true = rw (← both) (alike-refl access) in
-      absurd (cc))
+  | inl lt ↦ inr (λ same. unlike (sym (h.alike (number - 1) (omega (arith, lt)) (omega (arith, lt))) ∙ same))
   | inr le ↦ inl (h.some (let o = h.ordered in omega (arith, o, le))).0
 ]
-  where
-    alike-refl : (a : View) → is_alike a a ≡ true
-    alike-refl None = refl
-    alike-refl (Some a) = alike-self (Some a) a refl
 
 -- they are as the pending ones, and so are those behind them
-pub filling-more : (m : ManifestRows) (seen : ℕ → View) (p first number end : ℕ) (access : View) (t : TablesView) → IsFilling m seen p first number access t → is_alike access (seen number) ≡ true → number < end → end ≤ 2 ^ 27 → ((n : ℕ) → number ≤ n → n < end → seen n ≡ seen number) → IsFilling m seen p first end access t
+pub filling-more : (m : ManifestRows) (seen : ℕ → View) (p first number end : ℕ) (access : View) (t : TablesView) → IsFilling m seen p first number access t → access ≡ seen number → number < end → end ≤ 2 ^ 27 → ((n : ℕ) → number ≤ n → n < end → seen n ≡ seen number) → IsFilling m seen p first end access t
 filling-more m seen p first number end access t h alike behind inside all = record {
   placed = h.placed;
   canonical = h.canonical;
@@ -143,7 +133,7 @@ filling-more m seen p first number end access t h alike behind inside all = reco
   some = λ same. let o = h.ordered in absurd (omega (arith, same, o, behind));
   alike = λ n le lt. elim (cases_lt n number) [
     | inl before ↦ h.alike n le before
-    | inr from ↦ all n from lt ∙ sym (alike-same access (seen number) alike)
+    | inr from ↦ all n from lt ∙ sym alike
   ];
   edge = h.edge;
 }

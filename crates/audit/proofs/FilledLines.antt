@@ -1,53 +1,21 @@
 -- Lines of entries whose digits are filled in, and those whose page is exchanged.
-use Rattle.std.proofs.Common.{◌≡◌, ℕ, zero, suc, take, drop, ◌+◌, ◌*◌, ◌/◌, ◌%◌, ◌^◌, ◌<◌, ◌≤◌, false, List, [], ◌∷◌, ◌++◌, codes, length, refl, sym, ap, ◌∙◌, append-nil, append_assoc, length-append, arith}
+use Rattle.std.proofs.Common.{◌≡◌, ℕ, suc, take, drop, ◌+◌, ◌/◌, ◌%◌, ◌^◌, ◌<◌, ◌≤◌, false, List, [], ◌∷◌, ◌++◌, codes, length, sym, ap, ◌∙◌, append-nil, append_assoc, length-append, arith}
 use Rattle.std.specs.Fmt.{decimal, digit_glyph}
 use Rattle.std.proofs.Math.Seq.{take-append-add, drop-append-add}
 use Rattle.std.proofs.lemmas.Fmt.{decimal_digit}
-use Rattle.std.proofs.lemmas.List.{length_push}
-use Rattle.audit.specs.Texts.{hex, address_text}
+use Rattle.digits.specs.Digits.{hex, address_text}
 use Rattle.audit.specs.TableLines.{leaf_line, table_line}
-use Rattle.audit.proofs.HexDigits.{hex_fits, last_digits}
+use Rattle.digits.proofs.HexDigits.{hex_fits, last_digits}
+use Rattle.digits.proofs.Addresses.{last_length, page_length, address_digits}
 use borrow.Rule.Slice.PartMut.{put_mid, mid_of}
 
 -- ---- lines that are filled in
-
-last-length : (w n : ℕ) → length (last_digits w n) ≡ w
-last-length zero n = refl
-last-length (suc w) n = omega (arith, length_push (last_digits w (n / 16)) (digit_glyph false (n % 16)), last-length w (n / 16))
-
-hex-length : (w n : ℕ) → 0 < w → n < 16 ^ w → n < 2 ^ 64 → length (hex w n) ≡ w
-hex-length w n some fits small = ap (λ (ds : List ℕ). length ds) (hex_fits w n some fits small) ∙ last-length w n
 
 take-past : (xs ys : List ℕ) (n k : ℕ) → length xs + n ≡ k → take k (xs ++ ys) ≡ xs ++ take n ys
 take-past xs ys n k sum = ap (λ j. take j (xs ++ ys)) (sym sum) ∙ take-append-add xs ys n
 
 drop-past : (xs ys : List ℕ) (n k : ℕ) → length xs + n ≡ k → drop k (xs ++ ys) ≡ drop n ys
 drop-past xs ys n k sum = ap (λ j. drop j (xs ++ ys)) (sym sum) ∙ drop-append-add xs ys n
-
-page-length : (first : ℕ) → first < 2 ^ 27 → length (hex 7 first) ≡ 7
-page-length first small = hex-length 7 first (omega arith) (omega arith) (omega arith)
-
--- sixteen times a number has one digit more, which is 0
-zero-digit : (w m n : ℕ) → m ≡ 16 * n → last_digits (suc w) m ≡ last_digits w n ++ 48 ∷ []
-zero-digit w m n e =
-    let back : m / 16 ≡ n = omega (arith, e) in
-    let none : m % 16 ≡ 0 = omega (arith, e) in
-    ap (λ k. last_digits w k ++ digit_glyph false (m % 16) ∷ []) back
-    ∙ ap (λ k. last_digits w n ++ digit_glyph false k ∷ []) none
-
--- an address has the digits of its page, and three zeros
-address-digits : (first : ℕ) → first < 2 ^ 27 → hex 7 first ++ codes "000" ≡ address_text first
-address-digits first small =
-    let one : List ℕ = 48 ∷ [] in
-    let page = last_digits 7 first in
-    let spelled : last_digits 10 (4096 * first) ≡ page ++ one ++ one ++ one = zero-digit 9 (4096 * first) (256 * first) (omega arith) ∙ ap (λ t. t ++ one) (zero-digit 8 (256 * first) (16 * first) (omega arith) ∙ ap (λ t. t ++ one) (zero-digit 7 (16 * first) first refl)) in
-    ap (λ t. t ++ codes "000") (hex_fits 7 first (omega arith) (omega arith) (omega arith))
-    ∙ sym (hex_fits 10 (4096 * first) (omega arith) (omega arith) (omega arith) ∙ spelled ∙ append_assoc (page ++ one) one one ∙ append_assoc page one (one ++ one))
-
--- an address whose digits are filled in, and a space
-pub filled-address : (first : ℕ) (page : List ℕ) → first < 2 ^ 27 → page ≡ hex 7 first → put_mid 0 7 (codes "0000000000 ") page ≡ address_text first ++ codes " "
-filled-address first page small is =
-    ap (λ a. a ++ codes "000 ") is ∙ sym (append_assoc (hex 7 first) (codes "000") (codes " ")) ∙ ap (λ a. a ++ codes " ") (address-digits first small)
 
 -- a space, and an identifier whose digits are filled in
 pub filled-id : (id : ℕ) (digits : List ℕ) → digits ≡ hex 4 id → put_mid 1 4 (codes " 0000") digits ≡ codes " " ++ hex 4 id
@@ -71,7 +39,7 @@ filled-table level first page most small is =
     let digit : decimal level ≡ (48 + level) ∷ [] = decimal_digit level (omega arith) in
     ap (λ a. head ++ (a ++ codes "000 table\n")) is
     ∙ ap (λ t. head ++ t) (sym (append_assoc (hex 7 first) (codes "000") (codes " table\n")))
-    ∙ ap (λ a. head ++ (a ++ codes " table\n")) (address-digits first small)
+    ∙ ap (λ a. head ++ (a ++ codes " table\n")) (address_digits first small)
     ∙ spelled-table head (address_text first)
     ∙ ap (λ d. codes "L" ++ d ++ codes " " ++ address_text first ++ codes " " ++ codes "table" ++ codes "\n") (sym digit)
 
@@ -85,7 +53,7 @@ unfolding leaf_line
 filled-leaf level first word page digits most small is so =
     let head : List ℕ = 76 ∷ (48 + level) ∷ 32 ∷ [] in
     let tail : List ℕ = codes "000 0000000000000000\n" in
-    let seven : length page ≡ 7 = ap (λ (a : List ℕ). length a) is ∙ page-length first small in
+    let seven : length page ≡ 7 = ap (λ (a : List ℕ). length a) is ∙ page_length first small in
     let front : take 11 (page ++ tail) ≡ page ++ codes "000 " = take-past page tail 4 11 (omega (arith, seven)) in
     let rest : drop 11 (page ++ tail) ≡ codes "0000000000000000\n" = drop-past page tail 4 11 (omega (arith, seven)) in
     let long : length (take 16 (drop 11 (page ++ tail))) ≡ 16 = ap (λ (xs : List ℕ). length (take 16 xs)) rest in
@@ -95,7 +63,7 @@ filled-leaf level first word page digits most small is so =
     ∙ ap (λ (ds : List ℕ). (head ++ (page ++ codes "000 ")) ++ (ds ++ codes "\n")) (so ∙ ap (λ k. hex k word) long)
     ∙ ap (λ (a : List ℕ). (head ++ (a ++ codes "000 ")) ++ (hex 16 word ++ codes "\n")) is
     ∙ ap (λ (a : List ℕ). (head ++ a) ++ (hex 16 word ++ codes "\n")) (sym (append_assoc (hex 7 first) (codes "000") (codes " ")))
-    ∙ ap (λ (a : List ℕ). (head ++ (a ++ codes " ")) ++ (hex 16 word ++ codes "\n")) (address-digits first small)
+    ∙ ap (λ (a : List ℕ). (head ++ (a ++ codes " ")) ++ (hex 16 word ++ codes "\n")) (address_digits first small)
     ∙ spelled-leaf head (address_text first) (hex 16 word)
     ∙ ap (λ (d : List ℕ). codes "L" ++ d ++ codes " " ++ address_text first ++ codes " " ++ hex 16 word ++ codes "\n") (sym digit)
 
@@ -155,7 +123,7 @@ line-parts first word small fits =
     let top = last_digits 10 (word / 4096 / 4096) in
     let page = last_digits 3 (word / 4096 % 4096) in
     let fields = last_digits 3 (word % 4096) in
-    let address : address_text first ≡ (high ++ low) ++ codes "000" = sym (address-digits first small) ∙ ap (λ t. t ++ codes "000") (hex_fits 7 first (omega arith) (omega arith) (omega arith) ∙ three-apart 4 first) in
+    let address : address_text first ≡ (high ++ low) ++ codes "000" = sym (address_digits first small) ∙ ap (λ t. t ++ codes "000") (hex_fits 7 first (omega arith) (omega arith) (omega arith) ∙ three-apart 4 first) in
     let digits : hex 16 word ≡ (top ++ page) ++ fields = hex_fits 16 word (omega arith) fits fits ∙ three-apart 13 word ∙ ap (λ t. t ++ fields) (three-apart 10 (word / 4096)) in
     ap (λ (d : List ℕ). codes "L" ++ d ++ codes " " ++ address_text first ++ codes " " ++ hex 16 word ++ codes "\n") digit
     ∙ ap (λ (a : List ℕ). head ++ a ++ codes " " ++ hex 16 word ++ codes "\n") address
@@ -163,10 +131,10 @@ line-parts first word small fits =
     ∙ regroup head high low (codes "000") (codes " ") top page fields (codes "\n")
 
 front-length : (first : ℕ) → length (line_front first) ≡ 7
-front-length first = ap (λ n. 3 + n) (last-length 4 (first / 4096))
+front-length first = ap (λ n. 3 + n) (last_length 4 (first / 4096))
 
 middle-length : (word : ℕ) → length (line_middle word) ≡ 14
-middle-length word = ap (λ n. 4 + n) (last-length 10 (word / 4096 / 4096))
+middle-length word = ap (λ n. 4 + n) (last_length 10 (word / 4096 / 4096))
 
 pub exchanged : (page first last word : ℕ) (line low high : List ℕ) → page < 2 ^ 27 → first < 2 ^ 27 → last < 2 ^ 64 → word < 2 ^ 64 → page / 4096 ≡ first / 512 / 8 → word / 2 ^ 24 ≡ last / 2 ^ 24 → word % 4096 ≡ last % 4096 → line ≡ leaf_line 3 page last → low ≡ hex (length (mid_of 7 3 line)) (first % 4096) → high ≡ hex (length (mid_of 24 3 (put_mid 7 3 line low))) (word / 4096 % 4096) → put_mid 24 3 (put_mid 7 3 line low) high ≡ leaf_line 3 first word
 exchanged page first last word line low high inside small before fits near top fields is new_low new_high =
@@ -175,15 +143,15 @@ exchanged page first last word line low high inside small before fits near top f
     let old_high = last_digits 3 (last / 4096 % 4096) in
     let whole : line ≡ front ++ (old_low ++ (line_middle last ++ (old_high ++ line_end last))) = is ∙ line-parts page last inside before in
     let seven : length front ≡ 7 = front-length page in
-    let three : length old_low ≡ 3 = last-length 3 (page % 4096) in
+    let three : length old_low ≡ 3 = last_length 3 (page % 4096) in
     let lows : low ≡ last_digits 3 (first % 4096) =
     new_low ∙ ap (λ (k : ℕ). hex k (first % 4096)) (ap (λ (xs : List ℕ). length (mid_of 7 3 xs)) whole ∙ ap (λ (xs : List ℕ). length xs) (mid-at front old_low (line_middle last ++ (old_high ++ line_end last)) 7 3 seven three) ∙ three)
     ∙ hex_fits 3 (first % 4096) (omega arith) (omega arith) (omega arith) in
     let once : put_mid 7 3 line low ≡ (front ++ (low ++ line_middle last)) ++ (old_high ++ line_end last) =
     ap (λ (xs : List ℕ). put_mid 7 3 xs low) whole ∙ put-at front old_low (line_middle last ++ (old_high ++ line_end last)) low 7 3 seven three
     ∙ sym (append_assoc front (low ++ line_middle last) (old_high ++ line_end last) ∙ ap (λ t. front ++ t) (append_assoc low (line_middle last) (old_high ++ line_end last))) in
-    let long : length (front ++ (low ++ line_middle last)) ≡ 24 = omega (arith, length-append front (low ++ line_middle last), length-append low (line_middle last), seven, ap (λ (xs : List ℕ). length xs) lows, last-length 3 (first % 4096), middle-length last) in
-    let also : length old_high ≡ 3 = last-length 3 (last / 4096 % 4096) in
+    let long : length (front ++ (low ++ line_middle last)) ≡ 24 = omega (arith, length-append front (low ++ line_middle last), length-append low (line_middle last), seven, ap (λ (xs : List ℕ). length xs) lows, last_length 3 (first % 4096), middle-length last) in
+    let also : length old_high ≡ 3 = last_length 3 (last / 4096 % 4096) in
     let highs : high ≡ last_digits 3 (word / 4096 % 4096) =
     new_high ∙ ap (λ (k : ℕ). hex k (word / 4096 % 4096)) (ap (λ (xs : List ℕ). length (mid_of 24 3 xs)) once ∙ ap (λ (xs : List ℕ). length xs) (mid-at (front ++ (low ++ line_middle last)) old_high (line_end last) 24 3 long also) ∙ also)
     ∙ hex_fits 3 (word / 4096 % 4096) (omega arith) (omega arith) (omega arith) in

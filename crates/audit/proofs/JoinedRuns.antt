@@ -1,12 +1,12 @@
 -- Runs that come one behind another, joined as they come, are the maximal runs.
-use Rattle.std.proofs.Common.{◌≡◌, ℕ, zero, suc, ◌+◌, ◌-◌, ◌*◌, ◌^◌, ◌<◌, ◌≤◌, Bool, true, false, not, ◌&&◌, cond, eqb, inl, inr, List, [], ◌∷◌, ◌++◌, length, Option, Some, None, is_some, refl, sym, ap, ap₂, subst, ◌∙◌, append-nil, append_assoc, length-append, codes, arith}
+use Rattle.std.proofs.Common.{◌≡◌, ℕ, zero, suc, ◌+◌, ◌-◌, ◌*◌, ◌<◌, ◌≤◌, Bool, true, false, not, ◌&&◌, cond, eqb, inl, inr, List, [], ◌∷◌, ◌++◌, length, Option, Some, None, is_some, refl, sym, ap, ◌∙◌, arith}
 use Rattle.std.specs.List.{flat_map}
 use Rattle.std.specs.Option.{option_map_or}
 use Rattle.std.proofs.lemmas.List.Concat.{flat_map-append}
 use Rattle.base.specs.Access.{Access, View, is_same}
 use Rattle.base.specs.Need.{is_mixed, is_reached}
-use Rattle.base.specs.Runs.{ValuedRun, valued, is_followed_by, joined, with_next, maximal_runs}
-use Rattle.base.proofs.MaximalRuns.{with_next-last, with_next-twice}
+use Rattle.base.specs.Runs.{ValuedRun, valued, with_next, maximal_runs}
+use Rattle.base.proofs.MaximalRuns.{with_next-twice}
 use Rattle.words.specs.declared.word.Entry.{Entry}
 use Rattle.words.specs.declared.word.Entry.TheVariants.{Invalid, Table, Leaf, Wrong}
 use Rattle.words.specs.Words.{entry_of, leaf_level}
@@ -21,50 +21,9 @@ use Rattle.stage2.specs.Reading.{TableEntry, AlikePages, pages_at, access_of, ac
 use Rattle.stage2.specs.Readings.{entries_of, reading_of}
 use Rattle.stage2.specs.Tables.{TablesView, view_of, AreCanonical}
 use Rattle.stage2.proofs.Reading.Listing.{listed}
-use Rattle.audit.specs.Runs.{reached_runs, waiting, ReachedRun}
+use Rattle.audit.specs.Runs.{reached_runs, ReachedRun, AreLined}
+use Rattle.audit.specs.Texts.{access_end}
 use Rattle.audit.proofs.ReachedRuns.{same-self, gigabyte-none, chunk-alike, stretch}
-
--- ---- the run that waits
-
--- with the next run, behind those that are complete
-pub behind-complete : {A : Type 0} (same : A → A → Bool) (complete : List (ValuedRun A)) (last : Option (ValuedRun A)) (next : ValuedRun A) → (last ≡ None → complete ≡ []) → with_next same (complete ++ waiting last) next ≡ complete ++ with_next same (waiting last) next
-unfolding with_next
-behind-complete same complete None next none = let first = none refl in ap (λ xs. with_next same (xs ++ []) next) first ∙ ap (λ xs. xs ++ next ∷ []) (sym first)
-behind-complete same complete (Some last) next none = with_next-last same complete last next
-
--- the lines of the runs that are complete are appended, and counted; one more may wait
-pub record IsJoining {A : Type 0} (line : ValuedRun A → List ℕ) (before text : List ℕ) (count : ℕ) (last : Option (ValuedRun A)) : Type 0 where
-  pub complete : List (ValuedRun A)
-  pub lines : text ≡ before ++ flat_map line complete
-  pub counted : count ≡ length complete
-  pub first : last ≡ None → complete ≡ []
-
--- no more lines than bytes
-pub few-lines : {A : Type 0} (line : A → List ℕ) (xs : List A) → ((x : A) → 0 < length (line x)) → length xs ≤ length (flat_map line xs)
-few-lines line [] some = omega arith
-few-lines line (x ∷ xs) some = let one = some x in let more = few-lines line xs some in let sum = length-append (line x) (flat_map line xs) in omega (arith, one, more, sum)
-
-module _ {A : Type 0} (line : ValuedRun A → List ℕ) where
-  unfoldable pub joining-none : (text : List ℕ) (last : Option (ValuedRun A)) → last ≡ None → IsJoining line text text 0 last
-  joining-none text last none = record { complete = []; lines = sym (append-nil text); counted = refl; first = λ is. refl }
-
-  unfoldable pub joining-more : (before text new : List ℕ) (count size : ℕ) (last waits done : Option (ValuedRun A)) → IsJoining line before text count last → (waits ≡ None → (last ≡ None) × (done ≡ None)) → new ≡ text ++ flat_map line (waiting done) → size ≡ length (waiting done) → IsJoining line before new (count + size) waits
-  joining-more before text new count size last waits done so none is counted = record {
-    complete = so.complete ++ waiting done;
-    lines = is ∙ ap (λ t. t ++ flat_map line (waiting done)) so.lines ∙ append_assoc before (flat_map line so.complete) (flat_map line (waiting done)) ∙ ap (λ t. before ++ t) (sym (flat_map-append line so.complete (waiting done)));
-    counted = (let sum = length-append so.complete (waiting done) in let old = so.counted in omega (arith, sum, counted, old));
-    first = λ is_none. let both = none is_none in ap₂ (λ (xs : List (ValuedRun A)) (o : Option (ValuedRun A)). xs ++ waiting o) (so.first both.0) both.1;
-  }
-
-  pub joining-end : (before text new : List ℕ) (count size : ℕ) (last done : Option (ValuedRun A)) → (so : IsJoining line before text count last) → done ≡ last → new ≡ text ++ flat_map line (waiting done) → size ≡ length (waiting done) → (new ≡ before ++ flat_map line (so.complete ++ waiting last)) × (count + size ≡ length (so.complete ++ waiting last))
-  joining-end before text new count size last done so at is counted =
-      let sum = length-append so.complete (waiting last) in
-      let old = so.counted in
-      let same = ap (λ o. length (waiting o)) at in (
-        is ∙ ap (λ t. t ++ flat_map line (waiting done)) so.lines ∙ append_assoc before (flat_map line so.complete) (flat_map line (waiting done)) ∙ ap (λ t. before ++ t) (sym (flat_map-append line so.complete (waiting done)))
-            ∙ ap (λ o. before ++ flat_map line (so.complete ++ waiting o)) at,
-        omega (arith, sum, counted, old, same),
-      )
 
 -- all runs of a list, one after another
 abbrev pub with_all : {A : Type 0} → (A → A → Bool) → List (ValuedRun A) → List (ValuedRun A) → List (ValuedRun A)
@@ -219,57 +178,27 @@ entries-runs t p canonical = ap (λ (xs : List ReachedRun). with_all is_same [] 
 
 -- ---- what is left of the entries
 
--- the runs so far, with those of the entries that are left, are all runs
-pub record IsMapping (line : ReachedRun → List ℕ) (before text : List ℕ) (count : ℕ) (last : Option ReachedRun) (left : List TableEntry) (all : List ReachedRun) : Type 0 where
-  pub joining : IsJoining line before text count last
-  pub runs : with_all is_same (joining.complete ++ waiting last) (flat_map leaf_run left) ≡ all
+-- the lines of some runs are appended, and with those of the entries that are left they are all runs
+pub record IsMapping (before text : List ℕ) (count : ℕ) (last : Option ReachedRun) (left : List TableEntry) (all : List ReachedRun) : Type 0 where
+  pub runs : List ReachedRun
+  pub lined : AreLined access_end before text count last runs
+  pub whole : with_all is_same runs (flat_map leaf_run left) ≡ all
+  pub few : count ≤ length text
 
 -- the next pages that are reached, behind these runs
-next-run : (rs : List ReachedRun) (old new : List TableEntry) (pages : AlikePages) → AreNext old pages new → with_all is_same rs (flat_map leaf_run old) ≡ with_all is_same (with_next is_same rs (record { run = pages.pages; value = pages.access })) (flat_map leaf_run new)
+pub next-run : (rs : List ReachedRun) (old new : List TableEntry) (pages : AlikePages) → AreNext old pages new → with_all is_same (with_next is_same rs (record { run = pages.pages; value = pages.access })) (flat_map leaf_run new) ≡ with_all is_same rs (flat_map leaf_run old)
 next-run rs old new pages so =
     let first = pages.pages.first in
     let row = entry_row so.level first pages.word so.count in
-    ap (λ (es : List TableEntry). with_all is_same rs (flat_map leaf_run es)) so.follow
+    sym (ap (λ (es : List TableEntry). with_all is_same rs (flat_map leaf_run es)) so.follow
     ∙ ap (λ (xs : List ReachedRun). with_all is_same rs xs) (flat_map-append leaf_run so.tables (row ++ new) ∙ ap (λ (xs : List ReachedRun). xs ++ flat_map leaf_run (row ++ new)) (nothing-runs so.tables so.reach) ∙ flat_map-append leaf_run row new)
     ∙ all-append is_same rs (flat_map leaf_run row) (flat_map leaf_run new)
-    ∙ ap (λ (xs : List ReachedRun). with_all is_same xs (flat_map leaf_run new)) (go so.count so.some so.pages so.alike)
+    ∙ ap (λ (xs : List ReachedRun). with_all is_same xs (flat_map leaf_run new)) (go so.count so.some so.pages so.alike))
   where
     go : (n : ℕ) → 0 < n → pages.pages.count ≡ pages_at so.level * n → ((i : ℕ) → i < n → access_of (entry_of (number_of so.level) (pages.word + 4096 * pages_at so.level * i)) ≡ Some pages.access) → with_all is_same rs (flat_map leaf_run (entry_row so.level pages.pages.first pages.word n)) ≡ with_next is_same rs (record { run = pages.pages; value = pages.access })
     go zero some size alike = absurd (omega (arith, some))
     go (suc n) some size alike = row-run rs so.level pages.pages.first pages.word n pages.access alike ∙ ap (λ k. with_next is_same rs (valued pages.pages.first k pages.access)) (sym size)
 
-pub mapping-more : (line : ReachedRun → List ℕ) (before text new : List ℕ) (count size : ℕ) (last waits done : Option ReachedRun) (next : ReachedRun) (left rest : List TableEntry) (all : List ReachedRun) (pages : AlikePages) → IsMapping line before text count last left all → AreNext left pages rest → next ≡ record { run = pages.pages; value = pages.access } → waiting done ++ waiting waits ≡ with_next is_same (waiting last) next → (waits ≡ None → (last ≡ None) × (done ≡ None)) → new ≡ text ++ flat_map line (waiting done) → size ≡ length (waiting done) → IsMapping line before new (count + size) waits rest all
-unfolding joining-more
-mapping-more line before text new count size last waits done next left rest all pages so come at push none is counted = record {
-  joining = joining-more line before text new count size last waits done so.joining none is counted;
-  runs =
-      let complete = so.joining.complete in
-      ap (λ (rs : List ReachedRun). with_all is_same rs (flat_map leaf_run rest)) (append_assoc complete (waiting done) (waiting waits) ∙ ap (λ (xs : List ReachedRun). complete ++ xs) push ∙ sym (behind-complete is_same complete last next so.joining.first) ∙ ap (with_next is_same (complete ++ waiting last)) at)
-      ∙ sym (next-run (complete ++ waiting last) left rest pages come) ∙ so.runs;
-}
-
-pub mapping-end : (line : ReachedRun → List ℕ) (before text : List ℕ) (count : ℕ) (last : Option ReachedRun) (left : List TableEntry) (all : List ReachedRun) → (so : IsMapping line before text count last left all) → reach_nothing left ≡ true → so.joining.complete ++ waiting last ≡ all
-mapping-end line before text count last left all so none = ap (λ (xs : List ReachedRun). with_all is_same (so.joining.complete ++ waiting last) xs) (sym (nothing-runs left none)) ∙ so.runs
-
--- before the first entry
-pub mapping-none : (line : ReachedRun → List ℕ) (text : List ℕ) (last : Option ReachedRun) (t : TablesView) (p : ℕ) (left : List TableEntry) → last ≡ None → AreCanonical t → left ≡ entries_of (reading_of t) p → IsMapping line text text 0 last left (reached_runs (view_of t p))
-unfolding joining-none
-mapping-none line text last t p left none canonical is = record {
-  joining = joining-none line text last none;
-  runs = ap (λ (o : Option ReachedRun). with_all is_same (waiting o) (flat_map leaf_run left)) none ∙ ap (λ (es : List TableEntry). with_all is_same [] (flat_map leaf_run es)) is ∙ entries-runs t p canonical;
-}
-
--- a count of lines is no more than there are bytes
-pub lines-fit : {A : Type 0} (line : ValuedRun A → List ℕ) (before text new : List ℕ) (count size : ℕ) (last done : Option (ValuedRun A)) → ((x : ValuedRun A) → 0 < length (line x)) → IsJoining line before text count last → new ≡ text ++ flat_map line (waiting done) → size ≡ length (waiting done) → length new < 2 ^ 64 → count + size < 2 ^ 64
-lines-fit line before text new count size last done some so is counted fits =
-    let a = few-lines line so.complete some in
-    let b = few-lines line (waiting done) some in
-    let c = length-append before (flat_map line so.complete) in
-    let d = length-append text (flat_map line (waiting done)) in
-    let e = ap (λ xs. length xs) so.lines in
-    let f = ap (λ xs. length xs) is in
-    let g = so.counted in
-    omega (arith, a, b, c, d, e, f, g, counted, fits)
-
-pub line-some : (front : List ℕ) → 0 < length (front ++ codes "\n")
-line-some front = let sum = length-append front (codes "\n") in omega (arith, sum)
+-- behind the last entry by which something is reached
+pub no-more : (runs all : List ReachedRun) (left : List TableEntry) → with_all is_same runs (flat_map leaf_run left) ≡ all → reach_nothing left ≡ true → runs ≡ all
+no-more runs all left whole none = ap (λ (xs : List ReachedRun). with_all is_same runs xs) (sym (nothing-runs left none)) ∙ whole

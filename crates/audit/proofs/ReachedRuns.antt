@@ -1,8 +1,6 @@
 -- Maximal runs of pages that are reached alike, made stretch by stretch.
-use Rattle.std.proofs.Common.{◌≡◌, ℕ, ◌+◌, ◌-◌, ◌*◌, ◌<◌, ◌≤◌, true, false, List, Some, None, refl, sym, ap, ◌∙◌, arith, inl, inr}
-use Rattle.std.proofs.lemmas.Bool.{cases_lt}
+use Rattle.std.proofs.Common.{◌≡◌, ℕ, ◌+◌, ◌-◌, ◌*◌, ◌<◌, ◌≤◌, true, false, Some, None, refl, sym, ap, ◌∙◌, arith}
 use Rattle.base.specs.Access.{Access, View, is_same}
-use Rattle.base.specs.Alike.{IsAlikeUntil}
 use Rattle.base.specs.Need.{is_mixed, is_reached}
 use Rattle.stage2.proofs.Counting.Needs.{alike-self, equal-first}
 use Rattle.stage2.proofs.Editing.Gigabyte.{not-reached}

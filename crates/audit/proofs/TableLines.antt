@@ -1,5 +1,5 @@
 -- By its word an entry of canonical tables has the line that its access gives.
-use Rattle.std.proofs.Common.{◌≡◌, ℕ, List, ◌++◌, Bool, true, false, codes, eqb, Some, None, is_some, refl, sym, ap, ◌∙◌}
+use Rattle.std.proofs.Common.{◌≡◌, ◌++◌, true, false, codes, Some, None, is_some, refl, sym, ap, ◌∙◌}
 use Rattle.std.specs.Fmt.{decimal}
 use Rattle.std.specs.Option.{option_map_or}
 use Rattle.base.specs.Access.{Access, View}
@@ -7,7 +7,8 @@ use Rattle.stage2.specs.Level.{number_of}
 use Rattle.stage2.specs.Reading.{TableEntry, access_by, shown, IsSound}
 use Rattle.stage2.specs.declared.table_page.Level.{Level}
 use Rattle.stage2.specs.declared.table_page.Level.TheVariants.{First, Second, Third}
-use Rattle.audit.specs.Texts.{hex, address_text, entry_line, content_text}
+use Rattle.digits.specs.Digits.{hex, address_text}
+use Rattle.audit.specs.Texts.{entry_line}
 use Rattle.audit.specs.TableLines.{leaf_line, table_line, upper_line, line_at, line_of}
 
 leaf-shown : (e : TableEntry) (a : Access) → IsSound e → access_by e ≡ Some a → leaf_line (number_of e.level) e.first e.word ≡ entry_line (shown e)

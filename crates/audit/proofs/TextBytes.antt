@@ -1,57 +1,20 @@
 -- The texts are UTF-8, whatever the numbers in them.
-use Rattle.std.proofs.Common.{◌≡◌, ℕ, zero, suc, ◌+◌, ◌-◌, ◌*◌, ◌/◌, ◌%◌, Some, None, ◌<◌, Bool, true, false, cond, eqb, ltb, List, [], ◌∷◌, ◌++◌, codes, length, refl, sym, ap, subst, ◌∙◌, arith, inl, inr}
-use Rattle.std.proofs.Math.ListN.{replicate}
+use Rattle.std.proofs.Common.{ℕ, ◌*◌, Some, None, Bool, true, false, cond, eqb, List, [], ◌∷◌, ◌++◌, codes, length, refl, sym, subst, inl, inr}
 use Rattle.std.specs.List.{flat_map}
-use Rattle.std.specs.Fmt.{digits_onto, digits, digit_glyph, decimal}
-use Rattle.std.specs.Str.{IsUtf8, IsAscii, is_utf8, chars}
-use Rattle.std.proofs.lemmas.Fmt.{IsAscii-decimal}
-use Rattle.std.proofs.lemmas.Str.{IsUtf8-append, IsUtf8-from_ascii, IsUtf8-from_is_utf8, IsAscii-append}
-use Rattle.std.proofs.lemmas.Str.Ascii.{IsAscii-nil, IsAscii-cons}
+use Rattle.std.specs.Str.{IsUtf8, is_utf8, chars}
+use Rattle.std.proofs.lemmas.Str.{IsUtf8-append, IsUtf8-from_is_utf8}
 use Rattle.base.specs.Access.{Access, View, is_rw, is_normal}
 use Rattle.base.specs.Manifest.{PartitionRow, ManifestRows, grant}
 use Rattle.base.specs.Need.{need}
 use Rattle.base.specs.Runs.{ValuedRun}
 use Rattle.base.specs.Transactions.{Donation}
 use Rattle.words.specs.Words.{leaf_word_of}
+use Rattle.digits.proofs.Texts.{decimal_utf8, hex_utf8, extent_utf8}
 use Rattle.stage2.specs.Listing.{Listed, entries}
 use Rattle.audit.specs.Audit.{IsAuditText}
 use Rattle.audit.specs.Runs.{OwnedRun, reached_runs, owned_runs}
-use Rattle.audit.specs.Texts.{hex, address_text, access_text, kind_text, check_text, check_line, maps_text, maps_header, maps_line, owners_text, owners_header, owners_line, tables_text, tables_header, entry_line, content_text}
+use Rattle.audit.specs.Texts.{access_text, kind_text, access_end, check_text, check_line, maps_text, maps_header, maps_line, owners_text, owners_header, owners_line, tables_text, tables_header, entry_line, content_text}
 use lib.Utf8.{encode}
-
--- ---- digits
-
-glyph-ascii : (d : ℕ) → d < 16 → digit_glyph false d < 128
-glyph-ascii d small = elim (ltb d 10) as (λ b. cond b (48 + d) (87 + d) < 128) [ true ↦ omega arith | false ↦ omega arith ]
-
-onto-ascii : (k base n : ℕ) (acc : List ℕ) → ((m : ℕ) → m % base < 16) → IsAscii acc → IsAscii (digits_onto k base false n acc)
-onto-ascii zero base n acc small so = so
-onto-ascii (suc k) base n acc small so =
-    let first : IsAscii (digit_glyph false (n % base) ∷ acc) = IsAscii-cons (digit_glyph false (n % base)) acc (glyph-ascii (n % base) (small n)) so in
-    elim (eqb (n / base) 0) as (λ b. IsAscii (cond b (digit_glyph false (n % base) ∷ acc) (digits_onto k base false (n / base) (digit_glyph false (n % base) ∷ acc)))) [
-      | true ↦ first
-      | false ↦ onto-ascii k base (n / base) (digit_glyph false (n % base) ∷ acc) small first
-    ]
-
-zeros-ascii : (n : ℕ) → IsAscii (replicate n 48)
-zeros-ascii zero = IsAscii-nil
-zeros-ascii (suc n) = IsAscii-cons 48 (replicate n 48) (omega arith) (zeros-ascii n)
-
-spelled : (base n : ℕ) → digits_onto 64 base false n [] ≡ digits base false n
-unfolding digits
-spelled base n = refl
-
-digits-ascii : (base n : ℕ) → ((m : ℕ) → m % base < 16) → IsAscii (digits base false n)
-digits-ascii base n small = subst IsAscii (spelled base n) (onto-ascii 64 base n [] small IsAscii-nil)
-
-decimal-text : (n : ℕ) → IsUtf8 (decimal n)
-decimal-text n = IsUtf8-from_ascii (decimal n) (digits-ascii 10 n (λ m. omega arith))
-
-hex-text : (w n : ℕ) → IsUtf8 (hex w n)
-unfolding hex
-hex-text w n =
-    let ds = digits 16 false n in
-    IsUtf8-from_ascii (hex w n) (IsAscii-append (replicate (w - length ds) 48) ds (zeros-ascii (w - length ds)) (digits-ascii 16 n (λ m. omega arith)))
 
 -- ---- pieces
 
@@ -90,12 +53,15 @@ kind-text a = go (is_normal a.kind)
 then : (xs ys : List ℕ) → IsUtf8 xs → IsUtf8 ys → IsUtf8 (xs ++ ys)
 then xs ys a b = IsUtf8-append xs ys a b
 
+access-end : (a : Access) → IsUtf8 (access_end a)
+access-end a = then _ _ (then _ _ (then _ _ (then _ _ blank (access-text a)) blank) (kind-text a)) line-end
+
 -- ---- what partitions need
 
 check-line-text : (row : PartitionRow) (count : ℕ) → IsUtf8 (check_line row count)
 unfolding is_utf8 chars encode
 check-line-text row count =
-    then _ _ (then _ _ (then _ _ (then _ _ (then _ _ (hex-text 4 row.id) (IsUtf8-from_is_utf8 (codes " need ") refl)) (decimal-text count)) (IsUtf8-from_is_utf8 (codes " quota ") refl)) (decimal-text row.quota)) line-end
+    then _ _ (then _ _ (then _ _ (then _ _ (then _ _ (hex_utf8 4 row.id) (IsUtf8-from_is_utf8 (codes " need ") refl)) (decimal_utf8 count)) (IsUtf8-from_is_utf8 (codes " quota ") refl)) (decimal_utf8 row.quota)) line-end
 
 pub check-utf8 : (m : ManifestRows) → IsUtf8 (check_text m)
 check-utf8 m = lines-text (λ row. check_line row (need (grant m row.id))) m.partitions (λ row. check-line-text row (need (grant m row.id)))
@@ -103,12 +69,11 @@ check-utf8 m = lines-text (λ row. check_line row (need (grant m row.id))) m.par
 -- ---- what a partition reaches
 
 maps-line-text : (r : ValuedRun Access) → IsUtf8 (maps_line r)
-maps-line-text r =
-    then _ _ (then _ _ (then _ _ (then _ _ (then _ _ (then _ _ (then _ _ (hex-text 10 (4096 * r.run.first)) blank) (decimal-text r.run.count)) blank) (access-text r.value)) blank) (kind-text r.value)) line-end
+maps-line-text r = then _ _ (extent_utf8 r.run) (access-end r.value)
 
 maps-header-text : (p count : ℕ) → IsUtf8 (maps_header p count)
 unfolding is_utf8 chars encode
-maps-header-text p count = then _ _ (then _ _ (then _ _ (then _ _ (IsUtf8-from_is_utf8 (codes "maps ") refl) (hex-text 4 p)) blank) (decimal-text count)) line-end
+maps-header-text p count = then _ _ (then _ _ (then _ _ (then _ _ (IsUtf8-from_is_utf8 (codes "maps ") refl) (hex_utf8 4 p)) blank) (decimal_utf8 count)) line-end
 
 pub maps-utf8 : (p : ℕ) (view : ℕ → View) → IsUtf8 (maps_text p view)
 unfolding maps_text
@@ -117,13 +82,11 @@ maps-utf8 p view = then _ _ (maps-header-text p (length (reached_runs view))) (l
 -- ---- owners
 
 owners-line-text : (r : OwnedRun) → IsUtf8 (owners_line r)
-owners-line-text r =
-    let ownership = then _ _ (then _ _ (then _ _ (then _ _ (hex-text 4 r.value.owner) blank) (access-text r.value.home)) blank) (kind-text r.value.home) in
-    then _ _ (then _ _ (then _ _ (then _ _ (then _ _ (hex-text 10 (4096 * r.run.first)) blank) (decimal-text r.run.count)) blank) ownership) line-end
+owners-line-text r = then _ _ (extent_utf8 r.run) (then _ _ (then _ _ blank (hex_utf8 4 r.value.owner)) (access-end r.value.home))
 
 owners-header-text : (count : ℕ) → IsUtf8 (owners_header count)
 unfolding is_utf8 chars encode
-owners-header-text count = then _ _ (then _ _ (IsUtf8-from_is_utf8 (codes "owners ") refl) (decimal-text count)) line-end
+owners-header-text count = then _ _ (then _ _ (IsUtf8-from_is_utf8 (codes "owners ") refl) (decimal_utf8 count)) line-end
 
 pub owners-utf8 : (m : ManifestRows) (ds : List Donation) → IsUtf8 (owners_text m ds)
 unfolding owners_text
@@ -134,16 +97,16 @@ owners-utf8 m ds = then _ _ (owners-header-text (length (owned_runs m ds))) (lin
 content-bytes : (level first : ℕ) (leaf : View) → IsUtf8 (content_text level first leaf)
 unfolding is_utf8 chars encode
 content-bytes level first None = IsUtf8-from_is_utf8 (codes "table") refl
-content-bytes level first (Some a) = hex-text 16 (leaf_word_of (eqb level 2) first a)
+content-bytes level first (Some a) = hex_utf8 16 (leaf_word_of (eqb level 2) first a)
 
 entry-line-text : (e : Listed) → IsUtf8 (entry_line e)
 unfolding is_utf8 chars encode
 entry-line-text e =
-    then _ _ (then _ _ (then _ _ (then _ _ (then _ _ (then _ _ (IsUtf8-from_is_utf8 (codes "L") refl) (decimal-text e.level)) blank) (hex-text 10 (4096 * e.first))) blank) (content-bytes e.level e.first e.leaf)) line-end
+    then _ _ (then _ _ (then _ _ (then _ _ (then _ _ (then _ _ (IsUtf8-from_is_utf8 (codes "L") refl) (decimal_utf8 e.level)) blank) (hex_utf8 10 (4096 * e.first))) blank) (content-bytes e.level e.first e.leaf)) line-end
 
 tables-header-text : (p count : ℕ) → IsUtf8 (tables_header p count)
 unfolding is_utf8 chars encode
-tables-header-text p count = then _ _ (then _ _ (then _ _ (then _ _ (IsUtf8-from_is_utf8 (codes "tables ") refl) (hex-text 4 p)) blank) (decimal-text count)) line-end
+tables-header-text p count = then _ _ (then _ _ (then _ _ (then _ _ (IsUtf8-from_is_utf8 (codes "tables ") refl) (hex_utf8 4 p)) blank) (decimal_utf8 count)) line-end
 
 pub tables-utf8 : (p : ℕ) (view : ℕ → View) → IsUtf8 (tables_text p view)
 unfolding tables_text

@@ -1,11 +1,13 @@
 -- Maximal runs of pages that have one value.
-use Rattle.std.specs.Prelude.{ℕ, zero, suc, ◌+◌, ◌-◌, ◌*◌, ◌^◌, Bool, ◌&&◌, ◌==◌, List, [], ◌∷◌, Option, Some, None, if◌then◌else◌}
+use Rattle.std.specs.Prelude.{◌≡◌, ℕ, ◌-◌, ◌^◌, Bool, ◌&&◌, ◌==◌, List, [], ◌∷◌, ◌++◌, length, Option, Some, None}
+use Rattle.std.specs.List.{flat_map}
 use Rattle.std.specs.Option.{option_map_or}
 use Rattle.base.specs.Access.{Access, View, is_same}
 use Rattle.base.specs.Ledger.{owner, home}
 use Rattle.base.specs.Manifest.{ManifestRows}
 use Rattle.base.specs.Runs.{ValuedRun, valued, with_next, maximal_runs}
 use Rattle.base.specs.Transactions.{Donation}
+use Rattle.digits.specs.Digits.{extent_text}
 
 -- pages that are reached alike
 abbrev pub ReachedRun : Type 0
@@ -48,9 +50,21 @@ abbrev pub with_owned : List OwnedRun → ℕ → ℕ → Option Ownership → L
 with_owned runs first end value =
     option_map_or (λ a. with_next is_same_ownership runs (valued first (end - first) a)) value runs
 
--- ---- runs that come one behind another
+-- ---- the lines of runs that come one behind another
+
+-- the line of a run: its pages, and what stands behind them
+abbrev pub line_of : {A : Type 0} → (A → List ℕ) → ValuedRun A → List ℕ
+line_of rest r = extent_text r.run ++ rest r.value
 
 -- the run that waits for the next, if there is one
 abbrev pub waiting : {A : Type 0} → Option A → List A
 waiting None = []
 waiting (Some run) = run ∷ []
+
+-- the lines of these runs are appended and counted, but for the last one, which waits
+pub record AreLined {A : Type 0} (rest : A → List ℕ) (before text : List ℕ) (count : ℕ) (last : Option (ValuedRun A)) (runs : List (ValuedRun A)) : Type 0 where
+  pub complete : List (ValuedRun A)
+  pub all : runs ≡ complete ++ waiting last
+  pub lines : text ≡ before ++ flat_map (line_of rest) complete
+  pub counted : count ≡ length complete
+  pub first : last ≡ None → complete ≡ []

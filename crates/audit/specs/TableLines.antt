@@ -6,7 +6,7 @@ use Rattle.stage2.specs.Level.{number_of}
 use Rattle.stage2.specs.Reading.{TableEntry, access_by}
 use Rattle.stage2.specs.declared.table_page.Level.{Level}
 use Rattle.stage2.specs.declared.table_page.Level.TheVariants.{First, Second, Third}
-use Rattle.audit.specs.Texts.{hex, address_text}
+use Rattle.digits.specs.Digits.{hex, address_text}
 
 -- the line of a block or a page that has this word
 unfoldable pub leaf_line : ℕ → ℕ → ℕ → List ℕ
@@ -20,12 +20,13 @@ table_line level first =
     codes "L" ++ decimal level ++ codes " " ++ address_text first ++ codes " " ++ codes "table"
     ++ codes "\n"
 
--- that of an entry of a root or of a level 2 table
+-- the line of an entry of a root or of a level 2 table: a block or a table
 abbrev pub upper_line : TableEntry → List ℕ
 upper_line e =
     option_map_or (λ a. leaf_line (number_of e.level) e.first e.word) (access_by e)
     (table_line (number_of e.level) e.first)
 
+-- the line of an entry at a level; a level 3 table has pages alone
 abbrev pub line_at : Level → TableEntry → List ℕ
 line_at First e = upper_line e
 line_at Second e = upper_line e

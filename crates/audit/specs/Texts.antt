@@ -1,7 +1,7 @@
 -- The texts: each is a function of the views, of the owners or of the manifest alone.
-use Rattle.std.specs.Prelude.{ℕ, ◌-◌, ◌*◌, false, ◌==◌, List, ◌++◌, Some, None, length, replicate, codes, if◌then◌else◌}
+use Rattle.std.specs.Prelude.{ℕ, ◌==◌, List, ◌++◌, Some, None, length, codes, if◌then◌else◌}
 use Rattle.std.specs.List.{flat_map}
-use Rattle.std.specs.Fmt.{digits, decimal}
+use Rattle.std.specs.Fmt.{decimal}
 use Rattle.base.specs.Access.{Access, View, is_rw, is_normal}
 use Rattle.base.specs.Manifest.{PartitionRow, ManifestRows, grant}
 use Rattle.base.specs.Need.{need}
@@ -9,17 +9,10 @@ use Rattle.words.specs.Words.{leaf_word_of}
 use Rattle.stage2.specs.Listing.{Listed, entries}
 use Rattle.base.specs.Transactions.{Donation}
 use Rattle.base.specs.Runs.{ValuedRun}
-use Rattle.audit.specs.Runs.{Ownership, OwnedRun, reached_runs, owned_runs}
+use Rattle.digits.specs.Digits.{hex, address_text}
+use Rattle.audit.specs.Runs.{Ownership, OwnedRun, reached_runs, owned_runs, line_of}
 
--- ---- words and numbers
-
--- the digits of a number in base 16, in lower case, with zeros in front up to a width
-unfoldable pub hex : ℕ → ℕ → List ℕ
-hex width n = replicate (width - length (digits 16 false n)) 48 ++ digits 16 false n
-
--- the address of a page
-abbrev pub address_text : ℕ → List ℕ
-address_text page = hex 10 (4096 * page)
+-- ---- words
 
 -- data and instruction access in three characters
 abbrev pub access_text : Access → List ℕ
@@ -30,6 +23,10 @@ access_text a =
 -- the kind of memory in a word
 abbrev pub kind_text : Access → List ℕ
 kind_text a = if is_normal a.kind then codes "normal" else codes "device"
+
+-- what ends the line of pages with this access
+abbrev pub access_end : Access → List ℕ
+access_end a = codes " " ++ access_text a ++ codes " " ++ kind_text a ++ codes "\n"
 
 -- ---- what partitions need
 
@@ -50,9 +47,7 @@ maps_header p count = codes "maps " ++ hex 4 p ++ codes " " ++ decimal count ++ 
 
 -- the line of pages that are reached alike
 abbrev pub maps_line : ValuedRun Access → List ℕ
-maps_line r =
-    address_text r.run.first ++ codes " " ++ decimal r.run.count ++ codes " " ++ access_text r.value
-    ++ codes " " ++ kind_text r.value ++ codes "\n"
+maps_line r = line_of access_end r
 
 -- the maximal runs of pages that a partition with these views reaches alike
 unfoldable pub maps_text : ℕ → (ℕ → View) → List ℕ
@@ -64,16 +59,13 @@ maps_text p view =
 abbrev pub owners_header : ℕ → List ℕ
 owners_header count = codes "owners " ++ decimal count ++ codes "\n"
 
--- an owner and a home
-abbrev pub ownership_text : Ownership → List ℕ
-ownership_text o =
-    hex 4 o.owner ++ codes " " ++ access_text o.home ++ codes " " ++ kind_text o.home
+-- what ends the line of pages with this owner and home
+abbrev pub ownership_end : Ownership → List ℕ
+ownership_end o = codes " " ++ hex 4 o.owner ++ access_end o.home
 
 -- the line of pages with one owner and one home
 abbrev pub owners_line : OwnedRun → List ℕ
-owners_line r =
-    address_text r.run.first ++ codes " " ++ decimal r.run.count ++ codes " "
-    ++ ownership_text r.value ++ codes "\n"
+owners_line r = line_of ownership_end r
 
 -- the maximal runs of pages with one owner and one home
 unfoldable pub owners_text : ManifestRows → List Donation → List ℕ

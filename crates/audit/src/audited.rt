@@ -8,7 +8,8 @@ ghost use Rattle.stage2.specs.Listing as listed;
 ghost use Rattle.stage2.specs.Reading.{shown};
 ghost use Rattle.audit.specs.Laws.{AreOfReached};
 
-use crate::rebuilt::rebuilt;
+use crate::rebuilt::rebuild;
+use crate::text::text_of;
 use base::{OutOfMemory, PartitionId};
 use ledger::Ledger;
 use manifest::Manifest;
@@ -32,10 +33,7 @@ pub fn audit_text<M: TableMem + Drop>(
 {
     let mut text = Vec::new(alloc);
     append_audit(&mut text, alloc, manifest, tables, ledger)?;
-    match String::from_utf8(text) {
-        Ok(text) => Ok(text),
-        Err(_) => unreachable!(),
-    }
+    Ok(text_of(text))
 }
 
 /// Appends the text that `audit_text` makes. Without memory the bytes may end in a part of it.
@@ -53,7 +51,7 @@ pub fn append_audit<M: TableMem + Drop>(
         (spec.HaveEntriesOf manifest.now ledger.now.donations ledger.now.live tables.now))) }
 {
     let donations = ledger.donations(alloc)?;
-    let rebuilt = rebuilt::<RawPool>(alloc, manifest, &donations, ledger.live())?;
+    let rebuilt = rebuild::<RawPool>(alloc, manifest, &donations, ledger.live())?;
     let line = if have_same_entries(manifest, tables, &rebuilt) {
         "equal\n"
     } else {
@@ -92,14 +90,9 @@ fn has_same_entries<M: TableMem + Drop>(
     let mut theirs = others.reader().entries(p);
     while let Some(entry) = ours.next() {
         match theirs.next() {
-            Some(other) => {
-                if !show_the_same(entry, other) {
-                    return false;
-                }
-            }
-            None => return false,
+            Some(other) if show_the_same(entry, other) => ours.pass_same(&mut theirs),
+            _ => return false,
         }
-        ours.pass_same(&mut theirs);
     }
     theirs.next().is_none()
 }

@@ -5,9 +5,9 @@ ghost use Rattle.base.specs.Manifest.{grant};
 ghost use Rattle.base.specs.Need.{need};
 ghost use Rattle.audit.specs.Texts as spec;
 
-use crate::digits::append_decimal;
-use crate::text::append_id;
+use crate::text::{append_id, text_of};
 use base::OutOfMemory;
+use digits::append_decimal;
 use manifest::{Manifest, Partition};
 use std::alloc::Global;
 
@@ -18,10 +18,7 @@ pub fn check_text(alloc: Global, manifest: &Manifest) -> Result<String, OutOfMem
 {
     let mut text = Vec::new(alloc);
     append_check(&mut text, manifest)?;
-    match String::from_utf8(text) {
-        Ok(text) => Ok(text),
-        Err(_) => unreachable!(),
-    }
+    Ok(text_of(text))
 }
 
 /// Appends the text that `check_text` makes. Without memory the bytes may end in a part of it.

@@ -3,22 +3,21 @@
 //! Each text is a function of the manifest, the views and the owners alone; its `specs/` define it.
 #![tactic(auto)]
 
-mod alike;
 mod audited;
 mod check;
-mod digits;
-mod joined;
+mod law;
 mod lists;
 mod maps;
 mod owners;
 mod rebuilt;
+mod run_lines;
 mod table_line;
 mod tables;
 mod text;
 
 pub use audited::{append_audit, audit_text};
 pub use check::{append_check, check_text};
-pub use digits::{append_decimal, append_hex, fill_digits};
+pub use law::{owned_runs_are_maximal, reached_runs_are_maximal};
 pub use maps::{append_maps, maps_text};
 pub use owners::{append_owners, owners_text};
 pub use rebuilt::rebuild;

@@ -8,8 +8,7 @@ ghost use Rattle.rules.specs.Laws.OneOwner.{AreAllApart};
 ghost use Rattle.spans.specs.Spans.{value_at};
 ghost use Rattle.audit.specs.Alike as spec;
 
-use crate::alike::region_until;
-use base::{Access, Kind, OutOfMemory, Page, PartitionId};
+use base::{Access, OutOfMemory, Page, PartitionId};
 use ledger::{Donation, Live};
 use manifest::{Manifest, Region};
 use spans::PageMap;
@@ -102,7 +101,7 @@ impl<'a> Lists<'a> {
         let shared = self.shared.segment_at(page);
         let donation = self.donation(given.value);
         let transaction = self.transaction(shared.value);
-        let end = region_until(self.manifest, region, page);
+        let end = self.manifest.region_until(region, page);
         Stretch {
             view: view_by(p, region, donation, transaction),
             end: end.min(given.end).min(shared.end),
@@ -135,7 +134,7 @@ fn view_by(
         (option_map (λ d. d.now.value) donation.entry) (option_map (λ t. t.now) transaction.entry) }
 {
     match transaction {
-        Some(transaction) => view_under(transaction, home_by(region, donation), p),
+        Some(transaction) => transaction.view(home_by(region, donation), p),
         None => settled_by(p, region, donation),
     }
 }
@@ -150,13 +149,7 @@ fn settled_by(
         (option_map (λ d. d.now.value) donation.entry) }
 {
     match donation {
-        Some(donation) => {
-            if donation.taker == p {
-                Some(donation.access)
-            } else {
-                None
-            }
-        }
+        Some(donation) => (donation.taker == p).then_some(donation.access),
         None => region?.access(p),
     }
 }
@@ -172,26 +165,5 @@ fn home_by(region: Option<&Region>, donation: Option<&Donation>) -> Option<Acces
             let region = region?;
             region.access(region.owner())
         }
-    }
-}
-
-/// What a partition reaches of a page that a live transaction covers.
-fn view_under(transaction: &Live, home: Option<Access>, p: PartitionId) -> Option<Access>
-    ensures { result ≡ rules.view_under transaction.now home p }
-{
-    if transaction.terms.sender == p {
-        kept(transaction.terms.kind, home)
-    } else {
-        transaction.retrieved(p)
-    }
-}
-
-/// What the sender keeps of its home.
-fn kept(kind: Kind, home: Option<Access>) -> Option<Access>
-    ensures { result ≡ rules.kept kind home }
-{
-    match kind {
-        Kind::Share => home,
-        Kind::Lend | Kind::Donate => None,
     }
 }

@@ -1,17 +1,16 @@
 //! The text of what a partition reaches.
 
-ghost use Rattle.std.specs.Prelude.{◌≡◌, ◌++◌, length, IfOk, OnOk, string_bytes};
+ghost use Rattle.std.specs.Prelude.{◌≡◌, ◌+◌, ◌≤◌, ◌++◌, length, IfOk, OnOk, string_bytes};
 ghost use Rattle.std.specs.List.{flat_map};
-ghost use Rattle.base.specs.Access.{Access as AccessRow};
 ghost use Rattle.stage2.specs.Slot.{layout_of};
 ghost use Rattle.stage2.specs.Tables.{view_of};
-ghost use Rattle.audit.specs.Runs.{reached_runs, waiting};
+ghost use Rattle.audit.specs.Runs.{reached_runs};
 ghost use Rattle.audit.specs.Texts as spec;
 
-use crate::digits::append_decimal;
-use crate::joined::{Joining, Valued};
-use crate::text::{append_access, append_extent, append_id, bring_forward};
-use base::{Access, OutOfMemory, PartitionId};
+use crate::run_lines::{RunLines, Valued};
+use crate::text::{append_id, bring_forward, text_of};
+use base::{OutOfMemory, PartitionId};
+use digits::append_decimal;
 use manifest::Manifest;
 use pool::TableMem;
 use stage2::Tables;
@@ -32,10 +31,7 @@ pub fn maps_text<M: TableMem + Drop>(
     let _manifest = manifest;
     let mut text = Vec::new(alloc);
     append_maps(&mut text, tables, p)?;
-    match String::from_utf8(text) {
-        Ok(text) => Ok(text),
-        Err(_) => unreachable!(),
-    }
+    Ok(text_of(text))
 }
 
 /// Appends the text that `maps_text` makes. Without memory the bytes may end in a part of it.
@@ -66,34 +62,21 @@ fn append_lines<M: TableMem + Drop>(
     ensures lines { OnOk result (text.new.items
         ≡ text.old.items ++ flat_map spec.maps_line (reached_runs (view_of tables.now p))) }
 {
-    let mut joining = Joining::new();
-    let mut count = 0;
+    let mut lines = RunLines::new();
     let mut left = tables.reader().alike(p);
     while let Some(pages) = left.next() {
-        let complete = joining.push(Valued::new(pages.pages(), pages.access()));
-        count += append_line(text, complete)?;
+        let run = Valued {
+            run: pages.pages(),
+            value: pages.access(),
+        };
+        lines.push(text, run)?;
     }
-    Ok(count + append_line(text, joining.finish())?)
-}
-
-/// Appends the line of a run, if there is one, and says how many lines that are.
-fn append_line(text: &mut Vec<u8>, run: Option<Valued<Access>>) -> Result<usize, OutOfMemory>
-    ensures count { IfOk result (λ count. count ≡ length (waiting run)) }
-    ensures line { OnOk result
-        (text.new.items ≡ text.old.items ++ flat_map spec.maps_line (waiting run)) }
-{
-    match run {
-        Some(run) => {
-            append_extent(text, run.run())?;
-            append_access(text, run.value())?;
-            Ok(1)
-        }
-        None => Ok(0),
-    }
+    lines.finish(text)
 }
 
 fn append_header(text: &mut Vec<u8>, p: PartitionId, count: usize) -> Result<(), OutOfMemory>
-    ensures { OnOk result (text.new.items ≡ text.old.items ++ spec.maps_header p count) }
+    ensures text { OnOk result (text.new.items ≡ text.old.items ++ spec.maps_header p count) }
+    ensures short { OnOk result (length text.new.items ≤ length text.old.items + 32) }
 {
     text.extend_from_slice(b"maps ")?;
     append_id(text, p)?;

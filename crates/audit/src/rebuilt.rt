@@ -6,7 +6,6 @@
 ghost use Rattle.std.specs.Prelude.{◌≡◌, ℕ, ◌<◌, ◌^◌, Some, IfOk, OnOk};
 ghost use Rattle.base.specs.Access.{Access};
 ghost use Rattle.base.specs.Ledger as rules;
-ghost use Rattle.base.specs.Need as tables;
 ghost use Rattle.stage2.specs.Boot.{AllWalksAre, IsEdge};
 ghost use Rattle.stage2.specs.Slot.{layout_of};
 ghost use Rattle.stage2.specs.Tables.{walk_in, AreCanonical, ReachSo};
@@ -18,30 +17,13 @@ use crate::lists::{Lists, Stretch};
 use base::{Access, OutOfMemory, Page, PartitionId, Run};
 use ledger::{Donation, Live};
 use manifest::Manifest;
-use pool::{ListPool, TableMem};
+use pool::TableMem;
 use stage2::Tables;
 use std::alloc::Global;
 
 /// Tables that give each partition what the manifest, what donations have left and the live transactions
-/// say. These are the lists of a state that some list of calls leads to.
-pub fn rebuild(
-    alloc: Global,
-    manifest: &Manifest,
-    donations: &[Donation],
-    live: &[Live],
-) -> Result<Tables<ListPool>, OutOfMemory>
-    requires reached { AreOfReached manifest.now donations.now live.now }
-    ensures layout { IfOk result (λ t. t.layout ≡ layout_of manifest.now) }
-    ensures agrees { IfOk result
-        (λ t. AllWalksAre t.layout (rules.view manifest.now donations.now live.now) t.pool) }
-    ensures canonical { IfOk result (λ t. AreCanonical t) }
-{
-    rebuilt(alloc, manifest, donations, live)
-}
-
-/// The same in table memory of any kind. An audit compares such tables and lets them go, so they need no
-/// memory whose words are all written when it is made.
-pub(crate) fn rebuilt<M: TableMem + Drop>(
+/// say, in table memory of any kind. These are the lists of a state that some list of calls leads to.
+pub fn rebuild<M: TableMem + Drop>(
     alloc: Global,
     manifest: &Manifest,
     donations: &[Donation],
@@ -83,7 +65,7 @@ fn map_views<M: TableMem + Drop>(
     while number < Page::COUNT {
         let page = Page::new(number);
         let Stretch { view: next, end } = lists.view_from(p, page);
-        if !is_alike(&access, &next) {
+        if access != next {
             map_pending(tables, p, first, number, access)?;
             first = number;
             access = next;
@@ -91,17 +73,6 @@ fn map_views<M: TableMem + Drop>(
         number = end;
     }
     map_pending(tables, p, first, number, access)
-}
-
-/// Whether two views are alike.
-fn is_alike(a: &Option<Access>, b: &Option<Access>) -> bool
-    ensures { result ≡ tables.is_alike a.now b.now }
-{
-    match (a, b) {
-        (None, None) => true,
-        (Some(a), Some(b)) => a.is_same(*b),
-        _ => false,
-    }
 }
 
 /// Maps the pages from one up to another, where they are reached.

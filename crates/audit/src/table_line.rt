@@ -1,11 +1,13 @@
 //! The lines of the entries of tables.
 
 ghost use Rattle.std.specs.Prelude.{◌≡◌, ◌<◌, ◌≤◌, ◌++◌, ◌^◌, OnOk};
+ghost use Rattle.stage2.specs.Level.{number_of};
 ghost use Rattle.audit.specs.TableLines as spec;
 ghost use Rattle.audit.specs.TableLines.{leaf_line};
 
-use crate::digits::fill_digits;
 use base::OutOfMemory;
+use digits::fill_digits;
+use stage2::Level;
 use std::ops::Range;
 
 /// How many bytes the line of a block or a page has.
@@ -24,13 +26,12 @@ const LAST_OF_PAGE: Range<usize> = 7..10;
 const LAST_IN_WORD: Range<usize> = 24..27;
 
 /// Appends the line of a table that begins at a page. An address ends in three zeros.
-pub(crate) fn append_table(text: &mut Vec<u8>, level: u8, first: u32) -> Result<(), OutOfMemory>
-    requires most { level ≤ 3 }
+pub(crate) fn append_table(text: &mut Vec<u8>, level: Level, first: u32) -> Result<(), OutOfMemory>
     requires in_range { first < 2 ^ 27 }
-    ensures { OnOk result (text.new.items ≡ text.old.items ++ spec.table_line level first) }
+    ensures { OnOk result (text.new.items ≡ text.old.items ++ spec.table_line (number_of level) first) }
 {
     let mut line = *b"L0 0000000000 table\n";
-    line[1] = b'0' + level;
+    line[1] = b'0' + level.number();
     fill_digits(u64::from(first), &mut line[PAGE]);
     Ok(text.extend_from_slice(&line)?)
 }
@@ -38,13 +39,12 @@ pub(crate) fn append_table(text: &mut Vec<u8>, level: u8, first: u32) -> Result<
 /// Appends the line of the block or page that begins at a page, by its word.
 pub(crate) fn append_leaf(
     text: &mut Vec<u8>,
-    level: u8,
+    level: Level,
     first: u32,
     word: u64,
 ) -> Result<(), OutOfMemory>
-    requires most { level ≤ 3 }
     requires in_range { first < 2 ^ 27 }
-    ensures { OnOk result (text.new.items ≡ text.old.items ++ leaf_line level first word) }
+    ensures { OnOk result (text.new.items ≡ text.old.items ++ leaf_line (number_of level) first word) }
 {
     let mut line = [b' '; LINE];
     fill_leaf(level, first, word, &mut line);
@@ -54,13 +54,12 @@ pub(crate) fn append_leaf(
 /// Writes the line of the block or page that begins at a page, by its word. As a call it keeps the line in
 /// memory: inlined, each byte is carried from page to page by itself.
 #[inline(never)]
-fn fill_leaf(level: u8, first: u32, word: u64, line: &mut [u8; LINE])
-    requires most { level ≤ 3 }
+fn fill_leaf(level: Level, first: u32, word: u64, line: &mut [u8; LINE])
     requires in_range { first < 2 ^ 27 }
-    ensures { line.new ≡ leaf_line level first word }
+    ensures { line.new ≡ leaf_line (number_of level) first word }
 {
     *line = *b"L0 0000000000 0000000000000000\n";
-    line[1] = b'0' + level;
+    line[1] = b'0' + level.number();
     fill_digits(u64::from(first), &mut line[PAGE]);
     fill_digits(word, &mut line[WORD]);
 }
@@ -79,7 +78,7 @@ impl PageLine {
     /// The line of the first page, whose word is 0.
     pub(crate) fn new() -> Self {
         let mut bytes = [b' '; LINE];
-        fill_leaf(3, 0, 0, &mut bytes);
+        fill_leaf(Level::Third, 0, 0, &mut bytes);
         PageLine {
             bytes,
             first: 0,
@@ -114,6 +113,6 @@ fn set_page_line(last: u32, last_word: u64, first: u32, word: u64, line: &mut [u
         fill_digits(u64::from(first) % 4096, &mut line[LAST_OF_PAGE]);
         fill_digits((word >> 12) % 4096, &mut line[LAST_IN_WORD]);
     } else {
-        fill_leaf(3, first, word, line);
+        fill_leaf(Level::Third, first, word, line);
     }
 }

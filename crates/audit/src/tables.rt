@@ -6,10 +6,10 @@ ghost use Rattle.stage2.specs.Tables.{view_of};
 ghost use Rattle.audit.specs.TableLines as lines;
 ghost use Rattle.audit.specs.Texts as spec;
 
-use crate::digits::append_decimal;
 use crate::table_line::{PageLine, append_leaf, append_table};
-use crate::text::append_id;
+use crate::text::{append_id, text_of};
 use base::{OutOfMemory, PartitionId};
+use digits::append_decimal;
 use manifest::Manifest;
 use pool::TableMem;
 use stage2::{Level, TableEntry, Tables};
@@ -32,10 +32,7 @@ pub fn tables_text<M: TableMem + Drop>(
     let _manifest = manifest;
     let mut text = Vec::new(alloc);
     append_tables(&mut text, tables, p)?;
-    match String::from_utf8(text) {
-        Ok(text) => Ok(text),
-        Err(_) => unreachable!(),
-    }
+    Ok(text_of(text))
 }
 
 /// Appends the text that `tables_text` makes. Without memory the bytes may end in a part of it.
@@ -70,8 +67,8 @@ fn append_entry(
     match entry.level() {
         Level::Third => Ok(text.extend_from_slice(page.set(first, entry.word()))?),
         level => match entry.access() {
-            Some(_) => append_leaf(text, level.number(), first, entry.word()),
-            None => append_table(text, level.number(), first),
+            Some(_) => append_leaf(text, level, first, entry.word()),
+            None => append_table(text, level, first),
         },
     }
 }

@@ -4,5 +4,4 @@ mod Donations
 mod Halving
 mod Places
 mod Kept
-mod Regions
 mod Segments

@@ -7,7 +7,6 @@ ghost use Rattle.base.specs.Runs as runs;
 ghost use Rattle.base.specs.Transactions as transactions;
 ghost use Rattle.ledger.specs.Gifts as spec;
 
-use crate::free::end_of_region;
 use crate::gift::{Gift, is_granted_in};
 use base::{Access, OutOfMemory, Page, PartitionId, Run};
 use manifest::Manifest;
@@ -105,7 +104,7 @@ fn left_from(manifest: &Manifest, given: &PageMap, page: Page) -> Left
         } else {
             Some(gift)
         },
-        end: segment.end.min(end_of_region(manifest, region, page)),
+        end: segment.end.min(manifest.region_until(region, page)),
     }
 }
 

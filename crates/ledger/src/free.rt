@@ -2,12 +2,24 @@
 
 ghost use Rattle.std.specs.Prelude.{◌≡◌, ◌==◌, ◌≤◌, ◌<◌, ◌^◌, ℕ, false};
 ghost use Rattle.std.specs.Option.{option_map, option_map_or};
+ghost use Rattle.base.specs.Ledger as rules;
 ghost use Rattle.base.specs.Manifest as rows;
 ghost use Rattle.ledger.specs.Free as spec;
 
 use crate::ledger::{Ledger, home_by, owner_by};
 use base::{Access, MemoryKind, Page, PartitionId};
-use manifest::{Manifest, Region};
+use manifest::Region;
+
+/// Who owns pages that follow one another, and where they end.
+#[derive(Clone, Copy, Debug, PartialEq, Eq)]
+pub struct Owned {
+    /// The partition that owns them; None where they have no owner.
+    pub owner: Option<PartitionId>,
+    /// What they are to their owner; None where they have none.
+    pub home: Option<Access>,
+    /// The number of the page after the last of them.
+    pub end: u32,
+}
 
 /// What pages that follow one another have in common, and where they end.
 #[derive(Clone, Copy, Debug, PartialEq, Eq)]
@@ -43,8 +55,26 @@ impl Segment {
 }
 
 impl Ledger {
-    /// What a page and those behind it have in common. It is found by halving. Outside all regions it is the
-    /// page alone.
+    /// Who owns a page and those behind it, whether or not they are live. It is found by halving.
+    pub fn owned(&self, page: Page) -> Owned
+        ensures behind { page < result.end }
+        ensures in_range { result.end ≤ 2 ^ 27 }
+        ensures owner { (n : ℕ) → page ≤ n → n < result.end
+            → rules.owner self.now.manifest self.now.donations n ≡ result.owner }
+        ensures home { (n : ℕ) → page ≤ n → n < result.end
+            → rules.home self.now.manifest self.now.donations n ≡ result.home }
+    {
+        let manifest = self.manifest();
+        let given = self.given(page);
+        let region = manifest.region_at(page);
+        Owned {
+            owner: owner_by(given.gift, region),
+            home: home_by(given.gift, region),
+            end: given.end.min(manifest.region_until(region, page)),
+        }
+    }
+
+    /// What a page and those behind it have in common. It is found by halving.
     pub fn segment(&self, page: Page) -> Segment
         ensures behind { page < result.end }
         ensures in_range { result.end ≤ 2 ^ 27 }
@@ -59,7 +89,7 @@ impl Ledger {
             home: home_by(lists.gift, region),
             is_live: lists.is_live,
             is_sharable: is_sharable(region),
-            end: lists.end.min(end_of_region(manifest, region, page)),
+            end: lists.end.min(manifest.region_until(region, page)),
         }
     }
 }
@@ -82,21 +112,5 @@ pub(crate) fn is_sharable(region: Option<&Region>) -> bool
             matches!(region.kind(), MemoryKind::Normal) && region.grants().len() == 1
         }
         None => false,
-    }
-}
-
-/// The number of the page after the last of the region of a page; outside all regions, of the next page.
-pub(crate) fn end_of_region(manifest: &Manifest, region: Option<&Region>, page: Page) -> u32
-    requires { option_map (λ r. r.now) region ≡ rows.region_at manifest.now page }
-    ensures behind { page < result }
-    ensures in_range { result ≤ 2 ^ 27 }
-    ensures same { (n : ℕ) → page ≤ n → n < result
-        → rows.region_at manifest.now n ≡ rows.region_at manifest.now page }
-{
-    // What `regions` says of them, that they stand apart, is what the proof needs.
-    let _ = manifest.regions();
-    match region {
-        Some(region) => region.pages().end(),
-        None => page.number() + 1,
     }
 }

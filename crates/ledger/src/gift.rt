@@ -7,7 +7,7 @@ ghost use Rattle.base.specs.Ledger as rules;
 ghost use Rattle.base.specs.Pages.{in_run};
 ghost use Rattle.ledger.specs.Gifts as spec;
 
-use crate::free::{end_of_region, is_sharable};
+use crate::free::is_sharable;
 use base::{Access, MemoryKind, OutOfMemory, Page, PartitionId, Rights, Run};
 use manifest::{Manifest, Region};
 use spans::PageMap;
@@ -129,7 +129,7 @@ fn granted_from(manifest: &Manifest, page: Page) -> Option<Granted>
         → rules.left_of manifest.now granted.gift n ≡ None }
 {
     let region = manifest.region_at(page);
-    let run = Run::new(page, end_of_region(manifest, region, page) - page.number());
+    let run = Run::new(page, manifest.region_until(region, page) - page.number());
     let region = region?;
     let gift = Gift {
         taker: region.owner(),

@@ -21,6 +21,15 @@ use spans::PageMap;
 use std::alloc::Global;
 use std::marker::Model;
 
+/// What the map of owners says of pages that follow one another.
+#[derive(Clone, Copy)]
+pub(crate) struct Given {
+    /// What their number spells, if they have one.
+    pub(crate) gift: Option<Gift>,
+    /// The number of the page after the last of them.
+    pub(crate) end: u32,
+}
+
 /// What the map of owners and the live transactions say of pages that follow one another.
 #[derive(Clone, Copy)]
 pub(crate) struct Listed {
@@ -121,21 +130,18 @@ impl Ledger {
         home_by(self.gift_at(page), self.manifest.region_at(page))
     }
 
-    /// The number of a page up to which all pages from a page on that have its region have its owner, and are the
-    /// same to it. It is found by halving, and says nothing of live transactions.
-    pub fn given_until(&self, page: Page) -> u32
-        ensures behind { page < result }
-        ensures in_range { result ≤ 2 ^ 27 }
-        ensures owner { (n : ℕ) → page ≤ n → n < result
-            → rows.region_at self.now.manifest n ≡ rows.region_at self.now.manifest page
-            → rules.owner self.now.manifest self.now.donations n
-            ≡ rules.owner self.now.manifest self.now.donations page }
-        ensures home { (n : ℕ) → page ≤ n → n < result
-            → rows.region_at self.now.manifest n ≡ rows.region_at self.now.manifest page
-            → rules.home self.now.manifest self.now.donations n
-            ≡ rules.home self.now.manifest self.now.donations page }
+    /// What the map of owners says of a page, and up to which page it says the same of those behind it.
+    pub(crate) fn given(&self, page: Page) -> Given
+        ensures behind { page < result.end }
+        ensures in_range { result.end ≤ 2 ^ 27 }
+        ensures gift { (n : ℕ) → page ≤ n → n < result.end
+            → Says self.now.manifest self.now.donations n result.gift }
     {
-        self.given.segment_at(page).end
+        let given = self.given.segment_at(page);
+        Given {
+            gift: given.value.map(Gift::from_number),
+            end: given.end,
+        }
     }
 
     /// What the map of owners and the live transactions say of a page, and up to which page they say the same
@@ -148,10 +154,10 @@ impl Ledger {
         ensures live { (n : ℕ) → page ≤ n → n < result.end
             → is_some (rules.live_at self.now.live n) ≡ result.is_live }
     {
-        let given = self.given.segment_at(page);
+        let given = self.given(page);
         let shared = self.shared.segment_at(page);
         Listed {
-            gift: given.value.map(Gift::from_number),
+            gift: given.gift,
             is_live: shared.value.is_some(),
             end: given.end.min(shared.end),
         }

@@ -106,6 +106,20 @@ impl Live {
             None => None,
         }
     }
+
+    /// What a partition reaches of pages that the transaction covers, by their home: a sender keeps it while it
+    /// shares them, and a receiver has what it has retrieved.
+    pub fn view(&self, home: Option<Access>, p: PartitionId) -> Option<Access>
+        ensures { result ≡ rules.view_under self.now home p }
+    {
+        if self.terms.sender != p {
+            return self.retrieved(p);
+        }
+        match self.terms.kind {
+            Kind::Share => home,
+            Kind::Lend | Kind::Donate => None,
+        }
+    }
 }
 
 /// What the receiver has retrieved is this now.

@@ -235,16 +235,11 @@ impl Pages {
         None
     }
 
-    /// What is given ends at the first page that differs; where none does, it ends with the region, or with all pages.
+    /// What is owned alike ends at the first page that differs; where none does, it ends with the region.
     fn compare_at(&self, rt: &impl Abort, ledger: &Ledger, number: u32) {
-        let end = ledger.given_until(run(rt, number, 1).first());
-        match self.next_other(number) {
-            Some(other) => assert_eq!(rt; end, other, "{number:x}"),
-            None => assert!(rt;
-                end == REGION_END || end == Page::COUNT,
-                "{number:x}: {end:x}"
-            ),
-        }
+        let owned = ledger.owned(run(rt, number, 1).first());
+        let end = self.next_other(number).unwrap_or(REGION_END);
+        assert_eq!(rt; owned.end, end, "{number:x}");
     }
 
     fn compare(&self, rt: &impl Abort, ledger: &Ledger) {
@@ -403,9 +398,9 @@ fn page_that_came_back_is_as_those_that_stayed(rt: HostRuntime) -> Result<(), Fa
     Ok(())
 }
 
-/// Transactions that are live end nothing of what was given.
+/// Transactions that are live end nothing of what is owned alike.
 #[test]
-fn given_until_ends_where_pages_differ(rt: HostRuntime) -> Result<(), Fail> {
+fn owned_ends_where_pages_differ(rt: HostRuntime) -> Result<(), Fail> {
     let mut ledger = common_ledger(rt.alloc())?;
     let mut pages = Pages::new(rt.alloc())?;
     pages.compare(&rt, &ledger);

@@ -1,5 +1,5 @@
 -- What the rules of a manifest say of its rows.
-use Rattle.std.proofs.Common.{◌≡◌, ℕ, ◌+◌, ◌≤◌, ◌<◌, Bool, true, false, ◌&&◌, ◌||◌, not, cond, eqb, leb, List, [], ◌∷◌, length, get_or, slice_index, Some, None, find, refl, sym, ap, ◌∙◌, arith, zero, suc, take, eq-eqb}
+use Rattle.std.proofs.Common.{◌≡◌, ℕ, ◌+◌, ◌≤◌, ◌<◌, Bool, true, false, ◌||◌, not, cond, eqb, leb, List, [], ◌∷◌, length, get_or, slice_index, Some, None, find, refl, sym, ap, ◌∙◌, arith, zero, suc, take, eq-eqb}
 use Rattle.std.specs.List.{list_all, list_any}
 use Rattle.std.specs.Option.{option_map, option_and_then}
 use Rattle.std.proofs.lemmas.List.{length-map}

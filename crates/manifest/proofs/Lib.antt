@@ -7,3 +7,4 @@ pub mod Facts
 mod Legal
 mod Rows
 mod Lookups
+mod RegionPages

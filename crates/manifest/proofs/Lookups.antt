@@ -1,7 +1,7 @@
 -- What a search by halving finds in rows that stand in ascending order.
-use Rattle.std.proofs.Common.{◌≡◌, ℕ, zero, suc, ◌+◌, ◌<◌, ◌≤◌, ◌==◌, true, false, leb, ltb, List, [], ◌∷◌, length, get_or, find, Some, None, refl, arith}
+use Rattle.std.proofs.Common.{◌≡◌, ℕ, zero, suc, ◌+◌, ◌<◌, ◌≤◌, ◌==◌, true, false, leb, ltb, List, [], ◌∷◌, length, get_or, find, Some, None, refl, inl, inr, arith}
 use Rattle.std.specs.List.Sorted.{IsNonDecreasingBy, IsPartitionPoint, IsPartitionedBy}
-use Rattle.std.proofs.lemmas.Bool.{leb-true, ltb-true, and_parts}
+use Rattle.std.proofs.lemmas.Bool.{cases_Bool, leb-true, ltb-true, and_parts}
 use Rattle.std.proofs.lemmas.Bool.Decides.{nat_tests}
 use Rattle.base.specs.Pages.{in_run}
 use Rattle.base.specs.Manifest.{PartitionRow, RegionRow}
@@ -66,6 +66,24 @@ find-past (x ∷ rs) (suc i) n past before =
     let ends : end_of x ≤ n = before 0 x (omega arith) in
     let out : in_run x.pages n ≡ false = grind (arith, nat_tests) in
     rw out (find-past rs i n (omega arith) (shorter x rs i n before))
+
+-- a page that no region has stands before the first region that ends after it
+pub gap-before : (rs : List RegionRow) (i n : ℕ) (r : RegionRow) → i < length rs → r ≡ get_or rs i r → EndBefore rs i n → n < end_of r → find (λ s. in_run s.pages n) rs ≡ None → n < r.pages.first
+gap-before rs i n r below is before after none =
+    elim (cases_Bool (in_run r.pages n)) [
+      | inl inside ↦ let found = find-found 0 rs i n r below is before inside in absurd (cc)
+      | inr outside ↦ grind (arith, nat_tests, outside, after)
+    ]
+
+-- and none has one between
+pub gap-on : (rs : List RegionRow) (i page n : ℕ) (r : RegionRow) → begin_from 0 rs ≡ true → i < length rs → r ≡ get_or rs i r → EndBefore rs i page → page ≤ n → n < r.pages.first → find (λ s. in_run s.pages n) rs ≡ None
+gap-on rs i page n r e below is before from to =
+    let outside : in_run r.pages n ≡ false = grind (arith, nat_tests, to) in
+    find-gap 0 rs i n r e below is (λ k d h. let ends = before k d h in omega (arith, ends, from)) (omega (arith, to)) outside
+
+-- behind the last region
+pub gap-past : (rs : List RegionRow) (i page n : ℕ) → length rs ≤ i → EndBefore rs i page → page ≤ n → find (λ s. in_run s.pages n) rs ≡ None
+gap-past rs i page n past before from = find-past rs i n past (λ k d h. let ends = before k d h in omega (arith, ends, from))
 
 -- ---- partitions
 

@@ -1,6 +1,6 @@
 //! Look-ups by page in regions that stand in ascending order of address.
 
-ghost use Rattle.std.specs.Prelude.{◌≡◌, true};
+ghost use Rattle.std.specs.Prelude.{◌≡◌, ℕ, ◌<◌, ◌≤◌, ◌^◌, true, None};
 ghost use Rattle.std.specs.List.{find};
 ghost use Rattle.std.specs.Option.{option_map};
 ghost use Rattle.base.specs.Pages.{in_run};
@@ -20,6 +20,22 @@ pub(crate) fn region_at(regions: &[Region], page: Page) -> Option<&Region>
         Some(region)
     } else {
         None
+    }
+}
+
+/// The first page of the region behind a page that none covers, or where there is none the end of all pages.
+pub(crate) fn gap_until(regions: &[Region], page: Page) -> u32
+    requires begins { begin_from 0 regions.now ≡ true }
+    requires gap { find (λ r. in_run r.pages page) regions.now ≡ None }
+    ensures behind { page < result }
+    ensures in_range { result ≤ 2 ^ 27 }
+    ensures gap { (n : ℕ) → page ≤ n → n < result
+        → find (λ r. in_run r.pages n) regions.now ≡ None }
+{
+    let place = regions.partition_point(|region| region.pages().end() <= page.number());
+    match regions.get(place) {
+        Some(region) => region.pages().first().number(),
+        None => Page::COUNT,
     }
 }
 

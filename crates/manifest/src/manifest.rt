@@ -1,4 +1,4 @@
-ghost use Rattle.std.specs.Prelude.{◌≡◌, ◌+◌, ◌≤◌, ◌^◌, ◌==◌, IsTrue, MatchResult};
+ghost use Rattle.std.specs.Prelude.{◌≡◌, ℕ, ◌+◌, ◌<◌, ◌≤◌, ◌^◌, ◌==◌, IsTrue, MatchResult};
 ghost use Rattle.std.specs.Option.{option_map};
 ghost use Rattle.base.specs.Manifest as rows;
 ghost use Rattle.manifest.specs.Valid.{is_valid, row_with, quota_of};
@@ -149,6 +149,22 @@ impl Manifest {
         ensures { option_map (λ r. r.now) result ≡ rows.region_at self.now page }
     {
         lookup::region_at(&self.regions, page)
+    }
+
+    /// The number of a page up to which all pages from a page on have its region, or like it none. It is found by
+    /// halving.
+    pub fn region_until(&self, region: Option<&Region>, page: Page) -> u32
+        requires { option_map (λ r. r.now) region ≡ rows.region_at self.now page }
+        ensures behind { page < result }
+        ensures in_range { result ≤ 2 ^ 27 }
+        ensures same { (n : ℕ) → page ≤ n → n < result
+            → rows.region_at self.now n ≡ rows.region_at self.now page }
+    {
+        let regions = self.regions();
+        match region {
+            Some(region) => region.pages().end(),
+            None => lookup::gap_until(regions, page),
+        }
     }
 
     /// What the manifest grants to a partition at a page.

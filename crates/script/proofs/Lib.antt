@@ -1,4 +1,3 @@
-pub mod HexDigits
 pub mod Outcomes
 pub mod Worlds
 pub mod Runs

@@ -5,7 +5,7 @@ use Rattle.std.specs.Fmt.{decimal}
 use Rattle.wire.specs.Replies.{ReplyWords}
 use Rattle.pool.specs.declared.operation.Op.{Op}
 use Rattle.pool.specs.declared.operation.Op.TheVariants.{Set, Invalidate, Clear}
-use Rattle.audit.specs.Texts.{hex, address_text}
+use Rattle.digits.specs.Digits.{hex, extent_text}
 
 -- a blank, and a register in eight digits at least
 abbrev pub register_text : ℕ → List ℕ
@@ -28,10 +28,9 @@ abbrev pub operation_text : Op → List ℕ
 operation_text (Set page index word) =
     codes "set " ++ decimal page ++ codes " " ++ decimal index ++ codes " " ++ hex 16 word ++ codes "\n"
 operation_text (Invalidate who run) =
-    codes "inv " ++ hex 4 who ++ codes " " ++ address_text run.first ++ codes " " ++ decimal run.count
-    ++ codes "\n"
+    codes "inv " ++ hex 4 who ++ codes " " ++ extent_text run ++ codes "\n"
 operation_text (Clear run) =
-    codes "clear " ++ address_text run.first ++ codes " " ++ decimal run.count ++ codes "\n"
+    codes "clear " ++ extent_text run ++ codes "\n"
 
 abbrev pub operations_text : List Op → List ℕ
 operations_text operations =

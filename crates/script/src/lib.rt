@@ -1,7 +1,6 @@
 //! Scripts of calls: what their lines do to a secure world, and the text that they write.
 #![tactic(auto)]
 
-mod digits;
 mod fault;
 mod input;
 mod operations;

@@ -1,13 +1,10 @@
 //! The text of the operations of a call.
 
-ghost use Rattle.std.specs.Prelude.{◌≡◌, ◌*◌, ◌++◌, codes, OnOk};
-ghost use Rattle.std.specs.Fmt.{decimal};
-ghost use Rattle.audit.specs.Texts.{address_text};
+ghost use Rattle.std.specs.Prelude.{◌≡◌, ◌++◌, OnOk};
 ghost use Rattle.script.specs.Texts as spec;
 
-use audit::{append_decimal, append_hex};
-use base::limits::PAGE_SIZE;
-use base::{OutOfMemory, Page, Run};
+use base::OutOfMemory;
+use digits::{append_decimal, append_extent, append_hex};
 use pool::Op;
 
 /// Writes `ops N`, and then the N operations in the order in which they were made.
@@ -43,36 +40,20 @@ fn write_operation(operation: &Op, text: &mut Vec<u8>) -> Result<(), OutOfMemory
             text.extend_from_slice(b"inv ")?;
             append_hex::<4>(text, u64::from(who.number()))?;
             text.extend_from_slice(b" ")?;
-            push_run(text, *run)?;
+            append_extent(text, *run)?;
         }
         Op::Clear { run } => {
             text.extend_from_slice(b"clear ")?;
-            push_run(text, *run)?;
+            append_extent(text, *run)?;
         }
     }
     Ok(text.extend_from_slice(b"\n")?)
 }
 
-/// Appends `ADDRESS COUNT`.
-fn push_run(text: &mut Vec<u8>, run: Run) -> Result<(), OutOfMemory>
-    ensures { OnOk result (text.new.items
-        ≡ text.old.items ++ address_text run.first ++ codes " " ++ decimal run.count) }
-{
-    append_hex::<10>(text, address_of(run.first()))?;
-    text.extend_from_slice(b" ")?;
-    append_decimal(text, u64::from(run.count()))
-}
-
-/// The address at which a page begins.
-fn address_of(page: Page) -> u64
-    ensures { result ≡ 4096 * page }
-{
-    PAGE_SIZE * u64::from(page.number())
-}
-
 #[cfg(test)]
 mod tests {
     use super::*;
+    use base::{Page, Run};
     use std::test::Fail;
 
     #[test]

@@ -2,12 +2,11 @@
 
 ghost use Rattle.std.specs.Prelude.{◌≡◌, ◌++◌, OnOk};
 ghost use Rattle.std.specs.List.{flat_map};
-ghost use Rattle.audit.specs.Texts.{hex};
+ghost use Rattle.digits.specs.Digits.{hex};
 ghost use Rattle.script.specs.Texts as spec;
 
-use crate::digits::push_hex;
-use audit::{append_hex, fill_digits};
 use base::OutOfMemory;
+use digits::{append_hex, append_wide_hex, fill_digits};
 use wire::Reply;
 
 /// Writes `reply` and the eight registers, and where RX was filled `rx` and its bytes.
@@ -43,7 +42,7 @@ fn push_register(register: u64, text: &mut Vec<u8>) -> Result<(), OutOfMemory>
     }
     if register >= 0x1_0000_0000 {
         text.extend_from_slice(b" ")?;
-        return push_hex(text, 8, register);
+        return append_wide_hex(text, 8, register);
     }
     let mut digits = [b' '; 9];
     fill_digits(register, &mut digits[1..]);

@@ -231,7 +231,7 @@ impl<M: TableMem + Drop> World<M> {
         ensures { OnOk result (text.new.items
             ≡ text.old.items ++ texts.owners_text self.now.spm.state.manifest self.now.spm.state.donations) }
     {
-        append_owners(text, self.spm.manifest(), self.spm.ledger())
+        append_owners(text, self.spm.ledger())
     }
 
     /// Whether the tables are those that are made again from the ledger.

@@ -1,4 +1,4 @@
-use Rattle.std.proofs.Common.{◌≡◌, ℕ, Bor, List, ◌++◌, codes, ap, subst, sym, ◌∙◌}
+use Rattle.std.proofs.Common.{ℕ, Bor, List, ap, subst, ◌∙◌}
 use Rattle.base.specs.Ledger.{view}
 use Rattle.base.specs.Transactions.{Donation, Live}
 use Rattle.stage2.specs.Boot.{AllWalksAre}

@@ -1,49 +1,57 @@
-use Rattle.std.proofs.Common.{◌≡◌, ℕ, ◌+◌, ◌<◌, ◌^◌, ◌++◌, List, length, refl, sym, ap, ap₂, ◌∙◌, arith}
+use Rattle.std.proofs.Common.{◌++◌, List, [], length, ap, ap₂, ◌∙◌, arith}
 use Rattle.std.specs.List.{flat_map}
-use Rattle.base.specs.Access.{Access}
+use Rattle.std.proofs.lemmas.Result.{IfOk-weaker}
+use Rattle.base.specs.Access.{Access, is_same}
 use Rattle.base.specs.Pages.{PageRun}
-use Rattle.base.specs.Runs.{ValuedRun}
+use Rattle.base.specs.Runs.{with_next}
+use Rattle.stage2.specs.Reading.{TableEntry}
 use Rattle.stage2.specs.Readings.{Reading, entries_of}
 use Rattle.stage2.specs.Tables.{view_of}
-use Rattle.audit.specs.Runs.{reached_runs, waiting, ReachedRun}
-use Rattle.audit.specs.Texts.{maps_line}
-use Rattle.audit.proofs.JoinedRuns.{mapping-none, mapping-more, mapping-end, joining-end, lines-fit, line-some}
+use Rattle.audit.specs.Runs.{ReachedRun, reached_runs}
+use Rattle.audit.specs.Texts.{access_end, maps_line}
+use Rattle.audit.proofs.RunLines.{lined-none}
+use Rattle.audit.proofs.JoinedRuns.{entries-runs, leaf_run, next-run, no-more, with_all}
 use Rattle.audit.proofs.maps.append_lines.Goals as goal
 
 pub loop-pages-init : goal.loop-pages-init
+unfolding lined-none
 loop-pages-init g c =
+    let t = c.args.tables.now in
     let left = c.alike-left.ensures ∙ ap (λ (r : Reading). entries_of r c.args.p) c.reader.ensures.reading in
-    mapping-none maps_line c.args.text.now.items c.new-joining.result.last c.args.tables.now c.args.p c.alike-left.result c.new-joining.ensures c.reader.ensures.canonical left
+    record {
+      runs = [];
+      lined = lined-none access_end c.args.text.now.items c.new-lines.result.count c.new-lines.result.last c.new-lines.ensures.count c.new-lines.ensures.last;
+      whole = ap (λ (es : List TableEntry). with_all is_same [] (flat_map leaf_run es)) left ∙ entries-runs t c.args.p c.reader.ensures.canonical;
+      few = omega (arith, c.new-lines.ensures.count);
+    }
+
+pub push-requires : goal.push-requires
+push-requires g c = c.loop-pages.invariant.few
 
 pub loop-pages-preserved : goal.loop-pages-preserved
 loop-pages-preserved g c =
-    let next = c.new.ensures ∙ ap₂ (λ (r : PageRun) (a : Access). record { run = r; value = a }) c.pages.ensures c.access.ensures in
-    mapping-more maps_line c.args.text.now.items c.loop-pages.text.items c.append_line.new.text.items c.loop-pages.count _ c.loop-pages.joining.last c.push-complete.new.self.last c.push-complete.result c.new.result c.loop-pages.left c.next.new.self (reached_runs (view_of c.args.tables.now c.args.p)) c.in-Some.pages c.loop-pages.invariant c.in-Some.ensures.steps next c.push-complete.ensures.runs c.push-complete.ensures.waits c.in_ok-count.ensures.line c.in_ok-count.ensures.count
+    let so = c.loop-pages.invariant in
+    let run : ReachedRun = record { run = c.pages.result; value = c.access.result } in
+    let next = ap₂ (λ (r : PageRun) (a : Access). record { run = r; value = a }) c.pages.ensures c.access.ensures in
+    let rest = c.next.new.self in
+    record {
+      runs = with_next is_same so.runs run;
+      lined = c.in_ok-push.ensures.lined c.args.text.now.items so.runs so.lined;
+      whole = ap (λ (r : ReachedRun). with_all is_same (with_next is_same so.runs r) (flat_map leaf_run rest)) next ∙ next-run so.runs c.loop-pages.left rest c.in-Some.pages c.in-Some.ensures.steps ∙ so.whole;
+      few = c.in_ok-push.ensures.few;
+    }
 
-pub overflow_add-count : goal.overflow_add-count
-overflow_add-count g c =
-    let ok = c.append_line.new.text.ok in
-    let small = c.append_line.new.text.small in
-    let fits = lines-fit maps_line c.args.text.now.items c.loop-pages.text.items c.append_line.new.text.items c.loop-pages.count c.in_ok-count.field-0 c.loop-pages.joining.last c.push-complete.result (λ r. line-some _) c.loop-pages.invariant.joining c.in_ok-count.ensures.line c.in_ok-count.ensures.count (omega (arith, ok.0, ok.1, small)) in
-    omega (arith, fits)
-
-pub overflow_add-result : goal.overflow_add-result
-overflow_add-result g c =
-    let ok = c.append_line-2.new.text.ok in
-    let small = c.append_line-2.new.text.small in
-    let fits = lines-fit maps_line c.args.text.now.items c.loop-pages.text.items c.append_line-2.new.text.items c.loop-pages.count c.in_ok-append_line.field-0 c.loop-pages.joining.last c.finish.result (λ r. line-some _) c.loop-pages.invariant.joining c.in_ok-append_line.ensures.line c.in_ok-append_line.ensures.count (omega (arith, ok.0, ok.1, small)) in
-    omega (arith, fits)
+pub finish-requires : goal.finish-requires
+finish-requires g c = c.loop-pages.invariant.few
 
 pub returns-clause-count : goal.returns-clause-count
 returns-clause-count g c =
     let so = c.loop-pages.invariant in
-    let last = c.loop-pages.joining.last in
-    let end = joining-end maps_line c.args.text.now.items c.loop-pages.text.items c.append_line-2.new.text.items c.loop-pages.count c.in_ok-append_line.field-0 last c.finish.result so.joining c.finish.ensures c.in_ok-append_line.ensures.line c.in_ok-append_line.ensures.count in
-    end.1 ∙ ap (λ (rs : List ReachedRun). length rs) (mapping-end maps_line c.args.text.now.items c.loop-pages.text.items c.loop-pages.count last c.loop-pages.left _ so c.in_default.ensures.steps.0)
+    let all = no-more so.runs (reached_runs (view_of c.args.tables.now c.args.p)) c.loop-pages.left so.whole c.in_default.ensures.steps.0 in
+    IfOk-weaker c.finish.result _ _ (λ count is. is c.args.text.now.items so.runs so.lined ∙ ap length all) c.finish.ensures.count
 
 pub returns-clause-lines : goal.returns-clause-lines
 returns-clause-lines g c =
     let so = c.loop-pages.invariant in
-    let last = c.loop-pages.joining.last in
-    let end = joining-end maps_line c.args.text.now.items c.loop-pages.text.items c.append_line-2.new.text.items c.loop-pages.count c.in_ok-append_line.field-0 last c.finish.result so.joining c.finish.ensures c.in_ok-append_line.ensures.line c.in_ok-append_line.ensures.count in
-    end.0 ∙ ap (λ (rs : List ReachedRun). c.args.text.now.items ++ flat_map maps_line rs) (mapping-end maps_line c.args.text.now.items c.loop-pages.text.items c.loop-pages.count last c.loop-pages.left _ so c.in_default.ensures.steps.0)
+    let all = no-more so.runs (reached_runs (view_of c.args.tables.now c.args.p)) c.loop-pages.left so.whole c.in_default.ensures.steps.0 in
+    IfOk-weaker c.finish.result _ _ (λ _ is. is c.args.text.now.items so.runs so.lined ∙ ap (λ (rs : List ReachedRun). c.args.text.now.items ++ flat_map maps_line rs) all) c.finish.ensures.lines

@@ -1,50 +1,64 @@
-use Rattle.std.proofs.Common.{◌≡◌, ◌++◌, List, length, sym, ap, ◌∙◌, arith}
+use Rattle.std.proofs.Common.{◌≡◌, ◌++◌, ◌-◌, ℕ, List, length, Some, None, sym, ap, ap₂, subst, ◌∙◌, arith}
 use Rattle.std.specs.List.{flat_map}
-use Rattle.audit.specs.Runs.{ownership, OwnedRun}
-use Rattle.audit.specs.Texts.{owners_line}
-use Rattle.audit.proofs.JoinedRuns.{joining-end, lines-fit, line-some}
-use Rattle.audit.proofs.OwnedRuns.{owning-none, owning-more, owners-end}
+use Rattle.std.proofs.lemmas.Result.{IfOk-weaker}
+use Rattle.base.specs.Pages.{PageRun}
+use Rattle.base.specs.Runs.{maximal_runs, with_next}
+use Rattle.audit.specs.Runs.{AreLined, OwnedRun, ownership, ownership_of, is_same_ownership}
+use Rattle.audit.specs.Texts.{ownership_end, owners_line}
+use Rattle.audit.proofs.RunLines.{lined-none}
+use Rattle.audit.proofs.OwnedRuns.{owned-more}
 use Rattle.audit.proofs.owners.append_lines.Goals as goal
 
 pub loop-number-init : goal.loop-number-init
-loop-number-init c = owning-none (ownership c.args.manifest.now c.args.ledger.now.donations) c.args.text.now.items c.new-joining.result.last c.new-joining.ensures
+unfolding lined-none maximal_runs
+loop-number-init c = record {
+  lined = lined-none ownership_end c.args.text.now.items c.new-lines.result.count c.new-lines.result.last c.new-lines.ensures.count c.new-lines.ensures.last;
+  few = omega (arith, c.new-lines.ensures.count);
+  inside = omega arith;
+}
+
+pub push-requires : goal.push-requires
+push-requires c = c.loop-number.invariant.few
+
+pub finish-requires : goal.finish-requires
+finish-requires c = c.loop-number.invariant.few
+
+pub loop-number-preserved-in_ok-push : goal.loop-number-preserved-in_ok-push
+loop-number-preserved-in_ok-push c =
+    let so = c.loop-number.invariant in
+    let f = ownership c.args.ledger.now.manifest c.args.ledger.now.donations in
+    let number = c.loop-number.number in
+    let owned = c.owned-owned in
+    let value = c.in-Some.value in
+    let all = owned-more f number c.new-page.result owned.result.end (Some value) c.new-page.ensures owned.ensures.behind (λ n le lt. ap₂ ownership_of (owned.ensures.owner n le lt) (owned.ensures.home n le lt) ∙ sym c.with_home.ensures ∙ c.in-Some.is) in
+    let run = c.new-run.ensures ∙ ap (λ (first : ℕ). record { first = first; count = owned.result.end - number }) c.new-page.ensures in
+    let runs = ap (λ (r : PageRun). with_next is_same_ownership (maximal_runs is_same_ownership f number) (record { run = r; value = value })) run ∙ all in
+    record {
+      lined = subst (λ (rs : List OwnedRun). AreLined ownership_end c.args.text.now.items c.push.new.text.items c.push.new.self.count c.push.new.self.last rs) runs (c.in_ok-push.ensures.lined c.args.text.now.items (maximal_runs is_same_ownership f number) so.lined);
+      few = c.in_ok-push.ensures.few;
+      inside = owned.ensures.in_range;
+    }
 
 pub loop-number-preserved : goal.loop-number-preserved
 loop-number-preserved c =
-    let f = ownership c.args.manifest.now c.args.ledger.now.donations in
-    let page = c.new-page.result in
-    let stretch = c.stretch_from-ownership.result in
-    let is = c.stretch_from-ownership.ensures in
-    let here : f page ≡ stretch.ownership = is.alike page (omega arith) is.behind in
-    owning-more f c.args.text.now.items c.loop-number.text.items c.append_line.new.text.items c.loop-number.count c.in_ok-count.field-0 c.loop-number.number page stretch.end c.loop-number.joining.last c.push_pages-complete.new.joining.last c.push_pages-complete.result stretch.ownership c.loop-number.invariant
-    c.new-page.ensures (sym here) is.behind is.in_range (λ n le lt. is.alike n le lt ∙ sym here) c.push_pages-complete.ensures.runs c.push_pages-complete.ensures.waits c.in_ok-count.ensures.line c.in_ok-count.ensures.count
-
-pub overflow_add-count : goal.overflow_add-count
-overflow_add-count c =
-    let ok = c.append_line.new.text.ok in
-    let small = c.append_line.new.text.small in
-    let fits = lines-fit owners_line c.args.text.now.items c.loop-number.text.items c.append_line.new.text.items c.loop-number.count c.in_ok-count.field-0 c.loop-number.joining.last c.push_pages-complete.result (λ r. line-some _) c.loop-number.invariant.joining c.in_ok-count.ensures.line c.in_ok-count.ensures.count (omega (arith, ok.0, ok.1, small)) in
-    omega (arith, fits)
-
-pub overflow_add-result : goal.overflow_add-result
-overflow_add-result c =
-    let ok = c.append_line-2.new.text.ok in
-    let small = c.append_line-2.new.text.small in
-    let fits = lines-fit owners_line c.args.text.now.items c.loop-number.text.items c.append_line-2.new.text.items c.loop-number.count c.in_ok-append_line.field-0 c.loop-number.joining.last c.finish.result (λ r. line-some _) c.loop-number.invariant.joining c.in_ok-append_line.ensures.line c.in_ok-append_line.ensures.count (omega (arith, ok.0, ok.1, small)) in
-    omega (arith, fits)
+    let so = c.loop-number.invariant in
+    let f = ownership c.args.ledger.now.manifest c.args.ledger.now.donations in
+    let owned = c.owned-owned in
+    let runs = owned-more f c.loop-number.number c.new-page.result owned.result.end None c.new-page.ensures owned.ensures.behind (λ n le lt. ap₂ ownership_of (owned.ensures.owner n le lt) (owned.ensures.home n le lt) ∙ sym c.with_home.ensures ∙ c.in_default.is) in
+    record {
+      lined = subst (λ (rs : List OwnedRun). AreLined ownership_end c.args.text.now.items c.loop-number.text.items c.loop-number.lines.count c.loop-number.lines.last rs) runs so.lined;
+      few = so.few;
+      inside = owned.ensures.in_range;
+    }
 
 pub returns-clause-count : goal.returns-clause-count
 returns-clause-count c =
     let so = c.loop-number.invariant in
-    let f = ownership c.args.manifest.now c.args.ledger.now.donations in
-    let last = c.loop-number.joining.last in
-    let end = joining-end owners_line c.args.text.now.items c.loop-number.text.items c.append_line-2.new.text.items c.loop-number.count c.in_ok-append_line.field-0 last c.finish.result so.joining c.finish.ensures c.in_ok-append_line.ensures.line c.in_ok-append_line.ensures.count in
-    end.1 ∙ ap (λ (rs : List OwnedRun). length rs) (owners-end f c.args.text.now.items c.loop-number.text.items c.loop-number.count last c.loop-number.number so (omega (arith, c.loop-number-test.false)))
+    let all : c.loop-number.number ≡ 134217728 = omega (arith, so.inside, c.loop-number-test.false) in
+    IfOk-weaker c.finish.result _ _ (λ count is. is c.args.text.now.items _ so.lined ∙ ap (λ n. length (maximal_runs is_same_ownership (ownership c.args.ledger.now.manifest c.args.ledger.now.donations) n)) all) c.finish.ensures.count
 
 pub returns-clause-lines : goal.returns-clause-lines
 returns-clause-lines c =
     let so = c.loop-number.invariant in
-    let f = ownership c.args.manifest.now c.args.ledger.now.donations in
-    let last = c.loop-number.joining.last in
-    let end = joining-end owners_line c.args.text.now.items c.loop-number.text.items c.append_line-2.new.text.items c.loop-number.count c.in_ok-append_line.field-0 last c.finish.result so.joining c.finish.ensures c.in_ok-append_line.ensures.line c.in_ok-append_line.ensures.count in
-    end.0 ∙ ap (λ (rs : List OwnedRun). c.args.text.now.items ++ flat_map owners_line rs) (owners-end f c.args.text.now.items c.loop-number.text.items c.loop-number.count last c.loop-number.number so (omega (arith, c.loop-number-test.false)))
+    let all : c.loop-number.number ≡ 134217728 = omega (arith, so.inside, c.loop-number-test.false) in
+    IfOk-weaker c.finish.result _ _ (λ _ is. is c.args.text.now.items _ so.lined ∙ ap (λ n. c.args.text.now.items ++ flat_map owners_line (maximal_runs is_same_ownership (ownership c.args.ledger.now.manifest c.args.ledger.now.donations) n)) all) c.finish.ensures.lines

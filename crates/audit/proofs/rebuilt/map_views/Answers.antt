@@ -1,7 +1,6 @@
-use Rattle.std.proofs.Common.{◌≡◌, ◌^◌, true, false, sym, ap, subst, ◌∙◌}
+use Rattle.std.proofs.Common.{◌≡◌, ◌^◌, rules, sym, ap, subst, ◌∙◌}
 use Rattle.std.proofs.lemmas.Result.{on_ok_weaker}
 use Rattle.base.specs.Ledger.{view}
-use Rattle.base.specs.Need.{is_alike}
 use Rattle.audit.specs.Alike.{IsSegment}
 use Rattle.base.specs.Access.{View}
 use Rattle.audit.specs.Filling.{views, IsFilling}
@@ -16,9 +15,9 @@ map_pending-requires-clause-fits g c = λ a is.
     let l = c.loop-number in
     let here : seen l.number ≡ c.view_from-next.result.view = below-in (view m c.args.lists.now.donations.now c.args.lists.now.live.now c.args.p) (2 ^ 27) l.number c.loop-number-test.true
     ∙ ap (view m c.args.lists.now.donations.now c.args.lists.now.live.now c.args.p) (sym c.new-page.ensures) ∙ sym c.view_from-next.ensures.view in
-    let unlike : is_alike l.access (seen l.number) ≡ false = ap (is_alike l.access) here ∙ sym c.is_alike.ensures ∙ c.if-not-is_alike.true in
+    let unlike : (l.access ≡ c.view_from-next.result.view) → ⊥ = search rules in
     can-map m seen c.args.p l.first l.number l.access l.tables l.invariant.filling a is
-    (edge-between m seen c.args.p l.first l.number l.access l.tables l.invariant.filling unlike) (views-fit m c.args.lists.now.donations.now c.args.lists.now.live.now c.requires.reached c.args.p)
+    (edge-between m seen c.args.p l.first l.number l.access l.tables l.invariant.filling (λ same. unlike (same ∙ here))) (views-fit m c.args.lists.now.donations.now c.args.lists.now.live.now c.requires.reached c.args.p)
 
 pub map_pending-requires-2-clause-fits : goal.map_pending-requires-2-clause-fits
 map_pending-requires-2-clause-fits g c = λ a is.
@@ -44,8 +43,8 @@ loop-number-preserved-in_ok-map_pending g c =
     ∙ ap (view m ds live p) (sym c.new-page.ensures) ∙ sym c.view_from-next.ensures.view in
     let segment : IsSegment m ds live l.number end = subst (λ x. IsSegment m ds live x end) c.new-page.ensures c.view_from-next.ensures.segment in
     let same = views-alike m ds live p l.number end segment in
-    let unlike : is_alike l.access (seen l.number) ≡ false = ap (is_alike l.access) here ∙ sym c.is_alike.ensures ∙ c.if-not-is_alike.true in
-    let edge = edge-between m seen p l.first l.number l.access l.tables h unlike in
+    let unlike : (l.access ≡ next) → ⊥ = search rules in
+    let edge = edge-between m seen p l.first l.number l.access l.tables h (λ same. unlike (same ∙ here)) in
     let new = c.map_pending.new.tables in
     let e = c.in_ok-map_pending.ensures in
     let walks = mapped m seen p l.first l.number l.access l.tables h new e.walks in
@@ -70,9 +69,9 @@ loop-number-preserved g c =
     ∙ ap (view m ds live p) (sym c.new-page.ensures) ∙ sym c.view_from-next.ensures.view in
     let segment : IsSegment m ds live l.number end = subst (λ x. IsSegment m ds live x end) c.new-page.ensures c.view_from-next.ensures.segment in
     let same = views-alike m ds live p l.number end segment in
-    let alike : is_alike l.access (seen l.number) ≡ true = ap (is_alike l.access) here ∙ sym c.is_alike.ensures ∙ c.if-not-is_alike.false in
+    let same_view : l.access ≡ next = search rules in
     record {
-      filling = filling-more m seen p l.first l.number end l.access l.tables h alike segment.behind segment.inside same;
+      filling = filling-more m seen p l.first l.number end l.access l.tables h (same_view ∙ sym here) segment.behind segment.inside same;
       others = l.invariant.others;
     }
 

@@ -1,5 +1,5 @@
-use Rattle.std.proofs.Common.{◌≡◌, ◌/◌, ◌%◌, length, sym, ap, ◌∙◌, arith}
-use Rattle.audit.specs.Texts.{hex}
+use Rattle.std.proofs.Common.{◌≡◌, ◌/◌, ◌%◌, length, ap, ◌∙◌, arith}
+use Rattle.digits.specs.Digits.{hex}
 use Rattle.audit.proofs.FilledLines.{exchanged}
 use Rattle.audit.proofs.table_line.set_page_line.Goals as goal
 use borrow.Rule.Slice.PartMut.{mid_of}

@@ -1,6 +1,6 @@
 use Rattle.std.proofs.Common.{arith}
 use Rattle.std.proofs.lemmas.Grind.{common_steps}
-use Rattle.script.proofs.HexDigits.{eight_zeros}
+use Rattle.digits.proofs.HexDigits.{eight_zeros}
 use Rattle.script.proofs.replies.push_register.Goals as goal
 
 pub returns-then-register-eq0 : goal.returns-then-register-eq0

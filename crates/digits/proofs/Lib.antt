@@ -1,0 +1,3 @@
+pub mod HexDigits
+pub mod Addresses
+pub mod Texts
