@@ -23,7 +23,8 @@ use Rattle.rules.specs.Laws.OneOwner.{AreAllApart}
 use Rattle.rules.proofs.Laws.OneOwner.{owned_once}
 use Rattle.audit.specs.Laws.{AreOfReached}
 use Rattle.audit.proofs.FillUpward.{below-in}
-use Rattle.audit.proofs.Quotas.{within_quotas, need-same, none-needed}
+use Rattle.stage2.proofs.Reading.SameViews.{need-same}
+use Rattle.audit.proofs.Quotas.{within_quotas, none-needed}
 
 no_quota : (rows : List PartitionRow) (p : ℕ) → length (ids_of rows) ≤ row_of (ids_of rows) p → option_map_or (λ (row : PartitionRow). row.quota) (find (λ row. eqb row.id p) rows) 0 ≡ 0
 no_quota [] p le = refl

@@ -1,21 +1,15 @@
 -- Lines of entries whose digits are filled in, and those whose page is exchanged.
 use Rattle.std.proofs.Common.{◌≡◌, ℕ, suc, take, drop, ◌+◌, ◌/◌, ◌%◌, ◌^◌, ◌<◌, ◌≤◌, false, List, [], ◌∷◌, ◌++◌, codes, length, sym, ap, ◌∙◌, append-nil, append_assoc, length-append, arith}
 use Rattle.std.specs.Fmt.{decimal, digit_glyph}
-use Rattle.std.proofs.Math.Seq.{take-append-add, drop-append-add}
 use Rattle.std.proofs.lemmas.Fmt.{decimal_digit}
 use Rattle.digits.specs.Digits.{hex, address_text}
 use Rattle.audit.specs.TableLines.{leaf_line, table_line}
 use Rattle.digits.proofs.HexDigits.{hex_fits, last_digits}
+use Rattle.digits.proofs.Parts.{take_past, drop_past, mid_at, put_at}
 use Rattle.digits.proofs.Addresses.{last_length, page_length, address_digits}
 use borrow.Rule.Slice.PartMut.{put_mid, mid_of}
 
 -- ---- lines that are filled in
-
-take-past : (xs ys : List ℕ) (n k : ℕ) → length xs + n ≡ k → take k (xs ++ ys) ≡ xs ++ take n ys
-take-past xs ys n k sum = ap (λ j. take j (xs ++ ys)) (sym sum) ∙ take-append-add xs ys n
-
-drop-past : (xs ys : List ℕ) (n k : ℕ) → length xs + n ≡ k → drop k (xs ++ ys) ≡ drop n ys
-drop-past xs ys n k sum = ap (λ j. drop j (xs ++ ys)) (sym sum) ∙ drop-append-add xs ys n
 
 -- a space, and an identifier whose digits are filled in
 pub filled-id : (id : ℕ) (digits : List ℕ) → digits ≡ hex 4 id → put_mid 1 4 (codes " 0000") digits ≡ codes " " ++ hex 4 id
@@ -54,8 +48,8 @@ filled-leaf level first word page digits most small is so =
     let head : List ℕ = 76 ∷ (48 + level) ∷ 32 ∷ [] in
     let tail : List ℕ = codes "000 0000000000000000\n" in
     let seven : length page ≡ 7 = ap (λ (a : List ℕ). length a) is ∙ page_length first small in
-    let front : take 11 (page ++ tail) ≡ page ++ codes "000 " = take-past page tail 4 11 (omega (arith, seven)) in
-    let rest : drop 11 (page ++ tail) ≡ codes "0000000000000000\n" = drop-past page tail 4 11 (omega (arith, seven)) in
+    let front : take 11 (page ++ tail) ≡ page ++ codes "000 " = take_past page tail 4 11 (omega (arith, seven)) in
+    let rest : drop 11 (page ++ tail) ≡ codes "0000000000000000\n" = drop_past page tail 4 11 (omega (arith, seven)) in
     let long : length (take 16 (drop 11 (page ++ tail))) ≡ 16 = ap (λ (xs : List ℕ). length (take 16 xs)) rest in
     let digit : decimal level ≡ (48 + level) ∷ [] = decimal_digit level (omega arith) in
     ap (λ (xs : List ℕ). (head ++ xs) ++ (digits ++ drop 16 (drop 11 (page ++ tail)))) front
@@ -68,21 +62,6 @@ filled-leaf level first word page digits most small is so =
     ∙ ap (λ (d : List ℕ). codes "L" ++ d ++ codes " " ++ address_text first ++ codes " " ++ hex 16 word ++ codes "\n") (sym digit)
 
 -- ---- a line whose page is exchanged
-
-take-seam : (xs ys : List ℕ) (i : ℕ) → length xs ≡ i → take i (xs ++ ys) ≡ xs
-take-seam xs ys i long = take-past xs ys 0 i (omega (arith, long)) ∙ append-nil xs
-
-drop-seam : (xs ys : List ℕ) (i : ℕ) → length xs ≡ i → drop i (xs ++ ys) ≡ ys
-drop-seam xs ys i long = drop-past xs ys 0 i (omega (arith, long))
-
-mid-at : (front old back : List ℕ) (i k : ℕ) → length front ≡ i → length old ≡ k → mid_of i k (front ++ (old ++ back)) ≡ old
-mid-at front old back i k before long = ap (λ xs. take k xs) (drop-seam front (old ++ back) i before) ∙ take-seam old back k long
-
-put-at : (front old back new : List ℕ) (i k : ℕ) → length front ≡ i → length old ≡ k → put_mid i k (front ++ (old ++ back)) new ≡ front ++ (new ++ back)
-put-at front old back new i k before long =
-    ap (λ xs. xs ++ (new ++ drop k (drop i (front ++ (old ++ back))))) (take-seam front (old ++ back) i before)
-    ∙ ap (λ xs. front ++ (new ++ drop k xs)) (drop-seam front (old ++ back) i before)
-    ∙ ap (λ xs. front ++ (new ++ xs)) (drop-seam old back k long)
 
 -- the last three digits apart
 three-apart : (w n : ℕ) → last_digits (suc (suc (suc w))) n ≡ last_digits w (n / 4096) ++ last_digits 3 (n % 4096)
@@ -145,18 +124,18 @@ exchanged page first last word line low high inside small before fits near top f
     let seven : length front ≡ 7 = front-length page in
     let three : length old_low ≡ 3 = last_length 3 (page % 4096) in
     let lows : low ≡ last_digits 3 (first % 4096) =
-    new_low ∙ ap (λ (k : ℕ). hex k (first % 4096)) (ap (λ (xs : List ℕ). length (mid_of 7 3 xs)) whole ∙ ap (λ (xs : List ℕ). length xs) (mid-at front old_low (line_middle last ++ (old_high ++ line_end last)) 7 3 seven three) ∙ three)
+    new_low ∙ ap (λ (k : ℕ). hex k (first % 4096)) (ap (λ (xs : List ℕ). length (mid_of 7 3 xs)) whole ∙ ap (λ (xs : List ℕ). length xs) (mid_at front old_low (line_middle last ++ (old_high ++ line_end last)) 7 3 seven three) ∙ three)
     ∙ hex_fits 3 (first % 4096) (omega arith) (omega arith) (omega arith) in
     let once : put_mid 7 3 line low ≡ (front ++ (low ++ line_middle last)) ++ (old_high ++ line_end last) =
-    ap (λ (xs : List ℕ). put_mid 7 3 xs low) whole ∙ put-at front old_low (line_middle last ++ (old_high ++ line_end last)) low 7 3 seven three
+    ap (λ (xs : List ℕ). put_mid 7 3 xs low) whole ∙ put_at front old_low (line_middle last ++ (old_high ++ line_end last)) low 7 3 seven three
     ∙ sym (append_assoc front (low ++ line_middle last) (old_high ++ line_end last) ∙ ap (λ t. front ++ t) (append_assoc low (line_middle last) (old_high ++ line_end last))) in
     let long : length (front ++ (low ++ line_middle last)) ≡ 24 = omega (arith, length-append front (low ++ line_middle last), length-append low (line_middle last), seven, ap (λ (xs : List ℕ). length xs) lows, last_length 3 (first % 4096), middle-length last) in
     let also : length old_high ≡ 3 = last_length 3 (last / 4096 % 4096) in
     let highs : high ≡ last_digits 3 (word / 4096 % 4096) =
-    new_high ∙ ap (λ (k : ℕ). hex k (word / 4096 % 4096)) (ap (λ (xs : List ℕ). length (mid_of 24 3 xs)) once ∙ ap (λ (xs : List ℕ). length xs) (mid-at (front ++ (low ++ line_middle last)) old_high (line_end last) 24 3 long also) ∙ also)
+    new_high ∙ ap (λ (k : ℕ). hex k (word / 4096 % 4096)) (ap (λ (xs : List ℕ). length (mid_of 24 3 xs)) once ∙ ap (λ (xs : List ℕ). length xs) (mid_at (front ++ (low ++ line_middle last)) old_high (line_end last) 24 3 long also) ∙ also)
     ∙ hex_fits 3 (word / 4096 % 4096) (omega arith) (omega arith) (omega arith) in
     let twice : put_mid 24 3 (put_mid 7 3 line low) high ≡ (front ++ (low ++ line_middle last)) ++ (high ++ line_end last) =
-    ap (λ (xs : List ℕ). put_mid 24 3 xs high) once ∙ put-at (front ++ (low ++ line_middle last)) old_high (line_end last) high 24 3 long also in
+    ap (λ (xs : List ℕ). put_mid 24 3 xs high) once ∙ put_at (front ++ (low ++ line_middle last)) old_high (line_end last) high 24 3 long also in
     let place : page / 4096 ≡ first / 4096 = omega (arith, near) in
     let tops : last / 4096 / 4096 ≡ word / 4096 / 4096 = omega (arith, top) in
     twice

@@ -23,7 +23,8 @@ use Rattle.stage2.specs.Tables.{TablesView, view_of, AreCanonical}
 use Rattle.stage2.proofs.Reading.Listing.{listed}
 use Rattle.audit.specs.Runs.{reached_runs, ReachedRun, AreLined}
 use Rattle.audit.specs.Texts.{access_end}
-use Rattle.audit.proofs.ReachedRuns.{same-self, gigabyte-none, chunk-alike, stretch}
+use Rattle.base.proofs.Accesses.{same_self}
+use Rattle.audit.proofs.ReachedRuns.{gigabyte-none, chunk-alike, stretch}
 
 -- all runs of a list, one after another
 abbrev pub with_all : {A : Type 0} → (A → A → Bool) → List (ValuedRun A) → List (ValuedRun A) → List (ValuedRun A)
@@ -75,7 +76,7 @@ row-run runs level first word (suc m) a alike =
     ∙ row-run (with_next is_same runs (valued first span a)) level (first + span) (word + 4096 * span) m a (λ i lt.
     let there : word + 4096 * span + 4096 * span * i ≡ word + 4096 * span * suc i = omega (arith, steps-suc level i) in
     ap (λ w. access_of (entry_of (number_of level) w)) there ∙ alike (suc i) (omega (arith, lt)))
-    ∙ with_next-twice is_same runs first span (span * suc m) a (same-self a)
+    ∙ with_next-twice is_same runs first span (span * suc m) a (same_self a)
     ∙ ap (λ k. with_next is_same runs (valued first k a)) sum
 
 -- ---- the views

@@ -1,4 +1,3 @@
-pub mod EachBelow
 pub mod ReachedRuns
 pub mod FillUpward
 pub mod FillViews
@@ -8,7 +7,7 @@ pub mod RunLines
 pub mod JoinedRuns
 pub mod ListPlaces
 pub mod OwnedRuns
-pub mod MaximalLaws
+pub mod OneValue
 pub mod SameEntries
 pub mod SameTexts
 pub mod TableLines

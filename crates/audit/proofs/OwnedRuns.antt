@@ -6,10 +6,10 @@ use Rattle.base.specs.Runs.{maximal_runs}
 use Rattle.base.proofs.MaximalRuns.{none-until, some-until}
 use Rattle.audit.specs.Runs.{Ownership, OwnedRun, AreLined, is_same_ownership, with_owned}
 use Rattle.audit.specs.Texts.{ownership_end}
-use Rattle.audit.proofs.ReachedRuns.{same-self}
+use Rattle.base.proofs.Accesses.{same_self}
 
 ownership-self : (o : Ownership) → is_same_ownership o o ≡ true
-ownership-self o = and_true (eqb o.owner o.owner) (is_same o.home o.home) (eq-eqb o.owner o.owner refl) (same-self o.home)
+ownership-self o = and_true (eqb o.owner o.owner) (is_same o.home o.home) (eq-eqb o.owner o.owner refl) (same_self o.home)
 
 segment : (f : ℕ → Option Ownership) (b end : ℕ) (o : Option Ownership) → b < end → ((n : ℕ) → b ≤ n → n < end → f n ≡ o) → with_owned (maximal_runs is_same_ownership f b) b end o ≡ maximal_runs is_same_ownership f end
 segment f b end None lt all = sym (none-until is_same_ownership f b end (omega (arith, lt)) all)

@@ -1,17 +1,18 @@
 -- In each reached state what a partition reaches fits its quota.
-use Rattle.std.proofs.Common.{◌≡◌, ℕ, zero, suc, ◌+◌, ◌*◌, ◌/◌, ◌%◌, ◌^◌, ◌<◌, ◌≤◌, Bool, true, false, not, ◌&&◌, cond, eqb, List, [], ◌∷◌, Option, Some, None, IsTrue, length, get_or, find, refl, sym, ap, ap₂, subst, ◌∙◌, arith, inl, inr}
+use Rattle.std.proofs.Common.{◌≡◌, ℕ, suc, ◌+◌, ◌*◌, ◌/◌, ◌%◌, ◌^◌, ◌<◌, ◌≤◌, true, false, not, cond, eqb, List, [], ◌∷◌, Option, Some, None, IsTrue, length, get_or, find, refl, sym, ap, subst, ◌∙◌, arith, inl, inr}
 use Rattle.std.specs.Option.{option_map_or}
 use Rattle.std.proofs.lemmas.Bool.{leb-true, eqb-true, cases_Bool, cases_lt}
 use Rattle.base.specs.Access.{View}
-use Rattle.base.specs.Counts.{count_below}
 use Rattle.base.specs.Manifest.{PartitionRow, ManifestRows, ids_of, quotas_of, row_of, grant}
 use Rattle.base.specs.Need.{is_mixed, is_reached, need, grow, reaching}
 use Rattle.base.specs.Pages.{covers}
 use Rattle.base.specs.State.{State, sees, start}
 use Rattle.manifest.specs.Valid.{is_valid, quota_of}
 use Rattle.manifest.proofs.Facts.{facts, fits_of, stranger}
-use Rattle.pool.proofs.Count.{count_below-same, count_below-none, count_below-some}
-use Rattle.stage2.proofs.Counting.Needs.{mixed-same, reached-same, mixed-none, reached-none}
+use Rattle.pool.proofs.Count.{count_below-none, count_below-some}
+use Rattle.stage2.proofs.Counting.NeedGrows.{need-grows}
+use Rattle.stage2.proofs.Reading.SameViews.{need-same}
+use Rattle.stage2.proofs.Counting.Needs.{mixed-none, reached-none}
 use Rattle.stage2.proofs.Editing.Gigabyte.{not-reached}
 use Rattle.wire.specs.declared.request.Request.{Request}
 use Rattle.rules.specs.Call.{CallWords, IsCall}
@@ -22,37 +23,6 @@ use Rattle.rules.proofs.Laws.EditsTheView.{edits_the_view}
 use Rattle.rules.proofs.Laws.ManifestStays.{manifest_stays}
 use Rattle.rules.proofs.Reached.{all_reached, IsReached-start}
 use Rattle.audit.specs.Laws.{AreWithinQuotas, AreOfReached}
-
--- ---- what views need
-
--- views that are alike on all pages need as many tables
-pub need-same : (v w : ℕ → View) → ((n : ℕ) → n < 2 ^ 27 → w n ≡ v n) → need w ≡ need v
-unfolding need
-need-same v w alike =
-    ap₂ (λ (a b : ℕ). a + b)
-    (count_below-same (is_reached v) (is_reached w) 512 (λ g small. reached-same v w g (λ i lt. alike (262144 * g + i) (omega (arith, small, lt)))))
-    (count_below-same (is_mixed v) (is_mixed w) 262144 (λ c small. mixed-same v w c (λ i lt. alike (512 * c + i) (omega (arith, small, lt)))))
-
-count-most : (f g : ℕ → Bool) (n : ℕ) → count_below g n ≤ count_below f n + count_below (λ k. g k && not (f k)) n
-unfolding count_below
-count-most f g zero = omega arith
-count-most f g (suc n) = let rest = count-most f g n in let here = one (f n) (g n) in omega (arith, rest, here)
-  where
-    one : (a b : Bool) → cond b 1 0 ≤ cond a 1 0 + cond (b && not a) 1 0
-    one true true = omega arith
-    one true false = omega arith
-    one false true = omega arith
-    one false false = omega arith
-
--- new views need no more than the old ones and what they grow by
-need-grows : (v w : ℕ → View) → need w ≤ need v + grow v w
-unfolding need grow
-need-grows v w =
-    numbers (count_below (is_reached v) 512) (count_below (is_mixed v) 262144) (count_below (λ g. is_reached w g && not (is_reached v g)) 512) (count_below (λ c. is_mixed w c && not (is_mixed v c)) 262144) (count_below (is_reached w) 512) (count_below (is_mixed w) 262144)
-    (count-most (is_reached v) (is_reached w) 512) (count-most (is_mixed v) (is_mixed w) 262144)
-  where
-    numbers : (a b c d e f : ℕ) → e ≤ a + c → f ≤ b + d → e + f ≤ (a + b) + (c + d)
-    numbers a b c d e f x y = omega arith
 
 -- ---- before any call
 

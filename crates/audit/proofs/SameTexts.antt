@@ -6,8 +6,7 @@ use Rattle.stage2.specs.Listing.{Listed}
 use Rattle.audit.specs.Runs.{ReachedRun}
 use Rattle.audit.specs.Texts.{maps_header, maps_line, maps_text, tables_header, entry_line, tables_text}
 use Rattle.base.proofs.MaximalRuns.{runs-same}
-use Rattle.audit.proofs.Quotas.{need-same}
-use Rattle.audit.proofs.SameEntries.{entries-same}
+use Rattle.stage2.proofs.Reading.SameViews.{entries-same, need-same}
 
 pub maps-same : (p : ℕ) (v w : ℕ → View) → ((n : ℕ) → n < 2 ^ 27 → w n ≡ v n) → maps_text p w ≡ maps_text p v
 unfolding maps_text

@@ -1,8 +1,8 @@
 ghost use Rattle.std.specs.Prelude.{◌^◌, ℕ, List};
 ghost use Rattle.base.specs.Access.{View, is_same};
 ghost use Rattle.base.specs.Manifest.{ManifestRows};
+ghost use Rattle.base.specs.Runs.{AreMaximal};
 ghost use Rattle.base.specs.Transactions.{Donation};
-ghost use Rattle.audit.specs.Laws.{AreMaximal};
 ghost use Rattle.audit.specs.Runs.{is_same_ownership, owned_runs, ownership, reached_runs};
 
 /// The runs of `maps` are upward, and no two that touch have one access. Together they have exactly the pages that

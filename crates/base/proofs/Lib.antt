@@ -5,4 +5,5 @@ pub mod Donations
 pub mod Gathering
 pub mod Joining
 pub mod MaximalRuns
+pub mod RunLaws
 pub mod Segments

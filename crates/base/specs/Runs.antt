@@ -1,5 +1,5 @@
 -- Maximal runs of pages that have one value.
-use Rattle.std.specs.Prelude.{ℕ, zero, suc, ◌+◌, Bool, ◌&&◌, ◌==◌, max, List, [], ◌∷◌, Option, if◌then◌else◌}
+use Rattle.std.specs.Prelude.{◌≡◌, ℕ, zero, suc, ◌+◌, ◌<◌, ◌≤◌, Bool, false, ◌&&◌, ◌==◌, max, List, [], ◌∷◌, Option, None, if◌then◌else◌}
 use Rattle.std.specs.List.{find}
 use Rattle.std.specs.Option.{option_map, option_map_or}
 use Rattle.base.specs.Pages.{PageRun, in_run}
@@ -41,6 +41,20 @@ maximal_runs same value (suc n) =
 -- the value of a page
 abbrev pub valued_at : {A : Type 0} → List (ValuedRun A) → ℕ → Option A
 valued_at runs n = option_map (λ r. r.value) (find (λ r. in_run r.run n) runs)
+
+-- each run has some pages, and the next begins behind it, or where it ends with another value
+unfoldable pub AreUpward : {A : Type 0} → (A → A → Bool) → List (ValuedRun A) → Type 0
+AreUpward same [] = Unit {0}
+AreUpward same (run ∷ []) = 0 < run.run.count
+AreUpward same (run ∷ next ∷ runs) =
+    (0 < run.run.count) × (run.run.first + run.run.count ≤ next.run.first)
+    × (is_followed_by same run next ≡ false) × AreUpward same (next ∷ runs)
+
+-- these runs are upward, and give each of the first pages its value: a page that has none, and one behind them, is in no run
+pub record AreMaximal {A : Type 0} (same : A → A → Bool) (value : ℕ → Option A) (count : ℕ) (runs : List (ValuedRun A)) : Type 0 where
+  pub upward : AreUpward same runs
+  pub values : (n : ℕ) → n < count → valued_at runs n ≡ value n
+  pub beyond : (n : ℕ) → count ≤ n → valued_at runs n ≡ None
 
 -- the number behind that of the last page of all these runs
 abbrev pub end_of_all : List PageRun → ℕ

@@ -37,4 +37,3 @@ address_digits first small =
 pub filled_address : (first : ℕ) (page : List ℕ) → first < 2 ^ 27 → page ≡ hex 7 first → put_mid 0 7 (codes "0000000000 ") page ≡ address_text first ++ codes " "
 filled_address first page small is =
     ap (λ a. a ++ codes "000 ") is ∙ sym (append_assoc (hex 7 first) (codes "000") (codes " ")) ∙ ap (λ a. a ++ codes " ") (address_digits first small)
-

@@ -1,3 +1,4 @@
 pub mod HexDigits
 pub mod Addresses
 pub mod Texts
+pub mod Parts

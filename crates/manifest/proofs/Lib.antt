@@ -8,3 +8,4 @@ mod Legal
 mod Rows
 mod Lookups
 mod RegionPages
+pub mod EachPartition

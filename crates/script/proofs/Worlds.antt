@@ -12,7 +12,7 @@ use Rattle.stage2.specs.Walk.{translation}
 use Rattle.stage2.proofs.Editing.ChunkKeeps.{answer-walked}
 use Rattle.spm.specs.Machine.{WalksAgree}
 use Rattle.audit.specs.Audit.{HaveEntriesOf, IsAuditText}
-use Rattle.audit.proofs.SameEntries.{entries-same}
+use Rattle.stage2.proofs.Reading.SameViews.{entries-same}
 use Rattle.script.specs.Script.{World}
 
 abbrev record_of : State → (ℕ → List ℕ) → World

@@ -5,3 +5,4 @@ pub mod Views
 pub mod Rows
 pub mod Passing
 pub mod Listing
+pub mod SameViews

@@ -2,7 +2,7 @@ use Rattle.std.proofs.Common.{◌≡◌, ℕ, ◌<◌, List, length, get_or, ref
 use Rattle.base.specs.Manifest.{PartitionRow}
 use Rattle.stage2.specs.Tables.{view_of}
 use Rattle.stage2.specs.Listing.{entries}
-use Rattle.audit.proofs.SameEntries.{holds-more, holds-all}
+use Rattle.manifest.proofs.EachPartition.{holds-more, holds-all}
 use Rattle.audit.proofs.audited.have_same_entries.Goals as goal
 
 pub loop-partition-preserved : goal.loop-partition-preserved

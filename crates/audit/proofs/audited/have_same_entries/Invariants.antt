@@ -1,7 +1,7 @@
 use Rattle.std.proofs.Common.{◌≡◌}
 use Rattle.stage2.specs.Tables.{view_of}
 use Rattle.stage2.specs.Listing.{entries}
-use Rattle.audit.proofs.SameEntries.{HoldsBelow}
+use Rattle.manifest.proofs.EachPartition.{HoldsBelow}
 use Rattle.audit.proofs.audited.have_same_entries.Given as goal
 
 -- the partitions before this one have the same entries

@@ -1,6 +1,7 @@
 use Rattle.std.proofs.Common.{◌^◌}
 use Rattle.audit.specs.Runs.{is_same_ownership, ownership}
-use Rattle.audit.proofs.MaximalLaws.{are_maximal, ownership_sound}
+use Rattle.base.proofs.RunLaws.{are_maximal}
+use Rattle.audit.proofs.OneValue.{ownership_sound}
 use Rattle.audit.proofs.law.owned_runs_are_maximal.Goals as goal
 
 pub returns : goal.returns

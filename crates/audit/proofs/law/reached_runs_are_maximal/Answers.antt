@@ -1,6 +1,7 @@
 use Rattle.std.proofs.Common.{◌^◌}
 use Rattle.base.specs.Access.{is_same}
-use Rattle.audit.proofs.MaximalLaws.{are_maximal, access_sound}
+use Rattle.base.proofs.RunLaws.{are_maximal}
+use Rattle.audit.proofs.OneValue.{access_sound}
 use Rattle.audit.proofs.law.reached_runs_are_maximal.Goals as goal
 
 pub returns : goal.returns

@@ -1,4 +1,4 @@
-use Rattle.std.proofs.Common.{◌≤◌, ◌+◌, codes, length, ap, length-append, arith}
+use Rattle.std.proofs.Common.{◌≤◌, codes, length, ap, length-append, arith}
 use Rattle.std.specs.Fmt.{decimal}
 use Rattle.std.proofs.lemmas.Fmt.{length-decimal-le}
 use Rattle.audit.proofs.owners.append_header.Goals as goal

@@ -1,4 +1,4 @@
-use Rattle.std.proofs.Common.{◌≡◌, ℕ, ◌+◌, ◌<◌, length, sym, ap, ◌∙◌, length-append, arith}
+use Rattle.std.proofs.Common.{◌≡◌, ◌<◌, length, sym, ap, ◌∙◌, length-append, arith}
 use Rattle.std.proofs.lemmas.Result.{IfOk-weaker}
 use Rattle.digits.specs.Digits.{hex}
 use Rattle.digits.proofs.Addresses.{hex_length}

@@ -1,4 +1,4 @@
-use Rattle.std.proofs.Common.{◌≡◌, ◌-◌, ◌+◌, ◌≤◌, ◌++◌, take, drop, length, sym, ap, ◌∙◌, length-drop, arith}
+use Rattle.std.proofs.Common.{◌≡◌, ◌-◌, ◌+◌, take, drop, length, sym, ap, ◌∙◌, length-drop, arith}
 use Rattle.std.proofs.lemmas.List.{take_all, take_at}
 use Rattle.audit.proofs.Forward.{brought}
 use Rattle.audit.proofs.text.bring_forward.Goals as goal

@@ -1,15 +1,9 @@
 -- Runs that are made page by page are maximal.
-use Rattle.std.proofs.Common.{◌≡◌, ℕ, zero, suc, ◌+◌, ◌≤◌, Bool, true, false, cond, eqb, ltb, List, [], ◌∷◌, Option, Some, None, refl, sym, ap, ◌∙◌, arith}
+use Rattle.std.proofs.Common.{◌≡◌, ℕ, zero, suc, ◌+◌, ◌≤◌, Bool, true, false, cond, ltb, List, [], ◌∷◌, Option, Some, None, refl, sym, ap, ◌∙◌, arith}
 use Rattle.std.specs.Option.{option_map_or}
-use Rattle.std.proofs.lemmas.Bool.{eqb-true}
 use Rattle.std.proofs.lemmas.Bool.Decides.{nat_tests}
-use Rattle.base.specs.Access.{Access, is_same}
-use Rattle.base.specs.Runs.{ValuedRun, valued, is_followed_by, joined, with_next, maximal_runs, valued_at}
-use Rattle.base.proofs.Accesses.{same_access}
-use Rattle.base.proofs.Booleans.{both}
+use Rattle.base.specs.Runs.{ValuedRun, valued, is_followed_by, joined, with_next, maximal_runs, valued_at, AreUpward, AreMaximal}
 use Rattle.base.proofs.MaximalRuns.{IsSound, at-each, runs-same}
-use Rattle.audit.specs.Runs.{Ownership, is_same_ownership}
-use Rattle.audit.specs.Laws.{AreUpward, AreMaximal}
 
 -- the last run ends at the page or before it
 EndsBy : {A : Type 0} → ℕ → List (ValuedRun A) → Type 0
@@ -86,15 +80,3 @@ module _ {A : Type 0} (same : A → A → Bool) (f : ℕ → Option A) where
     values = λ n lt. let under : ltb n b ≡ true = grind (arith, nat_tests, lt) in at-first sound b n ∙ ap (λ t. cond t (f n) None) under;
     beyond = λ n le. let past : ltb n b ≡ false = grind (arith, nat_tests, le) in at-first sound b n ∙ ap (λ t. cond t (f n) None) past;
   }
-
--- accesses, and owners with homes, that are the same are one
-pub access_sound : IsSound is_same
-access_sound a b e = same_access a b e
-
-pub ownership_sound : IsSound is_same_ownership
-ownership_sound a b e =
-    let two = both (eqb a.owner b.owner) (is_same a.home b.home) e in
-    ap (λ (p : ℕ). of p a.home) (eqb-true a.owner b.owner two.0) ∙ ap (λ (v : Access). of b.owner v) (same_access a.home b.home two.1)
-  where
-    of : ℕ → Access → Ownership
-    of owner home = record { owner = owner; home = home }
