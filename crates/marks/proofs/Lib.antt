@@ -1,0 +1,4 @@
+mod Words
+mod Levels
+mod Search
+mod Listed

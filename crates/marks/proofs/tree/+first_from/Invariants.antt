@@ -1,0 +1,4 @@
+use Rattle.marks.proofs.tree.+first_from.Given as goal
+
+abbrev pub decreases-first_from : goal.decreases-first_from
+decreases-first_from l = l.word
