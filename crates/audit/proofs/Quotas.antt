@@ -84,7 +84,7 @@ keeps : (s : State) (c : CallWords) (r : Request) → IsReached s → IsCall c �
 keeps s c r reached is passes before = record {
   fits = λ p.
       let m = manifest_stays s c r in
-      let edits = edits_the_view s c r reached passes in
+      let edits = edits_the_view s c r reached passes.tests in
       let then = edited-fits s (rule_of s c r).edit p (before.fits p) passes.fits in
       let alike : need (sees (rule_of s c r).next p) ≡ need (with_edit (rule_of s c r).edit (sees s) p) = need-same (with_edit (rule_of s c r).edit (sees s) p) (sees (rule_of s c r).next p) (λ n small. edits.views p n) in
       subst (λ k. k ≤ quota_of (rule_of s c r).next.manifest p) (sym alike) (subst (λ (x : ManifestRows). need (with_edit (rule_of s c r).edit (sees s) p) ≤ quota_of x p) (sym m) then);

@@ -37,7 +37,7 @@ cases P s true (Some r) rules same change = granted_cases P s (rules r) same (ch
 pub step_cases : (P : State → Type 0) (s : State) (c : CallWords) → P s → ((r : Request) → Passes s c r → P (rule_of s c r).next) → P (step s c)
 unfolding step rule
 step_cases P s c same change =
-    cases P s (is_partition s.manifest c.caller) (request_of c.regs) (rule_of s c) same (λ r known named passed fit. change r (record { known = known; named = named; passed = passed; fits = fit }))
+    cases P s (is_partition s.manifest c.caller) (request_of c.regs) (rule_of s c) same (λ r known named passed fit. change r (record { tests = record { known = known; named = named; passed = passed }; fits = fit }))
 
 -- the rule of a known caller's request
 pub rule_is : (s : State) (c : CallWords) (r : Request) → is_partition s.manifest c.caller ≡ true → request_of c.regs ≡ Some r → rule s c ≡ rule_of s c r
@@ -48,8 +48,8 @@ rule_is s c r known named = rw (known, named) refl
 pub step_is : (s : State) (c : CallWords) (r : Request) → Passes s c r → step s c ≡ (rule_of s c r).next
 unfolding step
 step_is s c r k =
-    let e : first_refusal (all_tests s (rule_of s c r)) ≡ None = last_decides (rule_of s c r).tests (fits s (rule_of s c r).edit) NoMemory k.passed ∙ ap (λ (b : Bool). cond b None (Some NoMemory)) k.fits in
-    rw (rule_is s c r k.known k.named, e) refl
+    let e : first_refusal (all_tests s (rule_of s c r)) ≡ None = last_decides (rule_of s c r).tests (fits s (rule_of s c r).edit) NoMemory k.tests.passed ∙ ap (λ (b : Bool). cond b None (Some NoMemory)) k.fits in
+    rw (rule_is s c r k.tests.known k.tests.named, e) refl
 
 -- ---- runs
 

@@ -5,7 +5,7 @@ ghost use Rattle.rules.specs.Laws.BuffersApart.{AreBuffersApart};
 ghost use Rattle.rules.specs.Laws.Writers.{AreWritersAllowed};
 ghost use Rattle.rules.specs.Laws.Isolation.{AreAlikeTo, IsIsolated, transactions_of};
 ghost use Rattle.rules.specs.Laws.SentPages.{AreTransactionsKept};
-ghost use Rattle.rules.specs.Laws.EditsTheView.{Passes, EditsTheView};
+ghost use Rattle.rules.specs.Laws.EditsTheView.{PassesTests, EditsTheView};
 ghost use Rattle.rules.specs.Laws.Clears.{AreClearedUnreached};
 ghost use Rattle.rules.specs.Call.{CallWords};
 ghost use Rattle.rules.specs.Run.{IsReached, rule_of, step};
@@ -27,16 +27,17 @@ pub fn last_donation_decides()
 {}
 
 /// In every state that some list of calls reaches, what every partition reaches of every page after a
-/// call that passes its tests is what it reached before, with the one edit that the call's rule names.
+/// call that passes its tests is what it reached before, with the one edit that the call's rule names, whether or not
+/// the edit's tables fit the quota.
 pub fn edits_the_view()
-    ensures { (s : State) → (c : CallWords) → (r : Request) → IsReached s → Passes s c r →
+    ensures { (s : State) → (c : CallWords) → (r : Request) → IsReached s → PassesTests s c r →
         EditsTheView s c r }
 {}
 
 /// In every state that some list of calls reaches, no partition but the one whose view a call edits
 /// reaches a page that the call clears.
 pub fn cleared_pages_are_unreached()
-    ensures { (s : State) → (c : CallWords) → (r : Request) → IsReached s → Passes s c r →
+    ensures { (s : State) → (c : CallWords) → (r : Request) → IsReached s → PassesTests s c r →
         AreClearedUnreached s (rule_of s c r).edit }
 {}
 

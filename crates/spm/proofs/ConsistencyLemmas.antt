@@ -62,7 +62,7 @@ change_kept s c r layout old new edit t is k same by next kept =
             ∙ by.walks p n small
             ∙ ap (edited edit p n) (ap (λ l. translation l (words_of old.memory.words) p n) kept.layout_of_manifest ∙ kept.agrees.walks p n small)
             ∙ edited_view rule.edit edit (sees s) p n same
-            ∙ ap (walked n) (sym ((edits_the_view s c r kept.reached k).views p n))
+            ∙ ap (walked n) (sym ((edits_the_view s c r kept.reached k.tests).views p n))
             ∙ ap (λ (u : State). walked n (sees u p n)) (sym next);
       };
       reached = subst IsReached (step_is s c r k ∙ sym next) (IsReached-step s c is kept.reached);

@@ -48,9 +48,9 @@ module _ (now : Machine) (s : State) (t : TablesView) (call : CallWords) (change
         passes = passes;
         same = granted.granted.edit;
         next = granted.granted.next;
-        reply = granted.granted.reply ∙ sym (granted_answer s call r granted.known granted.named passes.passed passes.fits) ∙ ap (λ (m : Machine). answer m.state call) built;
+        reply = granted.granted.reply ∙ sym (granted_answer s call r granted.known granted.named passes.tests.passed passes.fits) ∙ ap (λ (m : Machine). answer m.state call) built;
         state = granted.granted.next ∙ sym (step_is s call r passes) ∙ ap (λ (m : Machine). step m.state call) built;
-        accepted = ap (λ (m : Machine). refusal m.state call) (sym built) ∙ not_refused s call r granted.known granted.named passes.passed passes.fits;
+        accepted = ap (λ (m : Machine). refusal m.state call) (sym built) ∙ not_refused s call r granted.known granted.named passes.tests.passed passes.fits;
         edits = subst (λ (m : Machine). AreSameEdits (rule m.state call).edit change.edit) built (subst (λ (x : Rule). AreSameEdits x.edit change.edit) (sym (rule_is s call r granted.known granted.named)) granted.granted.edit);
         orderly = granted.granted.orderly;
         still = λ e. no_edit s call r granted.known granted.named change.edit granted.granted.edit (ap (λ (m : Machine). (rule m.state call).edit) built ∙ e);

@@ -79,8 +79,8 @@ keeps s c RxRelease r is k o = record { rise = with_pair_rises c.caller (option_
 keeps s c (RxtxMap tx rx count) r is k o = record { rise = with_pair_rises c.caller (Some (pairs.named_pair tx rx count)) 0 s.mailboxes o.rise }
 keeps s c (RxtxUnmap word) r is k o = record { rise = with_pair_rises c.caller None 0 s.mailboxes o.rise }
 keeps s c IdGet r is k o = o
-keeps s c (Send kind t) r is k o = send s c kind t (send_passes s c kind t k.passed) o
-keeps s c (Retrieve x) r is k o = retrieve s c x (retrieve_passes s c x k.passed) o
+keeps s c (Send kind t) r is k o = send s c kind t (send_passes s c kind t k.tests.passed) o
+keeps s c (Retrieve x) r is k o = retrieve s c x (retrieve_passes s c x k.tests.passed) o
 keeps s c Relinquish r is k o = set_kept s c.caller (given_up c).handle None o
 keeps s c (Reclaim handle flags) r is k o = record { rise = o.rise }
 

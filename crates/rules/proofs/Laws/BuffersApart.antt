@@ -75,15 +75,15 @@ keeps s c RxRelease r is k a = record { apart = λ n b. a.apart n (buffer_after_
 keeps s c (RxtxMap tx rx count) r is k a =
     record {
       apart = λ n b. elim (buffer_after c.caller (Some (pairs.named_pair tx rx count)) s.mailboxes n b) [
-        | inl x ↦ (mapped_page s c.caller tx rx count n (map_passes s c.caller tx rx count k.passed) x).idle
+        | inl x ↦ (mapped_page s c.caller tx rx count n (map_passes s c.caller tx rx count k.tests.passed) x).idle
         | inr y ↦ a.apart n y
       ];
     }
 keeps s c (RxtxUnmap word) r is k a =
     record { apart = λ n b. elim (buffer_after c.caller None s.mailboxes n b) [ inl x ↦ absurd cc | inr y ↦ a.apart n y ] }
 keeps s c IdGet r is k a = a
-keeps s c (Send kind t) r is k a = send s c kind t (send_passes s c kind t k.passed) a
-keeps s c (Retrieve x) r is k a = retrieve s c x (retrieve_passes s c x k.passed) a
+keeps s c (Send kind t) r is k a = send s c kind t (send_passes s c kind t k.tests.passed) a
+keeps s c (Retrieve x) r is k a = retrieve s c x (retrieve_passes s c x k.tests.passed) a
 keeps s c Relinquish r is k a = set_kept s c.caller (given_up c).handle None a
 keeps s c (Reclaim handle flags) r is k a = ended_kept s handle a
 

@@ -24,7 +24,7 @@ use Rattle.rules.specs.Clearing.{is_writable, is_lent_to_one, may_clear_lent}
 use Rattle.rules.specs.Receivers.{is_received_by}
 use Rattle.rules.specs.Run.{rule_of, IsReached}
 use Rattle.rules.specs.Laws.Clears.{AreClearedUnreached}
-use Rattle.rules.specs.Laws.EditsTheView.{Passes}
+use Rattle.rules.specs.Laws.EditsTheView.{PassesTests}
 use Rattle.rules.proofs.Calls.Send.{SendPasses, send_passes}
 use Rattle.rules.proofs.Calls.Reclaim.{ReclaimPasses, reclaim_passes}
 use Rattle.rules.proofs.Calls.Relinquish.{RelinquishPasses, relinquish_passes}
@@ -102,7 +102,7 @@ relinquished s c r k =
 retrieved_now : (s : State) (c : CallWords) (x : Transfer) → RetrievePasses s c x → AreClearedUnreached s (retrieve_rule s c x).edit
 retrieved_now s c x k = subst (AreClearedUnreached s) (sym (edit_is s c x k)) (λ ordered. absurd cc)
 
-pub cleared_unreached : (s : State) (c : CallWords) (r : Request) → IsReached s → Passes s c r → AreClearedUnreached s (rule_of s c r).edit
+pub cleared_unreached : (s : State) (c : CallWords) (r : Request) → IsReached s → PassesTests s c r → AreClearedUnreached s (rule_of s c r).edit
 cleared_unreached s c (Version word) is k = tt
 cleared_unreached s c (Features identifier) is k = tt
 cleared_unreached s c RxRelease is k = tt

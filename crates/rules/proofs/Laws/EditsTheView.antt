@@ -26,7 +26,7 @@ use Rattle.rules.specs.Calls.Relinquish.{given_up, given_back_by, relinquish_rul
 use Rattle.rules.specs.Calls.Retrieve.{with_donation, with_rx_filled, retrieve_rule}
 use Rattle.rules.specs.Receivers.{is_received_by, with_retrieval_by}
 use Rattle.rules.specs.Run.{rule_of, IsReached}
-use Rattle.rules.specs.Laws.EditsTheView.{Passes, AreNotReached, EditsTheView}
+use Rattle.rules.specs.Laws.EditsTheView.{PassesTests, AreNotReached, EditsTheView}
 use Rattle.rules.proofs.Calls.Send.{SendPasses, send_passes, next_is}
 use Rattle.rules.specs.Laws.SentPages.{IsSentPage, AreSentPages, IsSentToOthers, IsNotTaken}
 use Rattle.rules.proofs.Calls.Reclaim.{ReclaimPasses, reclaim_passes}
@@ -237,7 +237,7 @@ reached_now s c x r k =
 
 -- ---- all calls
 
-views : (s : State) (c : CallWords) (r : Request) → IsReached s → Passes s c r → (q n : ℕ) → sees (rule_of s c r).next q n ≡ with_edit (rule_of s c r).edit (sees s) q n
+views : (s : State) (c : CallWords) (r : Request) → IsReached s → PassesTests s c r → (q n : ℕ) → sees (rule_of s c r).next q n ≡ with_edit (rule_of s c r).edit (sees s) q n
 unfolding with_version with_pair with_rx_released
 views s c (Version word) is k q n = refl
 views s c (Features identifier) is k q n = refl
@@ -251,7 +251,7 @@ views s c Relinquish is k q n = relinquish s c is (relinquish_passes s c k.passe
 views s c (Reclaim handle flags) is k q n = reclaim s c handle flags is (reclaim_passes s c.caller handle flags k.passed) q n
 
 -- a send and a relinquish take pages away, a reclaim gives back what its sender did not keep, and a receiver retrieves what it has not retrieved yet
-free : (s : State) (c : CallWords) (r : Request) → IsReached s → Passes s c r → AreNotReached s (rule_of s c r).edit
+free : (s : State) (c : CallWords) (r : Request) → IsReached s → PassesTests s c r → AreNotReached s (rule_of s c r).edit
 free s c (Version word) is k = tt
 free s c (Features identifier) is k = tt
 free s c RxRelease is k = tt
@@ -265,5 +265,5 @@ free s c (Retrieve x) is k = reached_now s c x is (retrieve_passes s c x k.passe
 free s c Relinquish is k = relinquished s c (relinquish_passes s c k.passed)
 free s c (Reclaim handle flags) is k = reclaimed s c handle flags is (reclaim_passes s c.caller handle flags k.passed)
 
-pub edits_the_view : (s : State) (c : CallWords) (r : Request) → IsReached s → Passes s c r → EditsTheView s c r
+pub edits_the_view : (s : State) (c : CallWords) (r : Request) → IsReached s → PassesTests s c r → EditsTheView s c r
 edits_the_view s c r is k = record { free = free s c r is k; views = views s c r is k }

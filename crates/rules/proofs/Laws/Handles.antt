@@ -179,8 +179,8 @@ keeps s c RxRelease r is k h = record { rows = h.rows; counts = h.counts; counte
 keeps s c (RxtxMap tx rx count) r is k h = record { rows = h.rows; counts = h.counts; counted = h.counted; ascending = h.ascending }
 keeps s c (RxtxUnmap word) r is k h = record { rows = h.rows; counts = h.counts; counted = h.counted; ascending = h.ascending }
 keeps s c IdGet r is k h = h
-keeps s c (Send kind t) r is k h = send s c kind t k.known (send_passes s c kind t k.passed) h
-keeps s c (Retrieve x) r is k h = retrieve s c x (retrieve_passes s c x k.passed) h
+keeps s c (Send kind t) r is k h = send s c kind t k.tests.known (send_passes s c kind t k.tests.passed) h
+keeps s c (Retrieve x) r is k h = retrieve s c x (retrieve_passes s c x k.tests.passed) h
 keeps s c Relinquish r is k h = set_kept s c.caller (given_up c).handle None h
 keeps s c (Reclaim handle flags) r is k h = ended_kept s handle h
 

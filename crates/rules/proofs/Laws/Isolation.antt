@@ -729,10 +729,10 @@ module _ (s t : State) (c : CallWords) (same : AreAlikeTo c.caller s t) (rs : Is
   alike_rules (RxtxMap tx rx count) ks kt n = record { tests = same_map_tests tx rx count; fit = no_edit s t; reply = refl; next = λ e g. paired c.caller s t same sends_s sends_t boxes_s boxes_t (Some (named_pair tx rx count)) }
   alike_rules (RxtxUnmap word) ks kt n = record { tests = rw (same_pair c.caller s t same sends_s sends_t boxes_s boxes_t) refl; fit = no_edit s t; reply = refl; next = λ e g. paired c.caller s t same sends_s sends_t boxes_s boxes_t None }
   alike_rules IdGet ks kt n = record { tests = refl; fit = no_edit s t; reply = refl; next = λ e g. same }
-  alike_rules (Send kind x) ks kt n = send_alike kind x (λ e f. (edits_the_view s c (Send kind x) rs (record { known = ks; named = n; passed = e; fits = f })).views c.caller) (λ e f. (edits_the_view t c (Send kind x) rt (record { known = kt; named = n; passed = e; fits = f })).views c.caller)
-  alike_rules (Retrieve x) ks kt n = retrieve_alike x (λ e f. (edits_the_view s c (Retrieve x) rs (record { known = ks; named = n; passed = e; fits = f })).views c.caller) (λ e f. (edits_the_view t c (Retrieve x) rt (record { known = kt; named = n; passed = e; fits = f })).views c.caller)
-  alike_rules Relinquish ks kt n = relinquish_alike (λ e f. (edits_the_view s c Relinquish rs (record { known = ks; named = n; passed = e; fits = f })).views c.caller) (λ e f. (edits_the_view t c Relinquish rt (record { known = kt; named = n; passed = e; fits = f })).views c.caller)
-  alike_rules (Reclaim handle flags) ks kt n = reclaim_alike handle flags (λ e f. (edits_the_view s c (Reclaim handle flags) rs (record { known = ks; named = n; passed = e; fits = f })).views c.caller) (λ e f. (edits_the_view t c (Reclaim handle flags) rt (record { known = kt; named = n; passed = e; fits = f })).views c.caller)
+  alike_rules (Send kind x) ks kt n = send_alike kind x (λ e f. (edits_the_view s c (Send kind x) rs (record { known = ks; named = n; passed = e })).views c.caller) (λ e f. (edits_the_view t c (Send kind x) rt (record { known = kt; named = n; passed = e })).views c.caller)
+  alike_rules (Retrieve x) ks kt n = retrieve_alike x (λ e f. (edits_the_view s c (Retrieve x) rs (record { known = ks; named = n; passed = e })).views c.caller) (λ e f. (edits_the_view t c (Retrieve x) rt (record { known = kt; named = n; passed = e })).views c.caller)
+  alike_rules Relinquish ks kt n = relinquish_alike (λ e f. (edits_the_view s c Relinquish rs (record { known = ks; named = n; passed = e })).views c.caller) (λ e f. (edits_the_view t c Relinquish rt (record { known = kt; named = n; passed = e })).views c.caller)
+  alike_rules (Reclaim handle flags) ks kt n = reclaim_alike handle flags (λ e f. (edits_the_view s c (Reclaim handle flags) rs (record { known = ks; named = n; passed = e })).views c.caller) (λ e f. (edits_the_view t c (Reclaim handle flags) rt (record { known = kt; named = n; passed = e })).views c.caller)
 
   any_rules : (ks kt : Bool) (o : Option Request) → ks ≡ kt → ((r : Request) → ks ≡ true → o ≡ Some r → AreAlikeRules c.caller s t (rule_of s c r) (rule_of t c r))
       → AreAlikeRules c.caller s t (cond ks (option_map_or (rule_of s c) o (refused NotSupported s)) (refused Denied s)) (cond kt (option_map_or (rule_of t c) o (refused NotSupported t)) (refused Denied t))
@@ -876,16 +876,16 @@ module _ (p : ℕ) (s : State) (c : CallWords) (is : IsReached s) (ne : eqb c.ca
   other_next (RxtxMap tx rx count) k kept = other_pair (Some (named_pair tx rx count))
   other_next (RxtxUnmap word) k kept = other_pair None
   other_next IdGet k kept = alike
-  other_next (Send kind x) k kept = other_send kind x (send_passes s c kind x k.passed) ((edits_the_view s c (Send kind x) is k).views p) kept
+  other_next (Send kind x) k kept = other_send kind x (send_passes s c kind x k.tests.passed) ((edits_the_view s c (Send kind x) is k.tests).views p) kept
   other_next (Retrieve x) k kept =
-      other_retrieve x (retrieve_passes s c x k.passed) (λ n. (edits_the_view s c (Retrieve x) is k).views p n ∙ other_edited (option_map (retrieved_by c.caller) (retrieval_of s c x)) c.caller (own_retrieval c.caller (retrieval_of s c x)) (sees s) p n en) kept
+      other_retrieve x (retrieve_passes s c x k.tests.passed) (λ n. (edits_the_view s c (Retrieve x) is k.tests).views p n ∙ other_edited (option_map (retrieved_by c.caller) (retrieval_of s c x)) c.caller (own_retrieval c.caller (retrieval_of s c x)) (sees s) p n en) kept
   other_next Relinquish k kept =
       let h = (given_up c).handle in
       let clears = (given_up c).clears in
-      other_set h None kept (λ n. (edits_the_view s c Relinquish is k).views p n ∙ other_edited (option_map (given_back_by c.caller clears) (received_with s c.caller h)) c.caller (own_give_back c.caller clears (received_with s c.caller h)) (sees s) p n en)
+      other_set h None kept (λ n. (edits_the_view s c Relinquish is k.tests).views p n ∙ other_edited (option_map (given_back_by c.caller clears) (received_with s c.caller h)) c.caller (own_give_back c.caller clears (received_with s c.caller h)) (sees s) p n en)
   other_next (Reclaim handle flags) k kept =
       let clears = orders_clear flags in
-      other_ended handle kept (λ n. (edits_the_view s c (Reclaim handle flags) is k).views p n ∙ other_edited (option_and_then (returned_by clears) (sent_with s c.caller handle)) c.caller (own_return s c.caller handle clears) (sees s) p n en)
+      other_ended handle kept (λ n. (edits_the_view s c (Reclaim handle flags) is k.tests).views p n ∙ other_edited (option_and_then (returned_by clears) (sent_with s c.caller handle)) c.caller (own_return s c.caller handle clears) (sees s) p n en)
 
 -- a call of another partition that changes no transaction that names it leaves what a partition may learn
 pub others_leave : (p : ℕ) (s : State) (c : CallWords) → IsReached s → c.caller ≢ p → transactions_of p (step s c).live ≡ transactions_of p s.live → AreAlikeTo p s (step s c)

@@ -123,8 +123,8 @@ keeps s c RxRelease r is k o = record { owners = o.owners; senders = o.senders; 
 keeps s c (RxtxMap tx rx count) r is k o = record { owners = o.owners; senders = o.senders; apart = o.apart }
 keeps s c (RxtxUnmap word) r is k o = record { owners = o.owners; senders = o.senders; apart = o.apart }
 keeps s c IdGet r is k o = o
-keeps s c (Send kind t) r is k o = send s c kind t (send_passes s c kind t k.passed) o
-keeps s c (Retrieve x) r is k o = retrieve s c x r (retrieve_passes s c x k.passed) o
+keeps s c (Send kind t) r is k o = send s c kind t (send_passes s c kind t k.tests.passed) o
+keeps s c (Retrieve x) r is k o = retrieve s c x r (retrieve_passes s c x k.tests.passed) o
 keeps s c Relinquish r is k o = set_kept s c.caller (given_up c).handle None o
 keeps s c (Reclaim handle flags) r is k o = ended_kept s handle o
 

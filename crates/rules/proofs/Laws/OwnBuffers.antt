@@ -107,11 +107,11 @@ keeps s c (Features identifier) r is k o = o
 keeps s c RxRelease r is k o =
     record { owned = with_pair_all s c.caller (option_map (holding false) (pair_of s.mailboxes c.caller)) (λ n i. pair_owned s c.caller s.mailboxes o.owned n (rw (held_alike false (pair_of s.mailboxes c.caller) n) at i)) s.mailboxes o.owned }
 keeps s c (RxtxMap tx rx count) r is k o =
-    record { owned = with_pair_all s c.caller (Some (pairs.named_pair tx rx count)) (λ n i. owner_from_test (owner_of s n) c.caller (mapped_page s c.caller tx rx count n (map_passes s c.caller tx rx count k.passed) i).owned) s.mailboxes o.owned }
+    record { owned = with_pair_all s c.caller (Some (pairs.named_pair tx rx count)) (λ n i. owner_from_test (owner_of s n) c.caller (mapped_page s c.caller tx rx count n (map_passes s c.caller tx rx count k.tests.passed) i).owned) s.mailboxes o.owned }
 keeps s c (RxtxUnmap word) r is k o = record { owned = with_pair_all s c.caller None (λ n i. absurd cc) s.mailboxes o.owned }
 keeps s c IdGet r is k o = o
-keeps s c (Send kind t) r is k o = send s c kind t (send_passes s c kind t k.passed) o
-keeps s c (Retrieve x) r is k o = retrieve s c x r (retrieve_passes s c x k.passed) o
+keeps s c (Send kind t) r is k o = send s c kind t (send_passes s c kind t k.tests.passed) o
+keeps s c (Retrieve x) r is k o = retrieve s c x r (retrieve_passes s c x k.tests.passed) o
 keeps s c Relinquish r is k o = set_kept s c.caller (given_up c).handle None o
 keeps s c (Reclaim handle flags) r is k o = record { owned = o.owned }
 

@@ -170,9 +170,9 @@ keeps s c RxRelease r is k h = record { pages = h.pages; apart = h.apart; limits
 keeps s c (RxtxMap tx rx count) r is k h = record { pages = h.pages; apart = h.apart; limits = h.limits; others = h.others; not_taken = h.not_taken }
 keeps s c (RxtxUnmap word) r is k h = record { pages = h.pages; apart = h.apart; limits = h.limits; others = h.others; not_taken = h.not_taken }
 keeps s c IdGet r is k h = h
-keeps s c (Send kind t) r is k h = send s c kind t (send_passes s c kind t k.passed) h
-keeps s c (Retrieve x) r is k h = retrieve s c x r (retrieve_passes s c x k.passed) h
-keeps s c Relinquish r is k h = relinquish s c r (relinquish_passes s c k.passed) h
+keeps s c (Send kind t) r is k h = send s c kind t (send_passes s c kind t k.tests.passed) h
+keeps s c (Retrieve x) r is k h = retrieve s c x r (retrieve_passes s c x k.tests.passed) h
+keeps s c Relinquish r is k h = relinquish s c r (relinquish_passes s c k.tests.passed) h
 keeps s c (Reclaim handle flags) r is k h = ended_kept s handle h
 
 pub transactions_kept : (s : State) → IsReached s → AreTransactionsKept s

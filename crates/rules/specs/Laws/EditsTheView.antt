@@ -11,10 +11,14 @@ use Rattle.rules.specs.Rule.{Edit, with_edit, fits}
 use Rattle.rules.specs.Run.{rule_of}
 
 -- a partition's request, which passes its tests
-pub record Passes (s : State) (c : CallWords) (r : Request) : Type 0 where
+pub record PassesTests (s : State) (c : CallWords) (r : Request) : Type 0 where
   pub known : is_partition s.manifest c.caller ≡ true
   pub named : request_of c.regs ≡ Some r
   pub passed : first_refusal (rule_of s c r).tests ≡ None
+
+-- and whose edit fits the quota
+pub record Passes (s : State) (c : CallWords) (r : Request) : Type 0 where
+  pub tests : PassesTests s c r
   pub fits : fits s (rule_of s c r).edit ≡ true
 
 -- pages that are to be reached are not reached before
