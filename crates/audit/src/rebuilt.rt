@@ -92,7 +92,7 @@ fn map_pending<M: TableMem + Drop>(
 {
     if let Some(access) = access {
         let runs = [Run::new(Page::new(first), end - first)];
-        tables.ready(p, &runs, Some(access))?;
+        tables.ready(p, &runs, Some(access), 0)?;
         tables.map(p, &runs, access);
         tables.begin();
     }

@@ -1,18 +1,20 @@
 -- What a table memory keeps at each write, and what its searches find.
-use Rattle.std.proofs.Common.{◌≡◌, ℕ, zero, suc, ◌+◌, ◌<◌, ◌≤◌, ◌^◌, Bool, true, false, List, length, slice_index, slice_index_or, slice_set, ◌∙◌, ap, ap₂, ◌*◌, replicate, ◌++◌, refl, arith, inl, inr, add-zero, IsTrue, IsSome, Some, ◌==◌}
+use Rattle.std.proofs.Common.{◌≡◌, ℕ, ◌+◌, ◌<◌, ◌≤◌, ◌^◌, Bool, true, false, List, length, slice_index, slice_set, sym, ◌∙◌, ap, ap₂, ◌*◌, replicate, ◌++◌, refl, arith, inl, inr, IsTrue, IsSome, Some, None, Option, ◌==◌}
 use Rattle.std.specs.List.{position}
+use Rattle.std.specs.Prelude.{MatchOption}
 use Rattle.std.proofs.lemmas.Grind.{common_steps}
 use Rattle.std.proofs.lemmas.Bool.{cases_eq, cases_lt}
 use Rattle.std.proofs.lemmas.Bool.Decides.{nat_tests}
 use Rattle.std.proofs.lemmas.List.{length-map}
 use Rattle.base.specs.Manifest.{PartitionRow, ManifestRows, row_of, quotas_of, page_count}
 use Rattle.manifest.specs.Valid.{is_valid}
-use Rattle.pool.specs.Pool.{Memory, Pages, InShare, IsLowestFree, words_of, taken_of, put, mark, with_mark, share_start, quota_of, pages_of, free_of, CountsFree, new_memory, used_by, used_of}
+use Rattle.pool.specs.Pool.{Memory, Pages, InShare, IsLowestFreeOf, row_in, words_of, taken_of, put, mark, with_mark, share_start, row_quota, pages_of, free_of, CountsFree, new_memory, used_by, used_of}
 use Rattle.pool.specs.declared.table_pool.TablePool.{TablePool}
 use Rattle.pool.specs.declared.word_store.WordStore.{Ghosts}
+use Rattle.marks.specs.Marks.{IsFirstUnmarked, AllMarkedFrom}
 use Rattle.pool.proofs.Words.{words_of-set, taken_of-set}
 use Rattle.std.proofs.lemmas.List.{length-set, get_or-set_same, get_or-set_other}
-use Rattle.pool.proofs.Shares.{quota_of-none, share_at, share_inside, used_by-new, used_by-take, used_by-give, used_by-other}
+use Rattle.pool.proofs.Shares.{row_quota-none, share_at, share_inside, used_by-new, used_by-take, used_by-give, used_by-other}
 use Rattle.pool.proofs.Count.{count_below-all}
 
 -- ---- free pages hold zeros
@@ -69,62 +71,70 @@ taken_of-new roots shares page held = elim (cases_lt page roots) [
   | inr share ↦ absurd (grind (arith, common_steps, share, held))
 ]
 
--- ---- the search for a free page
+-- ---- rows
 
-pub taken_of-read : (items : List Bool) (page : ℕ) (is : Bool) → is ≡ slice_index_or items page is → page < length items → taken_of items page ≡ is
-unfolding taken_of
-taken_of-read items page is read inside = grind (arith, common_steps)
+pub row_of-found : (ids : List ℕ) (p row : ℕ) → position (λ id. id == p) ids ≡ Some row → (row_of ids p ≡ row) × (row < length ids)
+row_of-found ids p row found = grind (arith, nat_tests, found)
+
+-- a partition that has a free page has a row
+pub row_of-within : (m : Pages) (p : ℕ) → length m.ids ≡ length m.quotas → 0 < free_of m p → row_of m.ids p < length m.ids
+row_of-within m p whole free = elim (cases_lt (row_of m.ids p) (length m.ids)) [
+  | inl within ↦ within
+  | inr beyond ↦ absurd (omega (arith, free, row_quota-none m.quotas (row_of m.ids p) (omega arith)))
+]
+
+pub position-found : (ids : List ℕ) (p : ℕ) → row_of ids p < length ids → IsSome (position (λ id. id == p) ids)
+position-found ids p below = grind (arith, nat_tests, below)
+
+-- ---- the search for a free page
 
 -- what a memory holds, and its pages as functions
 abbrev pub memory_in : {S : Type 0} {g : Ghosts S} → TablePool S g → Memory
-memory_in {g = g} m = record { ids = m.ids.items; quotas = m.quotas.items; words = g.words m.store; taken = m.taken.items }
+memory_in {g = g} m = record { ids = m.ids.items; quotas = m.quotas.items; words = g.words m.store; taken = m.taken }
 
 abbrev pub pages_in : {S : Type 0} {g : Ghosts S} → TablePool S g → Pages
 pages_in m = pages_of (memory_in m)
 
--- the pages of a row's share below a page are taken, and the page stands in the share
-pub record IsSearched (m : Pages) (row page : ℕ) : Type 0 where
-  pub inside : InShare m.quotas row page
-  pub below : (q : ℕ) → share_start m.quotas row ≤ q → q < page → m.taken q ≡ true
-
-pub searched-first : (m : Pages) (p : ℕ) → 0 < free_of m p → IsSearched m (row_of m.ids p) (share_start m.quotas (row_of m.ids p))
-searched-first m p free =
-    record {
-      inside = rw (← add-zero (share_start m.quotas (row_of m.ids p))) (share_at m.quotas (row_of m.ids p) 0 (omega (arith, free)));
-      below = λ q from before. absurd (omega arith);
-    }
-
-pub searched-next : (m : Pages) (p page : ℕ) → 0 < free_of m p → IsSearched m (row_of m.ids p) page → m.taken page ≡ true → IsSearched m (row_of m.ids p) (page + 1)
-searched-next m p page free searched held =
+-- where some are free, not each page of a share is taken
+free-some : (m : Pages) (p : ℕ) → 0 < free_of m p → ((q : ℕ) → InShare m.quotas (row_of m.ids p) q → m.taken q ≡ true) → ⊥
+free-some m p free held =
     let row = row_of m.ids p in
-    let below : (q : ℕ) → share_start m.quotas row ≤ q → q < page + 1 → m.taken q ≡ true =
-    λ q from before. elim (cases_eq q page) [ inl is ↦ rw is held | inr differs ↦ searched.below q from (omega arith) ] in
-    let all = count_below-all (λ k. m.taken (share_start m.quotas row + k)) (quota_of m.quotas row) in
+    let all = count_below-all (λ k. m.taken (share_start m.quotas row + k)) (row_quota m.quotas row) (λ k short. held (share_start m.quotas row + k) (share_at m.quotas row k short)) in
+    omega (arith, free, all)
+
+-- the first page of its share that is not taken is found
+pub found-some : (m : Memory) (p : ℕ) (result : Option ℕ) → length m.taken ≡ page_count m.quotas → 0 < free_of (pages_of m) p
+    → MatchOption result (AllMarkedFrom m.taken (share_start m.quotas (row_in m p))) (λ found. IsFirstUnmarked m.taken (share_start m.quotas (row_in m p)) found) → IsSome result
+unfolding taken_of
+found-some m p None whole free held =
+    absurd (free-some (pages_of m) p free (λ q inside. held q inside.from (omega (arith, whole, share_inside m.quotas (row_in m p) q inside))))
+found-some m p (Some found) whole free first = refl
+
+-- and it is the lowest free one
+pub found-lowest : (m : Memory) (p found : ℕ) → 0 < free_of (pages_of m) p → IsFirstUnmarked m.taken (share_start m.quotas (row_in m p)) found → IsLowestFreeOf m p found
+unfolding taken_of
+found-lowest m p found free first =
+    let row = row_in m p in
     record {
       inside = record {
-        partition = searched.inside.partition;
-        from = omega (arith, searched.inside.from);
-        to = elim (cases_lt (page + 1) (share_start m.quotas row + quota_of m.quotas row)) [
+        partition = (share_at m.quotas row 0 (omega (arith, free))).partition;
+        from = first.from;
+        to = elim (cases_lt found (share_start m.quotas row + row_quota m.quotas row)) [
           | inl within ↦ within
-          | inr beyond ↦ absurd (omega (arith, free, all (λ k short. below (share_start m.quotas row + k) (omega arith) (omega arith))))
+          | inr beyond ↦ absurd (free-some (pages_of m) p free (λ q inside. first.before q inside.from (omega (arith, beyond, inside.to))))
         ];
       };
-      below = below;
+      free = first.free;
+      lowest = λ q inside before. first.before q inside.from before;
     }
 
-pub searched-past : (m : Pages) (p page k : ℕ) → 0 < free_of m p → IsSearched m (row_of m.ids p) page → ((x : ℕ) → page ≤ x → x < page + k → m.taken x ≡ true)
-    → IsSearched m (row_of m.ids p) (page + k)
-searched-past m p page zero free searched held = rw (add-zero page) searched
-searched-past m p page (suc k) free searched held =
-    let before = searched-past m p page k free searched (λ x from to. held x from (omega (arith, to))) in
-    let next : page + suc k ≡ page + k + 1 = omega arith in
-    rw next (searched-next m p (page + k) free before (held (page + k) (omega arith) (omega arith)))
-
-pub searched-within : {S : Type 0} {g : Ghosts S} (m : TablePool S g) (row page : ℕ) → IsSearched (pages_in m) row page → page < length m.taken.items
-searched-within m row page searched = omega (arith, m.taken_whole, share_inside m.quotas.items row page searched.inside)
-
-pub searched-found : (m : Pages) (row page : ℕ) → IsSearched m row page → m.taken page ≡ false → IsLowestFree m row page
-searched-found m row page searched free = record { inside = searched.inside; free = free; lowest = λ q inside before. searched.below q inside.from before }
+-- what a search from where a row's share begins finds, for a partition of that row
+pub found-page : (m : Memory) (p row start page : ℕ) (result : Option ℕ) → 0 < free_of (pages_of m) p → position (λ id. id == p) m.ids ≡ Some row → start ≡ share_start m.quotas row → result ≡ Some page
+    → MatchOption result (AllMarkedFrom m.taken start) (λ found. IsFirstUnmarked m.taken start found) → IsLowestFreeOf m p page
+found-page m p row start page result free placed begins is found =
+    let first : IsFirstUnmarked m.taken start page = (rw is at found) in
+    let here : start ≡ share_start m.quotas (row_in m p) = begins ∙ ap (share_start m.quotas) (sym ((row_of-found m.ids p row placed).0)) in
+    found-lowest m p page free (rw (← here) first)
 
 -- ---- the pages of a share that are free
 
@@ -137,7 +147,7 @@ counts-new m = record {
 
 -- a page of a row's share gets another mark, and the row another count, which is right
 counts-set : (m : Memory) (free : List ℕ) (row page n : ℕ) (is : Bool) → CountsFree m.quotas m.taken free → InShare m.quotas row page → page < length m.taken
-    → n + used_by (with_mark page is (pages_of m)) row ≡ quota_of m.quotas row
+    → n + used_by (with_mark page is (pages_of m)) row ≡ row_quota m.quotas row
     → CountsFree m.quotas (slice_set m.taken page is) (slice_set free row n)
 counts-set m free row page n is counts inside below right = record {
   rows = length-set free row n ∙ counts.rows;
@@ -164,7 +174,7 @@ counts-give m free row page n counts inside below is_taken more =
     counts-set m free row page n false counts inside below (omega (arith, was, now, more))
 
 -- while a page is taken, not all are free
-pub counts-below : (m : Memory) (free : List ℕ) (row page : ℕ) → CountsFree m.quotas m.taken free → InShare m.quotas row page → taken_of m.taken page ≡ true → slice_index free row + 1 ≤ quota_of m.quotas row
+pub counts-below : (m : Memory) (free : List ℕ) (row page : ℕ) → CountsFree m.quotas m.taken free → InShare m.quotas row page → taken_of m.taken page ≡ true → slice_index free row + 1 ≤ row_quota m.quotas row
 counts-below m free row page counts inside is_taken =
     let was = counts.each row inside.partition in
     let now = used_by-give (pages_of m) row page inside is_taken in
@@ -173,21 +183,6 @@ counts-below m free row page counts inside is_taken =
 -- what is counted for a partition
 pub counts-free : (m : Memory) (free : List ℕ) (p row : ℕ) → CountsFree m.quotas m.taken free → row_of m.ids p ≡ row → row < length m.quotas → slice_index free row ≡ free_of (pages_of m) p
 counts-free m free p row counts is small = let each = counts.each row small in rw is (omega (arith, each))
-
--- ---- rows
-
-pub row_of-found : (ids : List ℕ) (p row : ℕ) → position (λ id. id == p) ids ≡ Some row → (row_of ids p ≡ row) × (row < length ids)
-row_of-found ids p row found = grind (arith, nat_tests, found)
-
--- a partition that has a free page has a row
-pub row_of-within : (m : Pages) (p : ℕ) → length m.ids ≡ length m.quotas → 0 < free_of m p → row_of m.ids p < length m.ids
-row_of-within m p whole free = elim (cases_lt (row_of m.ids p) (length m.ids)) [
-  | inl within ↦ within
-  | inr beyond ↦ absurd (omega (arith, free, quota_of-none m.quotas (row_of m.ids p) (omega arith)))
-]
-
-pub position-found : (ids : List ℕ) (p : ℕ) → row_of ids p < length ids → IsSome (position (λ id. id == p) ids)
-position-found ids p below = grind (arith, nat_tests, below)
 
 -- ---- a valid manifest
 

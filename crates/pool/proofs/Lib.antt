@@ -12,3 +12,4 @@ mod Held
 mod Rows
 mod CellMemory
 mod CellSharing
+mod Within

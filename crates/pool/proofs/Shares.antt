@@ -7,7 +7,7 @@ use Rattle.std.proofs.lemmas.List.{get_or_past}
 use Rattle.std.proofs.lemmas.List.Sums.{sum_by-append, sum_by_more, passes_at_first}
 use Rattle.std.proofs.Math.Seq.{take-add}
 use Rattle.base.specs.Manifest.{ManifestRows, row_of, quotas_of, page_count}
-use Rattle.pool.specs.Pool.{Pages, InShare, share_start, quota_of, pages_of, taken_of, mark, with_mark, used_by, new_memory}
+use Rattle.pool.specs.Pool.{Pages, InShare, share_start, row_quota, pages_of, taken_of, mark, with_mark, used_by, new_memory}
 use Rattle.pool.proofs.Words.{mark-other}
 use Rattle.pool.proofs.Count.{count_below-same, count_below-one, count_below-none, count_below-le}
 
@@ -21,8 +21,8 @@ row_of-injective ids p q same below =
     sym first ∙ ap (λ (row : ℕ). get_or ids row 0) same ∙ second
 
 -- past the last row there is no quota
-pub quota_of-none : (quotas : List ℕ) (row : ℕ) → length quotas ≤ row → quota_of quotas row ≡ 0
-quota_of-none quotas row beyond = get_or_past quotas row 0 beyond
+pub row_quota-none : (quotas : List ℕ) (row : ℕ) → length quotas ≤ row → row_quota quotas row ≡ 0
+row_quota-none quotas row beyond = get_or_past quotas row 0 beyond
 
 -- ---- shares
 
@@ -34,11 +34,11 @@ sum-take-le quotas n m within =
     omega (arith, split)
 
 -- a share ends among the pages
-pub share_end : (quotas : List ℕ) (row : ℕ) → row < length quotas → share_start quotas row + quota_of quotas row ≤ page_count quotas
+pub share_end : (quotas : List ℕ) (row : ℕ) → row < length quotas → share_start quotas row + row_quota quotas row ≤ page_count quotas
 share_end quotas row below = grind (arith, common_steps)
 
 -- a share ends before a later one begins
-pub share_start-rises : (quotas : List ℕ) (row later : ℕ) → row < later → later < length quotas → share_start quotas row + quota_of quotas row ≤ share_start quotas later
+pub share_start-rises : (quotas : List ℕ) (row later : ℕ) → row < later → later < length quotas → share_start quotas row + row_quota quotas row ≤ share_start quotas later
 share_start-rises quotas row later before below =
     omega (arith, sum_by_more (λ x. x) quotas row 0 (omega arith), sum-take-le quotas (row + 1) later (omega arith))
 
@@ -61,12 +61,12 @@ share_unique quotas row other page here there = elim (cases_eq row other) [
 ]
 
 -- a page at a place of a share
-pub share_at : (quotas : List ℕ) (row k : ℕ) → k < quota_of quotas row → InShare quotas row (share_start quotas row + k)
+pub share_at : (quotas : List ℕ) (row k : ℕ) → k < row_quota quotas row → InShare quotas row (share_start quotas row + k)
 share_at quotas row k below =
     record {
       partition = elim (cases_lt row (length quotas)) [
         | inl inside ↦ inside
-        | inr beyond ↦ absurd (omega (arith, below, quota_of-none quotas row beyond))
+        | inr beyond ↦ absurd (omega (arith, below, row_quota-none quotas row beyond))
       ];
       from = omega arith;
       to = omega arith;
@@ -74,8 +74,8 @@ share_at quotas row k below =
 
 -- ---- how many pages are taken
 
-pub used_by-le : (m : Pages) (row : ℕ) → used_by m row ≤ quota_of m.quotas row
-used_by-le m row = count_below-le (λ k. m.taken (share_start m.quotas row + k)) (quota_of m.quotas row)
+pub used_by-le : (m : Pages) (row : ℕ) → used_by m row ≤ row_quota m.quotas row
+used_by-le m row = count_below-le (λ k. m.taken (share_start m.quotas row + k)) (row_quota m.quotas row)
 
 -- a page that is taken counts for its row
 pub used_by-take : (m : Pages) (row k : ℕ) → InShare m.quotas row k → m.taken k ≡ false → used_by (with_mark k true m) row ≡ used_by m row + 1
@@ -84,7 +84,7 @@ used_by-take m row k inside free =
     let start = share_start m.quotas row in
     let x = k - start in
     let at : start + x ≡ k = omega (arith, inside.from) in
-    count_below-one (λ i. m.taken (start + i)) (λ i. mark k true m.taken (start + i)) (quota_of m.quotas row) x (omega (arith, inside.from, inside.to))
+    count_below-one (λ i. m.taken (start + i)) (λ i. mark k true m.taken (start + i)) (row_quota m.quotas row) x (omega (arith, inside.from, inside.to))
     (rw at free) (rw at (grind (arith, nat_tests))) (λ i below other. grind (arith, nat_tests))
 
 -- a page that is given back counts no more
@@ -94,14 +94,14 @@ used_by-give m row k inside held =
     let start = share_start m.quotas row in
     let x = k - start in
     let at : start + x ≡ k = omega (arith, inside.from) in
-    sym (count_below-one (λ i. mark k false m.taken (start + i)) (λ i. m.taken (start + i)) (quota_of m.quotas row) x (omega (arith, inside.from, inside.to))
+    sym (count_below-one (λ i. mark k false m.taken (start + i)) (λ i. m.taken (start + i)) (row_quota m.quotas row) x (omega (arith, inside.from, inside.to))
     (rw at (grind (arith, nat_tests))) (rw at held) (λ i below other. grind (arith, nat_tests)))
 
 -- the other rows keep what they have
 pub used_by-other : (m : Pages) (row other k : ℕ) (is : Bool) → InShare m.quotas row k → other ≢ row → used_by (with_mark k is m) other ≡ used_by m other
 used_by-other m row other k is inside differs =
     let start = share_start m.quotas other in
-    count_below-same (λ i. m.taken (start + i)) (λ i. mark k is m.taken (start + i)) (quota_of m.quotas other)
+    count_below-same (λ i. m.taken (start + i)) (λ i. mark k is m.taken (start + i)) (row_quota m.quotas other)
     (λ i below. mark-other m.taken k (start + i) is
     (λ same. differs (share_unique m.quotas other row k (rw same at (share_at m.quotas other i below)) inside)))
 
@@ -113,5 +113,5 @@ taken_of-new m page beyond = grind (arith, common_steps)
 pub used_by-new : (m : ManifestRows) (row : ℕ) → used_by (pages_of (new_memory m)) row ≡ 0
 used_by-new m row =
     let quotas = quotas_of m.partitions in
-    count_below-none (λ k. taken_of (new_memory m).taken (share_start quotas row + k)) (quota_of quotas row)
+    count_below-none (λ k. taken_of (new_memory m).taken (share_start quotas row + k)) (row_quota quotas row)
     (λ k below. taken_of-new m (share_start quotas row + k) (grind (arith, common_steps)))

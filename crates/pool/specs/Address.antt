@@ -13,4 +13,4 @@ address_of memory = memory.store.base.ptr
 
 -- each root, and each page that is taken, is written there, all its 512 words
 abbrev pub AreTakenWritten : {g : Ghosts Block} → TablePool Block g → Type 0
-AreTakenWritten memory = (page : ℕ) → taken_of memory.taken.items page ≡ true → IsPageFilled memory.store.cells.slots page
+AreTakenWritten memory = (page : ℕ) → taken_of memory.taken page ≡ true → IsPageFilled memory.store.cells.slots page

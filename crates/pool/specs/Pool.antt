@@ -1,5 +1,6 @@
 -- What a table memory holds, and what its calls make of it.
-use Rattle.std.specs.Prelude.{◌≡◌, ℕ, zero, suc, ◌+◌, ◌-◌, ◌*◌, ◌%◌, ◌^◌, ◌<◌, ◌≤◌, Bool, true, false, not, ◌==◌, ◌&&◌, if◌then◌else◌, nat_lt, min, List, [], ◌∷◌, ◌++◌, length, sum, take, replicate, slice_index, slice_index_or, slice_set}
+use Rattle.std.specs.Prelude.{◌≡◌, ℕ, zero, suc, ◌+◌, ◌-◌, ◌*◌, ◌%◌, ◌^◌, ◌<◌, ◌≤◌, Bool, true, false, not, ◌==◌, ◌&&◌, if◌then◌else◌, nat_lt, nat_le, min, List, [], ◌∷◌, ◌++◌, length, sum, take, replicate, slice_index, slice_index_or, slice_set}
+use Rattle.std.specs.List.{list_all}
 use Rattle.base.specs.Counts.{count_below}
 use Rattle.base.specs.Pages.{PageRun}
 use Rattle.base.specs.Manifest.{ManifestRows, ids_of, quotas_of, row_of, page_count}
@@ -66,22 +67,26 @@ with_mark page is m = record m { taken = mark page is m.taken }
 abbrev pub row_in : Memory → ℕ → ℕ
 row_in m p = row_of m.ids p
 
+-- the partition has a row
+abbrev pub HasRow : Memory → ℕ → Type 0
+HasRow m p = row_in m p < length m.ids
+
 -- the first page of a row's share
 abbrev pub share_start : List ℕ → ℕ → ℕ
 share_start quotas row = length quotas + sum (take row quotas)
 
-abbrev pub quota_of : List ℕ → ℕ → ℕ
-quota_of quotas row = slice_index quotas row
+abbrev pub row_quota : List ℕ → ℕ → ℕ
+row_quota quotas row = slice_index quotas row
 
 -- the page stands in the share of a row
 pub record InShare (quotas : List ℕ) (row page : ℕ) : Type 0 where
   pub partition : row < length quotas
   pub from : share_start quotas row ≤ page
-  pub to : page < share_start quotas row + quota_of quotas row
+  pub to : page < share_start quotas row + row_quota quotas row
 
 -- how many pages of a row's share are taken
 abbrev pub used_of : List ℕ → (ℕ → Bool) → ℕ → ℕ
-used_of quotas taken row = count_below (λ k. taken (share_start quotas row + k)) (quota_of quotas row)
+used_of quotas taken row = count_below (λ k. taken (share_start quotas row + k)) (row_quota quotas row)
 
 abbrev pub used_by : Pages → ℕ → ℕ
 used_by m row = used_of m.quotas m.taken row
@@ -90,11 +95,11 @@ used_by m row = used_of m.quotas m.taken row
 pub record CountsFree (quotas : List ℕ) (taken : List Bool) (free : List ℕ) : Type 0 where
   pub rows : length free ≡ length quotas
   pub each : (row : ℕ) → row < length quotas
-      → slice_index free row + used_of quotas (taken_of taken) row ≡ quota_of quotas row
+      → slice_index free row + used_of quotas (taken_of taken) row ≡ row_quota quotas row
 
 -- how many pages of a partition's share are free
 abbrev pub free_of : Pages → ℕ → ℕ
-free_of m p = quota_of m.quotas (row_of m.ids p) - used_by m (row_of m.ids p)
+free_of m p = row_quota m.quotas (row_of m.ids p) - used_by m (row_of m.ids p)
 
 -- a list of how many words of each page are not 0
 pub record CountsNonzero (quotas words nonzero : List ℕ) : Type 0 where
@@ -219,6 +224,19 @@ after_give page pool = record pool { memory = with_taken page false pool.memory 
 
 abbrev pub emptied : Pool → Pool
 emptied pool = record pool { operations = [] }
+
+-- ---- where operations lie
+
+-- a write is into a word of a page, an invalidation and a clear are of pages below 2^27, the first of a partition that has a row
+abbrev pub lies_in : List ℕ → List ℕ → Op → Bool
+lies_in ids quotas (Set page index word) = nat_lt page (page_count quotas) && nat_lt index 512
+lies_in ids quotas (Invalidate who run) =
+    nat_lt (row_of ids who) (length ids) && nat_le (run.first + run.count) (2 ^ 27)
+lies_in ids quotas (Clear run) = nat_le (run.first + run.count) (2 ^ 27)
+
+-- all operations of the list do
+abbrev pub all_lie_in : Pool → Bool
+all_lie_in pool = list_all (lies_in pool.memory.ids pool.memory.quotas) pool.operations
 
 -- ---- a copy of the words
 

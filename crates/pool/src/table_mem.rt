@@ -1,7 +1,7 @@
 ghost use Rattle.std.specs.Prelude.{◌≡◌, ℕ, ◌+◌, ◌-◌, ◌*◌, ◌^◌, ◌<◌, ◌≤◌, length, reverse, IfOk, OnOk, true, false};
 ghost use Rattle.base.specs.Manifest.{ManifestRows, page_count};
 ghost use Rattle.base.specs.Pages.{are_normal};
-ghost use Rattle.pool.specs.Pool.{Pool, IsWhole, InShareOf, IsLowestFreeOf, pages_of, words_of, taken_of, nonzero_in, new_pool, after_set, after_sets, after_runs, after_replaces, after_invalidate, after_clear, after_take, after_give, emptied, free_of, image_of};
+ghost use Rattle.pool.specs.Pool.{Pool, IsWhole, HasRow, all_lie_in, InShareOf, IsLowestFreeOf, pages_of, words_of, taken_of, nonzero_in, new_pool, after_set, after_sets, after_runs, after_replaces, after_invalidate, after_clear, after_take, after_give, emptied, free_of, image_of};
 
 use crate::image::Image;
 use crate::operation::Op;
@@ -94,6 +94,7 @@ pub trait TableMem {
         requires taken { taken_of (state self.old).memory.taken page ≡ true }
         requires in_range { word + step * (end - first) < 2 ^ 64 }
         requires pages_in { start + 512 * (end - first) ≤ 2 ^ 27 }
+        requires partition { HasRow (state self.old).memory p }
         requires ready { 3 * end ≤ room self.old + 3 * first }
         ensures state { state self.new
             ≡ after_replaces p page first (end - first) word step start (state self.old) }
@@ -101,6 +102,7 @@ pub trait TableMem {
 
     /// Records that a partition's translations of these pages are invalidated.
     fn invalidate(&mut self, p: PartitionId, run: Run)
+        requires partition { HasRow (state self.old).memory p }
         requires ready { 0 < room self.old }
         ensures state { state self.new ≡ after_invalidate p run (state self.old) }
         ensures room { room self.new + 1 ≡ room self.old };
@@ -140,6 +142,10 @@ pub trait TableMem {
         ensures state { state self.new ≡ emptied (state self.old) }
         ensures room { room self.old ≤ room self.new };
 
+    /// Empties the list of operations, and gives its memory back.
+    fn give_list_back(&mut self)
+        ensures { state self.new ≡ emptied (state self.old) };
+
     /// The operations since `begin`, in the order in which they were made.
     fn ops(&self) -> &[Op]
         ensures { result.now ≡ reverse (state self.now).operations };
@@ -154,6 +160,9 @@ pub trait TableMem {
 
     /// The lists are as long as the quotas say, and have a row for each quota.
     ghost whole: { (m : Self) → IsWhole (state m).memory };
+
+    /// Each operation of the list writes a word of one of the pages, or names pages below 2^27.
+    ghost operations_lie_within: { (m : Self) → all_lie_in (state m) ≡ true };
 
     /// Roots are never free.
     ghost roots_are_taken: { (m : Self) (row : ℕ) → row < length (state m).memory.quotas

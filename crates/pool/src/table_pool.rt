@@ -1,7 +1,8 @@
 ghost use Rattle.std.specs.Prelude.{◌≡◌, ℕ, ◌+◌, ◌-◌, ◌*◌, ◌<◌, ◌≤◌, ◌^◌, ◌==◌, ◌++◌, ◌⊎◌, length, position, sum, replicate, reverse, vec_len, vec_capacity, true, false, IfOk, if◌then◌else◌};
 ghost use Rattle.base.specs.Manifest.{page_count};
 ghost use Rattle.base.specs.Manifest as rows;
-ghost use Rattle.pool.specs.Pool.{CountsFree, CountsNonzero, words_of, taken_of};
+ghost use Rattle.pool.specs.Pool.{CountsFree, CountsNonzero, lies_in, words_of, taken_of};
+ghost use Rattle.std.specs.List.{list_all};
 ghost use Rattle.pool.specs.Pool as shares;
 
 use crate::image::Image;
@@ -14,14 +15,12 @@ use crate::table_mem::TableMem;
 use crate::word_store::WordStore;
 use base::{OutOfMemory, Page, PartitionId, Run};
 use manifest::{Manifest, Partition};
+use marks::Marks;
 use std::alloc::Global;
 use std::mem::replace;
 
 #[cfg(test)]
 mod tests;
-
-/// How many marks of pages, of one byte each, are looked at at once: two registers hold them.
-const AT_ONCE: u32 = 32;
 
 /// Table memory whose words stand in a store, 512 for each page, page by page. `taken` has a mark for
 /// each page, `free` says for each row how many pages of its share are free, `nonzero` for each page how
@@ -32,21 +31,22 @@ pub struct TablePool<S: WordStore> {
     ids: Vec<PartitionId>,
     quotas: Vec<u32>,
     pub(crate) store: S,
-    taken: Vec<bool>,
+    taken: Marks,
     free: Vec<u32>,
     nonzero: Vec<u32>,
     operations: Vec<Op>,
     made_before: u64,
     ghost ids_whole: { length ids.items ≡ length quotas.items },
     ghost words_whole: { length (S.words store) ≡ 512 * page_count quotas.items },
-    ghost taken_whole: { length taken.items ≡ page_count quotas.items },
-    ghost free_counted: { CountsFree quotas.items taken.items free.items },
+    ghost taken_whole: { length taken ≡ page_count quotas.items },
+    ghost free_counted: { CountsFree quotas.items taken free.items },
     ghost nonzero_counted: { CountsNonzero quotas.items (S.words store) nonzero.items },
     ghost fits: { page_count quotas.items ≤ 2 ^ 27 },
-    ghost roots: { (row : ℕ) → row < length quotas.items → taken_of taken.items row ≡ true },
-    ghost free_zero: { (page index : ℕ) → taken_of taken.items page ≡ false
+    ghost roots: { (row : ℕ) → row < length quotas.items → taken_of taken row ≡ true },
+    ghost free_zero: { (page index : ℕ) → taken_of taken page ≡ false
         → words_of (S.words store) page index ≡ 0 },
-    ghost standing: { (page : ℕ) → taken_of taken.items page ≡ true
+    ghost within: { list_all (lies_in ids.items quotas.items) (reverse operations.items) ≡ true },
+    ghost standing: { (page : ℕ) → taken_of taken page ≡ true
         → S.stands store page ≡ true },
 }
 
@@ -62,16 +62,6 @@ fn quotas_of(alloc: Global, partitions: &[Partition]) -> Result<Vec<u32>, OutOfM
     ensures { IfOk result (λ quotas. quotas.items ≡ rows.quotas_of partitions.now) }
 {
     Ok(partitions.iter().map(|row| row.quota).collect(alloc)?)
-}
-
-/// The marks of pages, the first of which are taken and the others free.
-fn marks(alloc: Global, taken: usize, free: usize) -> Result<Vec<bool>, OutOfMemory>
-    requires { taken + free < 2 ^ 64 }
-    ensures { IfOk result (λ marks. marks.items ≡ replicate taken true ++ replicate free false) }
-{
-    let mut marks = vec![in alloc; true; taken]?;
-    marks.resize(taken + free, false)?;
-    Ok(marks)
 }
 
 /// So many counts, all of them 0.
@@ -95,33 +85,6 @@ fn filled<S: WordStore>(alloc: Global, pages: usize, first: usize) -> Result<S, 
     Ok(store)
 }
 
-/// Whether so many pages that follow one another, from this one on, as are looked at at once, are all taken.
-#[inline(always)]
-fn are_taken(taken: &[bool], first: u32) -> bool
-    requires { first + 32 ≤ length taken.now }
-    ensures { result ≡ true
-        → (x : ℕ) → first ≤ x → x < first + 32 → taken_of taken.now x ≡ true }
-{
-    let mut are = true;
-    for x in 0..AT_ONCE {
-        are &= taken[first as usize + x as usize];
-    }
-    are
-}
-
-/// Up to where pages are taken, from this one on, as far as many marks at once tell it.
-fn taken_until(taken: &[bool], first: u32) -> u32
-    requires { length taken.now ≤ 2 ^ 27 }
-    ensures from { first ≤ result }
-    ensures taken { (x : ℕ) → first ≤ x → x < result → taken_of taken.now x ≡ true }
-{
-    let mut page = first;
-    while page as usize + AT_ONCE as usize <= taken.len() && are_taken(taken, page) {
-        page += AT_ONCE;
-    }
-    page
-}
-
 impl<S: WordStore> TableMem for TablePool<S> {
     ghost use Rattle.std.specs.Prelude.{◌%◌};
 
@@ -130,7 +93,7 @@ impl<S: WordStore> TableMem for TablePool<S> {
         ids = m.ids.items;
         quotas = m.quotas.items;
         words = S.words m.store;
-        taken = m.taken.items;
+        taken = m.taken;
       };
       operations = reverse m.operations.items;
       made = (m.made_before + length m.operations.items) % 2 ^ 64;
@@ -148,19 +111,22 @@ impl<S: WordStore> TableMem for TablePool<S> {
 
     ghost free_is_zero = { λ m page index h. m.free_zero page index h };
 
+    ghost operations_lie_within = { λ m. m.within };
+
     fn make(alloc: Global, manifest: &Manifest) -> Result<Self, OutOfMemory> {
         let partitions = manifest.partitions();
         let ids = ids_of(alloc, partitions)?;
         let quotas = quotas_of(alloc, partitions)?;
         let roots = partitions.len();
-        let shares = total(&quotas) as usize;
+        let shares = total(&quotas);
+        let pages = roots + shares as usize;
         Ok(TablePool {
             ids,
             quotas,
-            store: filled(alloc, roots + shares, roots)?,
-            taken: marks(alloc, roots, shares)?,
+            store: filled(alloc, pages, roots)?,
+            taken: Marks::new(alloc, roots as u32, shares)?,
             free: quotas_of(alloc, partitions)?,
-            nonzero: zeros(alloc, roots + shares)?,
+            nonzero: zeros(alloc, pages)?,
             operations: Vec::new(alloc),
             made_before: 0,
         })
@@ -246,19 +212,16 @@ impl<S: WordStore> TableMem for TablePool<S> {
     fn take_page(&mut self, p: PartitionId) -> u32 {
         let row = row_of(&self.ids, p).unwrap();
         let start = share_start(&self.quotas, row);
-        let mut page = taken_until(&self.taken, start);
-        while self.taken[page as usize] {
-            page += 1;
-        }
+        let page = self.taken.first_unmarked_from(start).unwrap();
         self.store.fill(page);
-        self.taken[page as usize] = true;
+        self.taken.mark(page);
         self.free[row] -= 1;
         page
     }
 
     fn give_page(&mut self, p: PartitionId, page: u32) {
         let row = row_of(&self.ids, p).unwrap();
-        self.taken[page as usize] = false;
+        self.taken.unmark(page);
         self.free[row] += 1;
     }
 
@@ -279,6 +242,12 @@ impl<S: WordStore> TableMem for TablePool<S> {
         self.operations.clear();
     }
 
+    fn give_list_back(&mut self) {
+        self.begin();
+        let alloc = *self.operations.allocator();
+        self.operations = Vec::new(alloc);
+    }
+
     fn ops(&self) -> &[Op] {
         self.operations.as_slice()
     }
@@ -288,6 +257,6 @@ impl<S: WordStore> TableMem for TablePool<S> {
     }
 
     fn image(&self, alloc: Global) -> Result<Image, OutOfMemory> {
-        Ok(Image::new(self.taken.len(), self.store.copy(alloc)?))
+        Ok(Image::new(self.nonzero.len(), self.store.copy(alloc)?))
     }
 }

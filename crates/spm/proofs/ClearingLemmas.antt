@@ -10,7 +10,7 @@ use Rattle.manifest.specs.Valid.{is_valid}
 use Rattle.manifest.proofs.Facts.{facts, row_of-id}
 use Rattle.std.proofs.lemmas.List.{take_more, reverse-append}
 use Rattle.base.specs.Pages.{PageRun, in_run, covers}
-use Rattle.pool.specs.Pool.{Memory, words_of}
+use Rattle.pool.specs.Pool.{Memory, words_of, all_lie_in}
 use Rattle.stage2.specs.declared.walked.Walked.TheVariants.{None as Unmapped}
 use Rattle.stage2.specs.Slot.{Layout, layout_of}
 use Rattle.stage2.specs.Tables.{TablesView, walk_in, has_root, ReachSo, EditsInStep, AreUnmappedForAll, ClearsInStep, edit_from, IsCallInStep}
@@ -67,8 +67,8 @@ cleared-on edit first old new i run inside is placed memory ordered clears none 
 module _ (edit : Edit) (old mid new : TablesView) (root : has_root old edit.who ≡ true) (rows : AreRowsOfPartitions old.layout.ids) where
   -- the pages are unmapped, and then cleared
   pub unmapped-shown : edit.to ≡ None → mid.layout ≡ old.layout → new.layout ≡ mid.layout → new.pool.memory ≡ mid.pool.memory
-      → ReachSo edit.who edit.runs edit.to old mid → EditsInStep edit.who edit.runs edit.to old mid → ClearsInCall edit mid new → ShowsOne edit old new
-  unmapped-shown gone placed after memory walks edits clears begun before starts free others =
+      → ReachSo edit.who edit.runs edit.to old mid → EditsInStep edit.who edit.runs edit.to old mid → ClearsInCall edit mid new → all_lie_in new.pool ≡ true → ShowsOne edit old new
+  unmapped-shown gone placed after memory walks edits clears within begun before starts free others =
       let in_step = call-edited old old mid edit.who edit.runs edit.to [] (call-begun old edit.who edit.runs edit.to begun) edits refl refl (free-views old before edit.who edit.runs edit.to starts free) in
       let away : edit.clears ≡ true → (p n : ℕ) → n < 2 ^ 27 → covers edit.runs n ≡ true → walk_in mid p n ≡ Unmapped = λ ordered p n small here. walks p n small ∙ elim (cases_Bool (eqb p edit.who)) [
         | inl t ↦ rw (t, here, gone) refl
@@ -77,7 +77,7 @@ module _ (edit : Edit) (old mid new : TablesView) (root : has_root old edit.who 
       let mid_rows : AreRowsOfPartitions mid.layout.ids = subst (λ (l : Layout). AreRowsOfPartitions l.ids) (sym placed) rows in
       let ended = clears (λ ordered. unreached edit mid mid_rows (away ordered) ordered) old (sym placed) in_step in
       record {
-        moments = call-ended old new before edit.who edit.runs edit.to (clears_of edit) root (after ∙ placed) starts free (λ p n small. same_walk mid new p n after memory ∙ walks p n small) ended;
+        moments = call-ended old new before edit.who edit.runs edit.to (clears_of edit) root (after ∙ placed) starts free (λ p n small. same_walk mid new p n after memory ∙ walks p n small) ended within;
         cleared = ended.orderly.cleared;
       }
     where
@@ -86,8 +86,8 @@ module _ (edit : Edit) (old mid new : TablesView) (root : has_root old edit.who 
 
   -- the pages are cleared, and then mapped
   pub mapped-shown : (access : Access) → edit.to ≡ Some access → mid.layout ≡ old.layout → mid.pool.memory ≡ old.pool.memory → new.layout ≡ mid.layout
-      → ReachSo edit.who edit.runs edit.to mid new → EditsInStep edit.who edit.runs edit.to mid new → ClearsInCall edit old mid → ShowsOne edit old new
-  mapped-shown access some placed memory after walks edits clears begun before starts free others =
+      → ReachSo edit.who edit.runs edit.to mid new → EditsInStep edit.who edit.runs edit.to mid new → ClearsInCall edit old mid → all_lie_in new.pool ≡ true → ShowsOne edit old new
+  mapped-shown access some placed memory after walks edits clears within begun before starts free others =
       let apart : edit.clears ≡ true → (p n : ℕ) → n < 2 ^ 27 → covers edit.runs n ≡ true → walk_in old p n ≡ Unmapped = λ ordered p n small here. starts p n small ∙ ap (walked n) (elim (cases_Bool (eqb p edit.who)) [
         | inl t ↦ let own : p ≡ edit.who = eqb-true _ _ t in ap (λ q. before q n) own ∙ not_reached n (free n small here)
         | inr f ↦ others ordered p n here (λ e. let own : eqb p edit.who ≡ true = rw e (own_is edit.who) in absurd cc)
@@ -95,7 +95,7 @@ module _ (edit : Edit) (old mid new : TablesView) (root : has_root old edit.who 
       let cleared = clears (λ ordered. unreached edit old rows (apart ordered) ordered) old refl (call-begun old edit.who edit.runs edit.to begun) in
       let ended = call-edited old mid new edit.who edit.runs edit.to (clears_of edit) cleared edits placed (ap (λ (m : Memory). words_of m.words) memory) (free-views old before edit.who edit.runs edit.to starts free) in
       record {
-        moments = call-ended old new before edit.who edit.runs edit.to (clears_of edit) root (after ∙ placed) starts free (λ p n small. walks p n small ∙ ap (λ w. cond (eqb p edit.who && covers edit.runs n) (walked n edit.to) w) (same_walk old mid p n placed memory)) ended;
+        moments = call-ended old new before edit.who edit.runs edit.to (clears_of edit) root (after ∙ placed) starts free (λ p n small. walks p n small ∙ ap (λ w. cond (eqb p edit.who && covers edit.runs n) (walked n edit.to) w) (same_walk old mid p n placed memory)) ended within;
         cleared = ended.orderly.cleared;
       }
     where

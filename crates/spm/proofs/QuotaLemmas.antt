@@ -53,7 +53,7 @@ grow_alike v w x y old new =
 
 -- ---- rows and quotas
 
-pub quota_at : (rows : List PartitionRow) (p : ℕ) → pool.quota_of (quotas_of rows) (row_of (ids_of rows) p) ≡ option_map_or (λ (row : PartitionRow). row.quota) (find (λ row. eqb row.id p) rows) 0
+pub quota_at : (rows : List PartitionRow) (p : ℕ) → pool.row_quota (quotas_of rows) (row_of (ids_of rows) p) ≡ option_map_or (λ (row : PartitionRow). row.quota) (find (λ row. eqb row.id p) rows) 0
 quota_at [] p = refl
 quota_at (row ∷ rows) p =
     elim (eqb row.id p) as (λ b. get_or (row.quota ∷ quotas_of rows) (cond (not b) (1 + row_of (ids_of rows) p) 0) 0 ≡ option_map_or (λ (r : PartitionRow). r.quota) (cond b (Some row) (find (λ r. eqb r.id p) rows)) 0) [
@@ -68,7 +68,7 @@ fits_from m t edit placed quotas h =
     let view = view_of t edit.who in
     let le : need view + grow view (reaching edit.runs edit.to view) ≤ manifest.quota_of m edit.who = leb-true _ _ h in
     let same : quota_in t edit.who ≡ manifest.quota_of m edit.who =
-    ap (λ (q : List ℕ). pool.quota_of q (row_of t.layout.ids edit.who)) (sym quotas) ∙ ap (λ (l : Layout). pool.quota_of l.quotas (row_of l.ids edit.who)) placed ∙ quota_at m.partitions edit.who in
+    ap (λ (q : List ℕ). pool.row_quota q (row_of t.layout.ids edit.who)) (sym quotas) ∙ ap (λ (l : Layout). pool.row_quota l.quotas (row_of l.ids edit.who)) placed ∙ quota_at m.partitions edit.who in
     rw same le
 
 walked_view : (n : ℕ) (a : View) → answer_of (walked n a) ≡ a
@@ -96,9 +96,7 @@ pub all_passes : (s : State) (t : TablesView) (c : CallWords) (change : Change) 
 all_passes s t c change granted placed agrees h =
     let rule = rule_of s c granted.request in
     record {
-      known = granted.known;
-      named = granted.named;
-      passed = granted.granted.passed;
+      tests = record { known = granted.known; named = granted.named; passed = granted.granted.passed };
       fits = sym (fits_same s t rule.edit change.edit placed agrees granted.granted.edit) ∙ h;
     }
 

@@ -25,7 +25,7 @@ use Rattle.spm.specs.Machine.{Machine, WalksAgree, ShowsEdit, ShowsCall, unchang
 
 -- a list of operations before the call is none of its own
 pub moments-emptied : (layout : Layout) (old new : Pool) (before after : ℕ → ℕ → View) → Moments layout (emptied old) new before after → Moments layout old new before after
-moments-emptied layout old new before after h = record { exact = h.exact; counted = h.counted; gives = h.gives; keeps = h.keeps; breaks = h.breaks; clears = h.clears; fresh = h.fresh; linked = h.linked }
+moments-emptied layout old new before after h = record { exact = h.exact; counted = h.counted; gives = h.gives; keeps = h.keeps; breaks = h.breaks; clears = h.clears; within = h.within; fresh = h.fresh; linked = h.linked }
 
 -- the same views, told otherwise
 moments-as : (layout : Layout) (old new : Pool) (before after views : ℕ → ℕ → View) → ((p n : ℕ) → after p n ≡ views p n) → Moments layout old new before after → Moments layout old new before views
@@ -90,8 +90,8 @@ module _ {A B : Type 0} (result : Result A B) (s t next : State) (c : CallWords)
     (changed : OnOk result (t ≡ next)) (shown : OnOk result (ShowsEdit edit old new)) (still : edit ≡ None → new.pool ≡ old.pool) where
   call-shown : t ≡ next → ShowsEdit edit old new → IsCallShown s t old new edit
   call-shown goes shows =
-      let law = edits_the_view s c r reached k in
-      edit-shown s t old new (rule_of s c r).edit edit placed stays agrees after begun same law.free (cleared_unreached s c r reached k) (λ p n. ap (λ (u : State). sees u p n) (goes ∙ is) ∙ law.views p n) shows still
+      let law = edits_the_view s c r reached k.tests in
+      edit-shown s t old new (rule_of s c r).edit edit placed stays agrees after begun same law.free (cleared_unreached s c r reached k.tests) (λ p n. ap (λ (u : State). sees u p n) (goes ∙ is) ∙ law.views p n) shows still
 
   pub commit-shown : OnErr result (t ≡ s) → OnErr result (new.pool ≡ old.pool) → Moments (layout_of s.manifest) old.pool new.pool (sees s) (sees t)
   commit-shown err_state err_pool = of_result result changed shown err_pool

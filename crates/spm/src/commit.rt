@@ -5,7 +5,8 @@ ghost use Rattle.base.specs.Manifest.{is_partition};
 ghost use Rattle.base.specs.Pages.{are_normal};
 ghost use Rattle.stage2.specs.Slot.{layout_of};
 ghost use Rattle.stage2.specs.Tables.{Fits, ReachSo, edit_operations, has_root};
-ghost use Rattle.spm.specs.Clearing.{AreRowsOfPartitions, ClearsInCall, ShowsOne};
+ghost use Rattle.pool.specs.Pool.{all_lie_in};
+ghost use Rattle.spm.specs.Clearing.{clears_of, AreRowsOfPartitions, ClearsInCall, ShowsOne};
 ghost use Rattle.spm.specs.Granted.{updated, CanUpdate, needs_room, AreOrderly, IsOrderly, wants_memory};
 ghost use Rattle.spm.specs.Machine.{AreEditedBy, ShowsEdit, fits_in};
 
@@ -115,11 +116,22 @@ fn edit_and_apply<M: TableMem + Drop>(
     ensures err_state { OnErr result (state.new ≡ state.old) }
     ensures err_pool { OnErr result (tables.new.pool ≡ tables.old.pool) }
 {
-    tables.ready(edit.who, &edit.runs, edit.to)?;
+    tables.ready(edit.who, &edit.runs, edit.to, clear_count(&edit))?;
     apply(state, p, update)?;
     edit_tables(tables, &edit);
     *spare = edit.runs;
     Ok(())
+}
+
+/// How many runs an edit clears.
+fn clear_count(edit: &Edit) -> usize
+    ensures same { result ≡ length (clears_of edit.now) }
+    ensures most { result ≤ length edit.now.runs }
+{
+    if !edit.clears {
+        return 0;
+    }
+    edit.runs.len()
 }
 
 /// Edits the tables as the edit says, and clears its pages where it orders that: before they are
@@ -130,7 +142,7 @@ fn edit_tables<M: TableMem + Drop>(tables: &mut Tables<M>, edit: &Edit)
     requires normal { are_normal edit.now.runs ≡ true }
     requires fits { Fits edit.now.who edit.now.runs edit.now.to tables.old }
     requires ready { edit_operations edit.now.who edit.now.runs tables.old
-        + length edit.now.runs ≤ tables.old.room }
+        + length (clears_of edit.now) ≤ tables.old.room }
     ensures layout { tables.new.layout ≡ tables.old.layout }
     ensures walks { ReachSo edit.now.who edit.now.runs edit.now.to tables.old tables.new }
     ensures shown { ShowsOne edit.now tables.old tables.new }
@@ -149,10 +161,11 @@ fn edit_tables<M: TableMem + Drop>(tables: &mut Tables<M>, edit: &Edit)
 
 /// Clears the pages of an edit that orders it, run by run upward.
 fn clear_pages<M: TableMem + Drop>(tables: &mut Tables<M>, edit: &Edit)
-    requires ready { length edit.now.runs ≤ tables.old.room }
+    requires ready { length (clears_of edit.now) ≤ tables.old.room }
     ensures layout { tables.new.layout ≡ tables.old.layout }
     ensures memory { tables.new.pool.memory ≡ tables.old.pool.memory }
-    ensures room { tables.old.room ≤ tables.new.room + length edit.now.runs }
+    ensures room { tables.old.room ≤ tables.new.room + length (clears_of edit.now) }
+    ensures listed { all_lie_in tables.old.pool ≡ true → all_lie_in tables.new.pool ≡ true }
     ensures in_step { ClearsInCall edit.now tables.old tables.new }
 {
     if edit.clears {
@@ -160,12 +173,14 @@ fn clear_pages<M: TableMem + Drop>(tables: &mut Tables<M>, edit: &Edit)
     }
 }
 
+/// Clears the pages of its runs.
 fn clear_runs<M: TableMem + Drop>(tables: &mut Tables<M>, edit: &Edit)
     requires clears { edit.now.clears ≡ true }
     requires ready { length edit.now.runs ≤ tables.old.room }
     ensures layout { tables.new.layout ≡ tables.old.layout }
     ensures memory { tables.new.pool.memory ≡ tables.old.pool.memory }
     ensures room { tables.old.room ≤ tables.new.room + length edit.now.runs }
+    ensures listed { all_lie_in tables.old.pool ≡ true → all_lie_in tables.new.pool ≡ true }
     ensures in_step { ClearsInCall edit.now tables.old tables.new }
 {
     for run in &edit.runs {

@@ -4,3 +4,4 @@ pub mod Spans
 pub mod Normal
 pub mod OwnRuns
 pub mod Between
+pub mod ChunkUnion

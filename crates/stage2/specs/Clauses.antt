@@ -4,14 +4,14 @@ use Rattle.base.specs.Access.{View}
 use Rattle.base.specs.Counts.{count_below}
 use Rattle.base.specs.Manifest.{row_of}
 use Rattle.base.specs.Pages.{PageRun, covers}
-use Rattle.pool.specs.Pool.{Pool, pages_of, words_of, with_put, with_mark, after_replaces, used_by, quota_of}
+use Rattle.pool.specs.Pool.{Pool, pages_of, words_of, with_put, with_mark, after_replaces, used_by, row_quota}
 use Rattle.stage2.specs.declared.walked.Walked.{Walked}
 use Rattle.stage2.specs.declared.walked.Walked.TheVariants.{None as Unmapped}
 use Rattle.stage2.specs.Change.{block_step}
 use Rattle.stage2.specs.Chunks.{edited, IsEntryFor, IsWordFor, Writes, answers_at, answers_in, answers_of, second_of, entry_in, IsOutcome, IsGrowing, Redoes_in}
 use Rattle.stage2.specs.Gigabytes.{sum_below, chunk_operations, grows_at, Fits, FitsGigabyte, FitsRow, IsUnderway, EditsGigabyte, EditsRow}
 use Rattle.stage2.specs.History.{Made, broken, replaced}
-use Rattle.stage2.specs.Moments.{StaysInStep, Clears}
+use Rattle.stage2.specs.Moments.{StaysInStep, LeavesDue}
 use Rattle.stage2.specs.Orderly.{IsOrderly, answers, linked}
 use Rattle.stage2.specs.Slot.{Layout, Slot, Next, slot}
 use Rattle.stage2.specs.Steps.{IsSeated, AreFree, disturbs, disturbed, disturbed_below}
@@ -70,7 +70,7 @@ AnswersAll layout row c j one pool = (n : ℕ) → n / 512 ≡ c → chunk_view 
 
 -- a page of the row's share is free
 abbrev pub HasFree : ℕ → Pool → Type 0
-HasFree row pool = used_by (pages_of pool.memory) row < quota_of pool.memory.quotas row
+HasFree row pool = used_by (pages_of pool.memory) row < row_quota pool.memory.quotas row
 
 -- the edit takes a table for it
 abbrev pub GrowsChunk : Layout → ℕ → ℕ → ℕ → List PageRun → View → Pool → Type 0
@@ -159,7 +159,7 @@ MapsInStep layout row c j runs access old new =
 -- pages are unmapped in its table, and are not yet invalidated
 abbrev pub ClearsPages : Layout → ℕ → ℕ → ℕ → List PageRun → View → Pool → Pool → Type 0
 ClearsPages layout row c j runs access old new =
-    access ≡ None → IsSeatedAt layout row c j old → Clears layout row (covers_in c runs) old new
+    access ≡ None → IsSeatedAt layout row c j old → LeavesDue layout row (covers_in c runs) old new
 
 -- the whole edit of the chunk
 abbrev pub ChunkInStep : Layout → ℕ → ℕ → ℕ → List PageRun → View → Pool → Pool → Type 0

@@ -1,9 +1,9 @@
 -- The edit of one gigabyte, and of all.
-use Rattle.std.specs.Prelude.{◌≡◌, ℕ, zero, suc, ◌+◌, ◌*◌, ◌/◌, ◌^◌, ◌≤◌, ◌<◌, Bool, true, not, ◌&&◌, ◌==◌, if◌then◌else◌, nat_le, nat_lt, Some, length, List}
+use Rattle.std.specs.Prelude.{◌≡◌, ℕ, zero, suc, ◌+◌, ◌*◌, ◌/◌, ◌^◌, ◌≤◌, ◌<◌, min, Bool, true, not, ◌&&◌, ◌==◌, if◌then◌else◌, nat_le, nat_lt, Some, length, List}
 use Rattle.std.specs.List.{list_any}
 use Rattle.base.specs.Pages.{PageRun, covers}
 use Rattle.base.specs.Access.{View}
-use Rattle.pool.specs.Pool.{Pages, used_by, quota_of}
+use Rattle.pool.specs.Pool.{Pages, used_by, row_quota}
 use Rattle.base.specs.Counts.{count_below}
 use Rattle.stage2.specs.Slot.{Layout}
 use Rattle.stage2.specs.Walk.{walk, walked, Gigabyte, table_at}
@@ -30,9 +30,11 @@ touches_chunk c runs = list_any (touches_run c) runs
 abbrev pub chunk_operations : List PageRun → ℕ → ℕ
 chunk_operations runs c = if touches_chunk c runs then 515 + part_count c runs else 0
 
--- the operations that the edit of a gigabyte takes at most
+-- the operations that the edit of a gigabyte takes at most: those of its chunks, and two on the root's word, if one of them is touched
 abbrev pub gigabyte_operations : List PageRun → ℕ → ℕ
-gigabyte_operations runs g = sum_below (λ x. chunk_operations runs (512 * g + x)) 512 + 2
+gigabyte_operations runs g =
+    let chunks = sum_below (λ x. chunk_operations runs (512 * g + x)) 512 in
+    chunks + min 2 chunks
 
 -- the new view has a level 3 table at this chunk, and the old has none
 abbrev pub grows_at : (ℕ → View) → (ℕ → View) → ℕ → Bool
@@ -48,12 +50,12 @@ gigabyte_growth old new g =
 pub record Fits (layout : Layout) (row g j : ℕ) (runs : List PageRun) (access : View) (m : Pages) : Type 0 where
   pub fits : used_by m row + count_below
       (λ x. grows_at (answers layout (linked layout row g j m).words row) (edited runs access (answers layout (linked layout row g j m).words row)) (512 * g + x))
-      512 ≤ quota_of m.quotas row
+      512 ≤ row_quota m.quotas row
 
 -- the free pages of the row are enough for the gigabyte
 pub record FitsGigabyte (layout : Layout) (row g : ℕ) (runs : List PageRun) (access : View) (m : Pages) : Type 0 where
   pub fits : used_by m row + gigabyte_growth (answers layout m.words row)
-      (edited runs access (answers layout m.words row)) g ≤ quota_of m.quotas row
+      (edited runs access (answers layout m.words row)) g ≤ row_quota m.quotas row
 
 -- the chunks of the gigabyte before the i-th are edited; its level 2 table is j, if only once its root's word is written
 pub record IsUnderway (layout : Layout) (row g j i : ℕ) (answer : ℕ → View) (old new : Pages) : Type 0 where
@@ -107,7 +109,7 @@ pub record EditsRow (layout : Layout) (row : ℕ) (answer : ℕ → View) (old n
 -- the change fits: what the view needs, and the tables of the new view at places where it has none
 pub record FitsRow (layout : Layout) (row : ℕ) (runs : List PageRun) (access : View) (m : Pages) : Type 0 where
   pub fits : need (answers layout m.words row) + grow (answers layout m.words row)
-      (edited runs access (answers layout m.words row)) ≤ quota_of m.quotas row
+      (edited runs access (answers layout m.words row)) ≤ row_quota m.quotas row
 
 abbrev pub row_operations : List PageRun → ℕ
 row_operations runs = sum_below (gigabyte_operations runs) 512

@@ -4,7 +4,7 @@ use Rattle.std.specs.Prelude.{◌≡◌, ◌≢◌, ℕ, ◌+◌, ◌/◌, ◌%�
 use Rattle.base.specs.Pages.{PageRun, in_run}
 use Rattle.base.specs.Access.{View}
 use Rattle.base.specs.Manifest.{row_of}
-use Rattle.pool.specs.Pool.{Pool, Words, words_of, put}
+use Rattle.pool.specs.Pool.{Pool, Words, words_of, put, all_lie_in}
 use Rattle.pool.specs.declared.operation.Op.{Op}
 use Rattle.pool.specs.declared.operation.Op.TheVariants.{Set, Invalidate, Clear}
 use Rattle.stage2.specs.declared.walked.Walked.{Walked}
@@ -97,14 +97,23 @@ StandsFor (Root r) index row n = (r ≡ row) × (index ≡ index_1 n)
 StandsFor (Gigabyte r g) index row n = (r ≡ row) × (g ≡ index_1 n) × (index ≡ index_2 n)
 StandsFor (Chunk r c) index row n = (r ≡ row) × (c ≡ n / 512) × (index ≡ index_3 n)
 
+-- At an earlier moment a word of this page stood for page n of a row, which was not invalidated since: the page hung at a place, where its word at the
+-- index stands for page n.
+pub record StoodFor (layout : Layout) (entry : Words) (past : List Op) (page index row n : ℕ) (moment : List Op) : Type 0 where
+  pub place : Place
+  pub inside : IsPlace layout place
+  pub hung : table_at layout (words_after moment entry) place ≡ Some page
+  pub small : n < 2 ^ 27
+  pub stands : StandsFor place index row n
+  pub since : Since layout row n moment past
+
 -- a write into a page
 pub record BreaksFirst (layout : Layout) (entry : Words) (past : List Op) (page index word : ℕ) : Type 0 where
   -- a valid word becomes 0 first
   pub breaks : IsValid (words_after past entry page index) → word ≡ 0
-  -- and a valid word is written where none has stood, in this page hanging anywhere, since the last invalidation of each page that it stood for
-  pub makes : IsValid word → (a : Place) → IsPlace layout a → (row n : ℕ) → n < 2 ^ 27
-      → StandsFor a index row n → (moment : List Op) → Since layout row n moment past
-      → table_at layout (words_after moment entry) a ≡ Some page
+  -- and a valid word is written where the word was invalid at each moment since when a page that it stood for may still be known by it
+  pub makes : IsValid word → (row n : ℕ) (moment : List Op)
+      → StoodFor layout entry past page index row n moment
       → IsInvalid (words_after moment entry page index)
 
 -- each write into a table that hangs
@@ -136,7 +145,7 @@ AllClearUnreached layout entry (Clear run ∷ past) =
 
 -- The words at its entry, how many operations were made before it, the pages of one row that it may disturb, with what their walks
 -- give in the end, and the runs that are cleared so far, of which the latest stands first.
-pub record Edit : Type 0 where
+pub record OpenCall : Type 0 where
   pub layout : Layout
   pub entry : Words
   pub made : ℕ
@@ -146,20 +155,31 @@ pub record Edit : Type 0 where
   pub cleared : List PageRun
 
 -- one run more is cleared
-abbrev pub with_clear : PageRun → Edit → Edit
+abbrev pub with_clear : PageRun → OpenCall → OpenCall
 with_clear run e = record e { cleared = run ∷ e.cleared }
 
+-- the edit may disturb page n of the row
+abbrev pub is_disturbed : OpenCall → ℕ → ℕ → Bool
+is_disturbed e q n = (q == e.row) && e.which n
+
 -- a walk may give what it gave at the entry, and for a page that is disturbed also nothing, or what it gives in the end
-abbrev pub MayGive : Edit → ℕ → ℕ → Walked → Type 0
+abbrev pub MayGive : OpenCall → ℕ → ℕ → Walked → Type 0
 MayGive e q n a =
     (a ≡ walk e.layout e.entry q n)
-    ⊎ (((q == e.row) && e.which n ≡ true) × ((a ≡ Unmapped) ⊎ (a ≡ e.answer n)))
+    ⊎ ((is_disturbed e q n ≡ true) × ((a ≡ Unmapped) ⊎ (a ≡ e.answer n)))
 
 -- at a moment each walk that ends gives what it may
-abbrev pub GivesOnly : Edit → List Op → Type 0
+abbrev pub GivesOnly : OpenCall → List Op → Type 0
 GivesOnly e past =
     (q n : ℕ) → q < length e.layout.ids → n < 2 ^ 27 → (a : Walked)
     → UnderWay e.layout e.entry q n past (Ends a) → MayGive e q n a
+
+-- the table that a walk is to read hangs at its place
+abbrev pub IsLinked : Layout → Words → ℕ → ℕ → Walker → Type 0
+IsLinked layout words q n Begins = Unit {0}
+IsLinked layout words q n (Second j) = table_at layout words (Gigabyte q (index_1 n)) ≡ Some j
+IsLinked layout words q n (Third k) = table_at layout words (Chunk q (n / 512)) ≡ Some k
+IsLinked layout words q n (Ends a) = Unit {0}
 
 -- what a walk has read stands there still: the tables on its way, and, unless an invalidation is due, its answer or nothing
 abbrev pub Stands : Layout → Words → Bool → ℕ → ℕ → Walker → Type 0
@@ -169,7 +189,7 @@ Stands layout words due q n (Third k) = table_at layout words (Chunk q (n / 512)
 Stands layout words due q n (Ends a) = due ≡ false → (a ≡ Unmapped) ⊎ (a ≡ walk layout words q n)
 
 -- an edit under way: these words and operations so far, and the pages of its row whose invalidation is due
-pub record IsInStep (e : Edit) (due : ℕ → Bool) (words : Words) (past : List Op) : Type 0 where
+pub record IsInStep (e : OpenCall) (due : ℕ → Bool) (words : Words) (past : List Op) : Type 0 where
   pub exact : words ≡ words_after past e.entry
   pub gives : AtEachMoment (GivesOnly e) past
   pub breaks : AllBreakFirst e.layout e.entry past
@@ -184,7 +204,7 @@ pub record IsLogged (op : Op) (old new : Pool) : Type 0 where
   pub made : new.made ≡ (old.made + 1) % 2 ^ 64
 
 -- the same of a pool, whose list of operations has all that were made
-pub record IsInStepIn (e : Edit) (due : ℕ → Bool) (pool : Pool) : Type 0 where
+pub record IsInStepIn (e : OpenCall) (due : ℕ → Bool) (pool : Pool) : Type 0 where
   pub orderly : IsInStep e due (words_of pool.memory.words) pool.operations
   pub counted : pool.made % 2 ^ 64 ≡ (e.made + length pool.operations) % 2 ^ 64
 
@@ -193,28 +213,28 @@ abbrev pub nothing : ℕ → Bool
 nothing n = false
 
 -- an edit of these tables that may give nothing, and these answers, at these pages of the row
-pub record Allows (e : Edit) (layout : Layout) (row : ℕ) (which : ℕ → Bool) (answer : ℕ → Walked) : Type 0 where
+pub record Allows (e : OpenCall) (layout : Layout) (row : ℕ) (which : ℕ → Bool) (answer : ℕ → Walked) : Type 0 where
   pub same_layout : e.layout ≡ layout
   pub same_row : e.row ≡ row
   pub may : (n : ℕ) → n < 2 ^ 27 → which n ≡ true
       → MayGive e e.row n Unmapped × MayGive e e.row n (answer n)
 
 -- an edit that is orderly so far stays so, with invalidations of these pages due
-abbrev pub Clears : Layout → ℕ → (ℕ → Bool) → Pool → Pool → Type 0
-Clears layout row which old new =
-    (e : Edit) (due : ℕ → Bool) → Allows e layout row which (λ n. Unmapped) → IsInStepIn e due old
+abbrev pub LeavesDue : Layout → ℕ → (ℕ → Bool) → Pool → Pool → Type 0
+LeavesDue layout row which old new =
+    (e : OpenCall) (due : ℕ → Bool) → Allows e layout row which (λ n. Unmapped) → IsInStepIn e due old
     → IsInStepIn e (λ n. due n || which n) new
 
 -- it stays so, and no invalidations of these pages are due any more
 abbrev pub Settles : ℕ → (ℕ → Bool) → Pool → Pool → Type 0
 Settles who which old new =
-    (e : Edit) (due : ℕ → Bool) → row_of e.layout.ids who ≡ e.row → IsInStepIn e due old
+    (e : OpenCall) (due : ℕ → Bool) → row_of e.layout.ids who ≡ e.row → IsInStepIn e due old
     → IsInStepIn e (λ n. due n && not (which n)) new
 
 -- it stays so, where nothing is due before and after, and where it may give these answers
 abbrev pub StaysInStep : Layout → ℕ → (ℕ → Bool) → (ℕ → Walked) → Pool → Pool → Type 0
 StaysInStep layout row which answer old new =
-    (e : Edit) → Allows e layout row which answer → IsInStepIn e nothing old
+    (e : OpenCall) → Allows e layout row which answer → IsInStepIn e nothing old
     → IsInStepIn e nothing new
 
 -- ---- what walkers see of a whole call
@@ -259,13 +279,15 @@ pub record Moments (layout : Layout) (old new : Pool) (before after : ℕ → �
   pub breaks : AllBreakFirst layout (words_of old.memory.words) new.operations
   -- pages are cleared while no partition reaches them
   pub clears : AllClearUnreached layout (words_of old.memory.words) new.operations
+  -- each writes a word of a page of the pool, invalidates pages of a partition with a row, or clears pages, all below 2^27
+  pub within : all_lie_in new ≡ true
   -- in the end what is cached is new, and the tables that walks under way are to read hang still
   pub fresh : (p n : ℕ) (a : Walked)
       → MayAnswer layout (words_of old.memory.words) new.operations p n a
       → (a ≡ Unmapped) ⊎ (a ≡ walked n (after p n))
   pub linked : (row n : ℕ) → row < length layout.ids → n < 2 ^ 27 → (w : Walker)
       → UnderWay layout (words_of old.memory.words) row n new.operations w
-      → Stands layout (words_of new.memory.words) true row n w
+      → IsLinked layout (words_of new.memory.words) row n w
 
 -- what partitions reach without these pages of one of them
 abbrev pub without : ℕ → (ℕ → Bool) → (ℕ → ℕ → View) → ℕ → ℕ → View

@@ -4,13 +4,13 @@ use Rattle.base.specs.Access.{View}
 use Rattle.base.specs.Manifest.{row_of}
 use Rattle.base.specs.Need.{need, grow}
 use Rattle.base.specs.Pages.{PageRun, in_run, covers}
-use Rattle.pool.specs.Pool.{words_of, taken_of, pages_of, used_by, quota_of}
+use Rattle.pool.specs.Pool.{words_of, taken_of, pages_of, used_by, row_quota, all_lie_in}
 use Rattle.stage2.specs.declared.walked.Walked.{Walked}
 use Rattle.stage2.specs.declared.walked.Walked.TheVariants.{None as Unmapped}
 use Rattle.stage2.specs.Chunks.{edited}
 use Rattle.stage2.specs.Entries.{word_at}
 use Rattle.stage2.specs.Parts.{operations_for}
-use Rattle.stage2.specs.Moments.{cleared_by, Edit, with_clear, IsInStepIn, nothing, StaysInStep, Moments}
+use Rattle.stage2.specs.Moments.{cleared_by, OpenCall, with_clear, IsInStepIn, nothing, StaysInStep, Moments}
 use Rattle.stage2.specs.Orderly.{answer_of, IsCanonical}
 use Rattle.stage2.specs.Steps.{AreFree, disturbed, with_pages}
 use Rattle.stage2.specs.Walk.{walk, walked, translation, Agrees, Place, table_at, IsPlace}
@@ -30,7 +30,7 @@ has_root t p = nat_lt (row_of t.layout.ids p) (length t.layout.ids)
 
 -- a partition's quota, and how many pages of its share are taken
 abbrev pub quota_in : TablesView → ℕ → ℕ
-quota_in t p = quota_of t.pool.memory.quotas (row_of t.layout.ids p)
+quota_in t p = row_quota t.pool.memory.quotas (row_of t.layout.ids p)
 
 abbrev pub used_in : TablesView → ℕ → ℕ
 used_in t p = used_by (pages_of t.pool.memory) (row_of t.layout.ids p)
@@ -50,6 +50,8 @@ pub record AreCanonical (t : TablesView) : Type 0 where
   -- a free page is all 0
   pub free : (q i : ℕ) → taken_of t.pool.memory.taken q ≡ false
       → words_of t.pool.memory.words q i ≡ 0
+  -- and each operation of the list lies in the pool
+  pub listed : all_lie_in t.pool ≡ true
 
 -- ---- an edit of one partition's pages: they are reached with an access, or, for None, not at all
 
@@ -89,7 +91,7 @@ ClearsNothing p runs access old new =
 -- ---- a call that clears pages before the edit or after it
 
 -- the edit of a call that begins at these tables and has cleared these runs so far, of which the latest stands first
-abbrev pub edit_from : TablesView → ℕ → List PageRun → View → List PageRun → Edit
+abbrev pub edit_from : TablesView → ℕ → List PageRun → View → List PageRun → OpenCall
 edit_from t p runs access cleared = record {
   layout = t.layout;
   entry = words_of t.pool.memory.words;
@@ -122,5 +124,5 @@ AreUnmappedForAll run t =
 -- a clear of pages that no partition reaches keeps a call in step, which has cleared one run more
 abbrev pub ClearsInStep : PageRun → TablesView → TablesView → Type 0
 ClearsInStep run old new =
-    AreUnmappedForAll run old → (e : Edit) → e.layout ≡ old.layout → IsInStepIn e nothing old.pool
+    AreUnmappedForAll run old → (e : OpenCall) → e.layout ≡ old.layout → IsInStepIn e nothing old.pool
     → IsInStepIn (with_clear run e) nothing new.pool

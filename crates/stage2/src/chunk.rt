@@ -3,7 +3,7 @@
 ghost use Rattle.std.specs.Prelude.{◌≡◌, ℕ, ◌+◌, ◌*◌, ◌%◌, ◌<◌, ◌≤◌, true, false, Some, None, is_some, if◌then◌else◌};
 ghost use Rattle.base.specs.Pages.{are_normal};
 ghost use Rattle.base.specs.Manifest.{page_count, row_of};
-ghost use Rattle.pool.specs.Pool.{pages_of, taken_of};
+ghost use Rattle.pool.specs.Pool.{pages_of, taken_of, HasRow};
 ghost use Rattle.stage2.specs.declared.walked.Slot.TheVariants.{Next};
 ghost use Rattle.stage2.specs.Change.{block_step};
 ghost use Rattle.stage2.specs.Slot.{Layout, slot};
@@ -29,6 +29,7 @@ use words::{leaf_word, table_word};
 fn break_entry<M: TableMem>(memory: &mut M, p: PartitionId, second: TablePage, chunk: Chunk)
     requires page_in { second < page_count (M.state memory.old).memory.quotas }
     requires taken { taken_of (M.state memory.old).memory.taken second ≡ true }
+    requires partition { HasRow (M.state memory.old).memory p }
     requires room { 2 ≤ M.room memory.old }
     ensures pages { Puts second (chunk % 512) 0 (M.state memory.old) (M.state memory.new) }
     ensures history { Breaks p second chunk (M.state memory.old) (M.state memory.new) }
@@ -52,6 +53,7 @@ fn replace_entry<M: TableMem>(
 )
     requires page_in { second < page_count (M.state memory.old).memory.quotas }
     requires taken { taken_of (M.state memory.old).memory.taken second ≡ true }
+    requires partition { HasRow (M.state memory.old).memory p }
     requires room { 3 ≤ M.room memory.old }
     ensures pages { Puts second (chunk % 512) word (M.state memory.old) (M.state memory.new) }
     ensures history { Replaces p second chunk word (M.state memory.old) (M.state memory.new) }
@@ -95,6 +97,7 @@ pub(crate) fn set_blocks<M: TableMem>(
     requires taken { taken_of (M.state memory.old).memory.taken second ≡ true }
     requires some { chunks.first < chunks.end }
     requires most { chunks.end ≤ 512 }
+    requires partition { HasRow (M.state memory.old).memory p }
     requires room { 3 * chunks.end ≤ M.room memory.old + 3 * chunks.first }
     ensures replaces { ReplacesBlocks p second gigabyte chunks.first chunks.end answer.now
         (M.state memory.old) (M.state memory.new) }

@@ -4,10 +4,8 @@ ghost use Rattle.std.specs.Prelude.{◌≡◌, ℕ, ◌<◌, ◌≤◌, List};
 ghost use Rattle.base.specs.Manifest.{page_count};
 ghost use Rattle.pool.specs.Pool.{words_of, nonzero_in};
 
+use crate::place::WORDS;
 use pool::{Image, TableMem};
-
-/// How many words a table has.
-const WORDS: u32 = 512;
 
 /// Words of pages of table memory, 512 to a page.
 pub trait WordSource {

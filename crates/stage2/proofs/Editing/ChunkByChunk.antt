@@ -4,7 +4,7 @@ use Rattle.std.proofs.lemmas.Bool.{cases_eq}
 use Rattle.std.proofs.lemmas.Bool.Decides.{nat_tests}
 use Rattle.base.specs.Pages.{PageRun, in_run, covers}
 use Rattle.base.specs.Access.{View}
-use Rattle.pool.specs.Pool.{Pages, used_by, quota_of}
+use Rattle.pool.specs.Pool.{Pages, used_by, row_quota}
 use Rattle.base.specs.Counts.{count_below}
 use Rattle.pool.proofs.Count.{count_below-same, count_below-more}
 use Rattle.stage2.specs.declared.walked.Walked.{Walked}
@@ -138,8 +138,8 @@ module _ (layout : Layout) (row g j : ℕ) (runs : List PageRun) (access : View)
         (λ x small. ap (λ a. cond (covers runs (512 * (512 * g + i) + x)) access a) (still-answers (512 * (512 * g + i) + x) (omega (arith, small, lt, below)) (omega (arith, small))))
 
     -- there is a page for a chunk that grows
-    pub has-free : used_by old row + count_below (λ x. grows_at before after (512 * g + x)) 512 ≤ quota_of old.quotas row → IsGrowing (answers_in layout row (512 * g + i) j mid) (edited runs access (answers_in layout row (512 * g + i) j mid)) (512 * g + i)
-        → used_by mid row < quota_of mid.quotas row
+    pub has-free : used_by old row + count_below (λ x. grows_at before after (512 * g + x)) 512 ≤ row_quota old.quotas row → IsGrowing (answers_in layout row (512 * g + i) j mid) (edited runs access (answers_in layout row (512 * g + i) j mid)) (512 * g + i)
+        → used_by mid row < row_quota mid.quotas row
     has-free fits grows =
         let now : is_mixed after (512 * g + i) ≡ true = sym now-mixed ∙ grows.now in
         let was : is_mixed before (512 * g + i) ≡ false = sym still-mixed ∙ grows.was in
@@ -147,7 +147,7 @@ module _ (layout : Layout) (row g j : ℕ) (runs : List PageRun) (access : View)
         let more = count_below-more (λ x. grows_at before after (512 * g + x)) i in
         let here : bit (grows_at before after (512 * g + i)) ≡ 1 = ap bit one in
         let up = count_below-up (λ x. grows_at before after (512 * g + x)) (i + 1) 512 (omega arith) in
-        let quota : quota_of mid.quotas row ≡ quota_of old.quotas row = ap (λ q. quota_of q row) h.quotas in
+        let quota : row_quota mid.quotas row ≡ row_quota old.quotas row = ap (λ q. row_quota q row) h.quotas in
         let used = h.used in
         omega (arith, more, here, up, quota, fits, used)
 

@@ -8,7 +8,7 @@ use Rattle.words.specs.Words.{table_word_of, entry_of}
 use Rattle.words.specs.declared.word.Entry.{Entry}
 use Rattle.words.specs.declared.word.Entry.TheVariants.{Invalid, Table, Leaf, Wrong as WrongWord}
 use Rattle.words.proofs.RoundTrip.{word-table}
-use Rattle.pool.specs.Pool.{Pages, with_put, with_mark, used_by, quota_of}
+use Rattle.pool.specs.Pool.{Pages, with_put, with_mark, used_by, row_quota}
 use Rattle.base.specs.Counts.{count_below}
 use Rattle.pool.proofs.Count.{count_below-same}
 use Rattle.pool.proofs.Shares.{used_by-take, used_by-give}
@@ -270,8 +270,8 @@ module _ (layout : Layout) (row g k : ℕ) (runs : List PageRun) (access : View)
   took : used_by (with_mark k true m) row ≡ used_by m row + 1
   took = used_by-take m row k h.inside h.free
 
-  pub link-fits : used_by m row + gigabyte_growth (answers layout m.words row) (edited runs access (answers layout m.words row)) g ≤ quota_of m.quotas row
-      → used_by (with_mark k true m) row + count_below (λ x. grows_at (answers layout (linked layout row g k (with_mark k true m)).words row) (edited runs access (answers layout (linked layout row g k (with_mark k true m)).words row)) (512 * g + x)) 512 ≤ quota_of m.quotas row
+  pub link-fits : used_by m row + gigabyte_growth (answers layout m.words row) (edited runs access (answers layout m.words row)) g ≤ row_quota m.quotas row
+      → used_by (with_mark k true m) row + count_below (λ x. grows_at (answers layout (linked layout row g k (with_mark k true m)).words row) (edited runs access (answers layout (linked layout row g k (with_mark k true m)).words row)) (512 * g + x)) 512 ≤ row_quota m.quotas row
   link-fits fits = omega (arith, fits, growth, took, same-growth)
 
   pub finish-link : (mid new : Pages) → IsUnderway layout row g k 512 (edited runs access (answers layout (linked layout row g k (with_mark k true m)).words row)) (with_mark k true m) mid → new ≡ with_put row g (table_word_of (layout.base + k)) mid
@@ -325,7 +325,7 @@ touched-below runs g touches = let small = touches.small in let here = touches.h
 
 -- there is a page for its level 2 table
 pub link-has-free : (layout : Layout) (row g : ℕ) (runs : List PageRun) (access : View) (m : Pages) → IsCanonical layout m → row < length layout.ids → g < 512 → table_at layout m.words (Gigabyte row g) ≡ None → Touches runs g → is_some access ≡ true
-    → used_by m row + gigabyte_growth (answers layout m.words row) (edited runs access (answers layout m.words row)) g ≤ quota_of m.quotas row → used_by m row < quota_of m.quotas row
+    → used_by m row + gigabyte_growth (answers layout m.words row) (edited runs access (answers layout m.words row)) g ≤ row_quota m.quotas row → used_by m row < row_quota m.quotas row
 link-has-free layout row g runs access m canonical inside below none touches maps fits =
     let place : 262144 * g + (touches.page - 262144 * g) ≡ touches.page = let a = touches.here in omega arith in
     let covered : edited runs access (answers layout m.words row) touches.page ≡ access = let c = touches.covered in rw c refl in
@@ -339,5 +339,5 @@ link-has-free layout row g runs access m canonical inside below none touches map
 pub fits-tabled : (layout : Layout) (row g k : ℕ) (m : Pages) → IsCanonical layout m → row < length layout.ids → g < 512 → table_at layout m.words (Gigabyte row g) ≡ Some k
     → (runs : List PageRun) (access : View) → FitsGigabyte layout row g runs access m → Fits layout row g k runs access m
 fits-tabled layout row g k m canonical inside below table runs access h =
-    let fits : used_by m row + count_below (λ x. grows_at (answers layout m.words row) (edited runs access (answers layout m.words row)) (512 * g + x)) 512 ≤ quota_of m.quotas row = omega (arith, h.fits) in
-    record { fits = subst (λ (z : Pages). used_by m row + count_below (λ x. grows_at (answers layout z.words row) (edited runs access (answers layout z.words row)) (512 * g + x)) 512 ≤ quota_of m.quotas row) (sym (linked-same layout row g k m canonical inside below table)) fits }
+    let fits : used_by m row + count_below (λ x. grows_at (answers layout m.words row) (edited runs access (answers layout m.words row)) (512 * g + x)) 512 ≤ row_quota m.quotas row = omega (arith, h.fits) in
+    record { fits = subst (λ (z : Pages). used_by m row + count_below (λ x. grows_at (answers layout z.words row) (edited runs access (answers layout z.words row)) (512 * g + x)) 512 ≤ row_quota m.quotas row) (sym (linked-same layout row g k m canonical inside below table)) fits }

@@ -4,7 +4,7 @@ use Rattle.std.proofs.lemmas.Bool.{cases_eq}
 use Rattle.std.proofs.lemmas.Bool.Decides.{nat_tests}
 use Rattle.base.specs.Pages.{PageRun, IsRun, in_run, covers}
 use Rattle.base.specs.Access.{View}
-use Rattle.pool.specs.Pool.{Pages, used_by, quota_of}
+use Rattle.pool.specs.Pool.{Pages, used_by, row_quota}
 use Rattle.base.specs.Counts.{count_below}
 use Rattle.pool.proofs.Count.{count_below-same, count_below-more}
 use Rattle.stage2.specs.declared.walked.Walked.{Walked}
@@ -122,7 +122,7 @@ module _ (layout : Layout) (row : ℕ) (runs : List PageRun) (access : View) (ol
           let all = grow-sum before after in
           let more = sum_below-more (gigabyte_growth before after) g in
           let up = sum_below-up (gigabyte_growth before after) (g + 1) 512 (omega (arith, lt)) in
-          let quota : quota_of mid.quotas row ≡ quota_of old.quotas row = ap (λ q. quota_of q row) h.quotas in
+          let quota : row_quota mid.quotas row ≡ row_quota old.quotas row = ap (λ q. row_quota q row) h.quotas in
           let used = h.used in
           let fits = f.fits in
           omega (arith, need_is, all, more, up, quota, used, fits, growth);

@@ -4,7 +4,7 @@ use Rattle.std.proofs.lemmas.Bool.{cases_Bool, eqb-true}
 use Rattle.base.specs.Pages.{PageRun, covers}
 use Rattle.base.specs.Access.{View}
 use Rattle.base.specs.Manifest.{row_of, page_count}
-use Rattle.pool.specs.Pool.{Pages, InShare, used_by, share_start, quota_of}
+use Rattle.pool.specs.Pool.{Pages, InShare, used_by, share_start, row_quota}
 use Rattle.pool.proofs.Count.{count_below-none, count_below-some}
 use Rattle.stage2.specs.Slot.{Layout}
 use Rattle.stage2.specs.Walk.{walk, walked, translation, Gigabyte, Chunk, table_at}
@@ -67,7 +67,7 @@ pub not-taken : (m : Pages) (row q : ℕ) → InShare m.quotas row q → used_by
 not-taken m row q inside none = elim (cases_Bool (m.taken q)) [
   | inl t ↦
       let at : share_start m.quotas row + (q - share_start m.quotas row) ≡ q = omega (arith, inside.from) in
-      let some = count_below-some (λ k. m.taken (share_start m.quotas row + k)) (quota_of m.quotas row) (q - share_start m.quotas row) (omega (arith, inside.from, inside.to)) (ap m.taken at ∙ t) in
+      let some = count_below-some (λ k. m.taken (share_start m.quotas row + k)) (row_quota m.quotas row) (q - share_start m.quotas row) (omega (arith, inside.from, inside.to)) (ap m.taken at ∙ t) in
       absurd (omega (arith, some, none))
   | inr f ↦ f
 ]

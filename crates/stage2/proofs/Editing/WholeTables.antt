@@ -6,11 +6,11 @@ use Rattle.std.proofs.lemmas.Bool.Decides.{nat_tests}
 use Rattle.base.specs.Access.{Access, View}
 use Rattle.base.specs.Manifest.{row_of}
 use Rattle.base.specs.Need.{is_mixed, is_reached, need, grow}
-use Rattle.base.specs.Pages.{PageRun, in_run, covers}
+use Rattle.base.specs.Pages.{PageRun, in_run, covers, are_normal}
 use Rattle.pool.specs.declared.operation.Op.TheVariants.{Clear}
-use Rattle.pool.specs.Pool.{Pool, Pages, pages_of, words_of, taken_of, used_by, quota_of, free_of, after_clear}
+use Rattle.pool.specs.Pool.{Pool, Pages, pages_of, words_of, taken_of, used_by, row_quota, free_of, after_clear, all_lie_in}
 use Rattle.pool.proofs.Count.{count_below-same, count_below-none, count_below-some}
-use Rattle.pool.proofs.Shares.{quota_of-none, used_by-le}
+use Rattle.pool.proofs.Shares.{row_quota-none, used_by-le}
 use Rattle.stage2.specs.declared.walked.Walked.{Walked}
 use Rattle.stage2.specs.declared.walked.Walked.TheVariants.{None as Unmapped}
 use Rattle.stage2.specs.Chunks.{edited, answers_of}
@@ -34,12 +34,13 @@ use Rattle.stage2.proofs.Tree.Rows.{IsRow, row-found}
 use Rattle.stage2.proofs.Walkers.WholeEdit.{moments-none}
 use Rattle.base.proofs.Booleans.{both}
 
-pub are-canonical : (t : TablesView) → IsCanonical t.layout (pages_of t.pool.memory) → ((q i : ℕ) → taken_of t.pool.memory.taken q ≡ false → words_of t.pool.memory.words q i ≡ 0) → AreCanonical t
-are-canonical t trees free = record {
+pub are-canonical : (t : TablesView) → IsCanonical t.layout (pages_of t.pool.memory) → ((q i : ℕ) → taken_of t.pool.memory.taken q ≡ false → words_of t.pool.memory.words q i ≡ 0) → all_lie_in t.pool ≡ true → AreCanonical t
+are-canonical t trees free listed = record {
   trees = trees;
   words = entries t.layout (pages_of t.pool.memory) trees.orderly;
   used = λ p root. used-need t.layout (pages_of t.pool.memory) (row_of t.layout.ids p) trees (ltb-true _ _ root);
   free = free;
+  listed = listed;
 }
 
 -- ---- a partition that has no root
@@ -99,8 +100,8 @@ grow-some v w n small none some =
 nothing-there : (t : TablesView) (p n : ℕ) → has_root t p ≡ false → view_of t p n ≡ None
 nothing-there t p n none = ap answer_of (rootless t p n none)
 
-no-quota : (t : TablesView) (p : ℕ) → length t.layout.ids ≡ length t.pool.memory.quotas → has_root t p ≡ false → quota_of t.pool.memory.quotas (row_of t.layout.ids p) ≡ 0
-no-quota t p rows none = quota_of-none t.pool.memory.quotas (row_of t.layout.ids p) (grind (arith, nat_tests, none, rows))
+no-quota : (t : TablesView) (p : ℕ) → length t.layout.ids ≡ length t.pool.memory.quotas → has_root t p ≡ false → row_quota t.pool.memory.quotas (row_of t.layout.ids p) ≡ 0
+no-quota t p rows none = row_quota-none t.pool.memory.quotas (row_of t.layout.ids p) (grind (arith, nat_tests, none, rows))
 
 -- so a map that fits has no page
 rootless-map : (t : TablesView) (p n : ℕ) (runs : List PageRun) (a : Access) → length t.layout.ids ≡ length t.pool.memory.quotas → has_root t p ≡ false → Fits p runs (Some a) t → n < 2 ^ 27 → covers runs n ≡ false
@@ -163,22 +164,22 @@ pub record IsEdited (p : ℕ) (runs : List PageRun) (access : View) (old new : T
 abbrev pub view : Layout → Pool → ℕ → TablesView
 view layout pool room = record { layout = layout; pool = pool; room = room }
 
-pub edited-rooted : (layout : Layout) (old new : Pool) (room left p row : ℕ) (runs : List PageRun) (access : View) → IsRow layout.ids p row → IsCanonical layout (pages_of old.memory)
+pub edited-rooted : (layout : Layout) (old new : Pool) (room left p row : ℕ) (runs : List PageRun) (access : View) → are_normal runs ≡ true → IsRow layout.ids p row → IsCanonical layout (pages_of old.memory)
     → EditsRow layout row (edited runs access (answers layout (pages_of old.memory).words row)) (pages_of old.memory) (pages_of new.memory)
     → (AreFree (λ n. true) runs access (answers layout (words_of old.memory.words) row)
     → StaysInStep layout row (disturbed runs (answers layout (words_of old.memory.words) row) (edited runs access (answers layout (words_of old.memory.words) row))) (λ n. walked n (edited runs access (answers layout (words_of old.memory.words) row) n)) old new)
-    → room ≤ left + row_operations runs → IsEdited p runs access (view layout old room) (view layout new left)
-edited-rooted layout old new room left p row runs access is canonical edits stays enough =
+    → all_lie_in new ≡ true → room ≤ left + row_operations runs → IsEdited p runs access (view layout old room) (view layout new left)
+edited-rooted layout old new room left p row runs access normal is canonical edits stays within enough =
     let walks = edited-walks layout p row runs access (pages_of old.memory) (pages_of new.memory) is canonical.orderly edits in
     let root : has_root (view layout old room) p ≡ true = below-root layout.ids p row is in
     let in_step : EditsInStep p runs access (view layout old room) (view layout new left) = subst (λ r. AreFree (λ n. true) runs access (answers layout (words_of old.memory.words) r)
     → StaysInStep layout r (disturbed runs (answers layout (words_of old.memory.words) r) (edited runs access (answers layout (words_of old.memory.words) r))) (λ n. walked n (edited runs access (answers layout (words_of old.memory.words) r) n)) old new) is.is stays in
     record {
       walks = walks;
-      moments = moments-edited (view layout old room) (view layout new left) p runs access root refl walks in_step;
+      moments = moments-edited (view layout old room) (view layout new left) p runs access root refl walks in_step within;
       clears = clears-nothing (view layout old room) (view layout new left) p runs access in_step;
       in_step = in_step;
-      room = let most = row-operations runs in let all : room ≤ left + operations_for runs = omega (arith, most, enough) in rw root all;
+      room = let most = row-operations runs normal in let all : room ≤ left + operations_for runs = omega (arith, most, enough) in rw root all;
     }
   where
     below-root : (ids : List ℕ) (p row : ℕ) → IsRow ids p row → ltb (row_of ids p) (length ids) ≡ true
@@ -207,20 +208,20 @@ cleared-in_step t run new left is none e same o = record {
 -- the quota of a partition that has a root
 pub record IsQuota (layout : Layout) (m : Pages) (p quota : ℕ) : Type 0 where
   pub root : ltb (row_of layout.ids p) (length layout.ids) ≡ true
-  pub is : quota ≡ quota_of m.quotas (row_of m.ids p)
+  pub is : quota ≡ row_quota m.quotas (row_of m.ids p)
 
-pub quota-found : (layout : Layout) (m : Pages) (p quota : ℕ) → IsOrderly layout m → option_map (quota_of layout.quotas) (position (λ id. eqb id p) layout.ids) ≡ Some quota → IsQuota layout m p quota
+pub quota-found : (layout : Layout) (m : Pages) (p quota : ℕ) → IsOrderly layout m → option_map (row_quota layout.quotas) (position (λ id. eqb id p) layout.ids) ≡ Some quota → IsQuota layout m p quota
 quota-found layout m p quota h found = elim (cases_Bool (ltb (row_of layout.ids p) (length layout.ids))) [
   | inl t ↦
-      let some : Some (quota_of layout.quotas (row_of layout.ids p)) ≡ Some quota = rw t at found in
-      let same : quota_of layout.quotas (row_of layout.ids p) ≡ quota = cc in
-      record { root = t; is = sym same ∙ ap₂ (λ (qs ids : List ℕ). quota_of qs (row_of ids p)) h.quotas h.ids }
+      let some : Some (row_quota layout.quotas (row_of layout.ids p)) ≡ Some quota = rw t at found in
+      let same : row_quota layout.quotas (row_of layout.ids p) ≡ quota = cc in
+      record { root = t; is = sym same ∙ ap₂ (λ (qs ids : List ℕ). row_quota qs (row_of ids p)) h.quotas h.ids }
   | inr f ↦ let none : None ≡ Some quota = rw f at found in absurd (cc)
 ]
 
-pub quota-none : (layout : Layout) (p : ℕ) → option_map (quota_of layout.quotas) (position (λ id. eqb id p) layout.ids) ≡ None → ltb (row_of layout.ids p) (length layout.ids) ≡ false
+pub quota-none : (layout : Layout) (p : ℕ) → option_map (row_quota layout.quotas) (position (λ id. eqb id p) layout.ids) ≡ None → ltb (row_of layout.ids p) (length layout.ids) ≡ false
 quota-none layout p found = elim (cases_Bool (ltb (row_of layout.ids p) (length layout.ids))) [
-  | inl t ↦ let some : Some (quota_of layout.quotas (row_of layout.ids p)) ≡ None = rw t at found in absurd (cc)
+  | inl t ↦ let some : Some (row_quota layout.quotas (row_of layout.ids p)) ≡ None = rw t at found in absurd (cc)
   | inr f ↦ f
 ]
 
@@ -231,7 +232,7 @@ used-found layout m p quota h is =
     let same : row_of m.ids p ≡ row_of layout.ids p = ap (λ (ids : List ℕ). row_of ids p) (sym h.orderly.ids) in
     let here : used_by m (row_of m.ids p) ≡ used_by m (row_of layout.ids p) = ap (used_by m) same in
     let q = is.is in
-    numbers quota (quota_of m.quotas (row_of m.ids p)) (used_by m (row_of m.ids p)) q most ∙ here ∙ used
+    numbers quota (row_quota m.quotas (row_of m.ids p)) (used_by m (row_of m.ids p)) q most ∙ here ∙ used
   where
     numbers : (quota all used : ℕ) → quota ≡ all → used ≤ all → quota - (all - used) ≡ used
     numbers quota all used a b = omega arith
@@ -239,29 +240,29 @@ used-found layout m p quota h is =
 pub free-found : (layout : Layout) (m : Pages) (p quota : ℕ) → IsQuota layout m p quota → free_of m p ≤ quota
 free-found layout m p quota is =
     let q = is.is in
-    numbers quota (quota_of m.quotas (row_of m.ids p)) (used_by m (row_of m.ids p)) q
+    numbers quota (row_quota m.quotas (row_of m.ids p)) (used_by m (row_of m.ids p)) q
   where
     numbers : (quota all used : ℕ) → quota ≡ all → all - used ≤ quota
     numbers quota all used a = omega arith
 
 -- what a partition's tables may still take, and what they take, is its quota
-pub free-and-need : (t : TablesView) (p : ℕ) → IsCanonical t.layout (pages_of t.pool.memory) → free_of (pages_of t.pool.memory) p + need (view_of t p) ≡ quota_of t.layout.quotas (row_of t.layout.ids p)
+pub free-and-need : (t : TablesView) (p : ℕ) → IsCanonical t.layout (pages_of t.pool.memory) → free_of (pages_of t.pool.memory) p + need (view_of t p) ≡ row_quota t.layout.quotas (row_of t.layout.ids p)
 free-and-need t p h =
     let m = pages_of t.pool.memory in
     let row = row_of t.layout.ids p in
     let ids : row_of m.ids p ≡ row = ap (λ (ids : List ℕ). row_of ids p) (sym h.orderly.ids) in
-    let free : free_of m p ≡ quota_of m.quotas row - used_by m row = ap (λ r. quota_of m.quotas r - used_by m r) ids in
-    let quota : quota_of m.quotas row ≡ quota_of t.layout.quotas row = ap (λ (q : List ℕ). quota_of q row) (sym h.orderly.quotas) in
+    let free : free_of m p ≡ row_quota m.quotas row - used_by m row = ap (λ r. row_quota m.quotas r - used_by m r) ids in
+    let quota : row_quota m.quotas row ≡ row_quota t.layout.quotas row = ap (λ (q : List ℕ). row_quota q row) (sym h.orderly.quotas) in
     let most = used_by-le m row in
     elim (cases_Bool (ltb row (length t.layout.ids))) [
       | inl rooted ↦
           let used : used_by m row ≡ need (view_of t p) = used-need t.layout m row h (ltb-true _ _ rooted) in
-          numbers (free_of m p) (quota_of m.quotas row) (used_by m row) (need (view_of t p)) (quota_of t.layout.quotas row) free most used quota
+          numbers (free_of m p) (row_quota m.quotas row) (used_by m row) (need (view_of t p)) (row_quota t.layout.quotas row) free most used quota
       | inr none ↦
           let past : length m.quotas ≤ row = outside row (length t.layout.ids) (length m.quotas) none h.orderly.rows in
-          let zero : quota_of m.quotas row ≡ 0 = quota_of-none m.quotas row past in
+          let zero : row_quota m.quotas row ≡ 0 = row_quota-none m.quotas row past in
           let needs = rootless-need t p none in
-          numbers (free_of m p) (quota_of m.quotas row) (used_by m row) (need (view_of t p)) (quota_of t.layout.quotas row) free most (omega (arith, most, zero, needs)) quota
+          numbers (free_of m p) (row_quota m.quotas row) (used_by m row) (need (view_of t p)) (row_quota t.layout.quotas row) free most (omega (arith, most, zero, needs)) quota
     ]
   where
     numbers : (free all used needs quota : ℕ) → free ≡ all - used → used ≤ all → used ≡ needs → all ≡ quota → free + needs ≡ quota
@@ -276,11 +277,11 @@ pub fits-row : (t : TablesView) (p row : ℕ) (runs : List PageRun) (access : Vi
 fits-row t p row runs access is fits =
     subst (λ r. FitsRow t.layout r runs access (pages_of t.pool.memory)) (sym is.is) (record { fits = fits })
 
-pub room-row : (t : TablesView) (p row : ℕ) (runs : List PageRun) → IsRow t.layout.ids p row → edit_operations p runs t ≤ t.room → row_operations runs ≤ t.room
-room-row t p row runs is ready =
+pub room-row : (t : TablesView) (p row : ℕ) (runs : List PageRun) → are_normal runs ≡ true → IsRow t.layout.ids p row → edit_operations p runs t ≤ t.room → row_operations runs ≤ t.room
+room-row t p row runs normal is ready =
     let at = is.is in
     let inside = is.inside in
     let root : has_root t p ≡ true = grind (arith, nat_tests) in
     let all : operations_for runs ≤ t.room = rw root at ready in
-    let most = row-operations runs in
+    let most = row-operations runs normal in
     omega (arith, all, most)

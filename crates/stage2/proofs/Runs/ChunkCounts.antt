@@ -1,13 +1,14 @@
 -- How many chunks runs touch, and how many operations their edit takes.
-use Rattle.std.proofs.Common.{◌≡◌, ℕ, zero, suc, ◌+◌, ◌-◌, ◌*◌, ◌/◌, ◌<◌, ◌≤◌, min, max, true, false, ◌&&◌, cond, leb, ltb, List, [], ◌∷◌, sum_by, refl, ap, subst, ◌∙◌, arith, add-one, inl, inr}
+use Rattle.std.proofs.Common.{◌≡◌, ℕ, zero, suc, ◌+◌, ◌-◌, ◌*◌, ◌/◌, ◌%◌, ◌<◌, ◌≤◌, min, max, true, false, ◌&&◌, cond, leb, ltb, List, [], ◌∷◌, sum_by, refl, ap, subst, ◌∙◌, arith, add-one, inl, inr}
 use Rattle.std.specs.Option.{option_map_or}
-use Rattle.std.proofs.lemmas.Bool.{cases_Bool, ltb-true}
+use Rattle.std.proofs.lemmas.Bool.{cases_Bool, cases_eq, ltb-true}
 use Rattle.std.proofs.lemmas.Bool.Decides.{nat_tests}
 use Rattle.std.proofs.lemmas.List.Sums.{sum_by-cons}
-use Rattle.base.specs.Pages.{PageRun, chunks_in}
-use Rattle.stage2.specs.Parts.{part_of, part_count, operations_for}
-use Rattle.stage2.specs.Gigabytes.{sum_below, touches_run, touches_chunk, chunk_operations, row_operations}
-use Rattle.stage2.proofs.Editing.ChunkByChunk.{sum_below-more}
+use Rattle.base.specs.Pages.{PageRun, chunks_in, covers, are_normal}
+use Rattle.stage2.specs.Parts.{part_in, part_count, touched_from, operations_for}
+use Rattle.stage2.specs.Gigabytes.{sum_below, touches_run, touches_chunk, chunk_operations, row_operations, Touches}
+use Rattle.stage2.proofs.Editing.ChunkByChunk.{sum_below-more, untouched}
+use Rattle.stage2.proofs.Runs.ChunkUnion.{union}
 
 -- ---- sums
 
@@ -23,11 +24,6 @@ pub sum_below-le : (f g : ℕ → ℕ) (n : ℕ) → ((k : ℕ) → f k ≤ g k)
 unfolding sum_below
 sum_below-le f g zero le = omega arith
 sum_below-le f g (suc n) le = let rest = sum_below-le f g n le in let here = le n in omega (arith, rest, here)
-
-sum_below-times : (f : ℕ → ℕ) (n : ℕ) → sum_below (λ k. 516 * f k) n ≡ 516 * sum_below f n
-unfolding sum_below
-sum_below-times f zero = refl
-sum_below-times f (suc n) = let rest = sum_below-times f n in omega (arith, rest)
 
 pub sum_below-zero : (f : ℕ → ℕ) → sum_below f 0 ≡ 0
 unfolding sum_below
@@ -97,8 +93,8 @@ runs-chunks (run ∷ runs) n =
     rw (sum_by-cons chunks_in run runs) (omega (arith, all, one, rest))
 
 -- a run with a part in the chunk touches it
-part-touches : (c : ℕ) (run : PageRun) → option_map_or (λ (part : PageRun). 1) (part_of c run) 0 ≤ touch c run
-unfolding part_of touch
+part-touches : (c : ℕ) (run : PageRun) → option_map_or (λ (part : PageRun). 1) (part_in c run) 0 ≤ touch c run
+unfolding part_in touch
 part-touches c run =
     let first = max run.first (512 * c) in
     let end = min (run.first + run.count) (512 * c + 512) in
@@ -116,52 +112,102 @@ parts-touch c (run ∷ runs) =
     let all = touches-cons c run runs in
     let one = part-touches c run in
     let rest = parts-touch c runs in
-    rw (sum_by-cons (λ (r : PageRun). option_map_or (λ (part : PageRun). 1) (part_of c r) 0) run runs) (omega (arith, all, one, rest))
+    rw (sum_by-cons (λ (r : PageRun). option_map_or (λ (part : PageRun). 1) (part_in c r) 0) run runs) (omega (arith, all, one, rest))
 
-touched-some : (c : ℕ) (runs : List PageRun) → touches_chunk c runs ≡ true → 1 ≤ touches c runs
-unfolding touch
-touched-some c [] t = absurd (cc)
-touched-some c (run ∷ runs) t =
-    let all = touches-cons c run runs in
-    elim (cases_Bool (touches_run c run)) [
-      | inl on ↦ let one : touch c run ≡ 1 = rw on refl in omega (arith, all, one)
-      | inr off ↦ let rest = touched-some c runs (rw off at t) in omega (arith, all, rest)
-    ]
-
-chunk-operations : (runs : List PageRun) (c : ℕ) → chunk_operations runs c ≤ 516 * touches c runs
+chunk-operations : (runs : List PageRun) (c : ℕ) → chunk_operations runs c ≤ 515 * cond (touches_chunk c runs) 1 0 + touches c runs
 chunk-operations runs c = elim (cases_Bool (touches_chunk c runs)) [
-  | inl t ↦ let some = touched-some c runs t in let parts = parts-touch c runs in rw t (omega (arith, some, parts))
+  | inl t ↦ let parts = parts-touch c runs in rw t (omega (arith, parts))
   | inr f ↦ rw f (omega arith)
 ]
 
+sums : (runs : List PageRun) (n : ℕ) → sum_below (chunk_operations runs) n ≤ 515 * sum_below (λ c. cond (touches_chunk c runs) 1 0) n + sum_below (λ c. touches c runs) n
+unfolding sum_below
+sums runs zero = omega arith
+sums runs (suc n) = let rest = sums runs n in let here = chunk-operations runs n in omega (arith, rest, here)
+
 -- ---- gigabyte by gigabyte
 
-rows-step : (f : ℕ → ℕ) (g : ℕ) → sum_below (λ x. sum_below (λ y. f (512 * x + y)) 512 + 2) g ≡ sum_below f (512 * g) + 2 * g
-    → sum_below (λ x. sum_below (λ y. f (512 * x + y)) 512 + 2) (g + 1) ≡ sum_below f (512 * (g + 1)) + 2 * (g + 1)
-rows-step f g rest =
-    let more = sum_below-more (λ x. sum_below (λ y. f (512 * x + y)) 512 + 2) g in
+-- what is counted where one of some numbers is not 0 is counted with one of them
+few : (f h : ℕ → ℕ) (n : ℕ) → ((k : ℕ) → min 2 (f k) ≤ h k) → min 2 (sum_below f n) ≤ sum_below h n
+unfolding sum_below
+few f h zero le = omega arith
+few f h (suc n) le = let rest = few f h n le in let here = le n in omega (arith, rest, here)
+
+of_gigabyte : (ℕ → ℕ) → ℕ → ℕ
+of_gigabyte f x = let s = sum_below (λ y. f (512 * x + y)) 512 in s + min 2 s
+
+rows-step : (f h : ℕ → ℕ) (g : ℕ) → ((k : ℕ) → min 2 (f k) ≤ h k) → sum_below (of_gigabyte f) g ≤ sum_below f (512 * g) + sum_below h (512 * g)
+    → sum_below (of_gigabyte f) (g + 1) ≤ sum_below f (512 * (g + 1)) + sum_below h (512 * (g + 1))
+unfolding of_gigabyte
+rows-step f h g le rest =
+    let more = sum_below-more (λ x. of_gigabyte f x) g in
     let e : 512 * (g + 1) ≡ 512 * g + 512 = omega arith in
     let all : sum_below f (512 * (g + 1)) ≡ sum_below f (512 * g) + sum_below (λ y. f (512 * g + y)) 512 = ap (sum_below f) e ∙ sum_below-add f (512 * g) 512 in
-    numbers (sum_below (λ x. sum_below (λ y. f (512 * x + y)) 512 + 2) (g + 1)) (sum_below (λ y. f (512 * g + y)) 512) (sum_below (λ x. sum_below (λ y. f (512 * x + y)) 512 + 2) g) (sum_below f (512 * g)) (sum_below f (512 * (g + 1))) g more rest all
+    let others : sum_below h (512 * (g + 1)) ≡ sum_below h (512 * g) + sum_below (λ y. h (512 * g + y)) 512 = ap (sum_below h) e ∙ sum_below-add h (512 * g) 512 in
+    let here = few (λ y. f (512 * g + y)) (λ y. h (512 * g + y)) 512 (λ y. le (512 * g + y)) in
+    numbers (sum_below (λ x. of_gigabyte f x) (g + 1)) (sum_below (λ x. of_gigabyte f x) g) (sum_below (λ y. f (512 * g + y)) 512) (sum_below (λ y. h (512 * g + y)) 512) (sum_below f (512 * g)) (sum_below h (512 * g)) (sum_below f (512 * (g + 1))) (sum_below h (512 * (g + 1)))
+    more here rest all others
   where
-    numbers : (next one so f fs g : ℕ) → next ≡ (one + 2) + so → so ≡ f + 2 * g → fs ≡ f + one → next ≡ fs + 2 * (g + 1)
-    numbers next one so f fs g a b c = omega arith
+    numbers : (next so one two f h fs hs : ℕ) → next ≡ (one + min 2 one) + so → min 2 one ≤ two → so ≤ f + h → fs ≡ f + one → hs ≡ h + two → next ≤ fs + hs
+    numbers next so one two f h fs hs a b c d e = omega arith
 
-rows-start : (f : ℕ → ℕ) → sum_below (λ x. sum_below (λ y. f (512 * x + y)) 512 + 2) 0 ≡ sum_below f (512 * 0) + 2 * 0
+rows : (f h : ℕ → ℕ) (g : ℕ) → ((k : ℕ) → min 2 (f k) ≤ h k) → sum_below (of_gigabyte f) g ≤ sum_below f (512 * g) + sum_below h (512 * g)
 unfolding sum_below
-rows-start f = refl
+rows f h zero le = omega arith
+rows f h (suc g) le = subst (λ n. sum_below (of_gigabyte f) n ≤ sum_below f (512 * n) + sum_below h (512 * n)) (add-one g) (rows-step f h g le (rows f h g le))
 
-rows : (f : ℕ → ℕ) (g : ℕ) → sum_below (λ x. sum_below (λ y. f (512 * x + y)) 512 + 2) g ≡ sum_below f (512 * g) + 2 * g
-rows f zero = rows-start f
-rows f (suc g) = subst (λ n. sum_below (λ x. sum_below (λ y. f (512 * x + y)) 512 + 2) n ≡ sum_below f (512 * n) + 2 * n) (add-one g) (rows-step f g (rows f g))
+-- of a chunk that the runs touch
+touched : List PageRun → ℕ → ℕ
+touched runs c = cond (touches_chunk c runs) 1 0
 
-pub row-operations : (runs : List PageRun) → row_operations runs ≤ operations_for runs
-row-operations runs =
-    let all = rows (chunk_operations runs) 512 in
-    let most = sum_below-le (chunk_operations runs) (λ c. 516 * touches c runs) (512 * 512) (chunk-operations runs) in
-    let times = sum_below-times (λ c. touches c runs) (512 * 512) in
-    let chunks = runs-chunks runs (512 * 512) in
-    numbers (row_operations runs) (sum_below (chunk_operations runs) (512 * 512)) (sum_below (λ c. 516 * touches c runs) (512 * 512)) (sum_below (λ c. touches c runs) (512 * 512)) (sum_by chunks_in runs) all most times chunks
+twice : (runs : List PageRun) (n : ℕ) → sum_below (λ c. 2 * touched runs c) n ≡ 2 * sum_below (touched runs) n
+unfolding sum_below
+twice runs zero = refl
+twice runs (suc n) = let rest = twice runs n in omega (arith, rest)
+
+two : (runs : List PageRun) (c : ℕ) → min 2 (chunk_operations runs c) ≤ 2 * touched runs c
+unfolding touched
+two runs c = elim (cases_Bool (touches_chunk c runs)) [
+  | inl t ↦ rw t (omega arith)
+  | inr f ↦ rw f (omega arith)
+]
+
+pub row-operations : (runs : List PageRun) → are_normal runs ≡ true → row_operations runs ≤ operations_for runs
+unfolding of_gigabyte touched
+row-operations runs normal =
+    let all = rows (chunk_operations runs) (λ c. 2 * touched runs c) 512 (two runs) in
+    let pairs = twice runs (512 * 512) in
+    let most = sums runs (512 * 512) in
+    let together = union runs (512 * 512) normal in
+    let each = runs-chunks runs (512 * 512) in
+    numbers (row_operations runs) (sum_below (chunk_operations runs) (512 * 512)) (sum_below (λ c. 2 * touched runs c) (512 * 512)) (sum_below (λ c. cond (touches_chunk c runs) 1 0) (512 * 512)) (sum_below (λ c. touches c runs) (512 * 512)) (touched_from 0 runs) (sum_by chunks_in runs)
+    all pairs most together each
   where
-    numbers : (rows all most some chunks : ℕ) → rows ≡ all + 2 * 512 → all ≤ most → most ≡ 516 * some → some ≤ chunks → rows ≤ 1024 + 516 * chunks
-    numbers rows all most some chunks a b c d = omega arith
+    numbers : (rows all pairs some each touched chunks : ℕ) → rows ≤ all + pairs → pairs ≡ 2 * some → all ≤ 515 * some + each → some ≤ touched → each ≤ chunks → rows ≤ 517 * touched + chunks
+    numbers rows all pairs some each touched chunks a b c d e = omega arith
+
+-- ---- a gigabyte that the runs touch
+
+member : (f : ℕ → ℕ) (n x : ℕ) → x < n → f x ≤ sum_below f n
+unfolding sum_below
+member f zero x lt = absurd (omega (arith, lt))
+member f (suc n) x lt = elim (cases_eq x n) [
+  | inl is ↦ rw is (omega arith)
+  | inr differs ↦ let rest = member f n x (omega (arith, lt, differs)) in omega (arith, rest)
+]
+
+covered-touched : (runs : List PageRun) (n : ℕ) → covers runs n ≡ true → touches_chunk (n / 512) runs ≡ true
+covered-touched runs n covered = elim (cases_Bool (touches_chunk (n / 512) runs)) [
+  | inl t ↦ t
+  | inr f ↦ let none = untouched (n / 512) runs n f refl in absurd (cc)
+]
+
+pub touched-operations : (runs : List PageRun) (g : ℕ) → Touches runs g → 2 ≤ sum_below (λ x. chunk_operations runs (512 * g + x)) 512
+touched-operations runs g h =
+    let n = h.page in
+    let x = n / 512 % 512 in
+    let at : n / 512 ≡ 512 * g + x = omega (arith, h.here) in
+    let t : touches_chunk (512 * g + x) runs ≡ true = subst (λ c. touches_chunk c runs ≡ true) at (covered-touched runs n h.covered) in
+    let here : 515 ≤ chunk_operations runs (512 * g + x) = rw t (omega arith) in
+    let all = member (λ y. chunk_operations runs (512 * g + y)) 512 x (omega arith) in
+    omega (arith, here, all)

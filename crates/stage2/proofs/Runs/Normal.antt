@@ -16,7 +16,7 @@ first_of run = run.first
 
 -- ---- runs that stand upward
 
-rise-parts : (end : ℕ) (r : PageRun) (runs : List PageRun) → rise_above end (r ∷ runs) ≡ true → (end < r.first) × (rise_above (end_of r) runs ≡ true)
+pub rise-parts : (end : ℕ) (r : PageRun) (runs : List PageRun) → rise_above end (r ∷ runs) ≡ true → (end < r.first) × (rise_above (end_of r) runs ≡ true)
 rise-parts end r runs e = let both = and_parts (ltb end r.first) (rise_above (end_of r) runs) e in (ltb-true _ _ both.0, both.1)
 
 rise-first : (end : ℕ) (runs : List PageRun) (j : ℕ) (d : PageRun) → rise_above end runs ≡ true → j < length runs → end < (get_or runs j d).first
@@ -49,7 +49,7 @@ firsts-rise runs e i j d le below = elim (cases_eq i j) [
   | inr other ↦ let apart = normal-apart runs i j d e (omega (arith, le, other)) below in omega (arith, apart)
 ]
 
-rise-normal : (end : ℕ) (runs : List PageRun) → rise_above end runs ≡ true → are_normal runs ≡ true
+pub rise-normal : (end : ℕ) (runs : List PageRun) → rise_above end runs ≡ true → are_normal runs ≡ true
 rise-normal end [] e = refl
 rise-normal end (r ∷ runs) e = (rise-parts end r runs e).1
 

@@ -15,7 +15,7 @@ use Rattle.stage2.specs.Chunks.{edited, Redoes, Redoes_in, IsGrowing}
 use Rattle.stage2.specs.Gigabytes.{sum_below, touches_run, touches_chunk, chunk_operations, gigabyte_operations, grows_at, gigabyte_growth, FitsGigabyte, EditsGigabyte}
 use Rattle.stage2.specs.Moments.{StaysInStep}
 use Rattle.stage2.specs.Orderly.{answers, linked}
-use Rattle.stage2.specs.Parts.{part_of, part_count, runs_between, chunk_runs, gigabyte_runs}
+use Rattle.stage2.specs.Parts.{part_in, part_count, runs_between, chunk_runs, gigabyte_runs}
 use Rattle.stage2.specs.Slot.{Layout}
 use Rattle.stage2.specs.Steps.{AreFree, disturbs, disturbed}
 use Rattle.stage2.specs.Walk.{walk, walked}
@@ -32,7 +32,7 @@ sum_below-same f g (suc n) same = ap₂ (λ a b. a + b) (same n (omega arith)) (
 
 -- the parts of a run in a chunk: one, or none
 abbrev parts : ℕ → PageRun → ℕ
-parts c run = option_map_or (λ part. 1) (part_of c run) 0
+parts c run = option_map_or (λ part. 1) (part_in c run) 0
 
 module _ (first end : ℕ) where
   abbrev meets : PageRun → Bool
@@ -51,7 +51,7 @@ module _ (first end : ℕ) where
       here start count inside = grind (arith, nat_tests)
 
   no-part : (c : ℕ) → first ≤ 512 * c → 512 * c + 512 ≤ end → (run : PageRun) → meets run ≡ false → parts c run ≡ 0
-  unfolding part_of
+  unfolding part_in
   no-part c from to run out = let none : ltb (max run.first (512 * c)) (min (run.first + run.count) (512 * c + 512)) ≡ false = grind (arith, nat_tests) in rw none refl
 
   pub count-between : (runs : List PageRun) (c : ℕ) → first ≤ 512 * c → 512 * c + 512 ≤ end → part_count c (runs_between first end runs) ≡ part_count c runs
@@ -134,7 +134,7 @@ module _ (g : ℕ) (runs part : List PageRun) (is : part ≡ gigabyte_runs g run
 
   pub gigabyte-operations : gigabyte_operations part g ≡ gigabyte_operations runs g
   gigabyte-operations =
-      ap (λ x. x + 2) (sum_below-same (λ x. chunk_operations part (512 * g + x)) (λ x. chunk_operations runs (512 * g + x)) 512
+      ap (λ x. x + min 2 x) (sum_below-same (λ x. chunk_operations part (512 * g + x)) (λ x. chunk_operations runs (512 * g + x)) 512
       (λ x lt. ap₂ (λ t k. cond t (515 + k) 0) (gigabyte-touches (512 * g + x) (omega (arith, lt)))
       (ap (part_count (512 * g + x)) is ∙ count-between (262144 * g) (262144 * g + 262144) runs (512 * g + x) (omega arith) (omega (arith, lt)))))
 

@@ -10,7 +10,7 @@ use Rattle.stage2.specs.declared.walked.Walked.{Walked}
 use Rattle.stage2.specs.declared.walked.Walked.TheVariants.{None as Unmapped, Leaf as Mapped, Wrong}
 use Rattle.stage2.specs.Slot.{Layout, Slot, Empty, Next, Maps, Bad, slot, slot_from}
 use Rattle.stage2.specs.Walk.{index_1, index_2, index_3, at_1, at_2, at_3, walk, Place, Root, Gigabyte, Chunk, next_page, chunk_table, table_at, IsPlace}
-use Rattle.stage2.specs.Moments.{words_after, Since, Walker, Begins, Second, Third, Ends, from_1, from_2, UnderWay, begins, reads, IsInvalid, StandsFor, Edit, IsInStep}
+use Rattle.stage2.specs.Moments.{words_after, Since, Walker, Begins, Second, Third, Ends, from_1, from_2, UnderWay, begins, reads, IsInvalid, StandsFor, OpenCall, IsInStep}
 use Rattle.stage2.proofs.Tree.WalkFrame.{table_at-root, table_at-chunk_in, walk-gigabyte, walk-chunk}
 use Rattle.stage2.proofs.Walkers.UnderWay.{outlast}
 use Rattle.stage2.proofs.Walkers.InStep.{walk-inside, gigabyte-now}
@@ -74,7 +74,7 @@ module _ (layout : Layout) (entry : Words) (row n : ℕ) (moment : List Op) wher
 gave_nothing : (a w : Walked) → (a ≡ Unmapped) ⊎ (a ≡ w) → w ≡ Unmapped → a ≡ Unmapped
 gave_nothing a w h e = elim h [ inl none ↦ none | inr same ↦ same ∙ e ]
 
-module _ (e : Edit) (due : ℕ → Bool) (words : Words) (past moment : List Op) (h : IsInStep e due words past) (row n : ℕ) (inside : row < length e.layout.ids) (small : n < 2 ^ 27) (free : (eqb row e.row && due n) ≡ false) (since : Since e.layout row n moment past) where
+module _ (e : OpenCall) (due : ℕ → Bool) (words : Words) (past moment : List Op) (h : IsInStep e due words past) (row n : ℕ) (inside : row < length e.layout.ids) (small : n < 2 ^ 27) (free : (eqb row e.row && due n) ≡ false) (since : Since e.layout row n moment past) where
   -- a walk that was there stands
   ended : (a : Walked) → UnderWay e.layout e.entry row n moment (Ends a) → walk e.layout words row n ≡ Unmapped → a ≡ Unmapped
   ended a u none = gave_nothing a (walk e.layout words row n) (h.stands row n inside small (Ends a) (outlast e.layout e.entry row n moment past (Ends a) since u) free) none
@@ -134,7 +134,7 @@ module _ (e : Edit) (due : ℕ → Bool) (words : Words) (past moment : List Op)
       (third_slot (slot e.layout 3 (words_after moment e.entry k (index_3 n))) (reads moment (Third k) (third-at e.layout e.entry row n moment k at_then)) nowhere)
 
 -- a word that is invalid, of a table that hangs, may become valid where nothing is due
-pub none-stood : (e : Edit) (due : ℕ → Bool) (words : Words) (past : List Op) → IsInStep e due words past → (a : Place) (page index : ℕ) → IsPlace e.layout a → IsInvalid (words page index)
+pub none-stood : (e : OpenCall) (due : ℕ → Bool) (words : Words) (past : List Op) → IsInStep e due words past → (a : Place) (page index : ℕ) → IsPlace e.layout a → IsInvalid (words page index)
     → (row n : ℕ) → n < 2 ^ 27 → StandsFor a index row n → (eqb row e.row && due n) ≡ false → (moment : List Op) → Since e.layout row n moment past
     → table_at e.layout (words_after moment e.entry) a ≡ Some page → IsInvalid (words_after moment e.entry page index)
 none-stood e due words past h (Root r) page index inside invalid row n small stands free moment since at_then =

@@ -11,39 +11,39 @@ use Rattle.stage2.specs.declared.walked.Walked.{Walked}
 use Rattle.stage2.specs.declared.walked.Walked.TheVariants.{None as Unmapped, Leaf as Mapped, Wrong}
 use Rattle.stage2.specs.Slot.{Layout, Slot, Empty, Next, Maps, Bad, slot}
 use Rattle.stage2.specs.Walk.{index_1, index_2, index_3, at_1, at_2, at_3, walk, walk_across, Place, Gigabyte, Chunk, next_page, table_at, IsPlace}
-use Rattle.stage2.specs.Moments.{words_after, cleared_by, invalidates, AtEachMoment, Walker, Begins, Second, Third, Ends, from_1, from_2, goes_on, UnderWay, Stands, now, nothing, Edit, with_clear, MayGive, GivesOnly, BreaksFirst, AllBreakFirst, AllClearUnreached, IsInStep}
+use Rattle.stage2.specs.Moments.{words_after, cleared_by, invalidates, AtEachMoment, Walker, Begins, Second, Third, Ends, from_1, from_2, goes_on, UnderWay, Stands, now, nothing, OpenCall, with_clear, MayGive, GivesOnly, BreaksFirst, AllBreakFirst, AllClearUnreached, IsInStep}
 use Rattle.stage2.proofs.Tree.WalkFrame.{table_at-chunk_in, walk-gigabyte, walk-chunk}
 use Rattle.stage2.proofs.Walkers.UnderWay.{after_op, at_start, under_way-now}
 
 -- a walk under way may go on from here, over these words
-abbrev pub Fits : Edit → Words → Bool → ℕ → ℕ → Walker → Type 0
+abbrev pub Fits : OpenCall → Words → Bool → ℕ → ℕ → Walker → Type 0
 Fits e words due q n Begins = Unit {0}
 Fits e words due q n (Second j) = table_at e.layout words (Gigabyte q (index_1 n)) ≡ Some j
 Fits e words due q n (Third k) = table_at e.layout words (Chunk q (n / 512)) ≡ Some k
 Fits e words due q n (Ends a) = MayGive e q n a × (due ≡ false → (a ≡ Unmapped) ⊎ (a ≡ walk e.layout words q n))
 
-stands-fits : (e : Edit) (words : Words) (due : Bool) (q n : ℕ) (w : Walker) → Fits e words due q n w → Stands e.layout words due q n w
+stands-fits : (e : OpenCall) (words : Words) (due : Bool) (q n : ℕ) (w : Walker) → Fits e words due q n w → Stands e.layout words due q n w
 stands-fits e words due q n Begins h = tt
 stands-fits e words due q n (Second j) h = h
 stands-fits e words due q n (Third k) h = h
 stands-fits e words due q n (Ends a) h = h.1
 
 -- a walk that gives what a walk over these words gives
-fits-now : (e : Edit) (words : Words) (due : Bool) (q n : ℕ) (a : Walked) → MayGive e q n (walk e.layout words q n) → walk e.layout words q n ≡ a → Fits e words due q n (Ends a)
+fits-now : (e : OpenCall) (words : Words) (due : Bool) (q n : ℕ) (a : Walked) → MayGive e q n (walk e.layout words q n) → walk e.layout words q n ≡ a → Fits e words due q n (Ends a)
 fits-now e words due q n a may is = let P : Walked → Type 0 = λ x. MayGive e q n x in (subst P is may, λ _. inr (sym is))
 
 pub walk-inside : (layout : Layout) (words : Words) (q n : ℕ) → q < length layout.ids → walk layout words q n ≡ at_1 layout words words n (slot layout 1 (words q (index_1 n)))
 unfolding walk_across
 walk-inside layout words q n inside = grind (arith, nat_tests)
 
-fits-from_1 : (e : Edit) (words : Words) (due : Bool) (q n : ℕ) → MayGive e q n (walk e.layout words q n) → (s : Slot)
+fits-from_1 : (e : OpenCall) (words : Words) (due : Bool) (q n : ℕ) → MayGive e q n (walk e.layout words q n) → (s : Slot)
     → table_at e.layout words (Gigabyte q (index_1 n)) ≡ next_page s → walk e.layout words q n ≡ at_1 e.layout words words n s → Fits e words due q n (from_1 s)
 fits-from_1 e words due q n may Empty table is = fits-now e words due q n Unmapped may is
 fits-from_1 e words due q n may (Next j) table is = table
 fits-from_1 e words due q n may (Maps m a) table is = fits-now e words due q n Wrong may is
 fits-from_1 e words due q n may Bad table is = fits-now e words due q n Wrong may is
 
-fits-from_2 : (e : Edit) (words : Words) (due : Bool) (q n : ℕ) → MayGive e q n (walk e.layout words q n) → (s : Slot)
+fits-from_2 : (e : OpenCall) (words : Words) (due : Bool) (q n : ℕ) → MayGive e q n (walk e.layout words q n) → (s : Slot)
     → table_at e.layout words (Chunk q (n / 512)) ≡ next_page s → walk e.layout words q n ≡ at_2 e.layout words n s → Fits e words due q n (from_2 n s)
 fits-from_2 e words due q n may Empty table is = fits-now e words due q n Unmapped may is
 fits-from_2 e words due q n may (Next k) table is = table
@@ -55,7 +55,7 @@ unfolding table_at
 gigabyte-now layout words q g = refl
 
 -- a walk that reads its next word from these words may go on
-pub fits-goes_on : (e : Edit) (words : Words) (due : Bool) (q n : ℕ) → q < length e.layout.ids → MayGive e q n (walk e.layout words q n) → (w : Walker) → Fits e words due q n w → Fits e words due q n (goes_on e.layout words q n w)
+pub fits-goes_on : (e : OpenCall) (words : Words) (due : Bool) (q n : ℕ) → q < length e.layout.ids → MayGive e q n (walk e.layout words q n) → (w : Walker) → Fits e words due q n w → Fits e words due q n (goes_on e.layout words q n w)
 fits-goes_on e words due q n inside may Begins h = fits-from_1 e words due q n may (slot e.layout 1 (words q (index_1 n))) (gigabyte-now e.layout words q (index_1 n)) (walk-inside e.layout words q n inside)
 fits-goes_on e words due q n inside may (Second j) h = fits-from_2 e words due q n may (slot e.layout 2 (words j (index_2 n))) (table_at-chunk_in e.layout words q (n / 512) j h) (walk-gigabyte e.layout words q n j inside h)
 fits-goes_on e words due q n inside may (Third k) h = fits-now e words due q n (at_3 (slot e.layout 3 (words k (index_3 n)))) may (walk-chunk e.layout words q n k inside h)
@@ -63,14 +63,14 @@ fits-goes_on e words due q n inside may (Ends a) h = h
 
 -- ---- at the entry
 
-may-entry : (e : Edit) (q n : ℕ) → MayGive e q n (walk e.layout e.entry q n)
+may-entry : (e : OpenCall) (q n : ℕ) → MayGive e q n (walk e.layout e.entry q n)
 may-entry e q n = inl refl
 
-fits-start : (e : Edit) (due : Bool) (q n : ℕ) → q < length e.layout.ids → (w : Walker) → UnderWay e.layout e.entry q n [] w → Fits e e.entry due q n w
+fits-start : (e : OpenCall) (due : Bool) (q n : ℕ) → q < length e.layout.ids → (w : Walker) → UnderWay e.layout e.entry q n [] w → Fits e e.entry due q n w
 fits-start e due q n inside w u = at_start e.layout e.entry q n (Fits e e.entry due q n) tt (fits-goes_on e e.entry due q n inside (may-entry e q n)) w u
 
 -- before the first operation
-pub orderly-start : (e : Edit) (due : ℕ → Bool) → e.cleared ≡ [] → IsInStep e due e.entry []
+pub orderly-start : (e : OpenCall) (due : ℕ → Bool) → e.cleared ≡ [] → IsInStep e due e.entry []
 orderly-start e due none = record {
   exact = refl;
   gives = λ q n inside small a u. (fits-start e false q n inside (Ends a) u).0;
@@ -85,7 +85,7 @@ at_now P [] h = h
 at_now P (op ∷ past) h = h.0
 
 -- each walk under way fits
-pub orderly-fits : (e : Edit) (due : ℕ → Bool) (words : Words) (past : List Op) → IsInStep e due words past → (q n : ℕ) → q < length e.layout.ids → n < 2 ^ 27
+pub orderly-fits : (e : OpenCall) (due : ℕ → Bool) (words : Words) (past : List Op) → IsInStep e due words past → (q n : ℕ) → q < length e.layout.ids → n < 2 ^ 27
     → (w : Walker) → UnderWay e.layout e.entry q n past w → Fits e words (eqb q e.row && due n) q n w
 orderly-fits e due words past h q n inside small Begins u = tt
 orderly-fits e due words past h q n inside small (Second j) u = h.stands q n inside small (Second j) u
@@ -95,7 +95,7 @@ orderly-fits e due words past h q n inside small (Ends a) u = (at_now (GivesOnly
 -- ---- one operation more
 
 -- where each walk under way fits after an operation, the edit stays orderly
-orderly-more : (e : Edit) (more : ℕ → Bool) (new : Words) (past : List Op) (op : Op) → AtEachMoment (GivesOnly e) past
+orderly-more : (e : OpenCall) (more : ℕ → Bool) (new : Words) (past : List Op) (op : Op) → AtEachMoment (GivesOnly e) past
     → new ≡ words_after (op ∷ past) e.entry → AllBreakFirst e.layout e.entry (op ∷ past) → AllClearUnreached e.layout e.entry (op ∷ past) → cleared_by (op ∷ past) ≡ e.cleared
     → ((q n : ℕ) → q < length e.layout.ids → n < 2 ^ 27 → (w : Walker) → UnderWay e.layout e.entry q n (op ∷ past) w → Fits e new (eqb q e.row && more n) q n w)
     → IsInStep e more new (op ∷ past)
@@ -109,13 +109,13 @@ orderly-more e more new past op gives exact breaks clears cleared fits = record 
 }
 
 -- at a page a write leaves the tables on its way, makes its walk give what it may, and makes an invalidation due where it takes an answer away
-pub record IsFine (e : Edit) (due more : Bool) (words new : Words) (q n : ℕ) : Type 0 where
+pub record IsFine (e : OpenCall) (due more : Bool) (words new : Words) (q n : ℕ) : Type 0 where
   pub gigabyte : (j : ℕ) → table_at e.layout words (Gigabyte q (index_1 n)) ≡ Some j → table_at e.layout new (Gigabyte q (index_1 n)) ≡ Some j
   pub chunk : (k : ℕ) → table_at e.layout words (Chunk q (n / 512)) ≡ Some k → table_at e.layout new (Chunk q (n / 512)) ≡ Some k
   pub may : MayGive e q n (walk e.layout new q n)
   pub owed : more ≡ false → (due ≡ false) × ((walk e.layout new q n ≡ walk e.layout words q n) ⊎ (walk e.layout words q n ≡ Unmapped))
 
-fits-set : (e : Edit) (due more : Bool) (words new : Words) (q n : ℕ) → IsFine e due more words new q n → (w : Walker) → Fits e words due q n w → Fits e new more q n w
+fits-set : (e : OpenCall) (due more : Bool) (words new : Words) (q n : ℕ) → IsFine e due more words new q n → (w : Walker) → Fits e words due q n w → Fits e new more q n w
 fits-set e due more words new q n fine Begins h = tt
 fits-set e due more words new q n fine (Second j) h = fine.gigabyte j h
 fits-set e due more words new q n fine (Third k) h = fine.chunk k h
@@ -133,7 +133,7 @@ fits-set e due more words new q n fine (Ends a) h = (
 )
 
 -- a write that is fine at each page
-pub orderly-set : (e : Edit) (due more : ℕ → Bool) (words : Words) (past : List Op) (page index word : ℕ) → IsInStep e due words past
+pub orderly-set : (e : OpenCall) (due more : ℕ → Bool) (words : Words) (past : List Op) (page index word : ℕ) → IsInStep e due words past
     → ((q n : ℕ) → q < length e.layout.ids → n < 2 ^ 27 → IsFine e (eqb q e.row && due n) (eqb q e.row && more n) words (put page index word words) q n)
     → ((a : Place) → IsPlace e.layout a → table_at e.layout words a ≡ Some page → BreaksFirst e.layout e.entry past page index word)
     → IsInStep e more (put page index word words) (Set page index word ∷ past)
@@ -150,12 +150,12 @@ orderly-set e due more words past page index word h fine breaks =
     (λ w free u. fits-set e (eqb q e.row && due n) one words new q n f w (orderly-fits e due words past h q n inside small w u)))
 
 -- what a walk over the present words gives
-pub may-now : (e : Edit) (due : ℕ → Bool) (words : Words) (past : List Op) → IsInStep e due words past → (q n : ℕ) → q < length e.layout.ids → n < 2 ^ 27 → MayGive e q n (walk e.layout words q n)
+pub may-now : (e : OpenCall) (due : ℕ → Bool) (words : Words) (past : List Op) → IsInStep e due words past → (q n : ℕ) → q < length e.layout.ids → n < 2 ^ 27 → MayGive e q n (walk e.layout words q n)
 may-now e due words past h q n inside small =
     let P : Words → Type 0 = λ x. MayGive e q n (walk e.layout x q n) in
     subst P (sym h.exact) (at_now (GivesOnly e) past h.gives q n inside small (walk e.layout (words_after past e.entry) q n) (under_way-now e.layout e.entry q n past past inside (now past)))
 
-fits-due : (e : Edit) (due more : Bool) (words : Words) (q n : ℕ) → (more ≡ false → due ≡ false) → (w : Walker) → Fits e words due q n w → Fits e words more q n w
+fits-due : (e : OpenCall) (due more : Bool) (words : Words) (q n : ℕ) → (more ≡ false → due ≡ false) → (w : Walker) → Fits e words due q n w → Fits e words more q n w
 fits-due e due more words q n fewer Begins h = tt
 fits-due e due more words q n fewer (Second j) h = h
 fits-due e due more words q n fewer (Third k) h = h
@@ -173,7 +173,7 @@ still-due row q who due more covered is free fewer none = elim (cases_eq q row) 
 ]
 
 -- an invalidation of pages for the partition of the row: none of them is due any more
-pub orderly-invalidate : (e : Edit) (due more : ℕ → Bool) (words : Words) (past : List Op) (who : ℕ) (run : PageRun) → IsInStep e due words past
+pub orderly-invalidate : (e : OpenCall) (due more : ℕ → Bool) (words : Words) (past : List Op) (who : ℕ) (run : PageRun) → IsInStep e due words past
     → row_of e.layout.ids who ≡ e.row → ((n : ℕ) → n < 2 ^ 27 → more n ≡ false → in_run run n ≡ false → due n ≡ false)
     → IsInStep e more words (Invalidate who run ∷ past)
 orderly-invalidate e due more words past who run h is fewer =
@@ -186,7 +186,7 @@ orderly-invalidate e due more words past who run h is fewer =
     (λ w free u. fits-due e (eqb q e.row && due n) one words q n (still-due e.row q (row_of e.layout.ids who) (due n) (more n) (in_run run n) is free (fewer n small)) w (orderly-fits e due words past h q n inside small w u)))
 
 -- pages are cleared that no partition reaches, while nothing is due
-pub orderly-clearing : (e : Edit) (words : Words) (past : List Op) (run : PageRun) → IsInStep e nothing words past
+pub orderly-clearing : (e : OpenCall) (words : Words) (past : List Op) (run : PageRun) → IsInStep e nothing words past
     → ((q n : ℕ) → q < length e.layout.ids → n < 2 ^ 27 → in_run run n ≡ true → walk e.layout words q n ≡ Unmapped)
     → IsInStep (with_clear run e) nothing words (Clear run ∷ past)
 orderly-clearing e words past run h none =
@@ -210,7 +210,7 @@ orderly-clearing e words past run h none =
     due_nothing false = refl
 
 -- invalidations of more pages may be thought due
-pub orderly-weaker : (e : Edit) (due more : ℕ → Bool) (words : Words) (past : List Op) → IsInStep e due words past → ((n : ℕ) → n < 2 ^ 27 → more n ≡ false → due n ≡ false) → IsInStep e more words past
+pub orderly-weaker : (e : OpenCall) (due more : ℕ → Bool) (words : Words) (past : List Op) → IsInStep e due words past → ((n : ℕ) → n < 2 ^ 27 → more n ≡ false → due n ≡ false) → IsInStep e more words past
 orderly-weaker e due more words past h fewer = record {
   exact = h.exact;
   gives = h.gives;
@@ -229,16 +229,16 @@ orderly-weaker e due more words past h fewer = record {
 -- ---- a table is taken away, and all pages below are invalidated at once
 
 -- a page below the word that was set to 0: the table that a walk under way is to read has the word that it had
-pub record IsCut (e : Edit) (words new : Words) (q n : ℕ) : Type 0 where
+pub record IsCut (e : OpenCall) (words new : Words) (q n : ℕ) : Type 0 where
   pub second : (j : ℕ) → table_at e.layout words (Gigabyte q (index_1 n)) ≡ Some j → (table_at e.layout new (Gigabyte q (index_1 n)) ≡ Some j) ⊎ (new j (index_2 n) ≡ words j (index_2 n))
   pub third : (k : ℕ) → table_at e.layout words (Chunk q (n / 512)) ≡ Some k → new k (index_3 n) ≡ words k (index_3 n)
   pub may : MayGive e q n (walk e.layout new q n)
 
 -- between the two a walk goes on over the words before the write, or over those after it
-abbrev FitsEither : Edit → Words → Words → ℕ → ℕ → Walker → Type 0
+abbrev FitsEither : OpenCall → Words → Words → ℕ → ℕ → Walker → Type 0
 FitsEither e words new q n w = Fits e words true q n w ⊎ Fits e new true q n w
 
-cut-goes_on : (e : Edit) (words new : Words) (q n : ℕ) → q < length e.layout.ids → MayGive e q n (walk e.layout words q n) → IsCut e words new q n
+cut-goes_on : (e : OpenCall) (words new : Words) (q n : ℕ) → q < length e.layout.ids → MayGive e q n (walk e.layout words q n) → IsCut e words new q n
     → (w : Walker) → FitsEither e words new q n w → FitsEither e words new q n (goes_on e.layout new q n w)
 cut-goes_on e words new q n inside may cut Begins h = inr (fits-goes_on e new true q n inside cut.may Begins tt)
 cut-goes_on e words new q n inside may cut (Second j) h = elim h [
@@ -254,11 +254,11 @@ cut-goes_on e words new q n inside may cut (Third k) h = elim h [
 ]
 cut-goes_on e words new q n inside may cut (Ends a) h = h
 
-either-gives : (e : Edit) (words new : Words) (q n : ℕ) (a : Walked) → FitsEither e words new q n (Ends a) → MayGive e q n a
+either-gives : (e : OpenCall) (words new : Words) (q n : ℕ) (a : Walked) → FitsEither e words new q n (Ends a) → MayGive e q n a
 either-gives e words new q n a h = elim h [ inl old ↦ old.0 | inr fresh ↦ fresh.0 ]
 
 -- a word is set to 0 and pages are invalidated: each page either keeps its tables, or is below the word and invalidated
-pub orderly-cut : (e : Edit) (due : ℕ → Bool) (words : Words) (past : List Op) (page index who : ℕ) (run : PageRun) → IsInStep e due words past
+pub orderly-cut : (e : OpenCall) (due : ℕ → Bool) (words : Words) (past : List Op) (page index who : ℕ) (run : PageRun) → IsInStep e due words past
     → ((q n : ℕ) → q < length e.layout.ids → n < 2 ^ 27
     → IsFine e (eqb q e.row && due n) (eqb q e.row && due n) words (put page index 0 words) q n
     ⊎ ((invalidates e.layout (Invalidate who run) q n ≡ true) × IsCut e words (put page index 0 words) q n))

@@ -13,7 +13,7 @@ use Rattle.stage2.specs.Slot.{Layout, slot}
 use Rattle.stage2.specs.Walk.{index_1, at_3, walk, walked, Gigabyte, Chunk, table_at}
 use Rattle.stage2.specs.Chunks.{planned}
 use Rattle.stage2.specs.History.{AreSets, Filled}
-use Rattle.stage2.specs.Moments.{words_after, IsInvalid, Edit, MayGive, IsInStep, nothing, Clears, StaysInStep}
+use Rattle.stage2.specs.Moments.{words_after, IsInvalid, OpenCall, MayGive, IsInStep, nothing, LeavesDue, StaysInStep}
 use Rattle.stage2.proofs.Tree.WalkFrame.{put-other, IsUnheld, IsLevel3Write, table_at-level_3, walk-level_3, walk-level_3-other, forest-level_3, walk-chunk}
 use Rattle.stage2.proofs.Walkers.Level3Write.{slot-zero, at_3-word, which_page}
 use Rattle.stage2.proofs.Walkers.InStep.{may-now, orderly-set, orderly-weaker}
@@ -43,7 +43,7 @@ level_3-put layout words row c k i word h = record {
 }
 
 -- an invalid word becomes valid
-make-word : (e : Edit) (words : Words) (past : List Op) (c k i word : ℕ) → IsLevel3Write e.layout words e.row c k → i < 512 → IsInvalid (words k i) → MayGive e e.row (512 * c + i) (at_3 (slot e.layout 3 word)) → IsInStep e nothing words past
+make-word : (e : OpenCall) (words : Words) (past : List Op) (c k i word : ℕ) → IsLevel3Write e.layout words e.row c k → i < 512 → IsInvalid (words k i) → MayGive e e.row (512 * c + i) (at_3 (slot e.layout 3 word)) → IsInStep e nothing words past
     → IsInStep e nothing (put k i word words) (Set k i word ∷ past)
 make-word e words past c k i word h small invalid may o =
     let new = put k i word words in
@@ -63,7 +63,7 @@ make-word e words past c k i word h small invalid may o =
     (breaks-invalid e words past k i word o invalid)
 
 -- a word becomes 0, of a page whose invalidation is due
-clear-word : (e : Edit) (due : ℕ → Bool) (words : Words) (past : List Op) (c k i word : ℕ) → IsLevel3Write e.layout words e.row c k → i < 512 → word ≡ 0 → due (512 * c + i) ≡ true → MayGive e e.row (512 * c + i) Unmapped → IsInStep e due words past
+clear-word : (e : OpenCall) (due : ℕ → Bool) (words : Words) (past : List Op) (c k i word : ℕ) → IsLevel3Write e.layout words e.row c k → i < 512 → word ≡ 0 → due (512 * c + i) ≡ true → MayGive e e.row (512 * c + i) Unmapped → IsInStep e due words past
     → IsInStep e due (put k i word words) (Set k i word ∷ past)
 clear-word e due words past c k i word h small is_zero is_due may o =
     let new = put k i word words in
@@ -114,7 +114,7 @@ sets-above words k c b plan (Clear run ∷ ops) x s le = absurd s
 abbrev pub PlansOnly : ℕ → (ℕ → Option View) → (ℕ → Bool) → View → Type 0
 PlansOnly c plan which access = (i : ℕ) (answer : View) → i < 512 → plan (512 * c + i) ≡ Some answer → (answer ≡ access) × (which (512 * c + i) ≡ true)
 
-sets-made : (e : Edit) (words : Words) (past : List Op) (k c b : ℕ) (plan : ℕ → Option View) (which : ℕ → Bool) (access : View) (ops : List Op) → AreSets k c plan b ops → b ≤ 512 → PlansOnly c plan which access → IsLevel3Write e.layout words e.row c k
+sets-made : (e : OpenCall) (words : Words) (past : List Op) (k c b : ℕ) (plan : ℕ → Option View) (which : ℕ → Bool) (access : View) (ops : List Op) → AreSets k c plan b ops → b ≤ 512 → PlansOnly c plan which access → IsLevel3Write e.layout words e.row c k
     → ((i : ℕ) → i < 512 → which (512 * c + i) ≡ true → IsInvalid (words k i) × MayGive e e.row (512 * c + i) (walked (512 * c + i) access)) → IsInStep e nothing words past → IsInStep e nothing (words_after ops words) (ops ++ past)
 sets-made e words past k c b plan which access [] s le only h each o = o
 sets-made e words past k c b plan which access (Set q i word ∷ ops) s le only h each o =
@@ -131,7 +131,7 @@ sets-made e words past k c b plan which access (Set q i word ∷ ops) s le only 
 sets-made e words past k c b plan which access (Invalidate p run ∷ ops) s le only h each o = absurd s
 sets-made e words past k c b plan which access (Clear run ∷ ops) s le only h each o = absurd s
 
-sets-cleared : (e : Edit) (due : ℕ → Bool) (words : Words) (past : List Op) (k c b : ℕ) (plan : ℕ → Option View) (which : ℕ → Bool) (ops : List Op) → AreSets k c plan b ops → b ≤ 512 → PlansOnly c plan which None → IsLevel3Write e.layout words e.row c k
+sets-cleared : (e : OpenCall) (due : ℕ → Bool) (words : Words) (past : List Op) (k c b : ℕ) (plan : ℕ → Option View) (which : ℕ → Bool) (ops : List Op) → AreSets k c plan b ops → b ≤ 512 → PlansOnly c plan which None → IsLevel3Write e.layout words e.row c k
     → ((i : ℕ) → i < 512 → which (512 * c + i) ≡ true → (due (512 * c + i) ≡ true) × MayGive e e.row (512 * c + i) Unmapped) → IsInStep e due words past → IsInStep e due (words_after ops words) (ops ++ past)
 sets-cleared e due words past k c b plan which [] s le only h each o = o
 sets-cleared e due words past k c b plan which (Set q i word ∷ ops) s le only h each o =
@@ -156,7 +156,7 @@ stays-made layout row k c plan which access old new f only h each e allows o =
     made-in-step e nothing nothing f.ops old new f.made o
     (sets-made e (words_of old.memory.words) old.operations k c 512 plan which access f.ops f.sets (omega arith) only here (λ i small w. (each i small w, (allows.may (512 * c + i) (omega arith) w).1)) o.orderly)
 
-pub clears-made : (layout : Layout) (row k c : ℕ) (plan : ℕ → Option View) (which : ℕ → Bool) (old new : Pool) → Filled k c 512 plan old new → PlansOnly c plan which None → IsLevel3Write layout (words_of old.memory.words) row c k → Clears layout row which old new
+pub clears-made : (layout : Layout) (row k c : ℕ) (plan : ℕ → Option View) (which : ℕ → Bool) (old new : Pool) → Filled k c 512 plan old new → PlansOnly c plan which None → IsLevel3Write layout (words_of old.memory.words) row c k → LeavesDue layout row which old new
 clears-made layout row k c plan which old new f only h e due allows o =
     let below = h.chunk in
     let here : IsLevel3Write e.layout (words_of old.memory.words) e.row c k = rw (allows.same_layout, allows.same_row) h in
@@ -173,7 +173,7 @@ clears-made layout row k c plan which old new f only h e due allows o =
     right true b e = refl
     right false b e = e
 
-pub clears-filled : (layout : Layout) (row k c b : ℕ) (plan : ℕ → Option View) (which : ℕ → Bool) (old new : Pool) → Filled k c b plan old new → IsUnheld layout (words_of old.memory.words) k → Clears layout row which old new
+pub clears-filled : (layout : Layout) (row k c b : ℕ) (plan : ℕ → Option View) (which : ℕ → Bool) (old new : Pool) → Filled k c b plan old new → IsUnheld layout (words_of old.memory.words) k → LeavesDue layout row which old new
 clears-filled layout row k c b plan which old new f h e due allows o = filled-unheld e (λ n. due n || which n) layout k c b plan old new f allows.same_layout h (clears-none layout row which old e due allows o)
 
 -- the plan of a rewrite: the pages of the runs, and no others

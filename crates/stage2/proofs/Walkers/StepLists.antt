@@ -13,7 +13,7 @@ use Rattle.stage2.specs.Slot.{Layout, slot}
 use Rattle.stage2.specs.Walk.{at_2, Place, Gigabyte, Chunk, next_page, table_at, IsPlace, IsForest}
 use Rattle.pool.specs.Pool.{counted}
 use Rattle.stage2.specs.History.{Made, AreSets, Filled, broken, replaced}
-use Rattle.stage2.specs.Moments.{words_after, IsInvalid, Edit, MayGive, IsInStep, IsInStepIn, nothing, StaysInStep}
+use Rattle.stage2.specs.Moments.{words_after, IsInvalid, OpenCall, MayGive, IsInStep, IsInStepIn, nothing, StaysInStep}
 use Rattle.stage2.proofs.Tree.WalkFrame.{put-same, IsUnheld, table_at-unheld, IsLevel2Write, table_at-level_2, table_at-level_2-other, walk-level_2}
 use Rattle.stage2.proofs.Tree.RootWrites.{is_chunk, forest-level_2}
 use Rattle.stage2.proofs.Walkers.Level3Write.{slot-zero}
@@ -29,7 +29,7 @@ counted-made [] past before made h = h
 counted-made (op ∷ ops) past before made h = counted-more before (length (ops ++ past)) (counted ops made) (counted (op ∷ ops) made) (counted-made ops past before made h) refl
 
 -- a list of operations that keeps an edit in step, between two pools
-pub made-in-step : (e : Edit) (due more : ℕ → Bool) (ops : List Op) (old new : Pool) → Made ops old new → IsInStepIn e due old
+pub made-in-step : (e : OpenCall) (due more : ℕ → Bool) (ops : List Op) (old new : Pool) → Made ops old new → IsInStepIn e due old
     → IsInStep e more (words_after ops (words_of old.memory.words)) (ops ++ old.operations) → IsInStepIn e more new
 made-in-step e due more ops old new made o done = record {
   orderly = rw (made.words, made.operations) done;
@@ -49,7 +49,7 @@ unheld-sets layout words k c b plan (Set q i word ∷ ops) s h =
 unheld-sets layout words k c b plan (Invalidate p run ∷ ops) s h = absurd s
 unheld-sets layout words k c b plan (Clear run ∷ ops) s h = absurd s
 
-sets-unheld : (e : Edit) (due : ℕ → Bool) (words : Words) (past : List Op) (k c b : ℕ) (plan : ℕ → Option View) (ops : List Op) → AreSets k c plan b ops → IsUnheld e.layout words k → IsInStep e due words past
+sets-unheld : (e : OpenCall) (due : ℕ → Bool) (words : Words) (past : List Op) (k c b : ℕ) (plan : ℕ → Option View) (ops : List Op) → AreSets k c plan b ops → IsUnheld e.layout words k → IsInStep e due words past
     → IsInStep e due (words_after ops words) (ops ++ past)
 sets-unheld e due words past k c b plan [] s h o = o
 sets-unheld e due words past k c b plan (Set q i word ∷ ops) s h o =
@@ -57,7 +57,7 @@ sets-unheld e due words past k c b plan (Set q i word ∷ ops) s h o =
 sets-unheld e due words past k c b plan (Invalidate p run ∷ ops) s h o = absurd s
 sets-unheld e due words past k c b plan (Clear run ∷ ops) s h o = absurd s
 
-pub filled-unheld : (e : Edit) (due : ℕ → Bool) (layout : Layout) (k c b : ℕ) (plan : ℕ → Option View) (old new : Pool) → Filled k c b plan old new → e.layout ≡ layout → IsUnheld layout (words_of old.memory.words) k → IsInStepIn e due old → IsInStepIn e due new
+pub filled-unheld : (e : OpenCall) (due : ℕ → Bool) (layout : Layout) (k c b : ℕ) (plan : ℕ → Option View) (old new : Pool) → Filled k c b plan old new → e.layout ≡ layout → IsUnheld layout (words_of old.memory.words) k → IsInStepIn e due old → IsInStepIn e due new
 filled-unheld e due layout k c b plan old new f same h o =
     let here : IsUnheld e.layout (words_of old.memory.words) k = subst (λ (l : Layout). IsUnheld l (words_of old.memory.words) k) (sym same) h in
     made-in-step e due due f.ops old new f.made o (sets-unheld e due (words_of old.memory.words) old.operations k c b plan f.ops f.sets here o.orderly)
@@ -81,7 +81,7 @@ hung-cut layout words row c j partition small (inl h) =
     inl (forest-level_2 layout words row (c / 512) j (c % 512) 0 write, table_at-level_2-other layout words row (c / 512) j (c % 512) 0 write (Gigabyte row (c / 512)) (partition, omega arith) (λ b. cc) ∙ h.1)
 hung-cut layout words row c j partition small (inr h) = inr (unheld-put layout words j (c % 512) 0 h)
 
-cut-step : (e : Edit) (words : Words) (past : List Op) (p c j : ℕ) → e.row < length e.layout.ids → c < 262144 → IsHung e.layout words e.row c j → row_of e.layout.ids p ≡ e.row
+cut-step : (e : OpenCall) (words : Words) (past : List Op) (p c j : ℕ) → e.row < length e.layout.ids → c < 262144 → IsHung e.layout words e.row c j → row_of e.layout.ids p ≡ e.row
     → ((x : ℕ) → x < 2 ^ 27 → x / 512 ≡ c → MayGive e e.row x Unmapped) → IsInStep e nothing words past
     → IsInStep e nothing (put j (c % 512) 0 words) (Invalidate p (record { first = 512 * c; count = 512 }) ∷ Set j (c % 512) 0 ∷ past)
 cut-step e words past p c j partition small (inl h) is may o =
@@ -93,7 +93,7 @@ cut-step e words past p c j partition small (inl h) is may o =
 cut-step e words past p c j partition small (inr h) is may o =
     orderly-invalidate e nothing nothing (put j (c % 512) 0 words) (Set j (c % 512) 0 ∷ past) p (record { first = 512 * c; count = 512 }) (orderly-unheld e nothing words past j (c % 512) 0 h o) is (λ n below f g. refl)
 
-make-step : (e : Edit) (words : Words) (past : List Op) (c j word : ℕ) → e.row < length e.layout.ids → c < 262144 → IsHung e.layout words e.row c j → IsInvalid (words j (c % 512))
+make-step : (e : OpenCall) (words : Words) (past : List Op) (c j word : ℕ) → e.row < length e.layout.ids → c < 262144 → IsHung e.layout words e.row c j → IsInvalid (words j (c % 512))
     → ((k : ℕ) → next_page (slot e.layout 2 word) ≡ Some k → IsUnheld e.layout words k)
     → ((x : ℕ) → x < 2 ^ 27 → x / 512 ≡ c → MayGive e e.row x (at_2 e.layout (put j (c % 512) word words) x (slot e.layout 2 word))) → IsInStep e nothing words past
     → IsInStep e nothing (put j (c % 512) word words) (Set j (c % 512) word ∷ past)
@@ -104,7 +104,7 @@ make-step e words past c j word partition small (inl h) invalid fresh may o =
     (λ x below at. subst (λ (a : Walked). MayGive e e.row x a) (sym (walk-level_2 e.layout words e.row (c / 512) j (c % 512) word write x at)) (may x below (at ∙ whole))) o
 make-step e words past c j word partition small (inr h) invalid fresh may o = orderly-unheld e nothing words past j (c % 512) word h o
 
-broken-step : (e : Edit) (words : Words) (past : List Op) (p c j : ℕ) → e.row < length e.layout.ids → c < 262144 → IsHung e.layout words e.row c j → row_of e.layout.ids p ≡ e.row
+broken-step : (e : OpenCall) (words : Words) (past : List Op) (p c j : ℕ) → e.row < length e.layout.ids → c < 262144 → IsHung e.layout words e.row c j → row_of e.layout.ids p ≡ e.row
     → ((x : ℕ) → x < 2 ^ 27 → x / 512 ≡ c → MayGive e e.row x Unmapped) → IsInStep e nothing words past
     → IsInStep e nothing (words_after (broken p j c (words j (c % 512))) words) (broken p j c (words j (c % 512)) ++ past)
 broken-step e words past p c j partition small hung is may o = elim (cases_Bool (eqb (words j (c % 512)) 0)) [
@@ -136,7 +136,7 @@ unheld-cut : (layout : Layout) (words : Words) (row c j k : ℕ) → row < lengt
 unheld-cut layout words row c j k partition small hung free = unheld-word layout words row c j 0 k partition small hung (ap next_page (slot-zero layout 2)) (λ a inside other. free a inside) (λ loose. free)
 
 -- the word is replaced: if it was valid it is cut off first
-pub replace-step : (e : Edit) (words : Words) (past : List Op) (p c j word : ℕ) → e.row < length e.layout.ids → c < 262144 → IsHung e.layout words e.row c j → row_of e.layout.ids p ≡ e.row
+pub replace-step : (e : OpenCall) (words : Words) (past : List Op) (p c j word : ℕ) → e.row < length e.layout.ids → c < 262144 → IsHung e.layout words e.row c j → row_of e.layout.ids p ≡ e.row
     → ((x : ℕ) → x < 2 ^ 27 → x / 512 ≡ c → MayGive e e.row x Unmapped) → ((k : ℕ) → next_page (slot e.layout 2 word) ≡ Some k → IsUnheld e.layout words k)
     → ((x : ℕ) → x < 2 ^ 27 → x / 512 ≡ c → MayGive e e.row x (at_2 e.layout (put j (c % 512) word words) x (slot e.layout 2 word))) → IsInStep e nothing words past
     → IsInStep e nothing (words_after (replaced p j c (words j (c % 512)) word) words) (replaced p j c (words j (c % 512)) word ++ past)

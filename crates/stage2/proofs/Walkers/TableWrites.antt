@@ -11,7 +11,7 @@ use Rattle.stage2.specs.declared.walked.Walked.{Walked}
 use Rattle.stage2.specs.declared.walked.Walked.TheVariants.{None as Unmapped}
 use Rattle.stage2.specs.Slot.{Layout, Slot, Empty, Next, Maps, Bad, slot}
 use Rattle.stage2.specs.Walk.{index_1, index_2, index_3, at_1, at_2, at_3, walk, Place, Root, Gigabyte, Chunk, next_page, chunk_table, table_at, IsPlace, IsForest}
-use Rattle.stage2.specs.Moments.{IsInvalid, BreaksFirst, Edit, MayGive, IsInStep, nothing}
+use Rattle.stage2.specs.Moments.{IsInvalid, BreaksFirst, OpenCall, MayGive, IsInStep, nothing}
 use Rattle.stage2.proofs.Tree.WalkFrame.{put-other, put-same, walk-same, other_table, table_at-gigabyte, table_at-chunk, table_at-root, IsUnheld, table_at-unheld, walk-unheld, IsLevel2Write, table_at-level_2-other, walk-level_2, walk-level_2-other, walk-gigabyte, table_at-chunk_in}
 use Rattle.stage2.proofs.Walkers.Level3Write.{slot-zero}
 use Rattle.stage2.proofs.Walkers.InStep.{IsFine, may-now, orderly-set, orderly-cut, walk-inside, gigabyte-now}
@@ -21,7 +21,7 @@ use Rattle.stage2.proofs.Walkers.ZeroedTables.{breaks-zero}
 -- ---- pages whose walks do not change
 
 -- a page whose tables and walk stay
-pub fine-same : (e : Edit) (due : Bool) (words new : Words) (q n : ℕ)
+pub fine-same : (e : OpenCall) (due : Bool) (words new : Words) (q n : ℕ)
     → table_at e.layout new (Gigabyte q (index_1 n)) ≡ table_at e.layout words (Gigabyte q (index_1 n)) → table_at e.layout new (Chunk q (n / 512)) ≡ table_at e.layout words (Chunk q (n / 512))
     → walk e.layout new q n ≡ walk e.layout words q n → MayGive e q n (walk e.layout words q n) → IsFine e due due words new q n
 fine-same e due words new q n gigabyte chunk same may = record {
@@ -37,23 +37,23 @@ due_nothing true = refl
 due_nothing false = refl
 
 -- a page that was not mapped, on whose way a table may be new
-pub fine-made : (e : Edit) (words new : Words) (q n : ℕ)
+pub fine-made : (e : OpenCall) (words new : Words) (q n : ℕ)
     → ((j : ℕ) → table_at e.layout words (Gigabyte q (index_1 n)) ≡ Some j → table_at e.layout new (Gigabyte q (index_1 n)) ≡ Some j)
     → ((k : ℕ) → table_at e.layout words (Chunk q (n / 512)) ≡ Some k → table_at e.layout new (Chunk q (n / 512)) ≡ Some k)
     → walk e.layout words q n ≡ Unmapped → MayGive e q n (walk e.layout new q n) → IsFine e (eqb q e.row && false) (eqb q e.row && false) words new q n
 fine-made e words new q n gigabyte chunk none may = record { gigabyte = gigabyte; chunk = chunk; may = may; owed = λ free. (free, inr none) }
 
 -- where nothing is due, an invalid word of a table that hangs may become any
-pub breaks-invalid : (e : Edit) (words : Words) (past : List Op) (page index word : ℕ) → IsInStep e nothing words past → IsInvalid (words page index)
+pub breaks-invalid : (e : OpenCall) (words : Words) (past : List Op) (page index word : ℕ) → IsInStep e nothing words past → IsInvalid (words page index)
     → (a : Place) → IsPlace e.layout a → table_at e.layout words a ≡ Some page → BreaksFirst e.layout e.entry past page index word
 breaks-invalid e words past page index word o invalid a inside at = record {
   breaks = λ valid. absurd (valid (ap (λ (w : Words). w page index % 2) (sym o.exact) ∙ invalid));
-  makes = λ valid b there row n small stands moment since at_then. none-stood e nothing words past o b page index there invalid row n small stands (due_nothing (eqb row e.row)) moment since at_then;
+  makes = λ valid row n moment stood. none-stood e nothing words past o stood.place page index stood.inside invalid row n stood.small stood.stands (due_nothing (eqb row e.row)) moment stood.since stood.hung;
 }
 
 -- ---- a page that hangs nowhere is filled, or set to 0
 
-pub orderly-unheld : (e : Edit) (due : ℕ → Bool) (words : Words) (past : List Op) (page index word : ℕ) → IsUnheld e.layout words page → IsInStep e due words past → IsInStep e due (put page index word words) (Set page index word ∷ past)
+pub orderly-unheld : (e : OpenCall) (due : ℕ → Bool) (words : Words) (past : List Op) (page index word : ℕ) → IsUnheld e.layout words page → IsInStep e due words past → IsInStep e due (put page index word words) (Set page index word ∷ past)
 orderly-unheld e due words past page index word unheld o =
     orderly-set e due due words past page index word o
     (λ q n inside small.
@@ -81,7 +81,7 @@ in_chunk p c q x = elim (cases_eq q p) [
   | inr e ↦ inr (λ g _. e g)
 ]
 
-fine-level_2-other : (e : Edit) (due : ℕ → Bool) (words : Words) (past : List Op) (p g j i word q x : ℕ) → IsLevel2Write e.layout words p g j i word → IsInStep e due words past → q < length e.layout.ids → x < 2 ^ 27
+fine-level_2-other : (e : OpenCall) (due : ℕ → Bool) (words : Words) (past : List Op) (p g j i word q x : ℕ) → IsLevel2Write e.layout words p g j i word → IsInStep e due words past → q < length e.layout.ids → x < 2 ^ 27
     → (q ≡ p → x / 512 ≡ 512 * g + i → ⊥) → IsFine e (eqb q e.row && due x) (eqb q e.row && due x) words (put j i word words) q x
 fine-level_2-other e due words past p g j i word q x h o inside small other =
     fine-same e (eqb q e.row && due x) words (put j i word words) q x
@@ -91,7 +91,7 @@ fine-level_2-other e due words past p g j i word q x h o inside small other =
     (may-now e due words past o q x inside small)
 
 -- an invalid one becomes a block, or points at a table that was filled
-pub orderly-level_2 : (e : Edit) (words : Words) (past : List Op) (g j i word : ℕ) → IsLevel2Write e.layout words e.row g j i word → IsInvalid (words j i)
+pub orderly-level_2 : (e : OpenCall) (words : Words) (past : List Op) (g j i word : ℕ) → IsLevel2Write e.layout words e.row g j i word → IsInvalid (words j i)
     → ((x : ℕ) → x < 2 ^ 27 → x / 512 ≡ 512 * g + i → MayGive e e.row x (walk e.layout (put j i word words) e.row x)) → IsInStep e nothing words past
     → IsInStep e nothing (put j i word words) (Set j i word ∷ past)
 orderly-level_2 e words past g j i word h invalid may o =
@@ -112,7 +112,7 @@ orderly-level_2 e words past g j i word h invalid may o =
     (breaks-invalid e words past j i word o invalid)
 
 -- it becomes 0, and the chunk is invalidated: the table or the block that stood there is cut off
-pub orderly-cut_chunk : (e : Edit) (due : ℕ → Bool) (words : Words) (past : List Op) (g j i who : ℕ) → IsLevel2Write e.layout words e.row g j i 0 → row_of e.layout.ids who ≡ e.row
+pub orderly-cut_chunk : (e : OpenCall) (due : ℕ → Bool) (words : Words) (past : List Op) (g j i who : ℕ) → IsLevel2Write e.layout words e.row g j i 0 → row_of e.layout.ids who ≡ e.row
     → ((x : ℕ) → x < 2 ^ 27 → x / 512 ≡ 512 * g + i → MayGive e e.row x Unmapped) → IsInStep e due words past
     → IsInStep e due (put j i 0 words) (Invalidate who (record { first = 512 * (512 * g + i); count = 512 }) ∷ Set j i 0 ∷ past)
 orderly-cut_chunk e due words past g j i who h is gives o =
@@ -155,7 +155,7 @@ in_gigabyte p g q x = elim (cases_eq q p) [
   | inr e ↦ inr (λ h _. e h)
 ]
 
-module _ (e : Edit) (words : Words) (g word : ℕ) (forest : IsForest e.layout words) (partition : e.row < length e.layout.ids) where
+module _ (e : OpenCall) (words : Words) (g word : ℕ) (forest : IsForest e.layout words) (partition : e.row < length e.layout.ids) where
   -- all other tables keep their words
   below-root : (b : Place) (k : ℕ) → IsPlace e.layout b → table_at e.layout words b ≡ Some k → Root e.row ≢ b → (x : ℕ) → put e.row g word words k x ≡ words k x
   below-root b k inside at differ x = other_table e.layout words (Root e.row) b e.row k g word forest partition inside (table_at-root e.layout words e.row) at differ x
@@ -179,7 +179,7 @@ unfolding table_at
 no-table-below layout words q c none = ap (chunk_table layout words c) none
 
 -- an invalid one points at a level 2 table that was filled
-pub orderly-root : (e : Edit) (words : Words) (past : List Op) (g word : ℕ) → IsForest e.layout words → e.row < length e.layout.ids → IsInvalid (words e.row g)
+pub orderly-root : (e : OpenCall) (words : Words) (past : List Op) (g word : ℕ) → IsForest e.layout words → e.row < length e.layout.ids → IsInvalid (words e.row g)
     → ((x : ℕ) → x < 2 ^ 27 → index_1 x ≡ g → MayGive e e.row x (walk e.layout (put e.row g word words) e.row x)) → IsInStep e nothing words past
     → IsInStep e nothing (put e.row g word words) (Set e.row g word ∷ past)
 orderly-root e words past g word forest partition invalid may o =
@@ -197,7 +197,7 @@ orderly-root e words past g word forest partition invalid may o =
     (breaks-invalid e words past e.row g word o invalid)
 
 -- it becomes 0, and the gigabyte, where nothing is mapped, is invalidated: its table is cut off
-pub orderly-cut_gigabyte : (e : Edit) (due : ℕ → Bool) (words : Words) (past : List Op) (g who : ℕ) → IsForest e.layout words → e.row < length e.layout.ids → row_of e.layout.ids who ≡ e.row
+pub orderly-cut_gigabyte : (e : OpenCall) (due : ℕ → Bool) (words : Words) (past : List Op) (g who : ℕ) → IsForest e.layout words → e.row < length e.layout.ids → row_of e.layout.ids who ≡ e.row
     → ((x : ℕ) → x < 2 ^ 27 → index_1 x ≡ g → walk e.layout words e.row x ≡ Unmapped) → IsInStep e due words past
     → IsInStep e due (put e.row g 0 words) (Invalidate who (record { first = 262144 * g; count = 262144 }) ∷ Set e.row g 0 ∷ past)
 orderly-cut_gigabyte e due words past g who forest partition is unmapped o =

@@ -5,7 +5,7 @@ use Rattle.base.specs.Pages.{PageRun, covers}
 use Rattle.base.specs.Access.{View}
 use Rattle.base.specs.Manifest.{row_of}
 use Rattle.base.specs.Need.{is_mixed}
-use Rattle.pool.specs.Pool.{Words, words_of}
+use Rattle.pool.specs.Pool.{Words, words_of, all_lie_in}
 use Rattle.stage2.specs.Slot.{Layout}
 use Rattle.stage2.specs.Walk.{walk, walked, translation, Agrees}
 use Rattle.stage2.specs.Orderly.{answers, answer_of}
@@ -93,11 +93,11 @@ module _ (entry : TablesView) (before : ℕ → ℕ → View) (p : ℕ) (runs : 
 
 -- a call ends in step, and its pages are reached as the edit says
 pub call-ended : (entry now : TablesView) (before : ℕ → ℕ → View) (p : ℕ) (runs : List PageRun) (access : View) (cleared : List PageRun) → has_root entry p ≡ true → now.layout ≡ entry.layout
-    → Agrees entry.layout (words_of entry.pool.memory.words) before → AreFreeFor p runs access before → ReachSo p runs access entry now → IsCallInStep entry p runs access cleared now
+    → Agrees entry.layout (words_of entry.pool.memory.words) before → AreFreeFor p runs access before → ReachSo p runs access entry now → IsCallInStep entry p runs access cleared now → all_lie_in now.pool ≡ true
     → Moments entry.layout entry.pool now.pool before (with_pages p runs access before)
-call-ended entry now before p runs access cleared root placed starts free walks ended =
+call-ended entry now before p runs access cleared root placed starts free walks ended within =
     let e = edit_from entry p runs access cleared in
-    moments-of entry.layout entry.pool now.pool before (with_pages p runs access before) e.row e.which e.answer cleared ended starts (agrees-after entry before p runs access root starts now placed walks)
+    moments-of entry.layout entry.pool now.pool before (with_pages p runs access before) e.row e.which e.answer cleared ended within starts (agrees-after entry before p runs access root starts now placed walks)
     (λ q n small at t. ap (walked n) (told-after entry before p runs access root starts q n small at))
     (λ q n small at t steady. ap (walked n) (sym (sym (told entry before p runs access root starts q n small at) ∙ steady-none entry before p runs access root starts free q n small at t steady)))
 
@@ -106,9 +106,9 @@ call-ended entry now before p runs access cleared root placed starts free walks 
 edited-alone : (old new : TablesView) (p : ℕ) (runs : List PageRun) (access : View) → EditsInStep p runs access old new → old.pool.operations ≡ [] → AreFree (λ n. true) runs access (view_of old p) → IsCallInStep old p runs access [] new
 edited-alone old new p runs access edits none free = call-edited old old new p runs access [] (call-begun old p runs access none) edits refl refl free
 
-pub moments-edited : (old new : TablesView) (p : ℕ) (runs : List PageRun) (access : View) → has_root old p ≡ true → new.layout ≡ old.layout → ReachSo p runs access old new → EditsInStep p runs access old new → ShowsMoments p runs access old new
-moments-edited old new p runs access root placed walks edits none before starts free =
-    call-ended old new before p runs access [] root placed starts free walks (edited-alone old new p runs access edits none (free-views old before p runs access starts free))
+pub moments-edited : (old new : TablesView) (p : ℕ) (runs : List PageRun) (access : View) → has_root old p ≡ true → new.layout ≡ old.layout → ReachSo p runs access old new → EditsInStep p runs access old new → all_lie_in new.pool ≡ true → ShowsMoments p runs access old new
+moments-edited old new p runs access root placed walks edits within none before starts free =
+    call-ended old new before p runs access [] root placed starts free walks (edited-alone old new p runs access edits none (free-views old before p runs access starts free)) within
 
 pub clears-nothing : (old new : TablesView) (p : ℕ) (runs : List PageRun) (access : View) → EditsInStep p runs access old new → ClearsNothing p runs access old new
 clears-nothing old new p runs access edits none free = (edited-alone old new p runs access edits none free).orderly.cleared

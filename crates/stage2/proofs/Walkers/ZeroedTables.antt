@@ -8,12 +8,12 @@ use Rattle.pool.specs.declared.operation.Op.TheVariants.{Invalidate}
 use Rattle.stage2.specs.declared.walked.Walked.{Walked}
 use Rattle.stage2.specs.declared.walked.Walked.TheVariants.{None as Unmapped}
 use Rattle.stage2.specs.Slot.{Layout}
-use Rattle.stage2.specs.Moments.{BreaksFirst, Edit, MayGive, IsInStepIn, IsLogged, nothing, Allows, Clears, Settles, StaysInStep}
+use Rattle.stage2.specs.Moments.{BreaksFirst, OpenCall, MayGive, IsInStepIn, IsLogged, nothing, Allows, LeavesDue, Settles, StaysInStep}
 use Rattle.stage2.proofs.Walkers.InStep.{orderly-invalidate, orderly-weaker}
 
 -- 0 may be written anywhere
 pub breaks-zero : (layout : Layout) (entry : Words) (past : List Op) (page index : ℕ) → BreaksFirst layout entry past page index 0
-breaks-zero layout entry past page index = record { breaks = λ _. refl; makes = λ valid a inside row n small stands moment since at. absurd (valid refl) }
+breaks-zero layout entry past page index = record { breaks = λ _. refl; makes = λ valid row n moment stood. absurd (valid refl) }
 
 -- ---- one word
 
@@ -26,17 +26,17 @@ no : (a b : Bool) → (a || b) ≡ false → (a ≡ false) × (b ≡ false)
 no false b e = (refl, e)
 no true b e = absurd (cc)
 
-pub counted-op : (e : Edit) (op : Op) (old new : Pool) → IsLogged op old new → old.made % 2 ^ 64 ≡ (e.made + length old.operations) % 2 ^ 64 → new.made % 2 ^ 64 ≡ (e.made + length new.operations) % 2 ^ 64
+pub counted-op : (e : OpenCall) (op : Op) (old new : Pool) → IsLogged op old new → old.made % 2 ^ 64 ≡ (e.made + length old.operations) % 2 ^ 64 → new.made % 2 ^ 64 ≡ (e.made + length new.operations) % 2 ^ 64
 counted-op e op old new is counted =
     let count : length new.operations ≡ suc (length old.operations) = ap (λ (ops : List Op). length ops) is.operations in
     rw count (counted-more e.made (length old.operations) old.made new.made counted is.made)
 
 -- ---- one after another
 
-weaker : (e : Edit) (due more : ℕ → Bool) (pool : Pool) → IsInStepIn e due pool → ((n : ℕ) → n < 2 ^ 27 → more n ≡ false → due n ≡ false) → IsInStepIn e more pool
+weaker : (e : OpenCall) (due more : ℕ → Bool) (pool : Pool) → IsInStepIn e due pool → ((n : ℕ) → n < 2 ^ 27 → more n ≡ false → due n ≡ false) → IsInStepIn e more pool
 weaker e due more pool h fewer = record { orderly = orderly-weaker e due more (words_of pool.memory.words) pool.operations h.orderly fewer; counted = h.counted }
 
-fewer-pages : (e : Edit) (layout : Layout) (row : ℕ) (which all : ℕ → Bool) (answer : ℕ → Walked) → ((n : ℕ) → n < 2 ^ 27 → which n ≡ true → all n ≡ true) → Allows e layout row all answer → Allows e layout row which answer
+fewer-pages : (e : OpenCall) (layout : Layout) (row : ℕ) (which all : ℕ → Bool) (answer : ℕ → Walked) → ((n : ℕ) → n < 2 ^ 27 → which n ≡ true → all n ≡ true) → Allows e layout row all answer → Allows e layout row which answer
 fewer-pages e layout row which all answer within h = record { same_layout = h.same_layout; same_row = h.same_row; may = λ n small w. h.may n small (within n small w) }
 
 left_of : (all which more : Bool) → all ≡ (which || more) → which ≡ true → all ≡ true
@@ -52,7 +52,7 @@ due_left : (due all : Bool) → (due || all) ≡ false → due ≡ false
 due_left true all f = absurd (cc)
 due_left false all f = refl
 
-pub clears-none : (layout : Layout) (row : ℕ) (which : ℕ → Bool) (a : Pool) → Clears layout row which a a
+pub clears-none : (layout : Layout) (row : ℕ) (which : ℕ → Bool) (a : Pool) → LeavesDue layout row which a a
 clears-none layout row which a e due allows o = weaker e due (λ n. due n || which n) a o (λ n small f. due_left (due n) (which n) f)
 
 -- ---- invalidations
@@ -90,7 +90,7 @@ due_of : (which : Bool) → ((false || which) && not which) ≡ false
 due_of true = refl
 due_of false = refl
 
-pub stays-cleared : (layout : Layout) (row who : ℕ) (which : ℕ → Bool) (a b c : Pool) → row_of layout.ids who ≡ row → Clears layout row which a b → Settles who which b c → StaysInStep layout row which (λ n. Unmapped) a c
+pub stays-cleared : (layout : Layout) (row who : ℕ) (which : ℕ → Bool) (a b c : Pool) → row_of layout.ids who ≡ row → LeavesDue layout row which a b → Settles who which b c → StaysInStep layout row which (λ n. Unmapped) a c
 stays-cleared layout row who which a b c is clears settles e allows o =
     let here : row_of e.layout.ids who ≡ e.row = rw (allows.same_layout, allows.same_row) is in
     weaker e (λ n. (false || which n) && not (which n)) nothing c (settles e (λ n. false || which n) here (clears e nothing allows o)) (λ n small f. due_of (which n))

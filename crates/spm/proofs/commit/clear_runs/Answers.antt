@@ -25,5 +25,6 @@ loop-run-preserved g c =
       layout = c.clear.ensures.layout ∙ so_far.layout;
       memory = ap (λ (p : Pool). p.memory) c.clear.ensures.pool ∙ so_far.memory;
       room = let one = c.clear.ensures.room in let before = so_far.room in omega (arith, one, before);
+      listed = λ _. c.clear.ensures.canonical.listed;
       in_step = λ none entry at begun. cleared-on c.args.edit.now c.args.tables.now c.loop-run.tables c.clear.new.self i run inside is so_far.layout so_far.memory c.requires.clears c.clear.ensures.in_step none entry at (so_far.in_step none entry at begun);
     }

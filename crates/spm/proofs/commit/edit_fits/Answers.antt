@@ -28,8 +28,8 @@ returns-then-most_growth-free g c =
     let runs : c.deref.result.now ≡ edit.runs = c.deref.ensures.value ∙ ap (λ (e : Edit). e.runs) c.edit.view_is in
     let view : ℕ → View = view_of tables edit.who in
     let bound : grow view (reaching edit.runs edit.to view) ≤ c.most_growth.result = (rw runs at c.most_growth.ensures view edit.to) in
-    let all : ℕ → ℕ = λ p. pool.quota_of tables.layout.quotas (row_of tables.layout.ids p) in
+    let all : ℕ → ℕ = λ p. pool.row_quota tables.layout.quotas (row_of tables.layout.ids p) in
     within c.free.result c.most_growth.result (grow view (reaching edit.runs edit.to view)) (need view) (all edit.who) (quota_of c.args.manifest.now edit.who)
     (rw (← c.requires.orderly.own) at c.free.ensures)
-    (ap (λ (l : Layout). pool.quota_of l.quotas (row_of l.ids edit.who)) c.requires.layout ∙ quota_at c.args.manifest.now.partitions edit.who)
+    (ap (λ (l : Layout). pool.row_quota l.quotas (row_of l.ids edit.who)) c.requires.layout ∙ quota_at c.args.manifest.now.partitions edit.who)
     bound c.if-most_growth-free.true

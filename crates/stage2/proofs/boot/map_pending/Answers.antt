@@ -1,4 +1,4 @@
-use Rattle.std.proofs.Common.{◌≡◌, ℕ, ◌-◌, ◌≤◌, drop, [], ◌∷◌, Some, sym, ap, subst, ◌∙◌, arith}
+use Rattle.std.proofs.Common.{◌≡◌, ℕ, ◌-◌, ◌≤◌, drop, [], ◌∷◌, Some, refl, sym, ap, subst, ◌∙◌, arith}
 use Rattle.base.specs.Access.{View}
 use Rattle.base.specs.Manifest.{grant}
 use Rattle.base.specs.Pages.{PageRun}
@@ -33,7 +33,7 @@ edit_row-requires-clause-free g c =
 
 pub edit_row-requires-clause-room : goal.edit_row-requires-clause-room
 edit_row-requires-clause-room g c =
-    let most = row-operations (c.new-run.result ∷ []) in
+    let most = row-operations (c.new-run.result ∷ []) refl in
     let enough : c.operations.result ≤ g.M.TableMem.room c.ready.new.self = c.in_ok-ready.ensures.room in
     let same : c.operations.result ≡ operations_for (c.new-run.result ∷ []) = c.operations.ensures.same in
     at-most (row_operations (c.new-run.result ∷ [])) (operations_for (c.new-run.result ∷ [])) c.operations.result (g.M.TableMem.room c.ready.new.self) most same enough

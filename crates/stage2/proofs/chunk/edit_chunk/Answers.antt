@@ -8,6 +8,7 @@ use Rattle.stage2.proofs.Walkers.Disturbed.{stays-whole, stays-covered, unmixed-
 use Rattle.pool.specs.Pool.{Memory, pages_of}
 use Rattle.stage2.specs.Chunks.{edited, answers_in, block_answer, IsOutcome, Redoes_in}
 use Rattle.stage2.proofs.Editing.FourChunkEdits.{second-inside, clean-words, outcome-read, left-zero, unhung, growing, before-block, is-next}
+use Rattle.stage2.proofs.Tree.Rows.{has-row}
 use Rattle.stage2.proofs.chunk.edit_chunk.Goals as goal
 
 pub read_chunk-entry-requires-clause-table : goal.read_chunk-entry-requires-clause-table
@@ -122,3 +123,9 @@ returns-then-is_none-clause-in_step g c = λ seated free.
     gone : (a : View) (b : Bool) → is_some a ≡ not b → b ≡ true → a ≡ None
     gone None b e f = refl
     gone (Some a) b e f = let bad : true ≡ false = e ∙ ap not f in absurd (cc)
+
+pub invalidate_parts-requires-clause-partition : goal.invalidate_parts-requires-clause-partition
+invalidate_parts-requires-clause-partition g c =
+    let m = pages_of (g.M.TableMem.state c.args.memory.now).memory in
+    let edits = c.rewrite_table.ensures.redoes (outcome-read c.args.layout.now c.args.row c.args.chunk c.args.second m c.requires.site c.args.runs.now c.args.access.now c.read_chunk-entry.result c.outcome.result None c.read_chunk-entry.ensures.same c.in-None.is c.outcome.ensures) in
+    has-row c.args.layout.now (g.M.TableMem.state c.rewrite_table.new.memory).memory c.args.p c.args.row (c.requires.site.orderly.ids ∙ sym edits.redoes.ids) c.requires.row c.requires.site.partition

@@ -18,6 +18,7 @@ use Rattle.stage2.proofs.Tree.LinkTable.{slot-table}
 use Rattle.stage2.proofs.Walkers.ZeroedTables.{stays-after, stays-taken}
 use Rattle.stage2.proofs.Walkers.StepLists.{IsHung, stays-replaced, stays-filled}
 use Rattle.stage2.proofs.Walkers.SeatedChunks.{hung-seen, hung-outside, unheld-free, unheld-outside, gives-after}
+use Rattle.stage2.proofs.Tree.Rows.{has-row}
 use Rattle.stage2.proofs.chunk.hang_table.Goals as goal
 
 pub write_table-requires-clause-taken : goal.write_table-requires-clause-taken
@@ -102,3 +103,10 @@ returns-clause-in_step g c = λ outcome seated.
     ∙ gives-after layout row chunk j view m (pages_of e.memory) site redoes n small at)
     c.replace_entry.ensures.history in
     stays-after layout row which answer x z e (stays-after layout row which answer x y z first second) third
+
+pub replace_entry-requires-clause-partition : goal.replace_entry-requires-clause-partition
+replace_entry-requires-clause-partition g c =
+    let old = g.M.TableMem.state c.args.memory.now in
+    let marked = pages_of-take old (g.M.TableMem.state c.take_page-third.new.memory) (row_in old.memory c.args.p) c.take_page-third.result (g.met.M.TableMem.whole c.args.memory.now) c.take_page-third.ensures.lowest c.take_page-third.ensures.state in
+    let ids = c.write_table.ensures.writes.ids ∙ ap (λ (x : Pages). x.ids) marked in
+    has-row c.args.layout.now (g.M.TableMem.state c.write_table.new.memory).memory c.args.p c.args.row (c.requires.site.orderly.ids ∙ sym ids) c.requires.row c.requires.site.partition

@@ -21,6 +21,7 @@ use Rattle.stage2.proofs.Runs.Spans.{AreUntouched, UnderwayAt, StaysAt, underway
 use Rattle.stage2.proofs.Runs.OwnRuns.{chunk-covers, chunk-touches, chunk-count, chunk-growing, chunk-redoes, chunk-free, chunk-stays}
 use Rattle.stage2.proofs.Runs.Between.{AreLeft, left-all, left-later, left-past}
 use Rattle.stage2.proofs.Walkers.ZeroedTables.{stays-none}
+use Rattle.stage2.proofs.Tree.Rows.{has-row}
 use Rattle.stage2.proofs.gigabyte.edit_chunks.Goals as goal
 use Rattle.stage2.proofs.gigabyte.edit_chunks.Goals.{then-touches, else-touches}
 
@@ -285,3 +286,8 @@ returns-clause-room g c =
   where
     all : (a b x y : ℕ) → a ≤ b + x → x ≤ y → a ≤ b + y
     all a b x y le up = omega arith
+
+pub set_blocks-requires-clause-partition : goal.set_blocks-requires-clause-partition
+set_blocks-requires-clause-partition g c =
+    let mid = g.M.TableMem.state c.loop-index.memory in
+    has-row c.args.layout.now mid.memory c.args.p c.args.row (c.requires.orderly.ids ∙ sym c.loop-index.invariant.underway.ids) c.requires.row c.requires.partition

@@ -12,6 +12,7 @@ use Rattle.stage2.specs.Orderly.{IsOrderly, answers, linked}
 use Rattle.stage2.specs.Chunks.{edited}
 use Rattle.stage2.specs.Gigabytes.{IsUnderway}
 use Rattle.stage2.proofs.Editing.Gigabyte.{touched-below, linked-same, finish-kept, finish-zero, fits-tabled}
+use Rattle.stage2.proofs.Runs.ChunkCounts.{touched-operations}
 use Rattle.stage2.proofs.gigabyte.edit_tabled.Goals as goal
 
 pub edit_chunks-requires-clause-orderly : goal.edit_chunks-requires-clause-orderly
@@ -117,3 +118,19 @@ returns-then-is_empty-clause-in_step g c = λ free.
     let empty = zero-unmapped layout row gigabyte k (edited runs access (answers layout (linked layout row gigabyte k m).words row)) m (pages_of y.memory) c.requires.partition (touched-below c.args.runs.now c.args.gigabyte c.requires.touched) (seated-linked layout row gigabyte k m same) c.edit_chunks.ensures.underway (c.is_empty.ensures.yes c.if-is_empty.true) in
     stays-after layout row which answer x y z (stays-tabled layout row gigabyte k runs access m x y same c.edit_chunks.ensures.in_step free)
     (c.unlink.ensures.in_step layout which answer empty.0 c.requires.partition c.requires.row empty.1)
+
+-- ---- room
+
+pub unlink-requires-clause-room : goal.unlink-requires-clause-room
+unlink-requires-clause-room g c =
+    let least = touched-operations c.args.runs.now c.args.gigabyte c.requires.touched in
+    let room = c.requires.room in
+    let left = c.edit_chunks.ensures.room in
+    omega (arith, least, room, left)
+
+pub returns-then-is_empty-clause-room : goal.returns-then-is_empty-clause-room
+returns-then-is_empty-clause-room g c =
+    let least = touched-operations c.args.runs.now c.args.gigabyte c.requires.touched in
+    let left = c.edit_chunks.ensures.room in
+    let last = c.unlink.ensures.room in
+    omega (arith, least, left, last)

@@ -16,6 +16,7 @@ use Rattle.stage2.specs.Gigabytes.{Fits, IsUnderway}
 use Rattle.stage2.proofs.Editing.RootLinks.{IsLink, untabled, link-table, link-rooted, rooted}
 use Rattle.stage2.proofs.Tree.TakenPages.{pages_of-take}
 use Rattle.stage2.proofs.Editing.Gigabyte.{touched-below, link-has-free, link-fits, same-answers, finish-link}
+use Rattle.stage2.proofs.Runs.ChunkCounts.{touched-operations}
 use Rattle.stage2.proofs.gigabyte.edit_untabled.Goals as goal
 
 pub take_page-second-requires : goal.take_page-second-requires
@@ -129,3 +130,21 @@ returns-clause-in_step g c = λ are_free.
   where
     own : (x y z : ℕ) → y ≡ z → (eqb x x && eqb y z) ≡ true
     own x y z e = grind (arith, nat_tests)
+
+-- ---- room
+
+pub put_word-requires-clause-room : goal.put_word-requires-clause-room
+put_word-requires-clause-room g c =
+    let least = touched-operations c.args.runs.now c.args.gigabyte c.requires.touched in
+    let room = c.requires.room in
+    let taken = c.take_page-second.ensures.room in
+    let left = c.edit_chunks.ensures.room in
+    omega (arith, least, room, taken, left)
+
+pub returns-clause-room : goal.returns-clause-room
+returns-clause-room g c =
+    let least = touched-operations c.args.runs.now c.args.gigabyte c.requires.touched in
+    let taken = c.take_page-second.ensures.room in
+    let left = c.edit_chunks.ensures.room in
+    let last = c.put_word.ensures.room in
+    omega (arith, least, taken, left, last)

@@ -16,7 +16,7 @@ pub invariant_of-result-clause-taken_whole : goal.invariant_of-result-clause-tak
 invariant_of-result-clause-taken_whole g c =
     let rows : length c.in_ok-quotas.quotas.items ≡ length c.partitions-partitions.result.now = ap length c.in_ok-quotas.ensures ∙ length-quotas_of _ in
     let shares : c.total-shares.result ≡ sum c.in_ok-quotas.quotas.items = rw c.deref.ensures.value at c.total-shares.ensures in
-    let marks : length c.in_ok-marks.field-0.items ≡ length c.partitions-partitions.result.now + c.total-shares.result = rw c.in_ok-marks.ensures (simp (length-append, length-replicate)) in
+    let marks : length c.in_ok-new.field-0 ≡ length c.partitions-partitions.result.now + c.total-shares.result = rw c.in_ok-new.ensures (simp (length-append, length-replicate)) in
     omega (arith, rows, shares, marks)
 
 pub invariant_of-result-clause-fits : goal.invariant_of-result-clause-fits
@@ -25,11 +25,11 @@ invariant_of-result-clause-fits g c = rw (c.in_ok-quotas.ensures, c.partitions-p
 pub invariant_of-result-clause-roots : goal.invariant_of-result-clause-roots
 invariant_of-result-clause-roots g c = λ row below.
     let rows : length c.in_ok-quotas.quotas.items ≡ length c.partitions-partitions.result.now = ap length c.in_ok-quotas.ensures ∙ length-quotas_of _ in
-    rw c.in_ok-marks.ensures (roots-new (length c.partitions-partitions.result.now) c.total-shares.result row (omega (arith, below, rows)))
+    rw c.in_ok-new.ensures (roots-new (length c.partitions-partitions.result.now) c.total-shares.result row (omega (arith, below, rows)))
 
 pub invariant_of-result-clause-standing : goal.invariant_of-result-clause-standing
 invariant_of-result-clause-standing g c = λ page held.
-    c.in_ok-filled.ensures.1 page (taken_of-new (length c.partitions-partitions.result.now) c.total-shares.result page (rw c.in_ok-marks.ensures at held))
+    c.in_ok-filled.ensures.1 page (taken_of-new (length c.partitions-partitions.result.now) c.total-shares.result page (rw c.in_ok-new.ensures at held))
 
 pub invariant_of-result-clause-free_zero : goal.invariant_of-result-clause-free_zero
 invariant_of-result-clause-free_zero g c = λ page index free.
@@ -41,8 +41,8 @@ invariant_of-result-clause-free_counted g c =
     let quotas : c.in_ok-quotas.quotas.items ≡ quotas_of parts = c.in_ok-quotas.ensures in
     let again : c.in_ok-quotas_of.field-0.items ≡ quotas_of parts = c.in_ok-quotas_of.ensures in
     let shares : c.total-shares.result ≡ sum (quotas_of parts) = (rw c.deref.ensures.value at c.total-shares.ensures) ∙ ap sum quotas in
-    let marks : c.in_ok-marks.field-0.items ≡ replicate (length parts) true ++ replicate (sum (quotas_of parts)) false =
-    c.in_ok-marks.ensures ∙ ap (λ n. replicate (length parts) true ++ replicate n false) shares in
+    let marks : c.in_ok-new.field-0 ≡ replicate (length parts) true ++ replicate (sum (quotas_of parts)) false =
+    c.in_ok-new.ensures ∙ ap (λ n. replicate (length parts) true ++ replicate n false) shares in
     rw (quotas, again, marks, c.partitions-partitions.ensures.same) (counts-new c.args.manifest.now)
 
 pub invariant_of-result-clause-nonzero_counted : goal.invariant_of-result-clause-nonzero_counted

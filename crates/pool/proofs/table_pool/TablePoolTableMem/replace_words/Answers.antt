@@ -4,6 +4,7 @@ use Rattle.pool.specs.Pool.{Pool, words_of, taken_of, after_replaces}
 use Rattle.pool.specs.Shown.{IsShown}
 use Rattle.pool.proofs.Nonzero.{counts_nonzero-page}
 use Rattle.pool.proofs.Replaced.{keeps-replaces, pools-same}
+use Rattle.pool.proofs.Within.{within-replaces}
 use Rattle.pool.proofs.table_pool.TablePoolTableMem.replace_words.Goals as goal
 
 pub invariant_of-self : goal.invariant_of-self
@@ -13,7 +14,7 @@ invariant_of-self g c =
     let new = g.S.WordStore.words c.replace_words-count.new.store in
     let n = c.args.end - c.args.first in
     let before : Pool = record {
-      memory = record { ids = old.ids.items; quotas = old.quotas.items; words = start; taken = old.taken.items };
+      memory = record { ids = old.ids.items; quotas = old.quotas.items; words = start; taken = old.taken };
       operations = reverse old.operations.items;
       made = 0;
     } in
@@ -31,7 +32,8 @@ invariant_of-self g c =
       nonzero_counted = counts_nonzero-page old.quotas.items start new old.nonzero.items c.args.page c.replace_words-count.result old.nonzero_counted c.requires.page_in others c.replace_words-count.ensures.counted;
       fits = old.fits;
       roots = old.roots;
-      free_zero = λ q i free. others q i (λ is. true≢false (sym c.requires.taken ∙ ap (taken_of old.taken.items) (sym is) ∙ free)) ∙ old.free_zero q i free;
+      within = rw shown.operations (within-replaces old.ids.items old.quotas.items c.args.p c.args.page c.args.first n c.args.word c.args.step c.args.start before c.requires.page_in (omega (arith, c.requires.ordered, c.requires.index_in)) c.requires.partition c.requires.pages_in old.within);
+      free_zero = λ q i free. others q i (λ is. true≢false (sym c.requires.taken ∙ ap (taken_of old.taken) (sym is) ∙ free)) ∙ old.free_zero q i free;
       standing = λ q held. ap (λ (s : ℕ → Bool). s q) c.replace_words-count.ensures.standing ∙ old.standing q held;
     }
 
@@ -43,7 +45,7 @@ returns-clause-state g c =
     let list = c.replace_words-count.new.operations.items in
     let n = c.args.end - c.args.first in
     let before : Pool = record {
-      memory = record { ids = old.ids.items; quotas = old.quotas.items; words = start; taken = old.taken.items };
+      memory = record { ids = old.ids.items; quotas = old.quotas.items; words = start; taken = old.taken };
       operations = reverse old.operations.items;
       made = (old.made_before + length old.operations.items) % 2 ^ 64;
     } in
@@ -55,5 +57,5 @@ returns-clause-state g c =
     let was : length (reverse old.operations.items) ≡ length old.operations.items = length-reverse old.operations.items in
     let made = keeps.made old.made_before (ap (λ k. (old.made_before + k) % 2 ^ 64) (sym was)) in
     let long : length list ≡ length after.operations = sym (length-reverse list) ∙ ap length shown.operations in
-    pools-same (record { memory = record { ids = old.ids.items; quotas = old.quotas.items; words = new; taken = old.taken.items }; operations = reverse list; made = (old.made_before + length list) % 2 ^ 64 }) after
+    pools-same (record { memory = record { ids = old.ids.items; quotas = old.quotas.items; words = new; taken = old.taken }; operations = reverse list; made = (old.made_before + length list) % 2 ^ 64 }) after
     (sym keeps.ids) (sym keeps.quotas) shown.words (sym keeps.taken) shown.operations (ap (λ k. (old.made_before + k) % 2 ^ 64) long ∙ sym made)

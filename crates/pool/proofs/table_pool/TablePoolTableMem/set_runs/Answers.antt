@@ -5,6 +5,7 @@ use Rattle.pool.specs.Shown.{IsShown}
 use Rattle.pool.proofs.Nonzero.{counts_nonzero-page}
 use Rattle.pool.proofs.Replaced.{pools-same}
 use Rattle.pool.proofs.RunWords.{keeps-runs, others-runs}
+use Rattle.pool.proofs.Within.{within-runs}
 use Rattle.pool.proofs.table_pool.TablePoolTableMem.set_runs.Goals as goal
 
 pub invariant_of-self : goal.invariant_of-self
@@ -14,6 +15,12 @@ invariant_of-self g c =
     let new = g.S.WordStore.words c.set_runs-count.new.store in
     let whole : 512 * c.args.page + 512 ≤ length start = omega (arith, old.words_whole, c.requires.page_in) in
     let others = others-runs c.args.page _ _ _ _ start new _ _ whole c.set_runs-count.ensures.shown in
+    let before : Pool = record {
+      memory = record { ids = old.ids.items; quotas = old.quotas.items; words = start; taken = old.taken };
+      operations = reverse old.operations.items;
+      made = 0;
+    } in
+    let shown = c.set_runs-count.ensures.shown before (record { words = λ i. start; operations = λ i. reverse old.operations.items }) in
     record {
       ids_whole = old.ids_whole;
       words_whole = c.set_runs-count.ensures.whole ∙ old.words_whole;
@@ -22,7 +29,8 @@ invariant_of-self g c =
       nonzero_counted = counts_nonzero-page old.quotas.items start new old.nonzero.items c.args.page c.set_runs-count.result old.nonzero_counted c.requires.page_in others c.set_runs-count.ensures.counted;
       fits = old.fits;
       roots = old.roots;
-      free_zero = λ q i free. others q i (λ is. true≢false (sym c.requires.taken ∙ ap (taken_of old.taken.items) (sym is) ∙ free)) ∙ old.free_zero q i free;
+      within = rw shown.operations (within-runs old.ids.items old.quotas.items c.args.page _ c.args.word c.args.step c.args.runs.now before c.requires.page_in old.within);
+      free_zero = λ q i free. others q i (λ is. true≢false (sym c.requires.taken ∙ ap (taken_of old.taken) (sym is) ∙ free)) ∙ old.free_zero q i free;
       standing = λ q held. ap (λ (s : ℕ → Bool). s q) c.set_runs-count.ensures.standing ∙ old.standing q held;
     }
 
@@ -33,7 +41,7 @@ returns-clause-state g c =
     let new = g.S.WordStore.words c.set_runs-count.new.store in
     let list = c.set_runs-count.new.operations.items in
     let before : Pool = record {
-      memory = record { ids = old.ids.items; quotas = old.quotas.items; words = start; taken = old.taken.items };
+      memory = record { ids = old.ids.items; quotas = old.quotas.items; words = start; taken = old.taken };
       operations = reverse old.operations.items;
       made = (old.made_before + length old.operations.items) % 2 ^ 64;
     } in
@@ -45,5 +53,5 @@ returns-clause-state g c =
     let was : length (reverse old.operations.items) ≡ length old.operations.items = length-reverse old.operations.items in
     let made = keeps.made old.made_before (ap (λ k. (old.made_before + k) % 2 ^ 64) (sym was)) in
     let long : length list ≡ length after.operations = sym (length-reverse list) ∙ ap length shown.operations in
-    pools-same (record { memory = record { ids = old.ids.items; quotas = old.quotas.items; words = new; taken = old.taken.items }; operations = reverse list; made = (old.made_before + length list) % 2 ^ 64 }) after
+    pools-same (record { memory = record { ids = old.ids.items; quotas = old.quotas.items; words = new; taken = old.taken }; operations = reverse list; made = (old.made_before + length list) % 2 ^ 64 }) after
     (sym keeps.ids) (sym keeps.quotas) shown.words (sym keeps.taken) shown.operations (ap (λ k. (old.made_before + k) % 2 ^ 64) long ∙ sym made)

@@ -6,6 +6,7 @@ use Rattle.base.specs.Manifest.{page_count}
 use Rattle.pool.specs.Pool.{words_of}
 use Rattle.pool.proofs.Kept.{free_zero-set}
 use Rattle.pool.proofs.Nonzero.{word-read, nonzero-le, nonzero-some, counts_nonzero-set}
+use Rattle.pool.proofs.Within.{within-push, set-within}
 use Rattle.pool.proofs.table_pool.TablePoolTableMem.set_word.Goals as goal
 
 pub invariant_of-self-clause-words_whole : goal.invariant_of-self-clause-words_whole
@@ -15,7 +16,7 @@ pub invariant_of-self-clause-free_zero : goal.invariant_of-self-clause-free_zero
 invariant_of-self-clause-free_zero g c =
     let old = c.args.self.now in
     rw c.set_word.ensures.words
-    (free_zero-set (g.S.WordStore.words old.store) old.taken.items (page_count old.quotas.items) c.args.page c.args.index c.args.word old.words_whole c.requires.page_in c.requires.index_in c.requires.taken old.free_zero)
+    (free_zero-set (g.S.WordStore.words old.store) old.taken (page_count old.quotas.items) c.args.page c.args.index c.args.word old.words_whole c.requires.page_in c.requires.index_in c.requires.taken old.free_zero)
 
 pub recounted-requires-clause-most : goal.recounted-requires-clause-most
 recounted-requires-clause-most g c =
@@ -51,3 +52,10 @@ invariant_of-self-clause-nonzero_counted g c =
     rw c.set_word.ensures.words
     (counts_nonzero-set old.quotas.items (g.S.WordStore.words old.store) old.nonzero.items c.args.page c.args.index c.args.word c.recounted.result old.nonzero_counted old.words_whole c.requires.page_in c.requires.index_in
     (rw (← read, ← here) c.recounted.ensures))
+
+pub invariant_of-self-clause-within : goal.invariant_of-self-clause-within
+invariant_of-self-clause-within g c =
+    let old = c.args.self.now in
+    let here = set-within old.ids.items old.quotas.items c.args.page c.args.index c.args.word c.requires.page_in c.requires.index_in in
+    let items = c.push_reserved.ensures.items in
+    rw items (within-push old.ids.items old.quotas.items old.operations.items _ here old.within)

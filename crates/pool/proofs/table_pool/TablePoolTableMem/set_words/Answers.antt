@@ -2,6 +2,7 @@ use Rattle.std.proofs.Common.{◌≡◌, ℕ, Bool, ◌+◌, ◌-◌, ◌*◌, �
 use Rattle.pool.specs.Pool.{sets_of}
 use Rattle.pool.specs.declared.operation.Op.{Op}
 use Rattle.pool.proofs.Stretches.{length-words_set, counted-made, free_zero-stretch, counts_nonzero-stretch}
+use Rattle.pool.proofs.Within.{within-behind}
 use Rattle.pool.proofs.table_pool.TablePoolTableMem.set_words.Goals as goal
 
 pub invariant_of-self : goal.invariant_of-self
@@ -13,6 +14,8 @@ invariant_of-self g c =
     let small : c.args.first + n ≤ 512 = omega (arith, c.requires.ordered, c.requires.index_in) in
     let whole : 512 * c.args.page + 512 ≤ length start = omega (arith, old.words_whole, inside) in
     let words = c.write_words-operations.ensures.words in
+    let operations : reverse c.write_words-operations.result.0.items ≡ sets_of start c.args.page c.args.first n c.args.word c.args.step ++ reverse old.operations.items =
+    c.write_words-operations.ensures.made ∙ ap (λ (o : Vec Op Global). sets_of start c.args.page c.args.first n c.args.word c.args.step ++ reverse o.items) c.replace-operations.ensures.value in
     record {
       ids_whole = old.ids_whole;
       words_whole = ap length words ∙ length-words_set start c.args.page c.args.first n c.args.word c.args.step ∙ old.words_whole;
@@ -22,7 +25,8 @@ invariant_of-self g c =
           (rw words at c.write_words-operations.ensures.counted));
       fits = old.fits;
       roots = old.roots;
-      free_zero = rw words (free_zero-stretch start old.taken.items c.args.page c.args.first n c.args.word c.args.step whole small c.requires.taken old.free_zero);
+      within = rw operations (within-behind old.ids.items old.quotas.items start c.args.page c.args.first n c.args.word c.args.step (reverse old.operations.items) inside small old.within);
+      free_zero = rw words (free_zero-stretch start old.taken c.args.page c.args.first n c.args.word c.args.step whole small c.requires.taken old.free_zero);
       standing = λ q held. ap (λ (s : ℕ → Bool). s q) c.write_words-operations.ensures.standing ∙ old.standing q held;
     }
 

@@ -18,7 +18,7 @@ edit_row-requires-clause-room g c =
     let layout = c.self.inside.layout in
     let row = row-found layout.ids c.args.p c.in-Some.row (sym c.row.ensures.row ∙ c.in-Some.is) in
     let m = c.self.inside.memory in
-    room-row (view layout (g.M.TableMem.state m) (g.M.TableMem.room m)) c.args.p c.in-Some.row c.args.runs.now row
+    room-row (view layout (g.M.TableMem.state m) (g.M.TableMem.room m)) c.args.p c.in-Some.row c.args.runs.now c.requires.normal row
     (subst (λ (t : TablesView). edit_operations c.args.p c.args.runs.now t ≤ t.room) (sym c.self.view_is) c.requires.ready)
 
 -- the edit, where the partition has a root
@@ -29,7 +29,7 @@ edit g c =
     let row = row-found layout.ids c.args.p c.in-Some.row (sym c.row.ensures.row ∙ c.in-Some.is) in
     subst (λ (t : TablesView). IsEdited c.args.p c.args.runs.now c.args.access.now t (view layout (g.M.TableMem.state new) (g.M.TableMem.room new))) c.self.view_is
     (edited-rooted layout (g.M.TableMem.state c.self.inside.memory) (g.M.TableMem.state new) (g.M.TableMem.room c.self.inside.memory) (g.M.TableMem.room new) c.args.p c.in-Some.row c.args.runs.now c.args.access.now
-    row c.self.invariant c.edit_row.ensures.edits c.edit_row.ensures.in_step c.edit_row.ensures.room)
+    c.requires.normal row c.self.invariant c.edit_row.ensures.edits c.edit_row.ensures.in_step (g.met.M.TableMem.operations_lie_within new) c.edit_row.ensures.room)
 
 pub returns-in-Some-clause-walks : goal.returns-in-Some-clause-walks
 returns-in-Some-clause-walks g c = (edit g c).walks
@@ -49,7 +49,7 @@ returns-in-Some-clause-room g c = (edit g c).room
 pub returns-in-Some-clause-canonical : goal.returns-in-Some-clause-canonical
 returns-in-Some-clause-canonical g c =
     let new = c.edit_row.new.memory in
-    are-canonical (view c.self.inside.layout (g.M.TableMem.state new) (g.M.TableMem.room new)) c.edit_row.ensures.edits.canonical (g.met.M.TableMem.free_is_zero new)
+    are-canonical (view c.self.inside.layout (g.M.TableMem.state new) (g.M.TableMem.room new)) c.edit_row.ensures.edits.canonical (g.met.M.TableMem.free_is_zero new) (g.met.M.TableMem.operations_lie_within new)
 
 -- and where it has none
 no-edit : (g : Over) (c : goal.In_default g) → IsEdited c.args.p c.args.runs.now c.args.access.now c.args.self.now c.args.self.now
@@ -75,4 +75,4 @@ returns-in_default-clause-in_step g c = (no-edit g c).in_step
 pub returns-in_default-clause-canonical : goal.returns-in_default-clause-canonical
 returns-in_default-clause-canonical g c =
     let m = c.self.inside.memory in
-    subst (λ (t : TablesView). AreCanonical t) c.self.view_is (are-canonical (view c.self.inside.layout (g.M.TableMem.state m) (g.M.TableMem.room m)) c.self.invariant (g.met.M.TableMem.free_is_zero m))
+    subst (λ (t : TablesView). AreCanonical t) c.self.view_is (are-canonical (view c.self.inside.layout (g.M.TableMem.state m) (g.M.TableMem.room m)) c.self.invariant (g.met.M.TableMem.free_is_zero m) (g.met.M.TableMem.operations_lie_within m))

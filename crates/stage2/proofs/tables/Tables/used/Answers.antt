@@ -1,7 +1,7 @@
 use Rattle.std.proofs.Common.{◌-◌, eqb, position, sym, ap, ◌∙◌}
 use Rattle.std.specs.Option.{option_map}
 use Rattle.base.specs.Need.{need}
-use Rattle.pool.specs.Pool.{pages_of, quota_of}
+use Rattle.pool.specs.Pool.{pages_of, row_quota}
 use Rattle.stage2.specs.Tables.{TablesView, view_of}
 use Rattle.stage2.proofs.Editing.WholeTables.{IsQuota, quota-found, quota-none, used-found, free-found, rootless-need}
 use Rattle.stage2.proofs.tables.Tables.used.Given.{Over}
@@ -23,5 +23,5 @@ returns-in-Some g c =
 
 pub returns-in-None : goal.returns-in-None
 returns-in-None g c =
-    let none = ap (λ (x : TablesView). option_map (quota_of x.layout.quotas) (position (λ id. eqb id c.args.p) x.layout.ids)) (sym c.self.view_is) ∙ sym c.quota.ensures ∙ c.in-None.is in
+    let none = ap (λ (x : TablesView). option_map (row_quota x.layout.quotas) (position (λ id. eqb id c.args.p) x.layout.ids)) (sym c.self.view_is) ∙ sym c.quota.ensures ∙ c.in-None.is in
     sym (rootless-need c.args.self.now c.args.p (quota-none c.args.self.now.layout c.args.p none))

@@ -1,0 +1,82 @@
+-- Where the operations of a list lie that calls make.
+use Rattle.std.proofs.Common.{◌≡◌, ℕ, zero, suc, ◌+◌, ◌-◌, ◌*◌, ◌^◌, ◌<◌, ◌≤◌, ◌&&◌, min, eqb, leb, ltb, true, false, List, [], ◌∷◌, ◌++◌, length, reverse, refl, arith, inl, inr}
+use Rattle.std.specs.Prelude.{slice_index}
+use Rattle.std.specs.List.{list_all}
+use Rattle.std.proofs.lemmas.Bool.{cases_Bool}
+use Rattle.std.proofs.lemmas.Bool.Decides.{nat_tests}
+use Rattle.std.proofs.lemmas.List.{reverse-append}
+use Rattle.std.proofs.lemmas.List.Folds.{list_all-append}
+use Rattle.base.specs.Manifest.{row_of, page_count}
+use Rattle.base.specs.Pages.{PageRun}
+use Rattle.pool.specs.Pool.{Pool, words_of, lies_in, words_set, sets_of, index_from, after_sets, after_run, after_runs, after_break, after_make, after_replaces}
+use Rattle.pool.specs.declared.operation.Op.{Op}
+use Rattle.pool.specs.declared.operation.Op.TheVariants.{Set, Invalidate, Clear}
+
+-- one operation more
+pub within-push : (ids quotas : List ℕ) (ops : List Op) (op : Op) → lies_in ids quotas op ≡ true → list_all (lies_in ids quotas) (reverse ops) ≡ true → list_all (lies_in ids quotas) (reverse (ops ++ op ∷ [])) ≡ true
+within-push ids quotas ops op here all = rw (reverse-append ops (op ∷ []), here) all
+
+pub set-within : (ids quotas : List ℕ) (page index word : ℕ) → page < page_count quotas → index < 512 → lies_in ids quotas (Set page index word) ≡ true
+set-within ids quotas page index word inside small = grind (arith, nat_tests, inside, small)
+
+-- writes of words that follow one another
+pub within-sets : (ids quotas words : List ℕ) (page first n word step : ℕ) → page < page_count quotas → first + n ≤ 512 → list_all (lies_in ids quotas) (sets_of words page first n word step) ≡ true
+unfolding sets_of
+within-sets ids quotas words page first zero word step inside small = refl
+within-sets ids quotas words page first (suc n) word step inside small =
+    let rest = within-sets ids quotas words page first n word step inside (omega (arith, small)) in
+    let next = word + step * n in
+    let here = set-within ids quotas page (first + n) next inside (omega (arith, small)) in
+    elim (cases_Bool (eqb (slice_index (words_set words page first n word step) (512 * page + (first + n))) next)) [
+      | inl t ↦ rw t rest
+      | inr f ↦ rw (f, here) rest
+    ]
+
+both : (ids quotas : List ℕ) (new old : List Op) → list_all (lies_in ids quotas) new ≡ true → list_all (lies_in ids quotas) old ≡ true → list_all (lies_in ids quotas) (new ++ old) ≡ true
+both ids quotas new old a b = rw (list_all-append (lies_in ids quotas) new old, a) b
+
+pub within-behind : (ids quotas : List ℕ) (words : List ℕ) (page first n word step : ℕ) (old : List Op) → page < page_count quotas → first + n ≤ 512 → list_all (lies_in ids quotas) old ≡ true
+    → list_all (lies_in ids quotas) (sets_of words page first n word step ++ old) ≡ true
+within-behind ids quotas words page first n word step old inside small all = both ids quotas (sets_of words page first n word step) old (within-sets ids quotas words page first n word step inside small) all
+
+-- of the words for runs
+index-small : (start first end : ℕ) → index_from start first + (index_from start end - index_from start first) ≤ 512
+index-small start first end = omega arith
+
+pub within-runs : (ids quotas : List ℕ) (page start word step : ℕ) (runs : List PageRun) (pool : Pool) → page < page_count quotas → list_all (lies_in ids quotas) pool.operations ≡ true
+    → list_all (lies_in ids quotas) (after_runs page start word step runs pool).operations ≡ true
+unfolding after_runs
+within-runs ids quotas page start word step [] pool inside all = all
+within-runs ids quotas page start word step (run ∷ runs) pool inside all =
+    let first = index_from start run.first in
+    let end = index_from start (run.first + run.count) in
+    within-runs ids quotas page start word step runs (after_run page start word step run pool) inside
+    (within-behind ids quotas pool.memory.words page first (end - first) (word + step * first) step pool.operations inside (index-small start run.first (run.first + run.count)) all)
+
+-- and of words that are replaced
+within-break : (ids quotas : List ℕ) (p page index : ℕ) (run : PageRun) (pool : Pool) → page < page_count quotas → index < 512 → row_of ids p < length ids → run.first + run.count ≤ 2 ^ 27 → list_all (lies_in ids quotas) pool.operations ≡ true
+    → list_all (lies_in ids quotas) (after_break p page index run pool).operations ≡ true
+within-break ids quotas p page index run pool inside small row below all = elim (cases_Bool (eqb (words_of pool.memory.words page index) 0)) [
+  | inl t ↦ rw t all
+  | inr f ↦
+      let set = set-within ids quotas page index 0 inside small in
+      let here : lies_in ids quotas (Invalidate p run) ≡ true = grind (arith, nat_tests, row, below) in
+      rw (f, here, set) all
+]
+
+within-make : (ids quotas : List ℕ) (page index word : ℕ) (pool : Pool) → page < page_count quotas → index < 512 → list_all (lies_in ids quotas) pool.operations ≡ true → list_all (lies_in ids quotas) (after_make page index word pool).operations ≡ true
+within-make ids quotas page index word pool inside small all = elim (cases_Bool (eqb word 0)) [
+  | inl t ↦ rw t all
+  | inr f ↦ let set = set-within ids quotas page index word inside small in rw (f, set) all
+]
+
+pub within-replaces : (ids quotas : List ℕ) (p page first n word step start : ℕ) (pool : Pool) → page < page_count quotas → first + n ≤ 512 → row_of ids p < length ids → start + 512 * n ≤ 2 ^ 27 → list_all (lies_in ids quotas) pool.operations ≡ true
+    → list_all (lies_in ids quotas) (after_replaces p page first n word step start pool).operations ≡ true
+unfolding after_replaces
+within-replaces ids quotas p page first zero word step start pool inside small row below all = all
+within-replaces ids quotas p page first (suc n) word step start pool inside small row below all =
+    let before = after_replaces p page first n word step start pool in
+    let run : PageRun = record { first = start + 512 * n; count = 512 } in
+    let rest = within-replaces ids quotas p page first n word step start pool inside (omega (arith, small)) row (omega (arith, below)) all in
+    let broken = within-break ids quotas p page (first + n) run before inside (omega (arith, small)) row (omega (arith, below)) rest in
+    within-make ids quotas page (first + n) (word + step * n) (after_break p page (first + n) run before) inside (omega (arith, small)) broken
