@@ -12,7 +12,7 @@ use Rattle.desk.specs.declared.pass.View.{View}
 use Rattle.desk.specs.declared.pass.View.TheVariants.{Keeper, Seated}
 use Rattle.rules.specs.Call.{CallWords}
 use Rattle.desk.specs.Receipts.{entry, next_receipt, receipts_at, count_of, AreReceiptsOf}
-use Rattle.desk.specs.Seats.{SeatView, IsSettled, Sees, IsAnswered, numbers_of, AreSettled}
+use Rattle.desk.specs.Seats.{SeatView, IsSettled, Sees, IsServed, numbers_of, AreSettled}
 use Rattle.desk.specs.Passes.{IsOut, IsSeat, number_of, seen_of, known_of, with_home, AreDistinct}
 use Rattle.desk.proofs.Numbers.{distinct_push, all_found}
 use Rattle.desk.proofs.Receipts.{are_receipts, receipts_from-others, receipts_at-answered, length-receipts_from, count_of-own, count_of-others}
@@ -45,7 +45,7 @@ pub seat_known : (m : ManifestRows) (call : CallWords) (n : ℕ) (seen : List En
 seat_known m call n seen me r sees = sees.knows ∙ ap (λ (s : List Entry). (Seated n s, [])) (sym (seen_is m call n seen me r sees))
 
 pub answered : (m : ManifestRows) (call : CallWords) (old : SeatView) (me : Me Entry View) (r : Receipt) (receipts : List Receipt) → IsSettled m old
-    → Sees m old.number call old.seen me r → receipts ≡ old.receipts ++ r ∷ [] → IsAnswered m call old (next_seat old me receipts)
+    → Sees m old.number call old.seen me r → receipts ≡ old.receipts ++ r ∷ [] → IsServed m call old (next_seat old me receipts)
 answered m call old me r receipts settled sees more =
     let n = old.number in
     let seen = seen_is m call n old.seen me r sees in

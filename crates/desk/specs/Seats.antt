@@ -27,7 +27,7 @@ pub record IsSettled (m : ManifestRows) (s : SeatView) : Type 0 where
 
 -- The seat has seen some calls of others since its last one, and then its call, for which it has one receipt more, by
 -- the run of the manifest over all these calls
-pub record IsAnswered (m : ManifestRows) (call : CallWords) (old new : SeatView) : Type 0 where
+pub record IsServed (m : ManifestRows) (call : CallWords) (old new : SeatView) : Type 0 where
   pub others : List Entry
   pub of_others : NoneOf old.number others
   pub seen : new.seen ≡ (old.seen ++ others) ++ entry old.number call ∷ []

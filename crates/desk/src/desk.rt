@@ -6,7 +6,7 @@ ghost use Rattle.std.specs.List.{AllByRecursion};
 ghost use Rattle.desk.specs.Books.{manifest_of, IsRun};
 ghost use Rattle.desk.specs.Receipts.{next_receipt, receipts_at};
 ghost use Rattle.desk.specs.Passes.{known, newcomer, known_of, seen_of, AreDistinct, IsKeeper, IsSeat};
-ghost use Rattle.desk.specs.Seats.{IsAnswered, Sees, AreSettled, numbers_of, receipts_of, items_of, first_numbers};
+ghost use Rattle.desk.specs.Seats.{IsServed, Sees, AreSettled, numbers_of, receipts_of, items_of, first_numbers};
 
 use crate::book::Book;
 use crate::naming::Naming;
@@ -163,7 +163,7 @@ impl<J: Naming> Desk<J> {
         ensures number { seat.new.number ≡ seat.old.number }
 
         // The seat has one receipt more, by the run of a list of calls that ends with this one.
-        ensures answered { OnOk result (IsAnswered J.manifest call seat.old seat.new) }
+        ensures answered { OnOk result (IsServed J.manifest call seat.old seat.new) }
         ensures err { OnErr result (seat.new ≡ seat.old) }
     {
         seat.receipts.reserve(1)?;
