@@ -111,6 +111,12 @@ struct ffaspm {
  * Makes the manager of a manifest: a TOML document in UTF-8 of `length` bytes (docs/MANIFEST.md).
  * Partitions then reach what the manifest grants them, and no call was answered.
  *
+ * The words of the tables stand in one room of the heap, of 4,096 bytes for each page of the pool. This
+ * function writes there the pages of the roots and of the tables that the grants need, and a later call each
+ * page that it takes for the first time. The memory of a page that was never taken is not touched, and holds
+ * what was there before. These words are the library's own, and no processor walks them: the live tables are
+ * the program's (docs/LINKING.md, "The replay").
+ *
  * FFASPM_DONE; FFASPM_MADE_ALREADY; 1 to 10, the document's first fault; FFASPM_NO_MEMORY, which may
  * come in place of any fault. Where it is not FFASPM_DONE, the struct is as it was.
  */
@@ -217,7 +223,8 @@ uint32_t ffaspm_root(struct ffaspm *spm, uint16_t partition, uint32_t *page);
 
 /*
  * The word at an index, 0 to 511, of a page of the pool (Arm ARM, "VMSAv8-64 descriptor formats"), as
- * it is after all calls so far. After ffaspm_make the live tables are to be filled with all of them.
+ * it is after all calls so far. After ffaspm_make the live tables are to be filled with all of them. It is 0 in a page
+ * that was never taken.
  *
  * FFASPM_DONE; FFASPM_NOTHING_THERE, outside the pool; FFASPM_NOT_MADE.
  */

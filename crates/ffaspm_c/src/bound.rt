@@ -79,7 +79,7 @@ fn counts_of(manifest: &Manifest, ranges: u32) -> Counts {
 /// What stays from boot on: words, counts and marks of the table pool, the manifest's lists, and the manager.
 fn kept(counts: &Counts) -> u64 {
     total(&[
-        places(counts.tables, 4096 + 4 + 1),
+        places(counts.tables, 4096 + 4 + 2),
         places(counts.partitions, 128),
         places(counts.regions, 128),
         list(counts.grants, 16),
@@ -87,10 +87,10 @@ fn kept(counts: &Counts) -> u64 {
     ])
 }
 
-/// The list of operations, which has places for each word of the chunks that the ranges of a call touch.
+/// The list of operations, which has places for each word of the chunks that the ranges of a call touch, for an
+/// invalidation of each part of a range, and for a clear of each range.
 fn operations(counts: &Counts) -> u64 {
-    let chunks = total(&[counts.chunks, counts.ranges]);
-    let most = total(&[places(chunks, 516), 1024, counts.ranges]);
+    let most = total(&[places(counts.chunks, 518), places(counts.ranges, 2)]);
     places(most, 24)
 }
 

@@ -9,10 +9,10 @@ ghost use Rattle.ffaspm_c.specs.Answers.{call_from, rx_bytes, in_front, AreBoth,
 ghost use Rattle.spm.specs.Machine.{MayNeedMemory, unchanged};
 
 use crate::holder::Holder;
+use crate::kept::Manager;
 use crate::status::{DONE, NO_MEMORY, NOT_MADE, RX_SHORT};
 use base::{OutOfMemory, PartitionId};
-use pool::ListPool;
-use spm::{LentCall, Reply, Spm};
+use spm::{LentCall, Reply};
 use std::alloc::Global;
 
 /// A call: registers 0 to 7, and the identifier of the partition that calls.
@@ -34,7 +34,7 @@ pub struct ReplyOut {
 }
 
 /// How many bytes the RX buffer of a partition has; 0 where none is registered.
-fn rx_size(spm: &Spm<ListPool>, p: PartitionId) -> usize
+fn rx_size(spm: &Manager, p: PartitionId) -> usize
     ensures { result ≡ rx_size spm.now.state p }
 {
     match spm.buffers(p) {
@@ -44,7 +44,7 @@ fn rx_size(spm: &Spm<ListPool>, p: PartitionId) -> usize
 }
 
 /// Answers the call. No memory is taken for its TX bytes.
-fn answered(spm: &mut Spm<ListPool>, call: &CallIn, tx: &[u8]) -> Result<Reply, OutOfMemory>
+fn answered(spm: &mut Manager, call: &CallIn, tx: &[u8]) -> Result<Reply, OutOfMemory>
     ensures answered { OnOk result
         (IsAnswered (call_from call.now.caller call.now.regs tx.now) spm.old spm.new) }
     ensures reply { IfOk result (λ reply. reply
@@ -96,7 +96,7 @@ fn unanswered(reply: &mut ReplyOut, status: u32) -> u32
 }
 
 /// The same where there is a manager, which then lists no operations, those of an earlier call neither.
-fn left(spm: &mut Spm<ListPool>, reply: &mut ReplyOut, status: u32) -> u32
+fn left(spm: &mut Manager, reply: &mut ReplyOut, status: u32) -> u32
     ensures left { IsLeft spm.old spm.new }
     ensures reply { reply.new ≡ record reply.old { operations = 0 } }
     ensures status { result ≡ status }
@@ -106,13 +106,7 @@ fn left(spm: &mut Spm<ListPool>, reply: &mut ReplyOut, status: u32) -> u32
 }
 
 /// Answers the call where `rx` has room for the caller's whole RX buffer.
-fn serve(
-    spm: &mut Spm<ListPool>,
-    call: &CallIn,
-    tx: &[u8],
-    rx: &mut [u8],
-    reply: &mut ReplyOut,
-) -> u32
+fn serve(spm: &mut Manager, call: &CallIn, tx: &[u8], rx: &mut [u8], reply: &mut ReplyOut) -> u32
     ensures answered { result ≡ answers.done →
         IsAnswered (call_from call.now.caller call.now.regs tx.now) spm.old spm.new }
     ensures reply { result ≡ answers.done →

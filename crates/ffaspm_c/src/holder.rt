@@ -2,9 +2,7 @@
 
 ghost use Rattle.std.specs.Prelude.{◌≡◌, Some, None, is_some, IfSome, IfNone};
 
-use crate::kept::Kept;
-use pool::ListPool;
-use spm::Spm;
+use crate::kept::{Kept, Manager};
 use std::alloc::Global;
 use std::mem::replace;
 
@@ -20,31 +18,28 @@ pub struct Holder {
 
 impl Holder {
     /// Holds a manager, in place of none.
-    pub(crate) fn put(&mut self, spm: Box<Spm<ListPool>>)
+    pub(crate) fn put(&mut self, spm: Box<Manager>)
         requires { self.old.kept.manager ≡ None }
         ensures { self.new.kept.manager ≡ Some spm.value }
     {
-        *self = Holder {
-            kept: Kept::of(spm),
-            made: true,
-        };
+        self.kept = Kept::of(spm);
+        self.made = true;
     }
 
     /// Gives the manager out, if there is one, and holds none.
-    pub(crate) fn take(&mut self, alloc: Global) -> Option<Box<Spm<ListPool>>>
+    pub(crate) fn take(&mut self, alloc: Global) -> Option<Box<Manager>>
         ensures some { IfSome result (λ spm. self.old.kept.manager ≡ Some spm.value) }
         ensures none { IfNone result (self.old.kept.manager ≡ None) }
         ensures left { self.new.kept.manager ≡ None }
     {
+        if !self.made {
+            return None;
+        }
         let none = Holder {
             kept: Kept::none(alloc),
             made: false,
         };
         let held = replace(self, none);
-        if held.made {
-            Some(held.kept.into_box())
-        } else {
-            None
-        }
+        Some(held.kept.into_box())
     }
 }

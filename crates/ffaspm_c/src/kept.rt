@@ -5,10 +5,13 @@ ghost use Rattle.spm.specs.Machine.{Machine};
 ghost use Rattle.ffaspm_c.specs.Kept.{kept_owns, kept_coded};
 
 use parts::Parts;
-use pool::ListPool;
+use pool::RawPool;
 use spm::Spm;
 use std::alloc::Global;
 use std::marker::Model;
+
+/// The manager, whose tables stand in one block of raw memory.
+pub(crate) type Manager = Spm<RawPool>;
 
 /// Where the manager lies on the heap, with the right to it, or nothing.
 #[repr(C)]
@@ -25,13 +28,13 @@ impl Model for Kept {
 
 impl Kept {
     /// Keeps a manager.
-    pub(crate) fn of(spm: Box<Spm<ListPool>>) -> Kept
+    pub(crate) fn of(spm: Box<Manager>) -> Kept
         ensures { result.manager ≡ Some spm.value }
     {
         Kept::of_parts(Parts::of(spm))
     }
 
-    fn of_parts(parts: Parts<Spm<ListPool>, Global>) -> Kept
+    fn of_parts(parts: Parts<Manager, Global>) -> Kept
         ensures { result.manager ≡ Some parts.value }
     {
         let Parts { ptr, alloc } = parts;
@@ -48,20 +51,20 @@ impl Kept {
     }
 
     /// The manager.
-    pub(crate) fn into_box(self) -> Box<Spm<ListPool>>
+    pub(crate) fn into_box(self) -> Box<Manager>
         requires { IsSome self.manager }
         ensures { self.manager ≡ Some result.value }
     {
         self.into_parts().into_box()
     }
 
-    fn into_parts(self) -> Parts<Spm<ListPool>, Global>
+    fn into_parts(self) -> Parts<Manager, Global>
         ghost m: { Machine }
         requires { self.manager ≡ Some m }
         ensures { result.value ≡ m }
     {
         let Kept { at, alloc } = self;
-        let ptr = at as *mut Spm<ListPool>;
+        let ptr = at as *mut Manager;
         Parts { ptr, alloc }
     }
 }

@@ -6,14 +6,14 @@ ghost use Rattle.ffaspm_c.specs.Answers as answers;
 ghost use Rattle.ffaspm_c.specs.Answers.{IsBooted, IsMakeAnswer};
 
 use crate::holder::Holder;
+use crate::kept::Manager;
 use crate::status::{DONE, MADE_ALREADY, NOT_MADE};
 use manifest::{ManifestFault, read};
-use pool::ListPool;
 use spm::Spm;
 use std::alloc::Global;
 
 /// The manager of the manifest in a document.
-fn booted(alloc: Global, document: &[u8]) -> Result<Box<Spm<ListPool>>, ManifestFault>
+fn booted(alloc: Global, document: &[u8]) -> Result<Box<Manager>, ManifestFault>
     ensures ok { IfOk result (λ spm. IsBooted document.now spm.value) }
     ensures fault { IfErr result (IsFirstFault document.now) }
 {
