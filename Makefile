@@ -41,6 +41,7 @@ checks: run lib
 	checks/leaks.sh
 	checks/donations.sh
 	checks/bound.sh
+	checks/room.sh
 	checks/readme.sh
 
 bench:

@@ -13,4 +13,15 @@ size_t heap_taken(void);
 size_t heap_most(void);
 
 void heap_forget(void);
+
+/* A room that is taken, where it lies, and how many bytes it has. `place` is NULL where there is none. */
+struct heap_room {
+    const void *place;
+    size_t size;
+};
+
+/* All rooms that are taken, one after the other. */
+struct heap_room heap_first(void);
+
+struct heap_room heap_next(struct heap_room room);
 #endif
