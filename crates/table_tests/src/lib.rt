@@ -3,6 +3,16 @@
 #![tactic(auto)]
 
 #[cfg(test)]
+mod fixture;
+#[cfg(test)]
+mod gaps;
+#[cfg(test)]
+mod lone_page;
+#[cfg(test)]
 mod memory;
+#[cfg(test)]
+mod passed_on;
+#[cfg(test)]
+mod share;
 #[cfg(test)]
 mod tables;

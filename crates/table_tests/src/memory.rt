@@ -1,3 +1,4 @@
+use crate::fixture::LARGE;
 use base::PartitionId;
 use manifest::read;
 use pool::{RawPool, TableMem};
@@ -5,18 +6,6 @@ use std::fs::File;
 use std::io::{self, Read};
 use std::process::Abort;
 use std::test::Fail;
-
-/// A partition with 1,025 table pages, which take 4,198,400 bytes.
-const LARGE: &str = "pool = 0x40000000\n\
-    [[partition]]\n\
-    id = 0x8001\n\
-    quota = 1024\n\
-    [[region]]\n\
-    base = 0x80000000\n\
-    pages = 1\n\
-    kind = \"normal\"\n\
-    owner = 0x8001\n\
-    grants = [ { id = 0x8001, data = \"rw\", exec = false } ]\n";
 
 /// How much memory the process holds, in KB.
 fn resident(rt: &HostRuntime) -> io::Result<u64> {
