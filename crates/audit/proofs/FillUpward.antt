@@ -8,7 +8,7 @@ use Rattle.base.specs.Need.{need, grow}
 use Rattle.base.specs.Pages.{PageRun, covers}
 use Rattle.manifest.specs.Valid.{quota_of}
 use Rattle.stage2.specs.Boot.{IsEdge, view_below}
-use Rattle.stage2.specs.Chunks.{edited}
+use Rattle.stage2.specs.Edits.{edited}
 use Rattle.stage2.specs.Orderly.{answer_of}
 use Rattle.stage2.specs.Slot.{Layout, layout_of}
 use Rattle.stage2.specs.Tables.{TablesView, walk_in, view_of, AreCanonical, Fits, quota_in, ReachSo}

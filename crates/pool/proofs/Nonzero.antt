@@ -1,5 +1,5 @@
 -- How many words of a page are not 0, after a write.
-use Rattle.std.proofs.Common.{◌≡◌, ◌≢◌, ℕ, ◌+◌, ◌*◌, ◌<◌, ◌≤◌, ◌==◌, not, arith, Bool, true, false, cond, List, length, replicate, slice_index, slice_set, refl, sym, ap, ◌∙◌, inl, inr}
+use Rattle.std.proofs.Common.{◌≡◌, ◌≢◌, ℕ, ◌+◌, ◌*◌, ◌<◌, ◌≤◌, ◌==◌, not, arith, Bool, true, false, cond, List, length, replicate, slice_index, slice_set, refl, sym, ap, ◌∙◌, ◌⊎◌, inl, inr}
 use Rattle.std.proofs.lemmas.Bool.{cases_eq, cases_Bool}
 use Rattle.std.proofs.lemmas.Bool.Decides.{nat_tests}
 use Rattle.std.proofs.lemmas.Grind.{common_steps}
@@ -8,7 +8,7 @@ use Rattle.base.specs.Counts.{count_below}
 use Rattle.base.specs.Manifest.{page_count}
 use Rattle.pool.specs.Pool.{Words, words_of, put, nonzero_in, CountsNonzero}
 use Rattle.pool.proofs.Count.{count_below-same, count_below-one, count_below-some, count_below-none, count_below-le, count_below-full, count_below-witness}
-use Rattle.pool.proofs.Words.{put-same, put-other_index, put-other_page, words_of-set, words_of-zeros}
+use Rattle.pool.proofs.Words.{put-same, put-other_index, put-other_page, words_of-set, words_of-set_at, words_of-zeros}
 
 -- a test that has another answer at one number
 count_below-at : (passes others : ℕ → Bool) (n x : ℕ) → x < n → ((k : ℕ) → k < n → k ≢ x → others k ≡ passes k)
@@ -96,6 +96,24 @@ nonzero-word words page some =
 pub word-read : (words : List ℕ) (page index word : ℕ) → index < 512 → word ≡ slice_index words (512 * page + index) → word ≡ words_of words page index
 unfolding words_of
 word-read words page index word below is = grind (arith, nat_tests, is)
+
+-- a word that is not 0 is one of those that are counted
+pub recount-some : (words : List ℕ) (page index count before : ℕ) → index < 512 → count ≡ nonzero_in (words_of words) page → before ≡ slice_index words (512 * page + index) → (1 ≤ count) ⊎ (before ≡ 0)
+recount-some words page index count before below counted is = elim (cases_eq before 0) [
+  | inl zero ↦ inr zero
+  | inr some ↦
+      let least = nonzero-some (words_of words) page index below (λ zero. some (word-read words page index before below is ∙ zero)) in
+      inl (omega (arith, counted, least))
+]
+
+-- how many are counted once it is written
+pub recount : (words new : List ℕ) (page index word count before after : ℕ) → index < 512 → 512 * page + 512 ≤ length words → count ≡ nonzero_in (words_of words) page → before ≡ slice_index words (512 * page + index)
+    → new ≡ slice_set words (512 * page + index) word → after + cond (before == 0) 0 1 ≡ count + cond (word == 0) 0 1 → after ≡ nonzero_in (words_of new) page
+recount words new page index word count before after below room counted is written sum =
+    let now = nonzero-put (words_of words) page index word below in
+    let there = rw (word-read words page index before below is) at sum in
+    let right : after ≡ nonzero_in (put page index word (words_of words)) page = omega (arith, now, there, counted) in
+    right ∙ ap (λ w. nonzero_in w page) (sym (ap words_of written ∙ words_of-set_at words page index word below (omega (arith, below, room))))
 
 -- a page whose words are all 0 has none
 pub nonzero-none : (words : Words) (page : ℕ) → ((i : ℕ) → i < 512 → words page i ≡ 0) → nonzero_in words page ≡ 0

@@ -5,7 +5,7 @@ use Rattle.std.proofs.lemmas.Bool.{and_parts}
 use Rattle.std.proofs.lemmas.Bool.Decides.{nat_tests}
 use Rattle.std.proofs.lemmas.List.{length-append, reverse-append, at_drop_more, at_drop_all}
 use Rattle.base.specs.Pages.{PageRun, rise_above, are_normal}
-use Rattle.pool.specs.Pool.{Pool, words_of, words_set, sets_of, counted, after_sets, index_from, after_run, after_runs}
+use Rattle.pool.specs.Pool.{Pool, words_of, words_set, sets_of, counted, after_sets, index_from, words_in, after_run, after_runs}
 use Rattle.pool.specs.Shown.{IsShown}
 use Rattle.pool.specs.declared.operation.Op.{Op}
 use Rattle.pool.specs.declared.operation.Op.TheVariants.{Set}
@@ -98,11 +98,6 @@ page-index start number index below inside is small = (omega (arith, below, insi
 pub page-outside : (start number index : ℕ) → start < 2 ^ 27 → number < 2 ^ 27 → index ≡ (number + (2 ^ 32 - start)) % 2 ^ 32 → 512 ≤ index
     → index_from start (number + 1) ≡ index_from start number
 page-outside start number index below inside is large = omega (arith, below, inside, is, large)
-
--- how many of the 512 words stand for pages of runs
-abbrev pub words_in : ℕ → List PageRun → ℕ
-words_in start [] = 0
-words_in start (run ∷ runs) = (index_from start (run.first + run.count) - index_from start run.first) + words_in start runs
 
 words_in-rise : (start end : ℕ) (runs : List PageRun) → rise_above end runs ≡ true → index_from start end + words_in start runs ≤ 512
 words_in-rise start end [] up = omega arith

@@ -1,6 +1,7 @@
 -- Words of a page that follow one another, and the operations that write them.
-use Rattle.std.proofs.Common.{◌≡◌, ◌≢◌, ℕ, zero, suc, ◌+◌, ◌*◌, ◌%◌, ◌^◌, ◌<◌, ◌≤◌, ◌==◌, arith, Bool, true, false, cond, List, [], ◌∷◌, ◌++◌, length, reverse, slice_index, slice_set, true≢false, refl, sym, ap, ◌∙◌, ◌⊎◌, inl, inr, add-one}
-use Rattle.std.proofs.lemmas.Bool.{cases_eq}
+use Rattle.std.proofs.Common.{◌≡◌, ◌≢◌, ℕ, zero, suc, ◌+◌, ◌-◌, ◌*◌, ◌%◌, ◌^◌, ◌<◌, ◌≤◌, ◌==◌, arith, Bool, true, false, cond, List, [], ◌∷◌, ◌++◌, length, reverse, slice_index, slice_set, true≢false, refl, sym, ap, ◌∙◌, ◌⊎◌, inl, inr, add-one, Vec, Global, vec_len}
+use Rattle.std.proofs.Math.Nat.{mul-le-mul_left}
+use Rattle.std.proofs.lemmas.Bool.{cases_eq, cases_Bool}
 use Rattle.std.proofs.lemmas.Bool.Decides.{nat_tests}
 use Rattle.std.proofs.lemmas.List.{length-set, length-append, length-reverse, append_assoc}
 use Rattle.base.specs.Manifest.{page_count}
@@ -9,7 +10,7 @@ use Rattle.pool.specs.declared.operation.Op.{Op}
 use Rattle.pool.specs.declared.operation.Op.TheVariants.{Set}
 use Rattle.pool.proofs.Words.{words_of-set_at, put-same, put-other_index, put-other_page}
 use Rattle.pool.specs.Shown.{AllDiffer}
-use Rattle.pool.proofs.Nonzero.{word-read, nonzero-put, counts_nonzero-page}
+use Rattle.pool.proofs.Nonzero.{word-read, nonzero-put, nonzero-zeros, nonzero-none, counts_nonzero-page}
 
 -- their number stays
 pub length-words_set : (words : List ℕ) (page first n word step : ℕ) → length (words_set words page first n word step) ≡ length words
@@ -150,6 +151,13 @@ sets_of-join words page first a (suc b) n word step index next is there sum =
     here : ℕ → ℕ → List Op
     here i w = cond (slice_index (words_set words page first (a + b) word step) (512 * page + i) == w) [] (Set page i w ∷ [])
 
+-- the operations of words that go on where others end, over those before
+pub sets_of-over : (words : List ℕ) (page first a b n word step index next : ℕ) (ops : List Op) → first + a ≡ index → word + step * a ≡ next → a + b ≡ n
+    → sets_of (words_set words page first a word step) page index b next step ++ (sets_of words page first a word step ++ ops) ≡ sets_of words page first n word step ++ ops
+sets_of-over words page first a b n word step index next ops is there sum =
+    sym (append_assoc (sets_of (words_set words page first a word step) page index b next step) (sets_of words page first a word step) ops)
+    ∙ ap (λ sets. sets ++ ops) (sets_of-join words page first a b n word step index next is there sum)
+
 -- ---- stretches whose words are all 0, or none of which is
 
 -- how many are not 0 then
@@ -218,3 +226,98 @@ differ-next words page first n m word step index next room small lt at there dif
     let read = word-read (words_set words page first n word step) page index (slice_index (words_set words page first n word step) (512 * page + index)) (omega (arith, at, small, lt)) refl in
     let beside = words_set-beside words page first n word step index room (omega (arith, small, lt)) (inr (omega (arith, at))) in
     differ n lt (ap (words_of words page) at ∙ sym beside ∙ sym read ∙ is ∙ sym there)
+
+-- ---- how many operations they are
+
+-- no more than one for each word
+pub length-sets_of-le : (words : List ℕ) (page first n word step : ℕ) → length (sets_of words page first n word step) ≤ n
+unfolding sets_of
+length-sets_of-le words page first zero word step = omega arith
+length-sets_of-le words page first (suc n) word step =
+    let rest = length-sets_of-le words page first n word step in
+    elim (cases_Bool (slice_index (words_set words page first n word step) (512 * page + (first + n)) == word + step * n)) [
+      | inl there ↦ rw there (omega (arith, rest))
+      | inr differs ↦ rw differs (omega (arith, rest))
+    ]
+
+-- for some of the words no more than for all
+pub length-sets_of-part : (words : List ℕ) (page first a n word step : ℕ) → a ≤ n → length (sets_of words page first a word step) ≤ length (sets_of words page first n word step)
+length-sets_of-part words page first a n word step few =
+    let set = words_set words page first a word step in
+    let left = sets_of set page (first + a) (n - a) (word + step * a) step in
+    let all = sets_of-join words page first a (n - a) n word step (first + a) (word + step * a) refl refl (omega (arith, few)) in
+    let long = sym (length-append left (sets_of words page first a word step)) ∙ ap length all in
+    omega (arith, long)
+
+-- so much longer is the list then
+pub vec_len-made : (old new : Vec Op Global) (sets : List Op) → reverse new.items ≡ sets ++ reverse old.items → vec_len new ≡ vec_len old + length sets
+vec_len-made old new sets made =
+    let long : length new.items ≡ length sets + length old.items =
+    sym (length-reverse new.items) ∙ ap length made ∙ length-append sets (reverse old.items) ∙ ap (λ n. length sets + n) (length-reverse old.items) in
+    omega (arith, long, old.ok.0, new.ok.0)
+
+-- where words become 0, each operation leaves one less that is not
+pub nonzero-sets_of : (words : List ℕ) (page first n : ℕ) → 512 * page + 512 ≤ length words → first + n ≤ 512
+    → length (sets_of words page first n 0 0) + nonzero_in (words_of (words_set words page first n 0 0)) page ≡ nonzero_in (words_of words) page
+unfolding words_set sets_of
+nonzero-sets_of words page first zero room small = omega arith
+nonzero-sets_of words page first (suc n) room small =
+    let set = words_set words page first n 0 0 in
+    let place = 512 * page + (first + n) in
+    let zero_next : 0 + 0 * n ≡ 0 = omega arith in
+    let inside : place < length set = (let long = length-words_set words page first n 0 0 in omega (arith, small, room, long)) in
+    let read = word-read set page (first + n) (slice_index set place) (omega (arith, small)) refl in
+    let rest = nonzero-sets_of words page first n room (omega (arith, small)) in
+    rw zero_next (elim (cases_eq (slice_index set place) 0) [
+      | inl is ↦
+          let test : (slice_index set place == 0) ≡ true = grind (arith, nat_tests, is) in
+          rw (test, set-same set place 0 inside is) rest
+      | inr differs ↦
+          let test : (slice_index set place == 0) ≡ false = grind (arith, nat_tests, differs) in
+          let some : (words_of set page (first + n) == 0) ≡ false = ap (λ w. w == 0) (sym read) ∙ test in
+          let now = nonzero-put (words_of set) page (first + n) 0 (omega (arith, small)) in
+          let less = rw some at now in
+          let written = words_of-set_at set page (first + n) 0 (omega (arith, small)) inside in
+          rw (test, written) (omega (arith, less, rest))
+    ])
+
+-- ---- a page whose words become 0
+
+-- none that is not is left
+pub nonzero-emptied : (words : List ℕ) (page : ℕ) → 512 * page + 512 ≤ length words → nonzero_in (words_of (words_set words page 0 512 0 0)) page ≡ 0
+nonzero-emptied words page room =
+    nonzero-none (words_of (words_set words page 0 512 0 0)) page (λ i below.
+    let index : 0 + i ≡ i = omega arith in
+    let zero : 0 + 0 * i ≡ 0 = omega arith in
+    ap (words_of (words_set words page 0 512 0 0) page) (sym index) ∙ words_set-at words page 0 512 0 0 i room (omega arith) below ∙ zero)
+
+-- while one is left, not all words were looked at, so 64 more are there
+pub emptied-part : (words new : List ℕ) (page n count : ℕ) → 512 * page + 512 ≤ length words → new ≡ words_set words page 0 n 0 0 → count ≡ nonzero_in (words_of new) page → 0 < count → n ≤ 512 → n % 64 ≡ 0
+    → n + 64 ≤ 512
+emptied-part words new page n count room written counted some small parts =
+    let left : n ≢ 512 = λ is.
+    let none = ap (λ w. nonzero_in (words_of w) page) (written ∙ ap (λ k. words_set words page 0 k 0 0) is) ∙ nonzero-emptied words page room in
+    absurd (omega (arith, some, counted, none)) in
+    omega (arith, left, small, parts)
+
+-- once none is left, the words behind stay, and nothing more is recorded
+pub emptied-rest : (words : List ℕ) (page n : ℕ) → 512 * page + 512 ≤ length words → n ≤ 512 → nonzero_in (words_of (words_set words page 0 n 0 0)) page ≡ 0
+    → (words_set words page 0 n 0 0 ≡ words_set words page 0 512 0 0) × (sets_of words page 0 n 0 0 ≡ sets_of words page 0 512 0 0)
+emptied-rest words page n room small none =
+    let set = words_set words page 0 n 0 0 in
+    let whole : 512 * page + 512 ≤ length set = (let long = length-words_set words page 0 n 0 0 in omega (arith, long, room)) in
+    let zeros : (x : ℕ) → x < 512 - n → words_of set page (n + x) ≡ 0 = λ x lt. nonzero-zeros (words_of set) page (n + x) none (omega (arith, lt)) in
+    let more : n + (512 - n) ≡ 512 = omega (arith, small) in
+    let within : n + (512 - n) ≤ 512 = omega (arith, small) in
+    let index : 0 + n ≡ n = omega arith in
+    let next : 0 + 0 * n ≡ 0 = omega arith in (
+      sym (zeros-stay set page n (512 - n) whole within zeros) ∙ words_set-join words page 0 n (512 - n) 512 0 0 n 0 index next more,
+      ap (λ (ops : List Op). ops ++ sets_of words page 0 n 0 0) (sym (zeros-make_none set page n (512 - n) whole within zeros)) ∙ sets_of-join words page 0 n (512 - n) 512 0 0 n 0 index next more,
+    )
+
+-- the words of a part of a range are below what all of them are
+pub part-in_range : (first end word step at k next bound : ℕ) → word + step * (end - first) < bound → first ≤ at → at + k ≤ end → next ≡ word + step * (at - first) → next + step * k < bound
+part-in_range first end word step at k next bound below from to is =
+    let less : step * ((at - first) + k) ≤ step * (end - first) = mul-le-mul_left step (omega (arith, from, to)) in
+    let sum : step * ((at - first) + k) ≡ step * (at - first) + step * k = omega arith in
+    omega (arith, below, less, sum, is)

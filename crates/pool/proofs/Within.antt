@@ -1,5 +1,5 @@
 -- Where the operations of a list lie that calls make.
-use Rattle.std.proofs.Common.{◌≡◌, ℕ, zero, suc, ◌+◌, ◌-◌, ◌*◌, ◌^◌, ◌<◌, ◌≤◌, ◌&&◌, min, eqb, leb, ltb, true, false, List, [], ◌∷◌, ◌++◌, length, reverse, refl, arith, inl, inr}
+use Rattle.std.proofs.Common.{◌≡◌, ℕ, zero, suc, ◌+◌, ◌-◌, ◌*◌, ◌^◌, ◌<◌, ◌≤◌, eqb, true, List, [], ◌∷◌, ◌++◌, length, reverse, refl, arith, inl, inr}
 use Rattle.std.specs.Prelude.{slice_index}
 use Rattle.std.specs.List.{list_all}
 use Rattle.std.proofs.lemmas.Bool.{cases_Bool}
@@ -8,9 +8,9 @@ use Rattle.std.proofs.lemmas.List.{reverse-append}
 use Rattle.std.proofs.lemmas.List.Folds.{list_all-append}
 use Rattle.base.specs.Manifest.{row_of, page_count}
 use Rattle.base.specs.Pages.{PageRun}
-use Rattle.pool.specs.Pool.{Pool, words_of, lies_in, words_set, sets_of, index_from, after_sets, after_run, after_runs, after_break, after_make, after_replaces}
+use Rattle.pool.specs.Pool.{Pool, words_of, lies_in, words_set, sets_of, index_from, after_run, after_runs, after_break, after_make, after_replaces}
 use Rattle.pool.specs.declared.operation.Op.{Op}
-use Rattle.pool.specs.declared.operation.Op.TheVariants.{Set, Invalidate, Clear}
+use Rattle.pool.specs.declared.operation.Op.TheVariants.{Set, Invalidate}
 
 -- one operation more
 pub within-push : (ids quotas : List ℕ) (ops : List Op) (op : Op) → lies_in ids quotas op ≡ true → list_all (lies_in ids quotas) (reverse ops) ≡ true → list_all (lies_in ids quotas) (reverse (ops ++ op ∷ [])) ≡ true

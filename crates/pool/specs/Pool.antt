@@ -181,6 +181,12 @@ after_sets page first n word step pool =
 abbrev pub index_from : ℕ → ℕ → ℕ
 index_from start n = min (n - start) 512
 
+-- how many of the 512 words stand for pages of runs that are apart
+abbrev pub words_in : ℕ → List PageRun → ℕ
+words_in start [] = 0
+words_in start (run ∷ runs) =
+    (index_from start (run.first + run.count) - index_from start run.first) + words_in start runs
+
 -- the words for the pages of a run are written
 abbrev pub after_run : ℕ → ℕ → ℕ → ℕ → PageRun → Pool → Pool
 after_run page start word step run pool =

@@ -1,8 +1,10 @@
 ghost use Rattle.std.specs.Prelude.{◌≡◌, ◌≢◌, ℕ, ◌+◌, ◌-◌, ◌*◌, ◌/◌, ◌^◌, ◌<◌, ◌≤◌, List, Bool, None, true, false, length, replicate, slice_index, slice_index_or, IfOk};
 ghost use Rattle.pool.specs.Cells.{held, with_zeros, IsPageFilled, IsPageEmpty, AreMarked};
-ghost use Rattle.pool.specs.Pool.{words_of, words_set};
+ghost use Rattle.pool.specs.Pool.{words_of};
+ghost use Rattle.pool.specs.Writing.{with_range};
 
 use crate::cells::{Base, Cells, Deed, allocate, deallocate};
+use crate::word_range::WordRange;
 use crate::word_store::WordStore;
 use base::OutOfMemory;
 use std::alloc::Global;
@@ -77,37 +79,28 @@ fn empty(base: Base<u64>, count: usize, cells: &mut Cells<u64>, marks: &[bool])
     }
 }
 
-/// Writes words of a page, 512 to a page, in place of what stands there: the first is this word, and each
-/// other a step more than the one before. Where the block begins is at hand, whatever is written.
+/// Writes words of a page, 512 to a page, in place of what stands there. Where the block begins is at hand, whatever
+/// is written.
 #[inline(always)]
-fn put_words(
-    base: Base<u64>,
-    cells: &mut Cells<u64>,
-    page: u32,
-    first: u32,
-    end: u32,
-    word: u64,
-    step: u64,
-)
+fn put_words(base: Base<u64>, cells: &mut Cells<u64>, range: WordRange)
     requires place { base.ptr ≡ cells.old.at }
-    requires filled { IsPageFilled cells.old.slots page }
-    requires ordered { first ≤ end }
-    requires index_in { end ≤ 512 }
-    requires inside { 512 * page + 512 ≤ length cells.old.slots }
-    requires in_range { word + step * (end - first) < 2 ^ 64 }
+    requires filled { IsPageFilled cells.old.slots range.page }
+    requires ordered { range.first ≤ range.end }
+    requires index_in { range.end ≤ 512 }
+    requires inside { 512 * range.page + 512 ≤ length cells.old.slots }
+    requires in_range { range.word + range.step * (range.end - range.first) < 2 ^ 64 }
     ensures place { cells.new.at ≡ cells.old.at }
     ensures len { length cells.new.slots ≡ length cells.old.slots }
-    ensures words { held cells.new.slots
-        ≡ words_set (held cells.old.slots) page first (end - first) word step }
+    ensures words { held cells.new.slots ≡ with_range (held cells.old.slots) range }
     ensures marked { (marks : List Bool)
         → AreMarked marks cells.old.slots → AreMarked marks cells.new.slots }
 {
-    let mut next = word;
-    for index in first..end {
-        let place = PAGE * page as usize + index as usize;
+    let mut next = range.word;
+    for index in range.first..range.end {
+        let place = PAGE * range.page as usize + index as usize;
         let _old = cells.read(base, place);
         cells.write(base, place, next);
-        next += step;
+        next += range.step;
     }
 }
 
@@ -246,8 +239,8 @@ impl WordStore for Block {
         self.cells.write(self.base, place, word);
     }
 
-    fn set_words(&mut self, page: u32, first: u32, end: u32, word: u64, step: u64) {
-        put_words(self.base, &mut self.cells, page, first, end, word, step);
+    fn set_words(&mut self, range: WordRange) {
+        put_words(self.base, &mut self.cells, range);
     }
 
     fn are_zeros(&self, page: u32, first: u32, end: u32) -> bool {

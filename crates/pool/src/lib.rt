@@ -13,6 +13,7 @@ mod runs;
 mod stretch;
 mod table_mem;
 mod table_pool;
+mod word_range;
 mod word_store;
 
 pub use image::Image;
@@ -20,4 +21,6 @@ pub use list_pool::ListPool;
 pub use operation::Op;
 pub use places::{address_of, page_at, row_in, row_of};
 pub use raw_pool::RawPool;
+pub use runs::TableWords;
 pub use table_mem::TableMem;
+pub use word_range::WordRange;

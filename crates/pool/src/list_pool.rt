@@ -1,6 +1,7 @@
 ghost use Rattle.std.specs.Prelude.{true};
 
 use crate::table_pool::TablePool;
+use crate::word_range::WordRange;
 use crate::word_store::WordStore;
 use base::OutOfMemory;
 use std::alloc::Global;
@@ -31,11 +32,11 @@ impl WordStore for Vec<u64> {
         self[512 * page as usize + index as usize] = word;
     }
 
-    fn set_words(&mut self, page: u32, first: u32, end: u32, word: u64, step: u64) {
-        let mut next = word;
-        for index in first..end {
-            self[512 * page as usize + index as usize] = next;
-            next += step;
+    fn set_words(&mut self, range: WordRange) {
+        let mut next = range.word;
+        for index in range.first..range.end {
+            self[512 * range.page as usize + index as usize] = next;
+            next += range.step;
         }
     }
 

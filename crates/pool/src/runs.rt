@@ -1,30 +1,33 @@
 //! Words of a page that stand for the pages of runs.
 
-ghost use Rattle.std.specs.Prelude.{◌≡◌, ◌+◌, ◌*◌, ◌^◌, ◌<◌, ◌≤◌, length, true, vec_len, vec_capacity};
-ghost use Rattle.base.specs.Pages.{are_normal};
-ghost use Rattle.pool.specs.Pool.{Pool, words_of, nonzero_in, index_from, after_run, after_runs};
-ghost use Rattle.pool.specs.Shown.{IsShown};
+ghost use Rattle.std.specs.Prelude.{◌≡◌, ◌+◌, ◌*◌, ◌^◌, ◌<◌, length};
+ghost use Rattle.pool.specs.Pool.{words_of, nonzero_in, index_from, words_in, after_run, after_runs};
+ghost use Rattle.pool.specs.Writing.{MayWriteRuns, Shows, HasRoom, Grows, words_for, page_alone};
 
 use crate::operation::Op;
-use crate::stretch::{Stretch, WORDS, recounted, write_others, write_words};
+use crate::stretch::{WORDS, recounted, write_others, write_words};
+use crate::word_range::WordRange;
 use crate::word_store::WordStore;
 use base::{Page, Run};
 use std::mem::replace;
 
-/// What the words of a page are to be: the first stands for the page `start` and is this word, and each
-/// other stands for a page more, and is a step more, than the one before.
+/// What the 512 words of a page are to be: each stands for a page more, and is a step more, than the one before.
 #[derive(Clone, Copy)]
-pub(crate) struct RunWords {
-    pub(crate) page: u32,
-    pub(crate) start: u32,
-    pub(crate) word: u64,
-    pub(crate) step: u64,
+pub struct TableWords {
+    /// The page of the words.
+    pub page: u32,
+    /// The number of the page that the first stands for.
+    pub start: u32,
+    /// The first word.
+    pub word: u64,
+    /// How much more each other one is than the one before.
+    pub step: u64,
 }
 
-impl RunWords {
+impl TableWords {
     /// The words from one index up to another.
     #[inline(always)]
-    fn stretch(self, first: u32, end: u32) -> Stretch
+    fn range(self, first: u32, end: u32) -> WordRange
         requires { self.word + self.step * first < 2 ^ 64 }
         ensures { result ≡ record {
           page = self.page;
@@ -34,7 +37,7 @@ impl RunWords {
           step = self.step;
         } }
     {
-        Stretch {
+        WordRange {
             page: self.page,
             first,
             end,
@@ -62,35 +65,28 @@ fn write_run<S: WordStore>(
     operations: Vec<Op>,
     count: u32,
     run: Run,
-    with: RunWords,
+    with: TableWords,
 ) -> (Vec<Op>, u32)
-    requires inside { 512 * with.page + 512 ≤ length (S.words store.old) }
-    requires standing { S.stands store.old with.page ≡ true }
-    requires start_in { with.start < 2 ^ 27 }
-    requires in_range { with.word + with.step * 512 < 2 ^ 64 }
+    requires may { MayWriteRuns (S.words store.old) (S.stands store.old) with }
     requires counted { count ≡ nonzero_in (words_of (S.words store.old)) with.page }
-    requires ready { vec_len operations + index_from with.start (run.first + run.count)
-        ≤ vec_capacity operations + index_from with.start run.first }
-    ensures shown { (pool : Pool) → IsShown (S.words store.old) operations.items pool
-        → IsShown (S.words store.new) result.0.items
-        (after_run with.page with.start with.word with.step run pool) }
+    requires ready { HasRoom operations (words_for with.start run) }
+    ensures shown { Shows (after_run with.page with.start with.word with.step run)
+        (S.words store.old) (S.words store.new) operations.items result.0.items }
     ensures standing { S.stands store.new ≡ S.stands store.old }
     ensures whole { length (S.words store.new) ≡ length (S.words store.old) }
     ensures counted { result.1 ≡ nonzero_in (words_of (S.words store.new)) with.page }
-    ensures capacity { vec_capacity result.0 ≡ vec_capacity operations }
-    ensures len { vec_len result.0 + index_from with.start run.first
-        ≤ vec_len operations + index_from with.start (run.first + run.count) }
+    ensures grows { Grows (words_for with.start run) operations result.0 }
 {
     if run.count() == 1 {
         let index = run.first().number().wrapping_sub(with.start);
         if index >= WORDS {
             return (operations, count);
         }
-        return write_others(store, operations, count, with.stretch(index, index + 1));
+        return write_others(store, operations, count, with.range(index, index + 1));
     }
     let first = index_from(with.start, run.first().number());
     let end = index_from(with.start, run.end());
-    write_words(store, operations, count, with.stretch(first, end))
+    write_words(store, operations, count, with.range(first, end))
 }
 
 /// Writes the words for the pages of runs that are not there, and records each write behind these
@@ -102,23 +98,17 @@ fn write_runs<S: WordStore>(
     mut operations: Vec<Op>,
     mut count: u32,
     runs: &[Run],
-    with: RunWords,
+    with: TableWords,
 ) -> (Vec<Op>, u32)
-    requires inside { 512 * with.page + 512 ≤ length (S.words store.old) }
-    requires standing { S.stands store.old with.page ≡ true }
-    requires start_in { with.start < 2 ^ 27 }
-    requires normal { are_normal runs.now ≡ true }
-    requires in_range { with.word + with.step * 512 < 2 ^ 64 }
+    requires may { MayWriteRuns (S.words store.old) (S.stands store.old) with }
     requires counted { count ≡ nonzero_in (words_of (S.words store.old)) with.page }
-    requires ready { vec_len operations + 512 ≤ vec_capacity operations }
-    ensures shown { (pool : Pool) → IsShown (S.words store.old) operations.items pool
-        → IsShown (S.words store.new) result.0.items
-        (after_runs with.page with.start with.word with.step runs.now pool) }
+    requires ready { HasRoom operations (words_in with.start runs.now) }
+    ensures shown { Shows (after_runs with.page with.start with.word with.step runs.now)
+        (S.words store.old) (S.words store.new) operations.items result.0.items }
     ensures standing { S.stands store.new ≡ S.stands store.old }
     ensures whole { length (S.words store.new) ≡ length (S.words store.old) }
     ensures counted { result.1 ≡ nonzero_in (words_of (S.words store.new)) with.page }
-    ensures capacity { vec_capacity result.0 ≡ vec_capacity operations }
-    ensures len { vec_len result.0 ≤ vec_len operations + 512 }
+    ensures grows { Grows (words_in with.start runs.now) operations result.0 }
 {
     for run in runs {
         (operations, count) = write_run(store, operations, count, *run, with);
@@ -134,22 +124,17 @@ fn set_one<S: WordStore>(
     operations: &mut Vec<Op>,
     count: u32,
     page: Page,
-    with: RunWords,
+    with: TableWords,
 ) -> u32
-    requires inside { 512 * with.page + 512 ≤ length (S.words store.old) }
-    requires standing { S.stands store.old with.page ≡ true }
-    requires start_in { with.start < 2 ^ 27 }
-    requires in_range { with.word + with.step * 512 < 2 ^ 64 }
+    requires may { MayWriteRuns (S.words store.old) (S.stands store.old) with }
     requires counted { count ≡ nonzero_in (words_of (S.words store.old)) with.page }
-    requires ready { vec_len operations.old < vec_capacity operations.old }
-    ensures shown { (pool : Pool) → IsShown (S.words store.old) operations.old.items pool
-        → IsShown (S.words store.new) operations.new.items (after_run with.page with.start
-        with.word with.step (record { first = page; count = 1 }) pool) }
+    requires ready { HasRoom operations.old (words_for with.start (page_alone page)) }
+    ensures shown { Shows (after_run with.page with.start with.word with.step (page_alone page))
+        (S.words store.old) (S.words store.new) operations.old.items operations.new.items }
     ensures standing { S.stands store.new ≡ S.stands store.old }
     ensures whole { length (S.words store.new) ≡ length (S.words store.old) }
     ensures counted { result ≡ nonzero_in (words_of (S.words store.new)) with.page }
-    ensures capacity { vec_capacity operations.new ≡ vec_capacity operations.old }
-    ensures len { vec_len operations.new ≤ vec_len operations.old + 1 }
+    ensures grows { Grows (words_for with.start (page_alone page)) operations.old operations.new }
 {
     let index = page.number().wrapping_sub(with.start);
     if index >= WORDS {
@@ -177,23 +162,17 @@ pub(crate) fn set_runs<S: WordStore>(
     operations: &mut Vec<Op>,
     count: u32,
     runs: &[Run],
-    with: RunWords,
+    with: TableWords,
 ) -> u32
-    requires inside { 512 * with.page + 512 ≤ length (S.words store.old) }
-    requires standing { S.stands store.old with.page ≡ true }
-    requires start_in { with.start < 2 ^ 27 }
-    requires normal { are_normal runs.now ≡ true }
-    requires in_range { with.word + with.step * 512 < 2 ^ 64 }
+    requires may { MayWriteRuns (S.words store.old) (S.stands store.old) with }
     requires counted { count ≡ nonzero_in (words_of (S.words store.old)) with.page }
-    requires ready { vec_len operations.old + 512 ≤ vec_capacity operations.old }
-    ensures shown { (pool : Pool) → IsShown (S.words store.old) operations.old.items pool
-        → IsShown (S.words store.new) operations.new.items
-        (after_runs with.page with.start with.word with.step runs.now pool) }
+    requires ready { HasRoom operations.old (words_in with.start runs.now) }
+    ensures shown { Shows (after_runs with.page with.start with.word with.step runs.now)
+        (S.words store.old) (S.words store.new) operations.old.items operations.new.items }
     ensures standing { S.stands store.new ≡ S.stands store.old }
     ensures whole { length (S.words store.new) ≡ length (S.words store.old) }
     ensures counted { result ≡ nonzero_in (words_of (S.words store.new)) with.page }
-    ensures capacity { vec_capacity operations.new ≡ vec_capacity operations.old }
-    ensures len { vec_len operations.new ≤ vec_len operations.old + 512 }
+    ensures grows { Grows (words_in with.start runs.now) operations.old operations.new }
 {
     if runs.len() == 1 {
         let run = runs[0];

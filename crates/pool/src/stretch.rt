@@ -1,10 +1,11 @@
 //! Words of a page that follow one another, and are written at once.
 
-ghost use Rattle.std.specs.Prelude.{◌≡◌, ◌≢◌, ℕ, true, ◌+◌, ◌-◌, ◌*◌, ◌<◌, ◌≤◌, ◌^◌, ◌++◌, ◌⊎◌, length, reverse, vec_len, vec_capacity, if◌then◌else◌, ◌==◌};
-ghost use Rattle.pool.specs.Pool.{words_of, nonzero_in, words_set, sets_of};
-ghost use Rattle.pool.specs.Shown.{AllDiffer};
+ghost use Rattle.std.specs.Prelude.{◌≡◌, true, ◌+◌, ◌-◌, ◌*◌, ◌<◌, ◌≤◌, ◌⊎◌, length, if◌then◌else◌, ◌==◌};
+ghost use Rattle.pool.specs.Pool.{words_of, nonzero_in};
+ghost use Rattle.pool.specs.Writing.{with_range, writes_of, zeros_of, NoneThere, MayWrite, Records, HasRoom, Grows};
 
 use crate::operation::Op;
+use crate::word_range::WordRange;
 use crate::word_store::WordStore;
 
 /// How many words a page has.
@@ -15,17 +16,6 @@ const MOST: u32 = 64;
 
 /// Fewer words than these are written one by one: to look at them all before takes longer.
 const FEW: u32 = 12;
-
-/// Words of a page from one index up to another: the first is this word, and each other a step more
-/// than the one before.
-#[derive(Clone, Copy)]
-pub(crate) struct Stretch {
-    pub(crate) page: u32,
-    pub(crate) first: u32,
-    pub(crate) end: u32,
-    pub(crate) word: u64,
-    pub(crate) step: u64,
-}
 
 /// How many words of a page are not 0, once one that was this is that.
 #[inline(always)]
@@ -39,62 +29,39 @@ pub(crate) fn recounted(count: u32, before: u64, after: u64) -> u32
 
 /// Records the writes of words, none of which is there, behind these operations.
 #[inline(always)]
-fn record_all<S: WordStore>(store: &S, mut operations: Vec<Op>, stretch: Stretch) -> Vec<Op>
-    requires ordered { stretch.first ≤ stretch.end }
-    requires index_in { stretch.end ≤ 512 }
-    requires inside { 512 * stretch.page + 512 ≤ length (S.words store.now) }
-    requires in_range { stretch.word + stretch.step * (stretch.end - stretch.first) < 2 ^ 64 }
-    requires differ { AllDiffer (S.words store.now) stretch.page stretch.first
-        (stretch.end - stretch.first) stretch.word stretch.step }
-    requires ready { vec_len operations + stretch.end
-        ≤ vec_capacity operations + stretch.first }
-    ensures made { reverse result.items ≡ sets_of (S.words store.now) stretch.page stretch.first
-        (stretch.end - stretch.first) stretch.word stretch.step ++ reverse operations.items }
-    ensures capacity { vec_capacity result ≡ vec_capacity operations }
-    ensures len { vec_len result + stretch.first ≤ vec_len operations + stretch.end }
+fn record_all<S: WordStore>(store: &S, mut operations: Vec<Op>, range: WordRange) -> Vec<Op>
+    requires may { MayWrite (S.words store.now) (S.stands store.now) range }
+    requires differ { NoneThere (S.words store.now) range }
+    requires ready { HasRoom operations (range.end - range.first) }
+    ensures records { Records (S.words store.now) range operations.items result.items }
+    ensures grows { Grows (range.end - range.first) operations result }
 {
     let _store = store;
-    let mut word = stretch.word;
-    for index in stretch.first..stretch.end {
+    let mut word = range.word;
+    for index in range.first..range.end {
         operations.push_reserved(Op::Set {
-            page: stretch.page,
+            page: range.page,
             index,
             word,
         });
-        word += stretch.step;
+        word += range.step;
     }
     operations
 }
 
 /// Writes all of these words, none of which is there, and records each write behind these operations.
 #[inline(always)]
-fn write_all<S: WordStore>(store: &mut S, operations: Vec<Op>, stretch: Stretch) -> Vec<Op>
-    requires ordered { stretch.first ≤ stretch.end }
-    requires index_in { stretch.end ≤ 512 }
-    requires inside { 512 * stretch.page + 512 ≤ length (S.words store.old) }
-    requires standing { S.stands store.old stretch.page ≡ true }
-    requires in_range { stretch.word + stretch.step * (stretch.end - stretch.first) < 2 ^ 64 }
-    requires differ { AllDiffer (S.words store.old) stretch.page stretch.first
-        (stretch.end - stretch.first) stretch.word stretch.step }
-    requires ready { vec_len operations + stretch.end
-        ≤ vec_capacity operations + stretch.first }
-    ensures words { S.words store.new ≡ words_set (S.words store.old) stretch.page stretch.first
-        (stretch.end - stretch.first) stretch.word stretch.step }
+fn write_all<S: WordStore>(store: &mut S, operations: Vec<Op>, range: WordRange) -> Vec<Op>
+    requires may { MayWrite (S.words store.old) (S.stands store.old) range }
+    requires differ { NoneThere (S.words store.old) range }
+    requires ready { HasRoom operations (range.end - range.first) }
+    ensures words { S.words store.new ≡ with_range (S.words store.old) range }
     ensures standing { S.stands store.new ≡ S.stands store.old }
-    ensures made { reverse result.items ≡ sets_of (S.words store.old) stretch.page stretch.first
-        (stretch.end - stretch.first) stretch.word stretch.step ++ reverse operations.items }
-    ensures capacity { vec_capacity result ≡ vec_capacity operations }
-    ensures len { vec_len result + stretch.first ≤ vec_len operations + stretch.end }
+    ensures records { Records (S.words store.old) range operations.items result.items }
+    ensures grows { Grows (range.end - range.first) operations result }
 {
-    let Stretch {
-        page,
-        first,
-        end,
-        word,
-        step,
-    } = stretch;
-    let operations = record_all(store, operations, stretch);
-    store.set_words(page, first, end, word, step);
+    let operations = record_all(store, operations, range);
+    store.set_words(range);
     operations
 }
 
@@ -105,38 +72,30 @@ pub(crate) fn write_others<S: WordStore>(
     store: &mut S,
     mut operations: Vec<Op>,
     mut count: u32,
-    stretch: Stretch,
+    range: WordRange,
 ) -> (Vec<Op>, u32)
-    requires ordered { stretch.first ≤ stretch.end }
-    requires index_in { stretch.end ≤ 512 }
-    requires inside { 512 * stretch.page + 512 ≤ length (S.words store.old) }
-    requires standing { S.stands store.old stretch.page ≡ true }
-    requires in_range { stretch.word + stretch.step * (stretch.end - stretch.first) < 2 ^ 64 }
-    requires counted { count ≡ nonzero_in (words_of (S.words store.old)) stretch.page }
-    requires ready { vec_len operations + stretch.end
-        ≤ vec_capacity operations + stretch.first }
-    ensures words { S.words store.new ≡ words_set (S.words store.old) stretch.page stretch.first
-        (stretch.end - stretch.first) stretch.word stretch.step }
+    requires may { MayWrite (S.words store.old) (S.stands store.old) range }
+    requires counted { count ≡ nonzero_in (words_of (S.words store.old)) range.page }
+    requires ready { HasRoom operations (length (writes_of (S.words store.old) range)) }
+    ensures words { S.words store.new ≡ with_range (S.words store.old) range }
     ensures standing { S.stands store.new ≡ S.stands store.old }
-    ensures made { reverse result.0.items ≡ sets_of (S.words store.old) stretch.page stretch.first
-        (stretch.end - stretch.first) stretch.word stretch.step ++ reverse operations.items }
-    ensures counted { result.1 ≡ nonzero_in (words_of (S.words store.new)) stretch.page }
-    ensures capacity { vec_capacity result.0 ≡ vec_capacity operations }
-    ensures len { vec_len result.0 + stretch.first ≤ vec_len operations + stretch.end }
+    ensures records { Records (S.words store.old) range operations.items result.0.items }
+    ensures counted { result.1 ≡ nonzero_in (words_of (S.words store.new)) range.page }
+    ensures grows { Grows (range.end - range.first) operations result.0 }
 {
-    let mut word = stretch.word;
-    for index in stretch.first..stretch.end {
-        let before = store.standing_word(stretch.page, index);
+    let mut word = range.word;
+    for index in range.first..range.end {
+        let before = store.standing_word(range.page, index);
         if before != word {
-            store.set_word(stretch.page, index, word);
+            store.set_word(range.page, index, word);
             count = recounted(count, before, word);
             operations.push_reserved(Op::Set {
-                page: stretch.page,
+                page: range.page,
                 index,
                 word,
             });
         }
-        word += stretch.step;
+        word += range.step;
     }
     (operations, count)
 }
@@ -149,41 +108,35 @@ fn clear_part<S: WordStore>(
     store: &mut S,
     operations: Vec<Op>,
     count: u32,
-    stretch: Stretch,
+    range: WordRange,
 ) -> (Vec<Op>, u32)
-    requires some { stretch.first < stretch.end }
-    requires index_in { stretch.end ≤ 512 }
-    requires inside { 512 * stretch.page + 512 ≤ length (S.words store.old) }
-    requires standing { S.stands store.old stretch.page ≡ true }
-    requires zero { stretch.word ≡ 0 }
-    requires same { stretch.step ≡ 0 }
-    requires counted { count ≡ nonzero_in (words_of (S.words store.old)) stretch.page }
-    requires ready { vec_len operations + stretch.end
-        ≤ vec_capacity operations + stretch.first }
-    ensures words { S.words store.new ≡ words_set (S.words store.old) stretch.page stretch.first
-        (stretch.end - stretch.first) stretch.word stretch.step }
+    requires may { MayWrite (S.words store.old) (S.stands store.old) range }
+    requires some { range.first < range.end }
+    requires zero { range.word ≡ 0 }
+    requires same { range.step ≡ 0 }
+    requires counted { count ≡ nonzero_in (words_of (S.words store.old)) range.page }
+    requires ready { HasRoom operations (length (writes_of (S.words store.old) range)) }
+    ensures words { S.words store.new ≡ with_range (S.words store.old) range }
     ensures standing { S.stands store.new ≡ S.stands store.old }
-    ensures made { reverse result.0.items ≡ sets_of (S.words store.old) stretch.page stretch.first
-        (stretch.end - stretch.first) stretch.word stretch.step ++ reverse operations.items }
-    ensures counted { result.1 ≡ nonzero_in (words_of (S.words store.new)) stretch.page }
-    ensures capacity { vec_capacity result.0 ≡ vec_capacity operations }
-    ensures len { vec_len result.0 + stretch.first ≤ vec_len operations + stretch.end }
+    ensures records { Records (S.words store.old) range operations.items result.0.items }
+    ensures counted { result.1 ≡ nonzero_in (words_of (S.words store.new)) range.page }
+    ensures grows { Grows (range.end - range.first) operations result.0 }
 {
-    let Stretch {
+    let WordRange {
         page,
         first,
         end,
         ..
-    } = stretch;
+    } = range;
     let written = end - first;
     if store.standing_word(page, first) == 0 {
         if store.are_zeros(page, first, end) {
             return (operations, count);
         }
     } else if written <= count && store.are_others(page, first, end) {
-        return (write_all(store, operations, stretch), count - written);
+        return (write_all(store, operations, range), count - written);
     }
-    write_others(store, operations, count, stretch)
+    write_others(store, operations, count, range)
 }
 
 /// Writes the words of a part that are not there, and records each write behind these operations. It answers these,
@@ -194,39 +147,32 @@ fn write_part<S: WordStore>(
     store: &mut S,
     operations: Vec<Op>,
     count: u32,
-    stretch: Stretch,
+    range: WordRange,
 ) -> (Vec<Op>, u32)
-    requires some { stretch.first < stretch.end }
-    requires index_in { stretch.end ≤ 512 }
-    requires inside { 512 * stretch.page + 512 ≤ length (S.words store.old) }
-    requires standing { S.stands store.old stretch.page ≡ true }
-    requires in_range { stretch.word + stretch.step * (stretch.end - stretch.first) < 2 ^ 64 }
-    requires counted { count ≡ nonzero_in (words_of (S.words store.old)) stretch.page }
-    requires ready { vec_len operations + stretch.end
-        ≤ vec_capacity operations + stretch.first }
-    ensures words { S.words store.new ≡ words_set (S.words store.old) stretch.page stretch.first
-        (stretch.end - stretch.first) stretch.word stretch.step }
+    requires may { MayWrite (S.words store.old) (S.stands store.old) range }
+    requires some { range.first < range.end }
+    requires counted { count ≡ nonzero_in (words_of (S.words store.old)) range.page }
+    requires ready { HasRoom operations (range.end - range.first) }
+    ensures words { S.words store.new ≡ with_range (S.words store.old) range }
     ensures standing { S.stands store.new ≡ S.stands store.old }
-    ensures made { reverse result.0.items ≡ sets_of (S.words store.old) stretch.page stretch.first
-        (stretch.end - stretch.first) stretch.word stretch.step ++ reverse operations.items }
-    ensures counted { result.1 ≡ nonzero_in (words_of (S.words store.new)) stretch.page }
-    ensures capacity { vec_capacity result.0 ≡ vec_capacity operations }
-    ensures len { vec_len result.0 + stretch.first ≤ vec_len operations + stretch.end }
+    ensures records { Records (S.words store.old) range operations.items result.0.items }
+    ensures counted { result.1 ≡ nonzero_in (words_of (S.words store.new)) range.page }
+    ensures grows { Grows (range.end - range.first) operations result.0 }
 {
-    let Stretch {
+    let WordRange {
         page,
         first,
         end,
         ..
-    } = stretch;
+    } = range;
     let written = end - first;
-    if stretch.word > 0 && count <= WORDS - written && store.are_zeros(page, first, end) {
-        return (write_all(store, operations, stretch), count + written);
+    if range.word > 0 && count <= WORDS - written && store.are_zeros(page, first, end) {
+        return (write_all(store, operations, range), count + written);
     }
-    if stretch.word == 0 && stretch.step == 0 {
-        return clear_part(store, operations, count, stretch);
+    if range.word == 0 && range.step == 0 {
+        return clear_part(store, operations, count, range);
     }
-    write_others(store, operations, count, stretch)
+    write_others(store, operations, count, range)
 }
 
 /// Writes many words, part by part.
@@ -234,36 +180,28 @@ fn write_parts<S: WordStore>(
     store: &mut S,
     mut operations: Vec<Op>,
     mut count: u32,
-    stretch: Stretch,
+    range: WordRange,
 ) -> (Vec<Op>, u32)
-    requires ordered { stretch.first ≤ stretch.end }
-    requires index_in { stretch.end ≤ 512 }
-    requires inside { 512 * stretch.page + 512 ≤ length (S.words store.old) }
-    requires standing { S.stands store.old stretch.page ≡ true }
-    requires in_range { stretch.word + stretch.step * (stretch.end - stretch.first) < 2 ^ 64 }
-    requires counted { count ≡ nonzero_in (words_of (S.words store.old)) stretch.page }
-    requires ready { vec_len operations + stretch.end
-        ≤ vec_capacity operations + stretch.first }
-    ensures words { S.words store.new ≡ words_set (S.words store.old) stretch.page stretch.first
-        (stretch.end - stretch.first) stretch.word stretch.step }
+    requires may { MayWrite (S.words store.old) (S.stands store.old) range }
+    requires counted { count ≡ nonzero_in (words_of (S.words store.old)) range.page }
+    requires ready { HasRoom operations (range.end - range.first) }
+    ensures words { S.words store.new ≡ with_range (S.words store.old) range }
     ensures standing { S.stands store.new ≡ S.stands store.old }
-    ensures made { reverse result.0.items ≡ sets_of (S.words store.old) stretch.page stretch.first
-        (stretch.end - stretch.first) stretch.word stretch.step ++ reverse operations.items }
-    ensures counted { result.1 ≡ nonzero_in (words_of (S.words store.new)) stretch.page }
-    ensures capacity { vec_capacity result.0 ≡ vec_capacity operations }
-    ensures len { vec_len result.0 + stretch.first ≤ vec_len operations + stretch.end }
+    ensures records { Records (S.words store.old) range operations.items result.0.items }
+    ensures counted { result.1 ≡ nonzero_in (words_of (S.words store.new)) range.page }
+    ensures grows { Grows (range.end - range.first) operations result.0 }
 {
-    let Stretch {
+    let WordRange {
         page,
         end,
         step,
         ..
-    } = stretch;
-    let mut first = stretch.first;
-    let mut word = stretch.word;
+    } = range;
+    let mut first = range.first;
+    let mut word = range.word;
     while first < end {
         let written = (end - first).min(MOST);
-        let part = Stretch {
+        let part = WordRange {
             page,
             first,
             end: first + written,
@@ -283,33 +221,25 @@ fn write_many<S: WordStore>(
     store: &mut S,
     operations: Vec<Op>,
     count: u32,
-    stretch: Stretch,
+    range: WordRange,
 ) -> (Vec<Op>, u32)
-    requires ordered { stretch.first ≤ stretch.end }
-    requires index_in { stretch.end ≤ 512 }
-    requires inside { 512 * stretch.page + 512 ≤ length (S.words store.old) }
-    requires standing { S.stands store.old stretch.page ≡ true }
-    requires in_range { stretch.word + stretch.step * (stretch.end - stretch.first) < 2 ^ 64 }
-    requires counted { count ≡ nonzero_in (words_of (S.words store.old)) stretch.page }
-    requires ready { vec_len operations + stretch.end
-        ≤ vec_capacity operations + stretch.first }
-    ensures words { S.words store.new ≡ words_set (S.words store.old) stretch.page stretch.first
-        (stretch.end - stretch.first) stretch.word stretch.step }
+    requires may { MayWrite (S.words store.old) (S.stands store.old) range }
+    requires counted { count ≡ nonzero_in (words_of (S.words store.old)) range.page }
+    requires ready { HasRoom operations (range.end - range.first) }
+    ensures words { S.words store.new ≡ with_range (S.words store.old) range }
     ensures standing { S.stands store.new ≡ S.stands store.old }
-    ensures made { reverse result.0.items ≡ sets_of (S.words store.old) stretch.page stretch.first
-        (stretch.end - stretch.first) stretch.word stretch.step ++ reverse operations.items }
-    ensures counted { result.1 ≡ nonzero_in (words_of (S.words store.new)) stretch.page }
-    ensures capacity { vec_capacity result.0 ≡ vec_capacity operations }
-    ensures len { vec_len result.0 + stretch.first ≤ vec_len operations + stretch.end }
+    ensures records { Records (S.words store.old) range operations.items result.0.items }
+    ensures counted { result.1 ≡ nonzero_in (words_of (S.words store.new)) range.page }
+    ensures grows { Grows (range.end - range.first) operations result.0 }
 {
-    let written = stretch.end - stretch.first;
-    if count == 0 && stretch.word > 0 {
-        return (write_all(store, operations, stretch), written);
+    let written = range.end - range.first;
+    if count == 0 && range.word > 0 {
+        return (write_all(store, operations, range), written);
     }
-    if count == WORDS && stretch.word == 0 && stretch.step == 0 {
-        return (write_all(store, operations, stretch), WORDS - written);
+    if count == WORDS && range.word == 0 && range.step == 0 {
+        return (write_all(store, operations, range), WORDS - written);
     }
-    write_parts(store, operations, count, stretch)
+    write_parts(store, operations, count, range)
 }
 
 /// Writes words that are not there, and records each write behind these operations. It answers these,
@@ -320,27 +250,81 @@ pub(crate) fn write_words<S: WordStore>(
     store: &mut S,
     operations: Vec<Op>,
     count: u32,
-    stretch: Stretch,
+    range: WordRange,
 ) -> (Vec<Op>, u32)
-    requires ordered { stretch.first ≤ stretch.end }
-    requires index_in { stretch.end ≤ 512 }
-    requires inside { 512 * stretch.page + 512 ≤ length (S.words store.old) }
-    requires standing { S.stands store.old stretch.page ≡ true }
-    requires in_range { stretch.word + stretch.step * (stretch.end - stretch.first) < 2 ^ 64 }
-    requires counted { count ≡ nonzero_in (words_of (S.words store.old)) stretch.page }
-    requires ready { vec_len operations + stretch.end
-        ≤ vec_capacity operations + stretch.first }
-    ensures words { S.words store.new ≡ words_set (S.words store.old) stretch.page stretch.first
-        (stretch.end - stretch.first) stretch.word stretch.step }
+    requires may { MayWrite (S.words store.old) (S.stands store.old) range }
+    requires counted { count ≡ nonzero_in (words_of (S.words store.old)) range.page }
+    requires ready { HasRoom operations (range.end - range.first) }
+    ensures words { S.words store.new ≡ with_range (S.words store.old) range }
     ensures standing { S.stands store.new ≡ S.stands store.old }
-    ensures made { reverse result.0.items ≡ sets_of (S.words store.old) stretch.page stretch.first
-        (stretch.end - stretch.first) stretch.word stretch.step ++ reverse operations.items }
-    ensures counted { result.1 ≡ nonzero_in (words_of (S.words store.new)) stretch.page }
-    ensures capacity { vec_capacity result.0 ≡ vec_capacity operations }
-    ensures len { vec_len result.0 + stretch.first ≤ vec_len operations + stretch.end }
+    ensures records { Records (S.words store.old) range operations.items result.0.items }
+    ensures counted { result.1 ≡ nonzero_in (words_of (S.words store.new)) range.page }
+    ensures grows { Grows (range.end - range.first) operations result.0 }
 {
-    if stretch.end - stretch.first < FEW {
-        return write_others(store, operations, count, stretch);
+    if range.end - range.first < FEW {
+        return write_others(store, operations, count, range);
     }
-    write_many(store, operations, count, stretch)
+    write_many(store, operations, count, range)
+}
+
+/// Writes 0 into each word of a page that is not 0, part by part until none is left, and records each write behind
+/// these operations.
+fn clear_parts<S: WordStore>(
+    store: &mut S,
+    mut operations: Vec<Op>,
+    mut count: u32,
+    page: u32,
+) -> Vec<Op>
+    requires inside { 512 * page + 512 ≤ length (S.words store.old) }
+    requires standing { S.stands store.old page ≡ true }
+    requires counted { count ≡ nonzero_in (words_of (S.words store.old)) page }
+    requires ready { HasRoom operations count }
+    ensures words { S.words store.new ≡ with_range (S.words store.old) (zeros_of page) }
+    ensures standing { S.stands store.new ≡ S.stands store.old }
+    ensures records { Records (S.words store.old) (zeros_of page) operations.items result.items }
+    ensures grows { Grows count operations result }
+{
+    let mut first = 0;
+    while count > 0 {
+        let part = WordRange {
+            page,
+            first,
+            end: first + MOST,
+            word: 0,
+            step: 0,
+        };
+        (operations, count) = clear_part(store, operations, count, part);
+        first += MOST;
+    }
+    operations
+}
+
+/// Writes 0 into each word of a page that is not 0, and records each write behind these operations. Where none is 0,
+/// none is looked at. The list is owned meanwhile, so that its length can stay in a register.
+pub(crate) fn clear_page<S: WordStore>(
+    store: &mut S,
+    operations: Vec<Op>,
+    count: u32,
+    page: u32,
+) -> Vec<Op>
+    requires inside { 512 * page + 512 ≤ length (S.words store.old) }
+    requires standing { S.stands store.old page ≡ true }
+    requires counted { count ≡ nonzero_in (words_of (S.words store.old)) page }
+    requires ready { HasRoom operations count }
+    ensures words { S.words store.new ≡ with_range (S.words store.old) (zeros_of page) }
+    ensures standing { S.stands store.new ≡ S.stands store.old }
+    ensures records { Records (S.words store.old) (zeros_of page) operations.items result.items }
+    ensures grows { Grows count operations result }
+{
+    if count == WORDS {
+        let all = WordRange {
+            page,
+            first: 0,
+            end: WORDS,
+            word: 0,
+            step: 0,
+        };
+        return write_all(store, operations, all);
+    }
+    clear_parts(store, operations, count, page)
 }

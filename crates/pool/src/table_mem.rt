@@ -1,10 +1,12 @@
 ghost use Rattle.std.specs.Prelude.{◌≡◌, ℕ, ◌+◌, ◌-◌, ◌*◌, ◌^◌, ◌<◌, ◌≤◌, length, reverse, IfOk, OnOk, true, false};
-ghost use Rattle.base.specs.Manifest.{ManifestRows, page_count};
+ghost use Rattle.base.specs.Manifest.{page_count};
 ghost use Rattle.base.specs.Pages.{are_normal};
-ghost use Rattle.pool.specs.Pool.{Pool, IsWhole, HasRow, all_lie_in, InShareOf, IsLowestFreeOf, pages_of, words_of, taken_of, nonzero_in, new_pool, after_set, after_sets, after_runs, after_replaces, after_invalidate, after_clear, after_take, after_give, emptied, free_of, image_of};
+ghost use Rattle.pool.specs.Pool.{Pool, IsWhole, HasRow, all_lie_in, InShareOf, IsLowestFreeOf, pages_of, words_of, taken_of, nonzero_in, words_in, new_pool, after_set, after_sets, after_runs, after_replaces, after_invalidate, after_clear, after_take, after_give, emptied, free_of, image_of};
 
 use crate::image::Image;
 use crate::operation::Op;
+use crate::runs::TableWords;
+use crate::word_range::WordRange;
 use base::{OutOfMemory, Page, PartitionId, Run};
 use manifest::Manifest;
 use std::alloc::Global;
@@ -14,8 +16,8 @@ use std::alloc::Global;
 /// shares in the same order, each as many pages as its partition's quota.
 ///
 /// A page of a share is free or taken, and a free page holds zeros alone. `set_word`, `set_words`,
-/// `set_runs` and `replace_words` change words, and nothing else changes any. Each word that is written,
-/// each invalidation and each clear is recorded as an `Op`.
+/// `set_runs`, `clear_words` and `replace_words` change words, and nothing else changes any. Each word that
+/// is written, each invalidation and each clear is recorded as an `Op`.
 pub trait TableMem {
     /// What the pages hold, which are taken, and what was done.
     ghost state: { Self → Pool };
@@ -49,56 +51,56 @@ pub trait TableMem {
         ensures state { state self.new ≡ after_set page index word (state self.old) }
         ensures room { room self.new + 1 ≡ room self.old };
 
-    /// Writes words of a root, or of a page that is taken, from one index up to another: the first is
-    /// this word, and each other a step more than the one before. A word that is there is not written.
-    fn set_words(&mut self, page: u32, first: u32, end: u32, word: u64, step: u64)
-        requires page_in { page < page_count (state self.old).memory.quotas }
-        requires ordered { first ≤ end }
-        requires index_in { end ≤ 512 }
-        requires taken { taken_of (state self.old).memory.taken page ≡ true }
-        requires in_range { word + step * (end - first) < 2 ^ 64 }
-        requires ready { end ≤ room self.old + first }
-        ensures state { state self.new
-            ≡ after_sets page first (end - first) word step (state self.old) }
-        ensures room { room self.old + first ≤ room self.new + end };
+    /// Writes words of a root, or of a page that is taken, from one index up to another. A word that is there is not
+    /// written.
+    fn set_words(&mut self, range: WordRange)
+        requires page_in { range.page < page_count (state self.old).memory.quotas }
+        requires ordered { range.first ≤ range.end }
+        requires index_in { range.end ≤ 512 }
+        requires taken { taken_of (state self.old).memory.taken range.page ≡ true }
+        requires in_range { range.word + range.step * (range.end - range.first) < 2 ^ 64 }
+        requires ready { range.end ≤ room self.old + range.first }
+        ensures state { state self.new ≡ after_sets range.page range.first (range.end - range.first)
+            range.word range.step (state self.old) }
+        ensures room { room self.old + range.first ≤ room self.new + range.end };
 
-    /// Writes the words of a root, or of a page that is taken, that stand for the pages of runs: its 512
-    /// words stand for the page `start` and those behind it. The word of the first is to be this, and that
-    /// of each other a step more than the one before. A word that is there is not written.
-    fn set_runs(&mut self, page: u32, start: Page, runs: &[Run], word: u64, step: u64)
-        requires page_in { page < page_count (state self.old).memory.quotas }
-        requires taken { taken_of (state self.old).memory.taken page ≡ true }
+    /// Writes the words of a root, or of a page that is taken, that stand for the pages of runs. A word that is there
+    /// is not written.
+    fn set_runs(&mut self, words: TableWords, runs: &[Run])
+        requires page_in { words.page < page_count (state self.old).memory.quotas }
+        requires taken { taken_of (state self.old).memory.taken words.page ≡ true }
         requires normal { are_normal runs.now ≡ true }
-        requires in_range { word + step * 512 < 2 ^ 64 }
-        requires ready { 512 ≤ room self.old }
-        ensures state { state self.new ≡ after_runs page start word step runs.now (state self.old) }
-        ensures room { room self.old ≤ room self.new + 512 };
+        requires start_in { words.start < 2 ^ 27 }
+        requires in_range { words.word + words.step * 512 < 2 ^ 64 }
+        requires ready { words_in words.start runs.now ≤ room self.old }
+        ensures state { state self.new ≡ after_runs words.page words.start words.word words.step
+            runs.now (state self.old) }
+        ensures room { room self.old ≤ room self.new + words_in words.start runs.now };
 
-    /// Replaces words of a root, or of a page that is taken, from one index up to another: the first by
-    /// this word, and each other by one that is a step more than the one before. Each stands for 512
+    /// Writes 0 into each word of a root, or of a page that is taken, that is not 0, upward.
+    fn clear_words(&mut self, page: u32)
+        requires page_in { page < page_count (state self.old).memory.quotas }
+        requires taken { taken_of (state self.old).memory.taken page ≡ true }
+        requires ready { nonzero_in (words_of (state self.old).memory.words) page ≤ room self.old }
+        ensures state { state self.new ≡ after_sets page 0 512 0 0 (state self.old) }
+        ensures room { room self.old
+            ≤ room self.new + nonzero_in (words_of (state self.old).memory.words) page };
+
+    /// Replaces words of a root, or of a page that is taken, by those of a range. Each stands for 512
     /// pages, the first for those from `start` on. A word that is not 0 is made 0 before, and its pages
     /// are invalidated for a partition.
-    fn replace_words(
-        &mut self,
-        p: PartitionId,
-        page: u32,
-        first: u32,
-        end: u32,
-        word: u64,
-        step: u64,
-        start: Page,
-    )
-        requires page_in { page < page_count (state self.old).memory.quotas }
-        requires ordered { first ≤ end }
-        requires index_in { end ≤ 512 }
-        requires taken { taken_of (state self.old).memory.taken page ≡ true }
-        requires in_range { word + step * (end - first) < 2 ^ 64 }
-        requires pages_in { start + 512 * (end - first) ≤ 2 ^ 27 }
+    fn replace_words(&mut self, p: PartitionId, range: WordRange, start: Page)
+        requires page_in { range.page < page_count (state self.old).memory.quotas }
+        requires ordered { range.first ≤ range.end }
+        requires index_in { range.end ≤ 512 }
+        requires taken { taken_of (state self.old).memory.taken range.page ≡ true }
+        requires in_range { range.word + range.step * (range.end - range.first) < 2 ^ 64 }
+        requires pages_in { start + 512 * (range.end - range.first) ≤ 2 ^ 27 }
         requires partition { HasRow (state self.old).memory p }
-        requires ready { 3 * end ≤ room self.old + 3 * first }
-        ensures state { state self.new
-            ≡ after_replaces p page first (end - first) word step start (state self.old) }
-        ensures room { room self.old + 3 * first ≤ room self.new + 3 * end };
+        requires ready { 3 * range.end ≤ room self.old + 3 * range.first }
+        ensures state { state self.new ≡ after_replaces p range.page range.first
+            (range.end - range.first) range.word range.step start (state self.old) }
+        ensures room { room self.old + 3 * range.first ≤ room self.new + 3 * range.end };
 
     /// Records that a partition's translations of these pages are invalidated.
     fn invalidate(&mut self, p: PartitionId, run: Run)
@@ -131,6 +133,10 @@ pub trait TableMem {
     /// How many pages of a partition's share are free; 0 for one that has no row.
     fn free(&self, p: PartitionId) -> u32
         ensures { result ≡ free_of (pages_of (state self.now).memory) p };
+
+    /// Whether there is room for this many operations.
+    fn has_room(&self, operations: usize) -> bool
+        ensures { result ≡ true → operations ≤ room self.now };
 
     /// Makes room for this many operations.
     fn ready(&mut self, operations: usize) -> Result<(), OutOfMemory>

@@ -1,4 +1,4 @@
-ghost use Rattle.std.specs.Prelude.{◌≡◌, ℕ, ◌+◌, ◌-◌, ◌*◌, ◌<◌, ◌≤◌, ◌^◌, ◌==◌, ◌++◌, ◌⊎◌, length, position, sum, replicate, reverse, vec_len, vec_capacity, true, false, IfOk, if◌then◌else◌};
+ghost use Rattle.std.specs.Prelude.{◌≡◌, ℕ, ◌+◌, ◌-◌, ◌*◌, ◌<◌, ◌≤◌, ◌^◌, length, replicate, reverse, vec_len, vec_capacity, true, false, IfOk};
 ghost use Rattle.base.specs.Manifest.{page_count};
 ghost use Rattle.base.specs.Manifest as rows;
 ghost use Rattle.pool.specs.Pool.{CountsFree, CountsNonzero, lies_in, words_of, taken_of};
@@ -9,9 +9,10 @@ use crate::image::Image;
 use crate::operation::Op;
 use crate::places::{row_of, share_start, total};
 use crate::replace::{Replacement, replace_words};
-use crate::runs::{RunWords, set_runs};
-use crate::stretch::{Stretch, recounted, write_words};
+use crate::runs::{TableWords, set_runs};
+use crate::stretch::{clear_page, recounted, write_words};
 use crate::table_mem::TableMem;
+use crate::word_range::WordRange;
 use crate::word_store::WordStore;
 use base::{OutOfMemory, Page, PartitionId, Run};
 use manifest::{Manifest, Partition};
@@ -148,56 +149,38 @@ impl<S: WordStore> TableMem for TablePool<S> {
         self.operations.push_reserved(Op::Set { page, index, word });
     }
 
-    fn set_words(&mut self, page: u32, first: u32, end: u32, word: u64, step: u64) {
+    fn set_words(&mut self, range: WordRange) {
+        let alloc = *self.operations.allocator();
+        let operations = replace(&mut self.operations, Vec::new(alloc));
+        let count = self.nonzero[range.page as usize];
+        let (operations, count) = write_words(&mut self.store, operations, count, range);
+        self.operations = operations;
+        self.nonzero[range.page as usize] = count;
+    }
+
+    fn set_runs(&mut self, words: TableWords, runs: &[Run]) {
+        let count = self.nonzero[words.page as usize];
+        let count = set_runs(&mut self.store, &mut self.operations, count, runs, words);
+        self.nonzero[words.page as usize] = count;
+    }
+
+    fn clear_words(&mut self, page: u32) {
         let alloc = *self.operations.allocator();
         let operations = replace(&mut self.operations, Vec::new(alloc));
         let count = self.nonzero[page as usize];
-        let stretch = Stretch {
-            page,
-            first,
-            end,
-            word,
-            step,
-        };
-        let (operations, count) = write_words(&mut self.store, operations, count, stretch);
-        self.operations = operations;
-        self.nonzero[page as usize] = count;
+        self.operations = clear_page(&mut self.store, operations, count, page);
+        self.nonzero[page as usize] = 0;
     }
 
-    fn set_runs(&mut self, page: u32, start: Page, runs: &[Run], word: u64, step: u64) {
-        let count = self.nonzero[page as usize];
-        let with = RunWords {
-            page,
-            start: start.number(),
-            word,
-            step,
-        };
-        let count = set_runs(&mut self.store, &mut self.operations, count, runs, with);
-        self.nonzero[page as usize] = count;
-    }
-
-    fn replace_words(
-        &mut self,
-        p: PartitionId,
-        page: u32,
-        first: u32,
-        end: u32,
-        word: u64,
-        step: u64,
-        start: Page,
-    ) {
-        let count = self.nonzero[page as usize];
+    fn replace_words(&mut self, p: PartitionId, range: WordRange, start: Page) {
+        let count = self.nonzero[range.page as usize];
         let with = Replacement {
             who: p,
-            page,
-            first,
-            end,
-            word,
-            step,
-            start: start.number(),
+            range,
+            start,
         };
         let count = replace_words(&mut self.store, &mut self.operations, count, with);
-        self.nonzero[page as usize] = count;
+        self.nonzero[range.page as usize] = count;
     }
 
     fn invalidate(&mut self, p: PartitionId, run: Run) {
@@ -232,8 +215,12 @@ impl<S: WordStore> TableMem for TablePool<S> {
         }
     }
 
+    fn has_room(&self, operations: usize) -> bool {
+        operations <= self.operations.capacity() - self.operations.len()
+    }
+
     fn ready(&mut self, operations: usize) -> Result<(), OutOfMemory> {
-        self.operations.reserve(operations)?;
+        self.operations.reserve_exact(operations)?;
         Ok(())
     }
 

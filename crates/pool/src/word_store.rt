@@ -1,6 +1,8 @@
-ghost use Rattle.std.specs.Prelude.{◌≡◌, ◌≢◌, ℕ, ◌+◌, ◌-◌, ◌*◌, ◌^◌, ◌<◌, ◌≤◌, List, Bool, true, length, replicate, slice_index, slice_set, IfOk};
-ghost use Rattle.pool.specs.Pool.{words_of, words_set};
+ghost use Rattle.std.specs.Prelude.{◌≡◌, ◌≢◌, ℕ, ◌+◌, ◌-◌, ◌*◌, ◌<◌, ◌≤◌, List, Bool, true, length, replicate, slice_index, slice_set, IfOk};
+ghost use Rattle.pool.specs.Pool.{words_of};
+ghost use Rattle.pool.specs.Writing.{with_range, MayWrite};
 
+use crate::word_range::WordRange;
 use base::OutOfMemory;
 use std::alloc::Global;
 
@@ -47,15 +49,10 @@ pub trait WordStore: Drop {
         ensures words { words self.new ≡ slice_set (words self.old) (512 * page + index) word }
         ensures standing { stands self.new ≡ stands self.old };
 
-    /// Writes words of a page from one index up to another: the first is this word, and each other a step more
-    /// than the one before.
-    fn set_words(&mut self, page: u32, first: u32, end: u32, word: u64, step: u64)
-        requires ordered { first ≤ end }
-        requires index_in { end ≤ 512 }
-        requires inside { 512 * page + 512 ≤ length (words self.old) }
-        requires standing { stands self.old page ≡ true }
-        requires in_range { word + step * (end - first) < 2 ^ 64 }
-        ensures words { words self.new ≡ words_set (words self.old) page first (end - first) word step }
+    /// Writes words of a page from one index up to another, in place of what stands there.
+    fn set_words(&mut self, range: WordRange)
+        requires may { MayWrite (words self.old) (stands self.old) range }
+        ensures words { words self.new ≡ with_range (words self.old) range }
         ensures standing { stands self.new ≡ stands self.old };
 
     /// Whether the words of a page from one index up to another are all 0.

@@ -8,7 +8,7 @@ use Rattle.pool.specs.Pool.{Pool, emptied, words_of}
 use Rattle.stage2.specs.Slot.{Layout, layout_of}
 use Rattle.stage2.specs.Walk.{Agrees}
 use Rattle.stage2.specs.Moments.{Moments, cleared_by}
-use Rattle.stage2.specs.Steps.{with_pages}
+use Rattle.stage2.specs.Edits.{with_pages}
 use Rattle.stage2.specs.Tables.{TablesView, AreFreeFor}
 use Rattle.stage2.proofs.Walkers.WholeEdit.{moments-none}
 use Rattle.wire.specs.declared.request.Request.{Request}

@@ -7,7 +7,7 @@ use Rattle.pool.specs.Pool.{Pool, words_of}
 use Rattle.stage2.specs.declared.walked.Walked.TheVariants.{None as Unmapped}
 use Rattle.stage2.specs.Moments.{Moments, cleared_by}
 use Rattle.stage2.specs.Slot.{Layout}
-use Rattle.stage2.specs.Steps.{with_pages}
+use Rattle.stage2.specs.Edits.{with_pages}
 use Rattle.stage2.specs.Tables.{TablesView, AreFreeFor, IsCallInStep}
 use Rattle.stage2.specs.Walk.{walk, Agrees}
 use Rattle.rules.specs.Rule.{Edit}

@@ -141,7 +141,7 @@ fn edit_tables<M: TableMem + Drop>(tables: &mut Tables<M>, edit: &Edit)
     requires rows { AreRowsOfPartitions tables.old.layout.ids }
     requires normal { are_normal edit.now.runs ≡ true }
     requires fits { Fits edit.now.who edit.now.runs edit.now.to tables.old }
-    requires ready { edit_operations edit.now.who edit.now.runs tables.old
+    requires ready { edit_operations edit.now.who edit.now.runs edit.now.to tables.old
         + length (clears_of edit.now) ≤ tables.old.room }
     ensures layout { tables.new.layout ≡ tables.old.layout }
     ensures walks { ReachSo edit.now.who edit.now.runs edit.now.to tables.old tables.new }

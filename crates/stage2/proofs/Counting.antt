@@ -1,5 +1,7 @@
 pub mod Needs
 pub mod Growth
 pub mod Bounds
-pub mod Nonzero
+pub mod Pieces
+pub mod Operations
+pub mod Outcomes
 pub mod NeedGrows

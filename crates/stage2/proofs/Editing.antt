@@ -9,6 +9,10 @@ pub mod LeafWords
 pub mod Stretches
 pub mod RunWords
 pub mod FourChunkEdits
+pub mod Spelled
+pub mod ChunkRoom
+pub mod OneChunk
+pub mod MadeEdit
 pub mod RootLinks
 pub mod ChunkByChunk
 pub mod FilledChunks

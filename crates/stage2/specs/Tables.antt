@@ -7,12 +7,11 @@ use Rattle.base.specs.Pages.{PageRun, in_run, covers}
 use Rattle.pool.specs.Pool.{words_of, taken_of, pages_of, used_by, row_quota, all_lie_in}
 use Rattle.stage2.specs.declared.walked.Walked.{Walked}
 use Rattle.stage2.specs.declared.walked.Walked.TheVariants.{None as Unmapped}
-use Rattle.stage2.specs.Chunks.{edited}
+use Rattle.stage2.specs.Edits.{edited, AreFree, disturbed, with_pages}
 use Rattle.stage2.specs.Entries.{word_at}
-use Rattle.stage2.specs.Parts.{operations_for}
+use Rattle.stage2.specs.Room.{row_operations}
 use Rattle.stage2.specs.Moments.{cleared_by, OpenCall, with_clear, IsInStepIn, nothing, StaysInStep, Moments}
 use Rattle.stage2.specs.Orderly.{answer_of, IsCanonical}
-use Rattle.stage2.specs.Steps.{AreFree, disturbed, with_pages}
 use Rattle.stage2.specs.Walk.{walk, walked, translation, Agrees, Place, table_at, IsPlace}
 pub use Rattle.stage2.specs.Sound.{TablesView}
 
@@ -61,8 +60,9 @@ Fits p runs access t =
     need (view_of t p) + grow (view_of t p) (edited runs access (view_of t p)) ≤ quota_in t p
 
 -- the operations that it makes at most
-abbrev pub edit_operations : ℕ → List PageRun → TablesView → ℕ
-edit_operations p runs t = if has_root t p then operations_for runs else 0
+abbrev pub edit_operations : ℕ → List PageRun → View → TablesView → ℕ
+edit_operations p runs access t =
+    if has_root t p then row_operations runs access (view_of t p) else 0
 
 -- the pages of the runs are reached so; each other walk, of all pages of all partitions, gives what it gave
 abbrev pub ReachSo : ℕ → List PageRun → View → TablesView → TablesView → Type 0

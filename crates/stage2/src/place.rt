@@ -197,19 +197,6 @@ impl Chunk {
     {
         page.number() / WORDS == self.0
     }
-
-    /// The page after this one, if both are in the chunk.
-    pub(crate) fn next_page(self, page: Page) -> Option<Page>
-        ensures { (next : ℕ) → result ≡ Some next
-            → (next ≡ page + 1) × ((page / 512 ≡ self) × ((page + 1) / 512 ≡ self)) }
-    {
-        let next = page.number() + 1;
-        if page.number() / WORDS == self.0 && next / WORDS == self.0 {
-            Some(Page::new(next))
-        } else {
-            None
-        }
-    }
 }
 
 /// The index of a page's word in a level 3 table: address bits 20:12.

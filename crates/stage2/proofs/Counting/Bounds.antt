@@ -6,7 +6,7 @@ use Rattle.base.specs.Access.{View}
 use Rattle.base.specs.Counts.{count_below}
 use Rattle.base.specs.Need.{is_mixed, is_reached, grow}
 use Rattle.base.specs.Pages.{PageRun, in_run, covers}
-use Rattle.stage2.specs.Chunks.{edited}
+use Rattle.stage2.specs.Edits.{edited}
 use Rattle.stage2.specs.Parts.{lie_within}
 use Rattle.stage2.proofs.Counting.Growth.{reaches-nothing, grows-nothing}
 use Rattle.stage2.proofs.Runs.Normal.{any-within}

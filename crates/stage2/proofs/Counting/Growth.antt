@@ -7,14 +7,19 @@ use Rattle.pool.specs.Pool.{Pages}
 use Rattle.pool.proofs.Shares.{share_inside}
 use Rattle.base.specs.Counts.{count_below}
 use Rattle.pool.proofs.Count.{count_below-none}
-use Rattle.stage2.specs.Slot.{Layout, slot}
+use Rattle.stage2.specs.Slot.{Layout, Next, slot}
 use Rattle.stage2.specs.Walk.{at_2, next_page, chunk_table, Gigabyte, Chunk, table_at}
 use Rattle.base.specs.Need.{is_mixed, is_reached}
-use Rattle.stage2.specs.Orderly.{IsCanonical, answers, answer_of}
-use Rattle.stage2.specs.Chunks.{edited, answers_at, answers_of, second_of, entry_in}
-use Rattle.stage2.specs.Gigabytes.{grows_at, gigabyte_growth, Touches}
+use Rattle.stage2.specs.Orderly.{IsCanonical, IsOrderly, answers, answer_of, linked}
+use Rattle.stage2.specs.Edits.{edited}
+use Rattle.stage2.specs.inner.Chunks.{answers_at, answers_of, second_of, entry_in, covers_chunk, IsSite, IsWordFor}
+use Rattle.stage2.specs.inner.Gigabytes.{grows_at, gigabyte_growth, Touches}
 use Rattle.stage2.proofs.Tree.WalkFrame.{walk-gigabyte}
-use Rattle.stage2.proofs.Counting.Needs.{mixed-same, mixed-none, reached-same, reached-none, reached-some}
+use Rattle.stage2.specs.Room.{chunk_operations}
+use Rattle.stage2.proofs.Counting.Operations.{plain}
+use Rattle.stage2.proofs.Counting.Needs.{filled-touches, outcome-filled, mixed-same, mixed-none, reached-same, reached-none, reached-some}
+use Rattle.stage2.proofs.Editing.Spelled.{spelled-words}
+use Rattle.stage2.proofs.Editing.Gigabyte.{linked-same}
 use Rattle.stage2.proofs.Editing.RootLinks.{untabled}
 
 module _ (layout : Layout) (row g : ℕ) (m : Pages) (canonical : IsCanonical layout m) (inside : row < length layout.ids) (below : g < 512) where
@@ -59,6 +64,57 @@ module _ (layout : Layout) (m : Pages) (canonical : IsCanonical layout m) (g : �
       (mixed-same (edited runs access (answers layout m.words row)) (edited runs access (answers_at layout m.words (entry_in layout m.words second i))) (512 * g + i)
       (λ x small. ap (λ a. cond (covers runs (512 * (512 * g + i) + x)) access a) (sym (answers_entry layout row g m canonical here below second i (512 * (512 * g + i) + x) lt e (omega (arith, small))))))
       (ap (λ o. is_some o) (sym (table_in layout row g m canonical here below second i lt e)) ∙ canonical.orderly.mixed row (512 * g + i) here (omega (arith, lt, below)))
+
+  -- what the chunk's pages answer, read so
+  pub entry-view : (row : Option ℕ) → ((r : ℕ) → row ≡ Some r → r < length layout.ids) → (second : Option ℕ) (i n : ℕ) → i < 512 → second_of layout m.words row g ≡ second → n / 512 ≡ 512 * g + i
+      → answers_at layout m.words (entry_in layout m.words second i) n ≡ answers_of layout m.words row n
+  entry-view None inside None i n lt e at = refl
+  entry-view None inside (Some j) i n lt e at = absurd (cc)
+  entry-view (Some row) inside second i n lt e at = sym (answers_entry layout row g m canonical (inside row refl) below second i n lt e at)
+
+  -- a table hangs there exactly where they are not all alike
+  pub view-mixed : (row : Option ℕ) → ((r : ℕ) → row ≡ Some r → r < length layout.ids) → (second : Option ℕ) (i : ℕ) → i < 512 → second_of layout m.words row g ≡ second
+      → is_mixed (answers_at layout m.words (entry_in layout m.words second i)) (512 * g + i) ≡ is_some (next_page (entry_in layout m.words second i))
+  view-mixed None inside (Some j) i lt e = absurd (cc)
+  view-mixed None inside None i lt e = mixed-none (answers_at layout m.words (entry_in layout m.words None i)) (512 * g + i) (λ x small. refl)
+  view-mixed (Some row) inside second i lt e =
+      let here = inside row refl in
+      mixed-same (answers layout m.words row) (answers_at layout m.words (entry_in layout m.words second i)) (512 * g + i) (λ x small. entry-view (Some row) inside second i (512 * (512 * g + i) + x) lt e (omega (arith, small)))
+      ∙ sym (canonical.orderly.mixed row (512 * g + i) here (omega (arith, lt, below))) ∙ ap (λ o. is_some o) (table_in layout row g m canonical here below second i lt e)
+
+  -- a chunk that a run fills and that has none takes none, and three operations on its own word
+  pub filled-grows : (row : Option ℕ) (runs : List PageRun) (access : View) (c : ℕ) → covers_chunk c runs ≡ true → grows_at (answers_of layout m.words row) (edited runs access (answers_of layout m.words row)) c ≡ false
+  filled-grows row runs access c filled = sym (ap (λ b. b && not (is_mixed (answers_of layout m.words row) c)) (outcome-filled runs access (answers_of layout m.words row) c filled).mixed)
+
+  pub filled-operations : (row : Option ℕ) → ((r : ℕ) → row ≡ Some r → r < length layout.ids) → (runs : List PageRun) (access : View) (second : Option ℕ) (i : ℕ) → i < 512 → second_of layout m.words row g ≡ second
+      → next_page (entry_in layout m.words second i) ≡ None → covers_chunk (512 * g + i) runs ≡ true → chunk_operations runs access (answers_of layout m.words row) (512 * g + i) ≡ 3
+  filled-operations row inside runs access second i lt e none filled =
+      let v = answers_of layout m.words row in
+      let c = 512 * g + i in
+      let same : is_mixed (answers_at layout m.words (entry_in layout m.words second i)) c ≡ is_mixed v c =
+      mixed-same v (answers_at layout m.words (entry_in layout m.words second i)) c (λ x small. entry-view row inside second i (512 * c + x) lt e (omega (arith, small))) in
+      let was : is_mixed v c ≡ false = sym same ∙ view-mixed row inside second i lt e ∙ ap (λ o. is_some o) none in
+      let table = plain runs access v c access was (outcome-filled runs access v c filled) in
+      ap₂ (λ t k. cond t (3 + k) 0) (filled-touches runs c filled) table
+
+  -- and each word of it is the one for its page's answer
+  pub view-spelled : (row : Option ℕ) → ((r : ℕ) → row ≡ Some r → r < length layout.ids) → (second : Option ℕ) (i : ℕ) → i < 512 → second_of layout m.words row g ≡ second
+      → (k : ℕ) → entry_in layout m.words second i ≡ Next k → (n : ℕ) → n / 512 ≡ 512 * g + i → IsWordFor n (answers_at layout m.words (Next k) n) (m.words k (n % 512))
+  view-spelled None inside (Some j) i lt e k next n at = absurd (cc)
+  view-spelled None inside None i lt e k next n at = absurd (cc)
+  view-spelled (Some row) inside None i lt e k next n at = absurd (cc)
+  view-spelled (Some row) inside (Some j) i lt e k next n at =
+      let here = inside row refl in
+      let q : (512 * g + i) / 512 ≡ g = omega (arith, lt) in
+      let r : (512 * g + i) % 512 ≡ i = omega (arith, lt) in
+      let same : linked layout row g j m ≡ m = linked-same layout row g j m canonical here below e in
+      let site : IsSite layout row (512 * g + i) j m = record {
+        orderly = subst (λ k. IsOrderly layout (linked layout row k j m)) (sym q) (subst (λ (x : Pages). IsOrderly layout x) (sym same) canonical.orderly);
+        partition = here;
+        chunk = omega (arith, lt, below);
+        second = subst (λ k. table_at layout (linked layout row k j m).words (Gigabyte row k) ≡ Some j) (sym q) (subst (λ (x : Pages). table_at layout x.words (Gigabyte row g) ≡ Some j) (sym same) e);
+      } in
+      spelled-words layout row (512 * g + i) j m site k (ap (λ x. slot layout 2 (m.words j x)) r ∙ next) n at
 
   reached-second : (row : Option ℕ) → ((r : ℕ) → row ≡ Some r → r < length layout.ids) → is_some (second_of layout m.words row g) ≡ is_reached (answers_of layout m.words row) g
   reached-second None inside = let nothing : ℕ → View = answers_of layout m.words None in sym (reached-none nothing g (λ i small. refl))

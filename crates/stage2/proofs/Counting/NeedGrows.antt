@@ -1,5 +1,5 @@
 -- New views need no more tables than the old ones and what they grow by.
-use Rattle.std.proofs.Common.{◌≡◌, ℕ, zero, suc, ◌+◌, ◌≤◌, Bool, true, false, not, ◌&&◌, cond, arith}
+use Rattle.std.proofs.Common.{ℕ, zero, suc, ◌+◌, ◌≤◌, Bool, true, false, not, ◌&&◌, cond, arith}
 use Rattle.base.specs.Access.{View}
 use Rattle.base.specs.Counts.{count_below}
 use Rattle.base.specs.Need.{is_mixed, is_reached, need, grow}

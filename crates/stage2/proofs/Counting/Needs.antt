@@ -1,5 +1,5 @@
 -- What a chunk and a gigabyte need depends on their pages alone.
-use Rattle.std.proofs.Common.{◌≡◌, ℕ, zero, suc, ◌+◌, ◌*◌, ◌/◌, ◌%◌, ◌<◌, Bool, true, false, not, ◌&&◌, ◌||◌, cond, leb, ltb, List, [], ◌∷◌, Some, None, is_some, refl, ap, ap₂, sym, ◌∙◌, arith, add-one, inl, inr}
+use Rattle.std.proofs.Common.{◌≡◌, ℕ, zero, suc, ◌+◌, ◌*◌, ◌/◌, ◌%◌, ◌<◌, Bool, true, false, not, ◌&&◌, ◌||◌, cond, leb, ltb, List, [], ◌∷◌, Some, None, is_some, refl, ap, ap₂, sym, ◌∙◌, arith, inl, inr}
 use Rattle.std.proofs.lemmas.Bool.{cases_Bool}
 use Rattle.std.proofs.lemmas.Bool.Decides.{nat_tests}
 use Rattle.base.specs.Access.{View, Access}
@@ -7,8 +7,8 @@ use Rattle.base.specs.Need.{is_alike, is_mixed, is_reached}
 use Rattle.base.specs.Counts.{any_below}
 use Rattle.base.specs.Pages.{PageRun, in_run, covers}
 use Rattle.manifest.proofs.Tables.{alike-same, alike-refl, any_below-some, any_below-none, any_below-no}
-use Rattle.stage2.specs.Chunks.{edited, covers_chunk, IsOutcome, AreAlike}
-use Rattle.stage2.specs.Gigabytes.{touches_run, touches_chunk}
+use Rattle.stage2.specs.Edits.{edited, touches_run, touches_chunk}
+use Rattle.stage2.specs.inner.Chunks.{covers_chunk, IsOutcome}
 
 pub any_below-same : (f g : ℕ → Bool) (n : ℕ) → ((k : ℕ) → k < n → g k ≡ f k) → any_below g n ≡ any_below f n
 unfolding any_below
@@ -29,46 +29,10 @@ pub reached-same : (v w : ℕ → View) (g : ℕ) → ((i : ℕ) → i < 262144 
 unfolding is_reached
 reached-same v w g same = any_below-same (λ i. is_some (v (262144 * g + i))) (λ i. is_some (w (262144 * g + i))) 262144 (λ i below. ap (λ a. is_some a) (same i below))
 
-pub any_below-more : (f : ℕ → Bool) (n : ℕ) → any_below f n ≡ false → f n ≡ false → any_below f (n + 1) ≡ false
-unfolding any_below
-any_below-more f n before here = rw add-one (rw (here, before) refl)
-
-pub any_below-zero : (f : ℕ → Bool) → any_below f 0 ≡ false
-unfolding any_below
-any_below-zero f = refl
-
 pub alike-self : (x : View) (a : Access) → x ≡ Some a → is_alike x (Some a) ≡ true
 alike-self x a e = rw e (alike-refl (Some a))
 
 -- ---- the one answer of a chunk
-
-pub alike-none : (answer : ℕ → View) (c : ℕ) → AreAlike answer c 0
-alike-none answer c = record { alike = any_below-zero (λ i. not (is_alike (answer (512 * c + i)) (answer (512 * c)))) }
-
-pub alike-more : (answer : ℕ → View) (c i : ℕ) → AreAlike answer c i → is_alike (answer (512 * c + i)) (answer (512 * c)) ≡ true → AreAlike answer c (i + 1)
-alike-more answer c i so here = record { alike = any_below-more (λ i. not (is_alike (answer (512 * c + i)) (answer (512 * c)))) i so.alike (ap not here) }
-
-pub outcome-mixed : (answer : ℕ → View) (c i : ℕ) → i < 512 → is_alike (answer (512 * c + i)) (answer (512 * c)) ≡ false → IsOutcome c answer None
-unfolding is_mixed
-outcome-mixed answer c i small differs = record {
-  same = λ one e. absurd (cc);
-  mixed = sym (any_below-some (λ i. not (is_alike (answer (512 * c + i)) (answer (512 * c)))) 512 i small (ap not differs));
-}
-
-not-false : (b : Bool) → not b ≡ false → b ≡ true
-not-false true e = refl
-not-false false e = absurd (cc)
-
-pub outcome-one : (answer : ℕ → View) (c : ℕ) → AreAlike answer c 512 → IsOutcome c answer (Some (answer (512 * c)))
-unfolding is_mixed
-outcome-one answer c so = record {
-  same = λ one e n at.
-      let is : answer (512 * c) ≡ one = cc in
-      let place : 512 * c + n % 512 ≡ n = omega (arith, at) in
-      let b = any_below-none (λ i. not (is_alike (answer (512 * c + i)) (answer (512 * c)))) 512 (n % 512) so.alike (omega arith) in
-      ap answer (sym place) ∙ alike-same (answer (512 * c + n % 512)) (answer (512 * c)) (not-false (is_alike (answer (512 * c + n % 512)) (answer (512 * c))) b) ∙ is;
-  mixed = sym so.alike;
-}
 
 -- ---- nothing is reached
 
@@ -105,7 +69,7 @@ filled-page (run ∷ runs) c n filled at = elim (cases_Bool (leb run.first (512 
     either true = refl
     either false = refl
 
-same-unmixed : (answer : ℕ → View) (c : ℕ) (one : View) → ((n : ℕ) → n / 512 ≡ c → answer n ≡ one) → is_mixed answer c ≡ false
+pub same-unmixed : (answer : ℕ → View) (c : ℕ) (one : View) → ((n : ℕ) → n / 512 ≡ c → answer n ≡ one) → is_mixed answer c ≡ false
 unfolding is_mixed
 same-unmixed answer c one same =
     any_below-no (λ i. not (is_alike (answer (512 * c + i)) (answer (512 * c)))) 512

@@ -12,8 +12,8 @@ use Rattle.manifest.proofs.Facts.{Facts, row_of-id, id-row_of, stranger}
 use Rattle.pool.specs.Pool.{Pages}
 use Rattle.stage2.specs.declared.walked.Walked.TheVariants.{None as Unmapped}
 use Rattle.stage2.specs.Boot.{granted_by, PendingPages, follows, IsEdge, view_below, IsMapping, KeepsRows}
-use Rattle.stage2.specs.Chunks.{edited}
-use Rattle.stage2.specs.Gigabytes.{EditsRow, FitsRow}
+use Rattle.stage2.specs.Edits.{edited}
+use Rattle.stage2.specs.inner.Gigabytes.{FitsRow}
 use Rattle.stage2.specs.Orderly.{IsCanonical, answers, answer_of}
 use Rattle.stage2.specs.Slot.{Layout, layout_of}
 use Rattle.stage2.specs.Walk.{walk, walked, translation}
@@ -131,18 +131,6 @@ module _ (layout : Layout) (row : ℕ) (view : ℕ → View) (left : List Region
         let fits = h.fits in
         omega (arith, all, fits);
   }
-
-  pub pending-walks : (a : Access) (new : Pages) → pending.access ≡ Some a → EditsRow layout row (edited runs (Some a) (answers layout m.words row)) m new → (n : ℕ) → n < 2 ^ 27 → walk layout new.words row n ≡ walked n (view_below view pending.end n)
-  pending-walks a new is edits n small = edits.walks row n small ∙ (let own : eqb row row ≡ true = eq-eqb row row refl in rw own refl) ∙ ap (walked n) (after a is n small)
-
-  pub pending-none : pending.access ≡ None → (n : ℕ) → n < 2 ^ 27 → walk layout m.words row n ≡ walked n (view_below view pending.end n)
-  pending-none is n small =
-      let end : pending.end ≡ 0 = h.some.0 is in
-      let same : pending.first ≡ pending.end = (let o = h.ordered in omega (arith, end, o)) in
-      h.walks n small ∙ ap (λ b. walked n (view_below view b n)) same
-
-  pub pending-some : (a : Access) → pending.access ≡ Some a → pending.first < pending.end
-  pending-some a is = h.some.1 (λ none. cc)
 
 pub keeps-none : (layout : Layout) (row : ℕ) (m : Pages) → KeepsRows layout row m m
 keeps-none layout row m = record { ids = refl; quotas = refl; walks = λ q n small other. refl }

@@ -12,8 +12,10 @@ use Rattle.stage2.specs.Slot.{Layout}
 use Rattle.stage2.specs.Walk.{walk, walked, Gigabyte, Chunk, table_at}
 use Rattle.base.specs.Need.{is_mixed}
 use Rattle.stage2.specs.Orderly.{IsOrderly, answers, answer_of, linked}
-use Rattle.stage2.specs.Chunks.{edited, answers_in, Redoes, Redoes_in, IsSite, IsGrowing}
-use Rattle.stage2.specs.Gigabytes.{sum_below, touches_run, touches_chunk, grows_at, IsUnderway}
+use Rattle.stage2.specs.Edits.{edited, touches_run, touches_chunk}
+use Rattle.stage2.specs.inner.Chunks.{answers_in, Redoes, Redoes_in, IsSite, IsGrowing}
+use Rattle.stage2.specs.Room.{sum_below}
+use Rattle.stage2.specs.inner.Gigabytes.{grows_at, IsUnderway}
 use Rattle.stage2.proofs.Counting.Needs.{mixed-same}
 use Rattle.stage2.proofs.Editing.FourChunkEdits.{tidy-answer}
 use Rattle.stage2.proofs.Editing.ChunkKeeps.{answer-walked}
@@ -22,6 +24,10 @@ use Rattle.stage2.proofs.Editing.ChunkKeeps.{answer-walked}
 
 abbrev pub bit : Bool → ℕ
 bit b = cond b 1 0
+
+pub bit-most : (b : Bool) → bit b ≤ 1
+bit-most true = omega arith
+bit-most false = omega arith
 
 -- two counts that differ at one number
 pub count_below-at : (f g : ℕ → Bool) (n x : ℕ) → x < n → ((k : ℕ) → k < n → k ≢ x → g k ≡ f k) → count_below g n + bit (f x) ≡ count_below f n + bit (g x)
@@ -58,6 +64,17 @@ sum_below-up f n (suc m) le = elim (cases_eq n (suc m)) [
   | inl e ↦ rw e (omega arith)
   | inr e ↦ let rest = sum_below-up f n m (omega arith) in omega (arith, rest)
 ]
+
+-- numbers that are all alike
+pub sum_below-each : (f : ℕ → ℕ) (i k n : ℕ) → ((x : ℕ) → i ≤ x → x < i + k → f x ≡ n) → sum_below f (i + k) ≡ sum_below f i + n * k
+sum_below-each f i zero n each = let start : i + 0 ≡ i = omega arith in rw start (omega arith)
+sum_below-each f i (suc k) n each =
+    let rest = sum_below-each f i k n (λ x from to. each x from (omega (arith, to))) in
+    let more = sum_below-more f (i + k) in
+    let here = each (i + k) (omega arith) (omega arith) in
+    let next : i + suc k ≡ i + k + 1 = omega arith in
+    let times : n * suc k ≡ n * k + n = omega arith in
+    rw next (omega (arith, rest, more, here, times))
 
 -- ---- the pages that the edit of a chunk takes
 

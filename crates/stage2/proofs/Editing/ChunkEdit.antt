@@ -1,10 +1,9 @@
 -- An edit of one chunk: the level 2 word of the chunk, its level 3 table, and pages that hang nowhere.
-use Rattle.std.proofs.Common.{◌≡◌, ◌≢◌, ℕ, ◌/◌, ◌%◌, ◌^◌, ◌<◌, Some, length, arith, ap, sym, ◌∙◌, ap₂, ◌⊎◌, inl, inr}
+use Rattle.std.proofs.Common.{◌≡◌, ◌≢◌, ℕ, ◌/◌, ◌%◌, ◌^◌, ◌<◌, Some, length, arith, ap, sym, ◌∙◌, ap₂}
 use Rattle.pool.specs.Pool.{Words}
 use Rattle.stage2.specs.Slot.{Layout, slot}
 use Rattle.stage2.specs.Walk.{index_1, index_3, at_2, walk, walk_across, Place, Root, Gigabyte, Chunk, next_page, table_at, IsPlace, IsForest}
-use Rattle.stage2.proofs.Tree.WalkFrame.{walk-same, walk-gigabyte, table_at-gigabyte, table_at-chunk, table_at-chunk_in, table_at-root, IsUnheld}
-use Rattle.stage2.proofs.Tree.RootWrites.{is_chunk}
+use Rattle.stage2.proofs.Tree.WalkFrame.{walk-same, walk-gigabyte, table_at-gigabyte, table_at-chunk, table_at-chunk_in, table_at-root}
 
 -- the tables of all other places keep their words, but for the chunk's own word in its level 2 table j
 pub record IsChunkEdit (layout : Layout) (row c j : ℕ) (old new : Words) : Type 0 where
@@ -56,27 +55,6 @@ module _ (layout : Layout) (row c j : ℕ) (old new : Words) (h : IsChunkEdit la
   walk-here n e =
       let at : table_at layout new (Gigabyte row (n / 512 / 512)) ≡ Some j = ap (λ x. table_at layout new (Gigabyte row (x / 512))) e ∙ second-stays in
       walk-gigabyte layout new row n j h.partition at ∙ ap (λ x. at_2 layout new n (slot layout 2 (new j (x % 512)))) e
-
-  pub forest-here : ((k : ℕ) → table_at layout new (Chunk row c) ≡ Some k → IsUnheld layout old k ⊎ (table_at layout old (Chunk row c) ≡ Some k)) → IsForest layout new
-  forest-here fresh a b q in_a in_b at_a at_b =
-      elim (is_chunk a row c) [
-        | inl e ↦ elim (is_chunk b row c) [
-          | inl f ↦ e ∙ sym f
-          | inr f ↦ absurd (elsewhere b in_b f q (ap (table_at layout new) (sym e) ∙ at_a) at_b)
-        ]
-        | inr e ↦ elim (is_chunk b row c) [
-          | inl f ↦ absurd (elsewhere a in_a e q (ap (table_at layout new) (sym f) ∙ at_b) at_a)
-          | inr f ↦ h.forest a b q in_a in_b (sym (table-other a in_a e) ∙ at_a) (sym (table-other b in_b f) ∙ at_b)
-        ]
-      ]
-    where
-      elsewhere : (x : Place) → IsPlace layout x → x ≢ Chunk row c → (q : ℕ) → table_at layout new (Chunk row c) ≡ Some q → table_at layout new x ≡ Some q → ⊥
-      elsewhere x in_x differs q here there =
-          let was : table_at layout old x ≡ Some q = sym (table-other x in_x differs) ∙ there in
-          elim (fresh q here) [
-            | inl free ↦ free x in_x was
-            | inr held ↦ differs (h.forest x (Chunk row c) q in_x (h.partition, h.chunk) was held)
-          ]
 
 -- every other page is translated as before, also by a walk that reads its words from three such edits
 pub walk-apart : (layout : Layout) (row c j : ℕ) (old new1 new2 new3 : Words) → IsChunkEdit layout row c j old new1 → IsChunkEdit layout row c j old new2 → IsChunkEdit layout row c j old new3

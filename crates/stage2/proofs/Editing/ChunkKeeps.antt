@@ -9,7 +9,7 @@ use Rattle.stage2.specs.Walk.{walk, walked, Place, Gigabyte, Chunk, table_at, Is
 use Rattle.stage2.specs.Sound.{IsTidy}
 use Rattle.base.specs.Need.{is_mixed}
 use Rattle.stage2.specs.Orderly.{IsOrderly, answers, answer_of, level_at}
-use Rattle.stage2.specs.Chunks.{Redoes}
+use Rattle.stage2.specs.inner.Chunks.{Redoes}
 use Rattle.stage2.proofs.Tree.RootWrites.{is_chunk}
 use Rattle.stage2.proofs.Editing.ChunkEdit.{IsChunkEdit, table-other, walk-apart}
 use Rattle.stage2.proofs.Counting.Needs.{mixed-same}

@@ -14,14 +14,15 @@ use Rattle.pool.proofs.Words.{pages_of-set}
 use Rattle.pool.proofs.Replaced.{Keeps, keeps-break, keeps-replaces, replaces-none, replaces-more, replaces-beside}
 use Rattle.stage2.specs.Slot.{Layout, slot, slot_from}
 use Rattle.stage2.specs.Walk.{walked, next_page}
-use Rattle.stage2.specs.Change.{block_step}
-use Rattle.stage2.specs.Chunks.{edited, answers_in, covers_chunk, IsEntryFor}
-use Rattle.stage2.specs.Clauses.{Puts}
-use Rattle.stage2.specs.Gigabytes.{IsUnderway}
-use Rattle.stage2.specs.History.{Made, broken, replaced}
+use Rattle.stage2.specs.inner.Change.{block_step}
+use Rattle.stage2.specs.Edits.{edited}
+use Rattle.stage2.specs.inner.Chunks.{answers_in, covers_chunk, IsEntryFor}
+use Rattle.stage2.specs.inner.Clauses.{Puts}
+use Rattle.stage2.specs.inner.Gigabytes.{IsUnderway}
+use Rattle.stage2.specs.inner.History.{Made, broken, replaced}
 use Rattle.stage2.specs.Moments.{StaysInStep}
 use Rattle.stage2.specs.Orderly.{answers, linked}
-use Rattle.stage2.specs.Steps.{IsSeated, disturbed_below}
+use Rattle.stage2.specs.inner.Steps.{IsSeated, disturbed_below}
 use Rattle.stage2.proofs.Counting.Needs.{filled-touches, outcome-filled}
 use Rattle.stage2.proofs.Editing.LeafWords.{word-small}
 use Rattle.stage2.proofs.Editing.ChunkByChunk.{site, underway-edit}

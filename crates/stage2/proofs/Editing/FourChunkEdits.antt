@@ -1,23 +1,28 @@
 -- The four edits of a chunk.
-use Rattle.std.proofs.Common.{◌≡◌, ◌≢◌, ℕ, ◌+◌, ◌*◌, ◌/◌, ◌%◌, ◌<◌, Bool, true, false, cond, List, [], is_some, Option, Some, None, refl, arith, ap, sym, subst, ◌∙◌, ◌⊎◌, inl, inr}
+use Rattle.std.proofs.Common.{◌≡◌, ◌≢◌, ℕ, ◌+◌, ◌*◌, ◌/◌, ◌%◌, ◌<◌, ◌==◌, Bool, true, false, not, cond, List, [], is_some, Option, Some, None, refl, arith, ap, sym, subst, ◌∙◌, ◌⊎◌, inl, inr}
 use Rattle.base.specs.Pages.{PageRun, covers}
 use Rattle.base.specs.Access.{View}
 use Rattle.base.specs.Manifest.{page_count}
 use Rattle.words.specs.Words.{entry_of, table_word_of}
-use Rattle.pool.specs.Pool.{Words, Pages, InShare, put, mark, with_put, with_mark, IsLowestFree}
+use Rattle.pool.specs.Pool.{Words, Pages, nonzero_in, InShare, put, mark, with_put, with_mark, IsLowestFree}
 use Rattle.pool.proofs.Shares.{share_inside}
 use Rattle.stage2.specs.declared.walked.Walked.{Walked}
 use Rattle.stage2.specs.declared.walked.Walked.TheVariants.{None as Unmapped, Leaf as Mapped, Wrong}
 use Rattle.stage2.specs.Slot.{Layout, Slot, Empty, Next, Maps, Bad, slot, slot_from}
 use Rattle.stage2.specs.Walk.{index_3, at_2, at_3, walk, walked, Place, Root, Gigabyte, Chunk, next_page, table_at, IsPlace}
 use Rattle.stage2.specs.Sound.{IsTidy}
-use Rattle.stage2.specs.Change.{entry_for}
+use Rattle.stage2.specs.inner.Change.{entry_for}
 use Rattle.stage2.specs.Orderly.{answer_of, answers, linked}
-use Rattle.stage2.specs.Chunks.{edited, Redoes, Redoes_in, IsWordFor, planned, Writes, answers_at, IsOutcome, IsEntryFor, IsSite, IsGrowing, block_answer}
+use Rattle.stage2.specs.Edits.{edited}
+use Rattle.stage2.specs.inner.Chunks.{Redoes, Redoes_in, IsWordFor, planned, Writes, answers_at, IsOutcome, IsEntryFor, IsSite, IsGrowing, block_answer}
 use Rattle.stage2.proofs.Tree.WalkFrame.{put-other, put-same, walk-chunk, walk-gigabyte, table_at-root, table_at-chunk_in}
 use Rattle.stage2.proofs.Walkers.Level3Write.{at_3-word}
 use Rattle.stage2.proofs.Tree.LinkTable.{slot-table}
+use Rattle.base.specs.Need.{is_mixed}
+use Rattle.pool.proofs.Count.{count_below-same}
+use Rattle.stage2.specs.Room.{reached_in}
 use Rattle.stage2.proofs.Counting.Needs.{mixed-same}
+use Rattle.stage2.proofs.Counting.Operations.{table-words, reached-as, plain-answer}
 use Rattle.stage2.proofs.Editing.ChunkEdit.{IsChunkEdit, table-here, walk-here}
 use Rattle.stage2.proofs.Editing.Trades.{Trade, Stay, Hang, Drop}
 use Rattle.stage2.proofs.Editing.ChunkKeeps.{redone}
@@ -243,18 +248,33 @@ module _ (layout : Layout) (row c j : ℕ) (m : Pages) (h : IsSite layout row c 
       let is_table : entry ≡ Next k = sym is ∙ next in
       unreached-zero k n is_table chunk (answers-entry n chunk ∙ ap (λ (s : Slot). answers_at layout m.words s n) is_table ∙ none)
 
-  -- where the chunk's pages are to answer nothing, the words of those that are in no run are 0
-  pub left-zero : (runs : List PageRun) (access : View) (k : ℕ) → entry ≡ Next k → IsOutcome c (edited runs access (answers layout old row)) (Some None) → (i : ℕ) → i < 512 → covers runs (512 * c + i) ≡ false → m.words k i ≡ 0
-  left-zero runs access k is_table outcome i small out =
-      let n = 512 * c + i in
-      let chunk : n / 512 ≡ c = omega (arith, small) in
-      let index : n % 512 ≡ i = omega (arith, small) in
-      let none : answers layout old row n ≡ None = rw out at (outcome.same None refl n chunk) in
-      ap (m.words k) (sym index) ∙ unreached-zero k n is_table chunk none
+  -- where the chunk's pages are to answer alike, those in no run did so before
+  pub others-before : (runs : List PageRun) (access : View) (k : ℕ) → entry ≡ Next k → IsOutcome c (edited runs access (answers layout old row)) (Some access) → (n : ℕ) → n / 512 ≡ c → covers runs n ≡ false → answers_at layout m.words (Next k) n ≡ access
+  others-before runs access k is_table outcome n chunk out =
+      let same : answers layout old row n ≡ access = rw out at (outcome.same access refl n chunk) in
+      sym (answers-entry n chunk ∙ ap (λ (s : Slot). answers_at layout m.words s n) is_table) ∙ same
 
-  -- and they stay so where the chunk's own word is written
-  pub left-kept : (k word : ℕ) (new : Pages) → entry ≡ Next k → new ≡ with_put j (c % 512) word m → (i : ℕ) → m.words k i ≡ 0 → new.words k i ≡ 0
-  left-kept k word new is_table e i zero = ap (λ (x : Pages). x.words k i) e ∙ put-other m.words j (c % 512) word k i (λ same _. third-apart k is_table (sym same)) ∙ zero
+  -- its table's words stay where the chunk's own word is written
+  pub left-kept : (k word : ℕ) (new : Pages) → entry ≡ Next k → new ≡ with_put j (c % 512) word m → (i : ℕ) → new.words k i ≡ m.words k i
+  left-kept k word new is_table e i = ap (λ (x : Pages). x.words k i) e ∙ put-other m.words j (c % 512) word k i (λ same _. third-apart k is_table (sym same))
+
+  -- of which so many are not 0
+  pub left-words : (k word : ℕ) (new : Pages) → entry ≡ Next k → new ≡ with_put j (c % 512) word m → nonzero_in new.words k ≡ nonzero_in m.words k
+  unfolding nonzero_in
+  left-words k word new is_table e =
+      count_below-same (λ i. not (m.words k i == 0)) (λ i. not (new.words k i == 0)) 512
+      (λ i lt. ap (λ w. not (w == 0)) (ap (λ (x : Pages). x.words k i) e ∙ put-other m.words j (c % 512) word k i (λ same _. third-apart k is_table (sym same))))
+
+  -- as many as its pages that are reached
+  pub third-words : (k : ℕ) → entry ≡ Next k → nonzero_in m.words k ≡ reached_in (answers layout old row) c
+  third-words k e =
+      table-words layout m.words c k (clean-words (Next k) k (sym e) refl)
+      ∙ reached-as (answers layout old row) (answers_at layout m.words (Next k)) c
+      (λ i lt. sym (answers-entry (512 * c + i) (omega (arith, lt)) ∙ ap (λ (s : Slot). answers_at layout m.words s (512 * c + i)) e))
+
+  -- a table hangs in the chunk exactly where its pages are not all reached alike
+  pub entry-mixed : is_mixed (answers layout old row) c ≡ is_some (next_page entry)
+  entry-mixed = sym (h.orderly.mixed row c h.partition h.chunk) ∙ ap (λ o. is_some o) table-entry
 
   -- ---- the four edits
 
@@ -361,14 +381,8 @@ module _ (layout : Layout) (row c j : ℕ) (m : Pages) (h : IsSite layout row c 
     was = sym (h.orderly.mixed row c h.partition h.chunk) ∙ ap (λ o. is_some o) (table-entry ∙ none);
   }
 
-  at-block : (n : ℕ) (s : Slot) → next_page s ≡ None → answers_at layout m.words s n ≡ block_answer s
-  at-block n Empty e = refl
-  at-block n (Maps x a) e = refl
-  at-block n (Next k) e = absurd (cc)
-  at-block n Bad e = refl
-
   pub before-block : next_page entry ≡ None → (n : ℕ) → n / 512 ≡ c → answers layout old row n ≡ block_answer entry
-  before-block none n at = answers-entry n at ∙ at-block n entry none
+  before-block none n at = answers-entry n at ∙ plain-answer layout m.words entry n none
 
 pub is-next : (s : Slot) (k : ℕ) → next_page s ≡ Some k → s ≡ Next k
 is-next Empty k e = absurd (cc)

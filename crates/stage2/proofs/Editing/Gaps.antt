@@ -7,9 +7,9 @@ use Rattle.base.specs.Pages.{PageRun, in_run, covers, are_normal}
 use Rattle.pool.specs.Pool.{Pages}
 use Rattle.words.proofs.RoundTrip.{entry-zero}
 use Rattle.words.specs.Words.{entry_of}
-use Rattle.stage2.specs.Change.{entry_for}
-use Rattle.stage2.specs.Chunks.{planned, Writes, IsWordFor}
-use Rattle.stage2.specs.Clauses.{gaps}
+use Rattle.stage2.specs.inner.Change.{entry_for}
+use Rattle.stage2.specs.inner.Chunks.{planned, Writes, IsWordFor}
+use Rattle.stage2.specs.inner.Clauses.{gaps}
 use Rattle.stage2.proofs.Runs.Between.{before-first}
 use Rattle.stage2.proofs.Runs.Normal.{normal-drop}
 
@@ -60,7 +60,7 @@ module _ (runs : List PageRun) (c i : ℕ) (run : PageRun) (answer : View) (firs
       outside a n le = grind (arith, nat_tests, le)
 
 -- in a table that is all 0, the words beside runs of which no page is to be reached
-pub writes-gaps : (k c : ℕ) (runs : List PageRun) (other : View) (a b : Pages) → ((i : ℕ) → i < 512 → a.words k i ≡ 0) → Writes k c (gaps runs other) a b → Writes k c (planned runs None (Some other)) a b
+pub writes-gaps : (k c : ℕ) (runs : List PageRun) (other : View) (a b : Pages) → ((i : ℕ) → i < 512 → covers runs (512 * c + i) ≡ true → a.words k i ≡ 0) → Writes k c (gaps runs other) a b → Writes k c (planned runs None (Some other)) a b
 writes-gaps k c runs other a b empty so = record {
   ids = so.ids;
   quotas = so.quotas;
@@ -77,7 +77,7 @@ writes-gaps k c runs other a b empty so = record {
     here : (i : ℕ) (x : View) → i < 512 → (t : Bool) → covers runs (512 * c + i) ≡ t → planned runs None (Some other) (512 * c + i) ≡ Some x → IsWordFor (512 * c + i) x (b.words k i)
     here i x small true in_it given =
         let none : None ≡ x = (let e = sym (ap (λ t. cond t (Some None) (Some other)) in_it) ∙ given in cc) in
-        let word : b.words k i ≡ 0 = so.stays i small (ap (λ t. cond t None (Some other)) in_it) ∙ empty i small in
+        let word : b.words k i ≡ 0 = so.stays i small (ap (λ t. cond t None (Some other)) in_it) ∙ empty i small in_it in
         record { entry = ap (entry_of 3) word ∙ entry-zero 3 ∙ ap (entry_for (512 * c + i)) none; zero = λ _. word }
     here i x small false out given =
         so.here i x small (ap (λ t. cond t None (Some other)) out ∙ sym (ap (λ t. cond t (Some None) (Some other)) out) ∙ given)

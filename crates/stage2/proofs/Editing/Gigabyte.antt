@@ -18,8 +18,10 @@ use Rattle.stage2.specs.Walk.{at_2, walk, walked, Root, Gigabyte, Chunk, next_pa
 use Rattle.stage2.specs.Sound.{IsTidy}
 use Rattle.base.specs.Need.{is_mixed, is_reached}
 use Rattle.stage2.specs.Orderly.{IsOrderly, IsCanonical, answers, answer_of, linked}
-use Rattle.stage2.specs.Chunks.{edited}
-use Rattle.stage2.specs.Gigabytes.{grows_at, gigabyte_growth, IsUnderway, EditsGigabyte, Touches, Fits, FitsGigabyte}
+use Rattle.stage2.specs.Edits.{edited}
+use Rattle.stage2.specs.Room.{chunks_operations}
+use Rattle.stage2.proofs.Counting.Operations.{chunks-same}
+use Rattle.stage2.specs.inner.Gigabytes.{grows_at, gigabyte_growth, IsUnderway, EditsGigabyte, Touches, Fits, FitsGigabyte}
 use Rattle.stage2.proofs.Tree.WalkFrame.{put-other, walk-gigabyte, table_at-root, table_at-chunk_in}
 use Rattle.stage2.proofs.Counting.Needs.{mixed-same, reached-same, reached-some, reached-none, mixed-none}
 use Rattle.manifest.proofs.Tables.{any_below-none}
@@ -171,6 +173,10 @@ module _ (layout : Layout) (row g k : ℕ) (m : Pages) (canonical : IsCanonical 
   pub linked-same : linked layout row g k m ≡ m
   linked-same = with_put-there m row g (table_word_of (layout.base + k)) root-word
 
+  -- its chunks make as many operations, seen so
+  pub tabled-chunks : (runs : List PageRun) (access : View) → chunks_operations runs access (answers layout (linked layout row g k m).words row) g ≡ chunks_operations runs access (answers layout m.words row) g
+  tabled-chunks runs access = ap (λ (x : Pages). chunks_operations runs access (answers layout x.words row) g) linked-same
+
   pub finish-kept : (answer : ℕ → View) (new : Pages) → IsUnderway layout row g k 512 answer m new → (x : ℕ) → x < 512 → new.words k x ≢ 0 → EditsGigabyte layout row g answer m new
   finish-kept answer new u x lt nonzero =
       let same : linked layout row g k new ≡ new = with_put-there new row g (table_word_of (layout.base + k)) (u.root g ∙ root-word) in
@@ -250,6 +256,12 @@ module _ (layout : Layout) (row g k : ℕ) (runs : List PageRun) (access : View)
       (λ x lt. ap₂ (λ a b. a && not b)
       (mixed-same (edited runs access (answers layout m.words row)) (edited runs access (answers layout (linked layout row g k (with_mark k true m)).words row)) (512 * g + x) (λ i small. same-edited (512 * (512 * g + x) + i) (omega (arith, lt, small, below))))
       (mixed-same (answers layout m.words row) (answers layout (linked layout row g k (with_mark k true m)).words row) (512 * g + x) (λ i small. same-answers (512 * (512 * g + x) + i) (omega (arith, lt, small, below)))))
+
+  -- its chunks make as many operations, seen so
+  pub link-chunks : (new : Pages) → new ≡ with_mark k true m → chunks_operations runs access (answers layout (linked layout row g k new).words row) g ≡ chunks_operations runs access (answers layout m.words row) g
+  link-chunks new is =
+      ap (λ (x : Pages). chunks_operations runs access (answers layout (linked layout row g k x).words row) g) is
+      ∙ chunks-same runs access (answers layout m.words row) (answers layout (linked layout row g k (with_mark k true m)).words row) g (λ n at. same-answers n (omega (arith, at, below)))
 
   page-place : 262144 * g + (touches.page - 262144 * g) ≡ touches.page
   page-place = let a = touches.here in omega arith

@@ -12,8 +12,10 @@ use Rattle.stage2.specs.Slot.{Layout}
 use Rattle.stage2.specs.Walk.{walk, walked, Gigabyte, Chunk, table_at}
 use Rattle.base.specs.Need.{is_mixed, is_reached, need, grow}
 use Rattle.stage2.specs.Orderly.{IsCanonical, answers, answer_of}
-use Rattle.stage2.specs.Chunks.{edited}
-use Rattle.stage2.specs.Gigabytes.{sum_below, grows_at, gigabyte_growth, EditsGigabyte, FitsGigabyte, IsPast, EditsRow, FitsRow, Touches}
+use Rattle.stage2.specs.Edits.{edited}
+use Rattle.stage2.specs.Room.{gigabyte_operations, sum_below}
+use Rattle.stage2.proofs.Counting.Operations.{gigabyte-same}
+use Rattle.stage2.specs.inner.Gigabytes.{grows_at, gigabyte_growth, EditsGigabyte, FitsGigabyte, IsPast, EditsRow, FitsRow, Touches}
 use Rattle.stage2.proofs.Counting.Needs.{mixed-same, reached-same}
 use Rattle.stage2.proofs.Editing.ChunkByChunk.{sum_below-more, sum_below-up}
 use Rattle.stage2.proofs.Editing.FourChunkEdits.{tidy-answer}
@@ -114,6 +116,10 @@ module _ (layout : Layout) (row : ℕ) (runs : List PageRun) (access : View) (ol
 
     growth : gigabyte_growth (answers layout mid.words row) (edited runs access (answers layout mid.words row)) g ≡ gigabyte_growth before after g
     growth = growth-same before after (answers layout mid.words row) (edited runs access (answers layout mid.words row)) g still-answers still-edited
+
+    -- its edit makes as many operations as it would at first
+    pub past-operations : gigabyte_operations runs access (answers layout mid.words row) g ≡ gigabyte_operations runs access before g
+    past-operations = gigabyte-same runs access before (answers layout mid.words row) g still-answers
 
     pub past-fits : IsCanonical layout old → FitsRow layout row runs access old → FitsGigabyte layout row g runs access mid
     past-fits canonical f = record {

@@ -6,7 +6,7 @@ use Rattle.base.specs.Access.{View}
 use Rattle.words.proofs.RoundTrip.{entry-zero}
 use Rattle.pool.specs.Pool.{Pages}
 use Rattle.base.specs.Pages.{PageRun, covers}
-use Rattle.stage2.specs.Chunks.{planned, Writes, IsWordFor, below}
+use Rattle.stage2.specs.inner.Chunks.{planned, Writes, IsWordFor, below}
 
 before-at : (plan : ℕ → Option View) (m n : ℕ) (x : View) → below m plan n ≡ Some x → (n < m) × (plan n ≡ Some x)
 before-at plan m n x e = elim (cases_Bool (ltb n m)) [

@@ -4,9 +4,9 @@ use Rattle.std.proofs.lemmas.Bool.{cases_Bool}
 use Rattle.std.proofs.lemmas.Bool.Decides.{nat_tests}
 use Rattle.base.specs.Access.{View}
 use Rattle.pool.specs.Pool.{Pool, Pages}
-use Rattle.stage2.specs.Chunks.{Writes, below}
-use Rattle.stage2.specs.Clauses.{some_pages}
-use Rattle.stage2.specs.History.{Filled}
+use Rattle.stage2.specs.inner.Chunks.{Writes, below}
+use Rattle.stage2.specs.inner.Clauses.{some_pages}
+use Rattle.stage2.specs.inner.History.{Filled}
 use Rattle.stage2.proofs.Walkers.Histories.{filled-over}
 use Rattle.stage2.proofs.Editing.Level3Words.{writes-over}
 

@@ -9,8 +9,8 @@ use Rattle.pool.proofs.Count.{count_below-none, count_below-some}
 use Rattle.stage2.specs.Slot.{Layout}
 use Rattle.stage2.specs.Walk.{walk, walked, translation, Gigabyte, Chunk, table_at}
 use Rattle.stage2.specs.Orderly.{IsOrderly, IsCanonical, answers, answer_of}
-use Rattle.stage2.specs.Chunks.{edited}
-use Rattle.stage2.specs.Gigabytes.{EditsRow}
+use Rattle.stage2.specs.Edits.{edited}
+use Rattle.stage2.specs.inner.Gigabytes.{EditsRow}
 use Rattle.stage2.proofs.Tree.Rows.{IsRow, same_row}
 use Rattle.stage2.proofs.Editing.FourChunkEdits.{tidy-answer}
 use Rattle.stage2.proofs.Counting.Needs.{mixed-none, reached-none}

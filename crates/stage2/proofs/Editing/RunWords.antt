@@ -8,8 +8,8 @@ use Rattle.base.specs.Pages.{PageRun, in_run, covers, rise_above, are_normal}
 use Rattle.pool.specs.Pool.{Pool, IsWhole, pages_of, index_from, after_run, after_runs}
 use Rattle.pool.proofs.Stretches.{length-words_set}
 use Rattle.pool.proofs.RunWords.{after_runs-none, after_runs-next}
-use Rattle.stage2.specs.Chunks.{planned, below, Writes, IsWordFor}
-use Rattle.stage2.specs.History.{Filled}
+use Rattle.stage2.specs.inner.Chunks.{planned, below, Writes, IsWordFor}
+use Rattle.stage2.specs.inner.History.{Filled}
 use Rattle.stage2.proofs.Editing.Level3Words.{writes-none, writes-pass, writes-all}
 use Rattle.stage2.proofs.Editing.PlannedWords.{writes-join, filled-join}
 use Rattle.stage2.proofs.Editing.Stretches.{writes-stretch, filled-stretch}

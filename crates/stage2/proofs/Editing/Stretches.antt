@@ -10,10 +10,10 @@ use Rattle.words.proofs.RoundTrip.{entry-zero, entry-page, word-leaf}
 use Rattle.pool.specs.Pool.{Pool, Words, IsWhole, words_of, put, words_set, sets_of, after_sets}
 use Rattle.pool.proofs.Words.{words_of-set_at}
 use Rattle.pool.proofs.Stretches.{length-words_set, set-same, words_set-other, words_set-beside, words_set-at}
-use Rattle.stage2.specs.Change.{entry_for, step_for}
-use Rattle.stage2.specs.Chunks.{IsWordFor}
-use Rattle.stage2.specs.Clauses.{some_pages, WritesPlan}
-use Rattle.stage2.specs.History.{AreSets, AllChange, Filled}
+use Rattle.stage2.specs.inner.Change.{entry_for, step_for}
+use Rattle.stage2.specs.inner.Chunks.{IsWordFor}
+use Rattle.stage2.specs.inner.Clauses.{some_pages, WritesPlan}
+use Rattle.stage2.specs.inner.History.{AreSets, AllChange, Filled}
 use Rattle.stage2.proofs.Editing.LeafWords.{word-small}
 use Rattle.stage2.specs.Moments.{words_after}
 use Rattle.stage2.proofs.Editing.PlannedWords.{some-in, some-before, some-after}

@@ -13,13 +13,15 @@ use Rattle.pool.proofs.Count.{count_below-same, count_below-none, count_below-so
 use Rattle.pool.proofs.Shares.{row_quota-none, used_by-le}
 use Rattle.stage2.specs.declared.walked.Walked.{Walked}
 use Rattle.stage2.specs.declared.walked.Walked.TheVariants.{None as Unmapped}
-use Rattle.stage2.specs.Chunks.{edited, answers_of}
-use Rattle.stage2.specs.Gigabytes.{EditsRow, FitsRow, row_operations}
+use Rattle.stage2.specs.Edits.{edited, AreFree, disturbed, with_pages}
+use Rattle.stage2.specs.inner.Chunks.{answers_of}
+use Rattle.stage2.specs.inner.Gigabytes.{EditsRow, FitsRow}
 use Rattle.stage2.specs.Moments.{cleared_by, StaysInStep}
 use Rattle.stage2.specs.Orderly.{IsOrderly, IsCanonical, answers, answer_of}
 use Rattle.stage2.specs.Parts.{operations_for}
+use Rattle.stage2.specs.Room.{row_operations}
+use Rattle.stage2.proofs.Runs.ChunkCounts.{row-operations}
 use Rattle.stage2.specs.Slot.{Layout}
-use Rattle.stage2.specs.Steps.{AreFree, disturbed, with_pages}
 use Rattle.stage2.specs.Tables.{TablesView, walk_in, view_of, has_root, AreCanonical, Fits, edit_operations, ReachSo, ShowsMoments, ClearsNothing, EditsInStep, ClearsInStep}
 use Rattle.stage2.specs.Walk.{walk, walk_across, walked}
 use Rattle.stage2.proofs.Walkers.WholeCall.{moments-edited, clears-nothing}
@@ -29,7 +31,6 @@ use Rattle.stage2.proofs.Tree.EntryWords.{entries}
 use Rattle.stage2.proofs.Walkers.InStep.{orderly-clearing}
 use Rattle.stage2.proofs.Counting.Needs.{mixed-same, mixed-none, reached-same, reached-none, reached-some}
 use Rattle.stage2.proofs.Editing.GigabyteByGigabyte.{used-need}
-use Rattle.stage2.proofs.Runs.ChunkCounts.{row-operations}
 use Rattle.stage2.proofs.Tree.Rows.{IsRow, row-found}
 use Rattle.stage2.proofs.Walkers.WholeEdit.{moments-none}
 use Rattle.base.proofs.Booleans.{both}
@@ -158,18 +159,18 @@ pub record IsEdited (p : ℕ) (runs : List PageRun) (access : View) (old new : T
   pub moments : ShowsMoments p runs access old new
   pub clears : ClearsNothing p runs access old new
   pub in_step : EditsInStep p runs access old new
-  pub room : old.room ≤ new.room + edit_operations p runs old
+  pub room : old.room ≤ new.room + edit_operations p runs access old
 
 -- the view of these tables
 abbrev pub view : Layout → Pool → ℕ → TablesView
 view layout pool room = record { layout = layout; pool = pool; room = room }
 
-pub edited-rooted : (layout : Layout) (old new : Pool) (room left p row : ℕ) (runs : List PageRun) (access : View) → are_normal runs ≡ true → IsRow layout.ids p row → IsCanonical layout (pages_of old.memory)
+pub edited-rooted : (layout : Layout) (old new : Pool) (room left p row : ℕ) (runs : List PageRun) (access : View) → IsRow layout.ids p row → IsCanonical layout (pages_of old.memory)
     → EditsRow layout row (edited runs access (answers layout (pages_of old.memory).words row)) (pages_of old.memory) (pages_of new.memory)
     → (AreFree (λ n. true) runs access (answers layout (words_of old.memory.words) row)
     → StaysInStep layout row (disturbed runs (answers layout (words_of old.memory.words) row) (edited runs access (answers layout (words_of old.memory.words) row))) (λ n. walked n (edited runs access (answers layout (words_of old.memory.words) row) n)) old new)
-    → all_lie_in new ≡ true → room ≤ left + row_operations runs → IsEdited p runs access (view layout old room) (view layout new left)
-edited-rooted layout old new room left p row runs access normal is canonical edits stays within enough =
+    → all_lie_in new ≡ true → room ≤ left + row_operations runs access (answers layout (words_of old.memory.words) row) → IsEdited p runs access (view layout old room) (view layout new left)
+edited-rooted layout old new room left p row runs access is canonical edits stays within enough =
     let walks = edited-walks layout p row runs access (pages_of old.memory) (pages_of new.memory) is canonical.orderly edits in
     let root : has_root (view layout old room) p ≡ true = below-root layout.ids p row is in
     let in_step : EditsInStep p runs access (view layout old room) (view layout new left) = subst (λ r. AreFree (λ n. true) runs access (answers layout (words_of old.memory.words) r)
@@ -179,7 +180,7 @@ edited-rooted layout old new room left p row runs access normal is canonical edi
       moments = moments-edited (view layout old room) (view layout new left) p runs access root refl walks in_step within;
       clears = clears-nothing (view layout old room) (view layout new left) p runs access in_step;
       in_step = in_step;
-      room = let most = row-operations runs normal in let all : room ≤ left + operations_for runs = omega (arith, most, enough) in rw root all;
+      room = let all : room ≤ left + row_operations runs access (view_of (view layout old room) p) = subst (λ r. room ≤ left + row_operations runs access (answers layout (words_of old.memory.words) r)) is.is enough in rw root all;
     }
   where
     below-root : (ids : List ℕ) (p row : ℕ) → IsRow ids p row → ltb (row_of ids p) (length ids) ≡ true
@@ -277,11 +278,31 @@ pub fits-row : (t : TablesView) (p row : ℕ) (runs : List PageRun) (access : Vi
 fits-row t p row runs access is fits =
     subst (λ r. FitsRow t.layout r runs access (pages_of t.pool.memory)) (sym is.is) (record { fits = fits })
 
-pub room-row : (t : TablesView) (p row : ℕ) (runs : List PageRun) → are_normal runs ≡ true → IsRow t.layout.ids p row → edit_operations p runs t ≤ t.room → row_operations runs ≤ t.room
-room-row t p row runs normal is ready =
+pub room-row : (t : TablesView) (p row : ℕ) (runs : List PageRun) (access : View) → IsRow t.layout.ids p row → edit_operations p runs access t ≤ t.room → row_operations runs access (answers t.layout (words_of t.pool.memory.words) row) ≤ t.room
+room-row t p row runs access is ready =
     let at = is.is in
     let inside = is.inside in
     let root : has_root t p ≡ true = grind (arith, nat_tests) in
-    let all : operations_for runs ≤ t.room = rw root at ready in
-    let most = row-operations runs normal in
-    omega (arith, all, most)
+    let all : row_operations runs access (view_of t p) ≤ t.room = rw root at ready in
+    subst (λ r. row_operations runs access (answers t.layout (words_of t.pool.memory.words) r) ≤ t.room) (sym is.is) all
+
+-- it is at most what is told of the row that was found
+pub room-found : (t : TablesView) (p : ℕ) (runs : List PageRun) (access : View) (row : Option ℕ) → row ≡ position (λ id. eqb id p) t.layout.ids
+    → edit_operations p runs access t ≤ row_operations runs access (answers_of t.layout (words_of t.pool.memory.words) row)
+room-found t p runs access None e = let none : has_root t p ≡ false = found-none t.layout.ids p (sym e) in rw none (omega arith)
+room-found t p runs access (Some row) e =
+    let is = row-found t.layout.ids p row (sym e) in
+    let same : row_operations runs access (answers t.layout (words_of t.pool.memory.words) row) ≡ row_operations runs access (view_of t p) = ap (λ r. row_operations runs access (answers t.layout (words_of t.pool.memory.words) r)) is.is in
+    elim (cases_Bool (has_root t p)) [
+      | inl root ↦ rw root (omega (arith, same))
+      | inr none ↦ rw none (omega arith)
+    ]
+
+-- and at most what the runs alone tell
+pub room-most : (t : TablesView) (p : ℕ) (runs : List PageRun) (access : View) → are_normal runs ≡ true → edit_operations p runs access t ≤ operations_for runs
+room-most t p runs access normal =
+    let most = row-operations runs access (view_of t p) normal in
+    elim (cases_Bool (has_root t p)) [
+      | inl root ↦ rw root most
+      | inr none ↦ rw none (omega arith)
+    ]

@@ -265,9 +265,6 @@ further pages words level c is inside =
       left = omega (arith, more, left);
     }
 
-pub same-none : (xs ys : List TableEntry) → PassTheSame xs xs ys ys
-same-none xs ys = record { passed = []; ours = refl; theirs = refl }
-
 pub same-more : (pages counts : ℕ) (words others : Words) (level : Level) (old c other d : Cursor) → IsCursor pages words level c → IsCursor counts others level d → PassTheSame (left_in words old) (left_in words c) (left_in others other) (left_in others d) → c.first ≡ d.first → c.index ≡ d.index → c.index + 64 ≤ 512 → ((x : ℕ) → c.index ≤ x → x < c.index + 64 → words c.table x ≡ others d.table x) → PassTheSame (left_in words old) (left_in words (record c { index = c.index + 64 })) (left_in others other) (left_in others (record d { index = d.index + 64 }))
 same-more pages counts words others level old c other d is also so first index inside same =
     let run = entries_from c.level c.first (words c.table) c.index 64 in

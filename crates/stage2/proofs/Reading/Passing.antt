@@ -9,9 +9,6 @@ use Rattle.words.specs.Words.{entry_of}
 use Rattle.stage2.specs.Level.{number_of}
 use Rattle.stage2.specs.Reading.{TableEntry, AlikePages, pages_at, access_of, access_by, reach_nothing, entry_row, StandInRow, AreNext, ArePassed}
 
-pub passed-none : (entries : List TableEntry) → ArePassed entries entries
-passed-none entries = record { tables = []; reach = refl; follow = refl }
-
 pub passed-more : (old new : List TableEntry) (e : TableEntry) → access_by e ≡ None → ArePassed old (e ∷ new) → ArePassed old new
 passed-more old new e none so = record {
   tables = so.tables ++ e ∷ [];

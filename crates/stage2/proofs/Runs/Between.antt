@@ -1,12 +1,11 @@
 -- The runs with pages from one up to another are found by two halvings, as runs stand upward.
-use Rattle.std.proofs.Common.{◌≡◌, ℕ, zero, suc, ◌+◌, ◌-◌, ◌*◌, ◌<◌, ◌≤◌, ◌⊎◌, true, false, not, ◌&&◌, ◌||◌, Bool, cond, eqb, leb, ltb, List, [], ◌∷◌, get_or, length, take, drop, refl, arith, ap, ◌∙◌, inl, inr}
+use Rattle.std.proofs.Common.{◌≡◌, ℕ, zero, suc, ◌+◌, ◌*◌, ◌<◌, ◌≤◌, true, false, not, ◌&&◌, ◌||◌, Bool, cond, eqb, leb, ltb, List, [], ◌∷◌, get_or, length, take, drop, refl, arith, ap, ◌∙◌, inl, inr, subst}
 use Rattle.std.proofs.lemmas.Bool.{cases_Bool, ltb-true, and_parts}
 use Rattle.std.proofs.lemmas.Bool.Decides.{nat_tests}
 use Rattle.std.specs.List.{list_any}
 use Rattle.base.specs.Pages.{PageRun, in_run, covers, rise_above, are_normal}
-use Rattle.stage2.specs.Clauses.{IsPartlyCovered}
 use Rattle.stage2.specs.Parts.{runs_past, runs_before, runs_between, chunk_runs}
-use Rattle.stage2.specs.Chunks.{covers_chunk}
+use Rattle.stage2.specs.inner.Chunks.{covers_chunk}
 use Rattle.std.proofs.lemmas.Map.Views.{any-filter_same}
 use Rattle.stage2.proofs.Runs.Normal.{end_of, first_of}
 
@@ -35,6 +34,21 @@ before-halved end (r ∷ runs) zero early late =
 before-halved end (r ∷ runs) (suc n) early late =
     let here : ltb r.first end ≡ true = early 0 r (omega arith) (omega arith) in
     rw here (ap (λ rest. r ∷ rest) (before-halved end runs n (λ k d lt small. early (suc k) d (omega (arith, lt)) (omega (arith, small))) (λ k d le lt. late (suc k) d (omega (arith, le)) (omega (arith, lt)))))
+
+-- each of those that end behind a page does
+past-each : (first : ℕ) (runs : List PageRun) (k : ℕ) (d : PageRun) → k < length (runs_past first runs) → ltb first (end_of (get_or (runs_past first runs) k d)) ≡ true
+past-each first [] k d lt = absurd (omega (arith, lt))
+past-each first (r ∷ runs) k d lt = elim (cases_Bool (ltb first (end_of r))) [
+  | inl past ↦ rw past (either k (λ j small. past-each first runs j d small) past (rw past at lt))
+  | inr over ↦ rw over (past-each first runs k d (rw over at lt))
+]
+  where
+    either : (k : ℕ) → ((j : ℕ) → j < length (runs_past first runs) → ltb first (end_of (get_or (runs_past first runs) j d)) ≡ true) → ltb first (end_of r) ≡ true → k < length (r ∷ runs_past first runs) → ltb first (end_of (get_or (r ∷ runs_past first runs) k d)) ≡ true
+    either zero rest past lt = past
+    either (suc k) rest past lt = rest k (omega (arith, lt))
+
+pub past-ends : (first : ℕ) (runs : List PageRun) → runs_past first runs ≡ runs → (k : ℕ) (d : PageRun) → k < length runs → first < end_of (get_or runs k d)
+past-ends first runs all k d lt = ltb-true _ _ (subst (λ (rs : List PageRun). k < length rs → ltb first (end_of (get_or rs k d)) ≡ true) all (past-each first runs k d) lt)
 
 -- both tests, one after the other
 pub between-parts : (first end : ℕ) (runs : List PageRun) → runs_before end (runs_past first runs) ≡ runs_between first end runs
@@ -84,6 +98,17 @@ left-past c page rest past runs at is left = rw is record {
   parts = λ x le. between-past page (512 * x) (512 * x + 512) rest (omega (arith, at, le)) ∙ left.parts x le;
   fills = λ x le. fills-past page x rest (omega (arith, at, le)) ∙ left.fills x le;
 }
+
+-- no more of them are
+pub past-past : (page first : ℕ) (rest past : List PageRun) → page ≡ first → past ≡ runs_past page rest → runs_past first past ≡ past
+past-past page first rest past at is = rw (is, ← at) (again rest)
+  where
+    again : (runs : List PageRun) → runs_past page (runs_past page runs) ≡ runs_past page runs
+    again [] = refl
+    again (r ∷ runs) = elim (cases_Bool (ltb page (end_of r))) [
+      | inl t ↦ rw (t, t) (ap (λ rest. r ∷ rest) (again runs))
+      | inr f ↦ rw f (again runs)
+    ]
 
 -- a page is in one of the runs exactly where one of them has a page from it up to the next
 pub covered-between : (runs : List PageRun) (n : ℕ) → covers runs n ≡ not (eqb (length (runs_between n (n + 1) runs)) 0)
@@ -144,36 +169,3 @@ between-first first end (r ∷ runs) run some is = elim (cases_Bool (ltb first (
       let rest = between-first first end runs run (rw out at some) (rw out at is) in
       record { reaches = rest.reaches; begins = rest.begins; one_of = λ p holds. or_right (p r) (list_any p runs) (rest.one_of p holds) }
 ]
-
--- runs don't have the page where the first of them ends, since they are maximal
-pub first-ends : (runs : List PageRun) (run : PageRun) → are_normal runs ≡ true → 0 < length runs → run ≡ get_or runs 0 run → covers runs (end_of run) ≡ false
-first-ends [] run normal some is = absurd (omega arith)
-first-ends (r ∷ runs) run normal some is =
-    let rest : covers runs (end_of run) ≡ false = before-all (end_of r) runs (end_of run) normal (rw is (omega arith)) in
-    rw rest (rw is (outside r.first r.count))
-  where
-    outside : (first count : ℕ) → ((leb first (first + count) && ltb (first + count) (first + count)) || false) ≡ false
-    outside first count = grind (arith, nat_tests)
-
--- a run that is the first, and has some pages of a chunk, but does not begin and end where the chunk does
-pub partly : (runs : List PageRun) (run : PageRun) (chunk : ℕ) → are_normal runs ≡ true → 0 < length runs → run ≡ get_or runs 0 run → 0 < run.count
-    → run.first < 512 * chunk + 512 → 512 * chunk < end_of run → (512 * chunk < run.first) ⊎ (end_of run < 512 * chunk + 512) → IsPartlyCovered chunk runs
-partly runs run chunk normal some is more begins ends (inl late) = record {
-  within = run.first;
-  beside = run.first - 1;
-  within_there = omega (arith, late, begins);
-  beside_there = omega (arith, late, begins);
-  within_covered = first-tells runs run run.first normal some is (omega (arith, more)) ∙ grind (arith, nat_tests);
-  beside_free = before-first runs run (run.first - 1) normal some is (omega (arith, late));
-}
-partly runs run chunk normal some is more begins ends (inr early) = record {
-  within = end_of run - 1;
-  beside = end_of run;
-  within_there = omega (arith, early, ends);
-  beside_there = omega (arith, early, ends);
-  within_covered = first-tells runs run (end_of run - 1) normal some is (omega (arith, more)) ∙ last run.first run.count more;
-  beside_free = first-ends runs run normal some is;
-}
-  where
-    last : (first count : ℕ) → 0 < count → leb first (first + count - 1) ≡ true
-    last first count more = grind (arith, nat_tests, more)

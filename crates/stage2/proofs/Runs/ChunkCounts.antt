@@ -1,14 +1,25 @@
--- How many chunks runs touch, and how many operations their edit takes.
-use Rattle.std.proofs.Common.{◌≡◌, ℕ, zero, suc, ◌+◌, ◌-◌, ◌*◌, ◌/◌, ◌%◌, ◌<◌, ◌≤◌, min, max, true, false, ◌&&◌, cond, leb, ltb, List, [], ◌∷◌, sum_by, refl, ap, subst, ◌∙◌, arith, add-one, inl, inr}
+-- How many chunks runs touch, and how many operations their edit takes at most, whatever the tables are.
+use Rattle.std.proofs.Common.{◌≡◌, ℕ, zero, suc, ◌+◌, ◌-◌, ◌*◌, ◌/◌, ◌%◌, ◌<◌, ◌≤◌, min, max, Bool, true, false, cond, is_some, ltb, List, [], ◌∷◌, refl, sym, ap, subst, ◌∙◌, arith, add-one, inl, inr}
 use Rattle.std.specs.Option.{option_map_or}
-use Rattle.std.proofs.lemmas.Bool.{cases_Bool, cases_eq, ltb-true}
+use Rattle.std.proofs.lemmas.Bool.{cases_Bool, cases_eq, ltb-true, and_parts}
 use Rattle.std.proofs.lemmas.Bool.Decides.{nat_tests}
 use Rattle.std.proofs.lemmas.List.Sums.{sum_by-cons}
-use Rattle.base.specs.Pages.{PageRun, chunks_in, covers, are_normal}
-use Rattle.stage2.specs.Parts.{part_in, part_count, touched_from, operations_for}
-use Rattle.stage2.specs.Gigabytes.{sum_below, touches_run, touches_chunk, chunk_operations, row_operations, Touches}
+use Rattle.base.specs.Pages.{PageRun, covers, are_normal, rise_above}
+use Rattle.stage2.specs.Parts.{part_in, part_count, operations_for}
+use Rattle.stage2.specs.Edits.{edited, touches_chunk}
+use Rattle.stage2.specs.Room.{sum_below, pages_among, pages_in, reached_in, table_operations, chunk_operations, chunks_operations, gigabyte_operations, row_operations}
+use Rattle.stage2.specs.inner.Gigabytes.{Touches}
+use Rattle.stage2.proofs.Counting.Pieces.{pages_among-le, page-among, words-pages}
+use Rattle.pool.proofs.Count.{count_below-some}
+use Rattle.base.specs.Access.{View}
+use Rattle.base.specs.Need.{is_mixed}
 use Rattle.stage2.proofs.Editing.ChunkByChunk.{sum_below-more, untouched}
+use Rattle.pool.specs.Pool.{index_from, words_in}
+use Rattle.stage2.proofs.Counting.Pieces.{words-pages}
+use Rattle.stage2.proofs.Runs.Normal.{end_of}
 use Rattle.stage2.proofs.Runs.ChunkUnion.{union}
+use Rattle.stage2.proofs.Runs.Spans.{sum_below-none}
+use Rattle.stage2.proofs.Walkers.SteadyPages.{covered-page}
 
 -- ---- sums
 
@@ -29,101 +40,74 @@ pub sum_below-zero : (f : ℕ → ℕ) → sum_below f 0 ≡ 0
 unfolding sum_below
 sum_below-zero f = refl
 
--- ---- one run
+-- ---- pages and pieces of runs
 
-touch : ℕ → PageRun → ℕ
-touch c run = cond (touches_run c run) 1 0
-
-touches-run : (run : PageRun) (n : ℕ) → sum_below (λ c. touch c run) n ≤ min n ((run.first + run.count + 511) / 512) - run.first / 512
-unfolding sum_below touch
-touches-run run zero = omega arith
-touches-run run (suc n) =
-    let rest = touches-run run n in
-    elim (cases_Bool (touches_run n run)) [
-      | inl t ↦ rw t (inside run.first run.count n (sum_below (λ c. cond (touches_run c run) 1 0) n) t rest)
-      | inr f ↦ rw f (omega (arith, rest))
-    ]
-  where
-    inside : (first count n so : ℕ) → (ltb 0 count && (leb (first / 512) n && ltb n ((first + count + 511) / 512))) ≡ true → so ≤ min n ((first + count + 511) / 512) - first / 512 → 1 + so ≤ min (suc n) ((first + count + 511) / 512) - first / 512
-    inside first count n so t rest = grind (arith, nat_tests)
-
-none-touched : (run : PageRun) (n : ℕ) → run.count ≡ 0 → sum_below (λ c. touch c run) n ≡ 0
-unfolding sum_below touch
-none-touched run zero e = refl
-none-touched run (suc n) e =
-    let rest = none-touched run n e in
-    let off : touches_run n run ≡ false = grind (arith, nat_tests, e) in
-    rw (off, rest) refl
-
-run-chunks : (run : PageRun) (n : ℕ) → sum_below (λ c. touch c run) n ≤ chunks_in run
-run-chunks run n = elim (cases_Bool (ltb 0 run.count)) [
-  | inl t ↦ let some = ltb-true _ _ t in let most = touches-run run n in omega (arith, some, most)
-  | inr f ↦ let none : run.count ≡ 0 = grind (arith, nat_tests) in let zero_chunks = none-touched run n none in omega (arith, zero_chunks)
-]
-
--- ---- all runs
-
-touches : ℕ → List PageRun → ℕ
-touches c runs = sum_by (touch c) runs
-
-touches-none : (c : ℕ) → touches c [] ≡ 0
-unfolding touches
-touches-none c = refl
-
-touches-cons : (c : ℕ) (run : PageRun) (runs : List PageRun) → touches c (run ∷ runs) ≡ touch c run + touches c runs
-unfolding touches
-touches-cons c run runs = sum_by-cons (touch c) run runs
-
-sum-cons : (n : ℕ) (run : PageRun) (runs : List PageRun) → sum_below (λ c. touches c (run ∷ runs)) n ≡ sum_below (λ c. touch c run) n + sum_below (λ c. touches c runs) n
-unfolding sum_below
-sum-cons zero run runs = refl
-sum-cons (suc n) run runs = let rest = sum-cons n run runs in let here = touches-cons n run runs in omega (arith, rest, here)
-
-sum-nothing : (n : ℕ) → sum_below (λ c. touches c []) n ≡ 0
-unfolding sum_below
-sum-nothing zero = refl
-sum-nothing (suc n) = let rest = sum-nothing n in let here = touches-none n in omega (arith, rest, here)
-
-runs-chunks : (runs : List PageRun) (n : ℕ) → sum_below (λ c. touches c runs) n ≤ sum_by chunks_in runs
-runs-chunks [] n = let none = sum-nothing n in omega (arith, none)
-runs-chunks (run ∷ runs) n =
-    let all = sum-cons n run runs in
-    let one = run-chunks run n in
-    let rest = runs-chunks runs n in
-    rw (sum_by-cons chunks_in run runs) (omega (arith, all, one, rest))
-
--- a run with a part in the chunk touches it
-part-touches : (c : ℕ) (run : PageRun) → option_map_or (λ (part : PageRun). 1) (part_in c run) 0 ≤ touch c run
-unfolding part_in touch
-part-touches c run =
+-- what is known of the runs behind one, and that one: a page lies between them
+parts-with : (c : ℕ) (run : PageRun) (low rest : ℕ) → low ≤ run.first - 512 * c → low ≤ 513 → rest + min (run.first + run.count + 1 - 512 * c) 513 ≤ 513
+    → (index_from (512 * c) (run.first + run.count) - index_from (512 * c) run.first) + option_map_or (λ (part : PageRun). 1) (part_in c run) 0 + rest + low ≤ 513
+unfolding part_in
+parts-with c run low rest behind most so =
     let first = max run.first (512 * c) in
     let end = min (run.first + run.count) (512 * c + 512) in
     elim (cases_Bool (ltb first end)) [
-      | inl t ↦ let on : touches_run c run ≡ true = touching run.first run.count c (ltb-true first end t) in rw (t, on) (omega arith)
-      | inr f ↦ rw f (omega arith)
+      | inl t ↦ let lt : first < end = ltb-true first end t in rw t (omega (arith, lt, behind, most, so))
+      | inr f ↦ let ge : end ≤ first = grind (arith, nat_tests, f) in rw f (omega (arith, ge, behind, most, so))
     ]
+
+-- runs that rise above a page
+parts-behind : (c e : ℕ) (runs : List PageRun) → rise_above e runs ≡ true → words_in (512 * c) runs + part_count c runs + min (e + 1 - 512 * c) 513 ≤ 513
+parts-behind c e [] rises = omega arith
+parts-behind c e (run ∷ runs) rises =
+    let parts = and_parts (ltb e run.first) (rise_above (end_of run) runs) rises in
+    let above = ltb-true _ _ parts.0 in
+    let rest = parts-behind c (end_of run) runs parts.1 in
+    let all = parts-with c run (min (e + 1 - 512 * c) 513) (words_in (512 * c) runs + part_count c runs) (omega (arith, above)) (omega arith) rest in
+    rw (sum_by-cons (λ (r : PageRun). option_map_or (λ (part : PageRun). 1) (part_in c r) 0) run runs) (omega (arith, all))
+
+-- their pages in a chunk and their pieces there are no more than the pages of a chunk, and one
+pieces-most : (c : ℕ) (runs : List PageRun) → are_normal runs ≡ true → pages_in runs c + part_count c runs ≤ 513
+pieces-most c [] normal = let none = words-pages c [] normal in omega (arith, none)
+pieces-most c (run ∷ runs) normal =
+    let rest = parts-behind c (end_of run) runs normal in
+    let all = parts-with c run 0 (words_in (512 * c) runs + part_count c runs) (omega arith) (omega arith) rest in
+    let pages = words-pages c (run ∷ runs) normal in
+    rw (sum_by-cons (λ (r : PageRun). option_map_or (λ (part : PageRun). 1) (part_in c r) 0) run runs) (omega (arith, all, pages))
+
+-- ---- the operations that the edit of a chunk takes at most
+
+-- of a chunk that the runs touch
+touched : List PageRun → ℕ → ℕ
+touched runs c = cond (touches_chunk c runs) 1 0
+
+chunk_most : List PageRun → ℕ → ℕ
+chunk_most runs c = 516 * touched runs c
+
+table-most : (runs : List PageRun) (access : View) (v : ℕ → View) (c : ℕ) → are_normal runs ≡ true → table_operations runs access v c ≤ 513
+table-most runs access v c normal =
+    let pages = pieces-most c runs normal in
+    let before = pages_among-le (λ i. is_some (v (512 * c + i))) in
+    let after = pages_among-le (λ i. is_some (edited runs access v (512 * c + i))) in
+    each (is_mixed (edited runs access v) c) (is_mixed v c) (is_some access) (is_some (edited runs access v (512 * c))) (pages_in runs c) (reached_in v c) (reached_in (edited runs access v) c) (part_count c runs) pages before after
   where
-    touching : (first count c : ℕ) → max first (512 * c) < min (first + count) (512 * c + 512) → (ltb 0 count && (leb (first / 512) c && ltb c ((first + count + 511) / 512))) ≡ true
-    touching first count c lt = grind (arith, nat_tests)
+    each : (now was maps some : Bool) (p r q k : ℕ) → p + k ≤ 513 → r ≤ 512 → q ≤ 512 → cond now (cond was (p + cond maps 0 k) q) (cond was (cond some r p) 0) ≤ 513
+    each true true true some p r q k a b d = omega (arith, a)
+    each true true false some p r q k a b d = omega (arith, a)
+    each true false maps some p r q k a b d = omega (arith, d)
+    each false true maps true p r q k a b d = omega (arith, b)
+    each false true maps false p r q k a b d = omega (arith, a)
+    each false false maps some p r q k a b d = omega arith
 
-parts-touch : (c : ℕ) (runs : List PageRun) → part_count c runs ≤ touches c runs
-parts-touch c [] = omega arith
-parts-touch c (run ∷ runs) =
-    let all = touches-cons c run runs in
-    let one = part-touches c run in
-    let rest = parts-touch c runs in
-    rw (sum_by-cons (λ (r : PageRun). option_map_or (λ (part : PageRun). 1) (part_in c r) 0) run runs) (omega (arith, all, one, rest))
-
-chunk-operations : (runs : List PageRun) (c : ℕ) → chunk_operations runs c ≤ 515 * cond (touches_chunk c runs) 1 0 + touches c runs
-chunk-operations runs c = elim (cases_Bool (touches_chunk c runs)) [
-  | inl t ↦ let parts = parts-touch c runs in rw t (omega (arith, parts))
+chunk-within : (runs : List PageRun) (access : View) (v : ℕ → View) (c : ℕ) → are_normal runs ≡ true → chunk_operations runs access v c ≤ chunk_most runs c
+unfolding chunk_most touched
+chunk-within runs access v c normal = elim (cases_Bool (touches_chunk c runs)) [
+  | inl t ↦ let table = table-most runs access v c normal in rw t (omega (arith, table))
   | inr f ↦ rw f (omega arith)
 ]
 
-sums : (runs : List PageRun) (n : ℕ) → sum_below (chunk_operations runs) n ≤ 515 * sum_below (λ c. cond (touches_chunk c runs) 1 0) n + sum_below (λ c. touches c runs) n
-unfolding sum_below
-sums runs zero = omega arith
-sums runs (suc n) = let rest = sums runs n in let here = chunk-operations runs n in omega (arith, rest, here)
+sums : (runs : List PageRun) (n : ℕ) → sum_below (chunk_most runs) n ≡ 516 * sum_below (touched runs) n
+unfolding sum_below chunk_most
+sums runs zero = refl
+sums runs (suc n) = let rest = sums runs n in omega (arith, rest)
 
 -- ---- gigabyte by gigabyte
 
@@ -156,35 +140,34 @@ unfolding sum_below
 rows f h zero le = omega arith
 rows f h (suc g) le = subst (λ n. sum_below (of_gigabyte f) n ≤ sum_below f (512 * n) + sum_below h (512 * n)) (add-one g) (rows-step f h g le (rows f h g le))
 
--- of a chunk that the runs touch
-touched : List PageRun → ℕ → ℕ
-touched runs c = cond (touches_chunk c runs) 1 0
-
 twice : (runs : List PageRun) (n : ℕ) → sum_below (λ c. 2 * touched runs c) n ≡ 2 * sum_below (touched runs) n
 unfolding sum_below
 twice runs zero = refl
 twice runs (suc n) = let rest = twice runs n in omega (arith, rest)
 
-two : (runs : List PageRun) (c : ℕ) → min 2 (chunk_operations runs c) ≤ 2 * touched runs c
-unfolding touched
-two runs c = elim (cases_Bool (touches_chunk c runs)) [
-  | inl t ↦ rw t (omega arith)
-  | inr f ↦ rw f (omega arith)
-]
+two : (runs : List PageRun) (c : ℕ) → min 2 (chunk_most runs c) ≤ 2 * touched runs c
+unfolding chunk_most
+two runs c = omega arith
 
-pub row-operations : (runs : List PageRun) → are_normal runs ≡ true → row_operations runs ≤ operations_for runs
+all-most : (runs : List PageRun) → are_normal runs ≡ true → sum_below (of_gigabyte (chunk_most runs)) 512 ≤ operations_for runs
 unfolding of_gigabyte touched
-row-operations runs normal =
-    let all = rows (chunk_operations runs) (λ c. 2 * touched runs c) 512 (two runs) in
+all-most runs normal =
+    let all = rows (chunk_most runs) (λ c. 2 * touched runs c) 512 (two runs) in
     let pairs = twice runs (512 * 512) in
     let most = sums runs (512 * 512) in
     let together = union runs (512 * 512) normal in
-    let each = runs-chunks runs (512 * 512) in
-    numbers (row_operations runs) (sum_below (chunk_operations runs) (512 * 512)) (sum_below (λ c. 2 * touched runs c) (512 * 512)) (sum_below (λ c. cond (touches_chunk c runs) 1 0) (512 * 512)) (sum_below (λ c. touches c runs) (512 * 512)) (touched_from 0 runs) (sum_by chunks_in runs)
-    all pairs most together each
+    omega (arith, all, pairs, most, together)
+
+pub row-operations : (runs : List PageRun) (access : View) (v : ℕ → View) → are_normal runs ≡ true → row_operations runs access v ≤ operations_for runs
+unfolding of_gigabyte
+row-operations runs access v normal =
+    let all = all-most runs normal in
+    let each = sum_below-le (gigabyte_operations runs access v) (of_gigabyte (chunk_most runs)) 512
+    (λ g. twos (chunks_operations runs access v g) (sum_below (λ y. chunk_most runs (512 * g + y)) 512) (sum_below-le (λ x. chunk_operations runs access v (512 * g + x)) (λ x. chunk_most runs (512 * g + x)) 512 (λ x. chunk-within runs access v (512 * g + x) normal))) in
+    omega (arith, all, each)
   where
-    numbers : (rows all pairs some each touched chunks : ℕ) → rows ≤ all + pairs → pairs ≡ 2 * some → all ≤ 515 * some + each → some ≤ touched → each ≤ chunks → rows ≤ 517 * touched + chunks
-    numbers rows all pairs some each touched chunks a b c d e = omega arith
+    twos : (a b : ℕ) → a ≤ b → a + min 2 a ≤ b + min 2 b
+    twos a b le = omega (arith, le)
 
 -- ---- a gigabyte that the runs touch
 
@@ -202,12 +185,42 @@ covered-touched runs n covered = elim (cases_Bool (touches_chunk (n / 512) runs)
   | inr f ↦ let none = untouched (n / 512) runs n f refl in absurd (cc)
 ]
 
-pub touched-operations : (runs : List PageRun) (g : ℕ) → Touches runs g → 2 ≤ sum_below (λ x. chunk_operations runs (512 * g + x)) 512
-touched-operations runs g h =
+pub touched-operations : (runs : List PageRun) (access : View) (v : ℕ → View) (g : ℕ) → Touches runs g → 2 ≤ chunks_operations runs access v g
+touched-operations runs access v g h =
     let n = h.page in
     let x = n / 512 % 512 in
     let at : n / 512 ≡ 512 * g + x = omega (arith, h.here) in
     let t : touches_chunk (512 * g + x) runs ≡ true = subst (λ c. touches_chunk c runs ≡ true) at (covered-touched runs n h.covered) in
-    let here : 515 ≤ chunk_operations runs (512 * g + x) = rw t (omega arith) in
-    let all = member (λ y. chunk_operations runs (512 * g + y)) 512 x (omega arith) in
+    let here : 3 ≤ chunk_operations runs access v (512 * g + x) = rw t (omega arith) in
+    let all = member (λ y. chunk_operations runs access v (512 * g + y)) 512 x (omega arith) in
     omega (arith, here, all)
+
+-- runs without a page of a chunk don't touch it
+pub nowhere : (runs : List PageRun) (c : ℕ) → ((n : ℕ) → n / 512 ≡ c → covers runs n ≡ false) → touches_chunk c runs ≡ false
+nowhere runs c none = elim (cases_Bool (touches_chunk c runs)) [
+  | inl t ↦ let page = covered-page c runs t in let out = none page.0 page.1 in let within = page.2 in let bad : true ≡ false = sym within ∙ out in absurd (cc)
+  | inr f ↦ f
+]
+
+-- which their pages there tell
+pub without-pages : (runs : List PageRun) (c : ℕ) → pages_in runs c ≡ 0 → touches_chunk c runs ≡ false
+unfolding pages_among
+without-pages runs c none = nowhere runs c (λ n at.
+    let page : 512 * c + n % 512 ≡ n = omega (arith, at) in
+    elim (cases_Bool (covers runs n)) [
+      | inl t ↦ let some = count_below-some (λ i. covers runs (512 * c + i)) 512 (n % 512) (omega arith) (ap (covers runs) page ∙ t) in absurd (omega (arith, some, none))
+      | inr f ↦ f
+    ])
+
+pub with-pages : (runs : List PageRun) (c : ℕ) → 0 < pages_in runs c → touches_chunk c runs ≡ true
+with-pages runs c some =
+    let page = page-among (λ i. covers runs (512 * c + i)) some in
+    let lt = page.1 in
+    let at : (512 * c + page.0) / 512 ≡ c = omega (arith, lt) in
+    subst (λ x. touches_chunk x runs ≡ true) at (covered-touched runs (512 * c + page.0) page.2)
+
+-- a gigabyte that they leave alone takes none
+pub operations-nothing : (runs : List PageRun) (access : View) (v : ℕ → View) (g : ℕ) → ((n : ℕ) → n / 512 / 512 ≡ g → covers runs n ≡ false) → gigabyte_operations runs access v g ≡ 0
+operations-nothing runs access v g none =
+    ap (λ k. k + min 2 k) (sum_below-none (λ x. chunk_operations runs access v (512 * g + x)) 512
+    (λ x lt. ap (λ t. cond t (3 + table_operations runs access v (512 * g + x)) 0) (nowhere runs (512 * g + x) (λ n at. none n (omega (arith, at, lt))))))

@@ -1,11 +1,11 @@
 -- How many chunks upward runs touch together: a chunk that several touch counts once.
-use Rattle.std.proofs.Common.{◌≡◌, ℕ, zero, suc, ◌+◌, ◌-◌, ◌*◌, ◌/◌, ◌<◌, ◌≤◌, min, max, Bool, true, false, ◌&&◌, ◌||◌, cond, leb, ltb, List, [], ◌∷◌, ◌++◌, get_or, take, length, sum_by, refl, sym, ap, ◌∙◌, arith, inl, inr}
-use Rattle.std.proofs.lemmas.Bool.{cases_Bool, ltb-true}
+use Rattle.std.proofs.Common.{◌≡◌, ℕ, zero, suc, ◌+◌, ◌-◌, ◌/◌, ◌<◌, ◌≤◌, min, max, Bool, true, false, ◌&&◌, ◌||◌, cond, leb, ltb, List, [], ◌∷◌, ◌++◌, get_or, take, length, refl, sym, ap, ◌∙◌, arith, inl, inr}
+use Rattle.std.proofs.lemmas.Bool.{cases_Bool}
 use Rattle.std.proofs.lemmas.Bool.Decides.{nat_tests}
 use Rattle.std.proofs.lemmas.List.{take_more}
-use Rattle.std.proofs.lemmas.List.Sums.{sum_by-cons}
-use Rattle.base.specs.Pages.{PageRun, IsRun, chunks_in, rise_above, are_normal}
-use Rattle.stage2.specs.Gigabytes.{sum_below, touches_run, touches_chunk}
+use Rattle.base.specs.Pages.{PageRun, rise_above, are_normal}
+use Rattle.stage2.specs.Room.{sum_below}
+use Rattle.stage2.specs.Edits.{touches_run, touches_chunk}
 use Rattle.stage2.specs.Parts.{chunk_end, next_from, touched_from}
 use Rattle.stage2.proofs.Runs.Normal.{end_of, rise-parts, rise-normal}
 

@@ -1,12 +1,11 @@
 -- Maximal runs, which stand upward: how many there are, and how many chunks they touch.
-use Rattle.std.proofs.Common.{◌≡◌, ℕ, zero, suc, ◌+◌, ◌-◌, ◌/◌, ◌^◌, ◌<◌, ◌≤◌, true, Bool, leb, ltb, ◌&&◌, List, [], ◌∷◌, get_or, length, take, drop, inl, inr, sum_by, refl, arith, ap, sym, ◌∙◌}
+use Rattle.std.proofs.Common.{◌≡◌, ℕ, zero, suc, ◌+◌, ◌-◌, ◌^◌, ◌<◌, ◌≤◌, true, Bool, leb, ltb, ◌&&◌, List, [], ◌∷◌, get_or, length, take, drop, inl, inr, refl, arith, ap, ◌∙◌}
 use Rattle.std.specs.List.{list_any}
 use Rattle.std.specs.List.Sorted.{IsNonDecreasingBy}
 use Rattle.std.proofs.lemmas.Bool.{cases_Bool, cases_eq, ltb-true, and_parts}
 use Rattle.std.proofs.lemmas.Bool.Decides.{nat_tests}
-use Rattle.std.proofs.lemmas.List.Sums.{sum_by_more}
 use Rattle.stage2.specs.Parts.{end_from, lie_within}
-use Rattle.base.specs.Pages.{PageRun, IsRun, chunks_in, rise_above, are_normal}
+use Rattle.base.specs.Pages.{PageRun, IsRun, rise_above, are_normal}
 
 abbrev pub end_of : PageRun → ℕ
 end_of run = run.first + run.count
@@ -85,14 +84,10 @@ normal-next (r ∷ runs) (suc i) run normal lt is =
     let before = next.0 in
     (omega (arith, before), next.1)
 
--- the first i runs: they end within input addresses of 39 bits, and have at least a page for each of them and for each chunk
+-- the first i runs: they end within input addresses of 39 bits, and have at least a page for each of them
 pub record IsCounted (runs : List PageRun) (i : ℕ) : Type 0 where
-  pub chunks : sum_by chunks_in (take i runs) ≤ end_from 0 (take i runs)
   pub few : i ≤ end_from 0 (take i runs)
   pub within : end_from 0 (take i runs) ≤ 2 ^ 27
-
-pub counted-none : (runs : List PageRun) → IsCounted runs 0
-counted-none runs = record { chunks = omega arith; few = omega arith; within = omega arith }
 
 pub counted-next : (runs : List PageRun) (i : ℕ) (run : PageRun) → are_normal runs ≡ true → i < length runs → run ≡ get_or runs i run → IsRun run → IsCounted runs i → IsCounted runs (i + 1)
 counted-next runs i run normal lt is some h =
@@ -100,19 +95,13 @@ counted-next runs i run normal lt is some h =
     let from = next.0 in
     let e : i + 1 ≡ suc i = omega arith in
     let to : end_from 0 (take (i + 1) runs) ≡ run.first + run.count = ap (λ k. end_from 0 (take k runs)) e ∙ next.1 in
-    let more : sum_by chunks_in (take (i + 1) runs) ≡ sum_by chunks_in (take i runs) + chunks_in run = sum_by_more chunks_in runs i run lt ∙ ap (λ r. sum_by chunks_in (take i runs) + chunks_in r) (sym is) in
-    let chunks = h.chunks in
     let few = h.few in
     let a = some.0 in
     let b = some.1 in
     record {
-      chunks = touched run.first run.count (sum_by chunks_in (take i runs)) (sum_by chunks_in (take (i + 1) runs)) (end_from 0 (take i runs)) (end_from 0 (take (i + 1) runs)) a from to more chunks;
       few = omega (arith, to, from, few, a);
       within = omega (arith, to, b);
     }
-  where
-    touched : (first count so next before end : ℕ) → 0 < count → before ≤ first → end ≡ first + count → next ≡ so + ((first + count - 1) / 512 + 1 - first / 512) → so ≤ before → next ≤ end
-    touched first count so next before end some from to more le = omega arith
 
 -- ---- where they begin and end
 

@@ -1,5 +1,5 @@
 -- An edit asks of a chunk, or of a gigabyte, only those of the runs that have pages there: it edits it as all runs do.
-use Rattle.std.proofs.Common.{◌≡◌, ℕ, zero, suc, ◌+◌, ◌*◌, ◌/◌, ◌<◌, ◌≤◌, max, min, Bool, true, false, not, ◌&&◌, ◌||◌, cond, eqb, leb, ltb, List, [], ◌∷◌, refl, arith, ap, ap₂, sym, ◌∙◌, inl, inr}
+use Rattle.std.proofs.Common.{◌≡◌, ℕ, ◌+◌, ◌*◌, ◌/◌, ◌<◌, ◌≤◌, max, min, Bool, true, false, not, ◌&&◌, ◌||◌, cond, eqb, leb, ltb, List, [], ◌∷◌, refl, arith, ap, ap₂, sym, ◌∙◌, inl, inr}
 use Rattle.std.specs.Option.{option_map_or}
 use Rattle.std.proofs.lemmas.Bool.{cases_Bool, eqb-true}
 use Rattle.std.proofs.lemmas.Bool.Decides.{nat_tests}
@@ -11,22 +11,19 @@ use Rattle.base.specs.Pages.{PageRun, in_run, covers}
 use Rattle.pool.specs.Pool.{Pool, Pages}
 use Rattle.pool.proofs.Count.{count_below-same}
 use Rattle.stage2.specs.declared.walked.Walked.{Walked}
-use Rattle.stage2.specs.Chunks.{edited, Redoes, Redoes_in, IsGrowing}
-use Rattle.stage2.specs.Gigabytes.{sum_below, touches_run, touches_chunk, chunk_operations, gigabyte_operations, grows_at, gigabyte_growth, FitsGigabyte, EditsGigabyte}
+use Rattle.stage2.specs.Edits.{edited, touches_run, touches_chunk, AreFree, disturbs, disturbed}
+use Rattle.stage2.specs.inner.Chunks.{Redoes, Redoes_in, IsGrowing}
+use Rattle.stage2.specs.inner.Gigabytes.{grows_at, gigabyte_growth, FitsGigabyte, EditsGigabyte}
 use Rattle.stage2.specs.Moments.{StaysInStep}
 use Rattle.stage2.specs.Orderly.{answers, linked}
 use Rattle.stage2.specs.Parts.{part_in, part_count, runs_between, chunk_runs, gigabyte_runs}
+use Rattle.stage2.specs.Room.{chunk_operations, gigabyte_operations}
 use Rattle.stage2.specs.Slot.{Layout}
-use Rattle.stage2.specs.Steps.{AreFree, disturbs, disturbed}
 use Rattle.stage2.specs.Walk.{walk, walked}
 use Rattle.stage2.proofs.Walkers.ZeroedTables.{stays-wider}
 use Rattle.stage2.proofs.Counting.Needs.{mixed-same, reached-same}
+use Rattle.stage2.proofs.Counting.Operations.{sum-same, chunk-same}
 use Rattle.base.proofs.Booleans.{both}
-
-sum_below-same : (f g : ℕ → ℕ) (n : ℕ) → ((k : ℕ) → k < n → f k ≡ g k) → sum_below f n ≡ sum_below g n
-unfolding sum_below
-sum_below-same f g zero same = refl
-sum_below-same f g (suc n) same = ap₂ (λ a b. a + b) (same n (omega arith)) (sum_below-same f g n (λ k lt. same k (omega (arith, lt))))
 
 -- ---- the runs with pages from one up to another
 
@@ -132,11 +129,12 @@ module _ (g : ℕ) (runs part : List PageRun) (is : part ≡ gigabyte_runs g run
   gigabyte-touches : (c : ℕ) → c / 512 ≡ g → touches_chunk c part ≡ touches_chunk c runs
   gigabyte-touches c at = ap (touches_chunk c) is ∙ touches-between (262144 * g) (262144 * g + 262144) runs c (omega (arith, at)) (omega (arith, at))
 
-  pub gigabyte-operations : gigabyte_operations part g ≡ gigabyte_operations runs g
-  gigabyte-operations =
-      ap (λ x. x + min 2 x) (sum_below-same (λ x. chunk_operations part (512 * g + x)) (λ x. chunk_operations runs (512 * g + x)) 512
-      (λ x lt. ap₂ (λ t k. cond t (515 + k) 0) (gigabyte-touches (512 * g + x) (omega (arith, lt)))
-      (ap (part_count (512 * g + x)) is ∙ count-between (262144 * g) (262144 * g + 262144) runs (512 * g + x) (omega arith) (omega (arith, lt)))))
+  pub gigabyte-operations : (access : View) (v : ℕ → View) → gigabyte_operations part access v g ≡ gigabyte_operations runs access v g
+  gigabyte-operations access v =
+      ap (λ x. x + min 2 x) (sum-same (λ x. chunk_operations runs access v (512 * g + x)) (λ x. chunk_operations part access v (512 * g + x)) 512
+      (λ x lt. chunk-same runs part access v v (512 * g + x) (λ n at. gigabyte-covers n (omega (arith, at, lt)))
+      (ap (part_count (512 * g + x)) is ∙ count-between (262144 * g) (262144 * g + 262144) runs (512 * g + x) (omega arith) (omega (arith, lt)))
+      (λ i small. refl) (gigabyte-touches (512 * g + x) (omega (arith, lt)))))
 
 module _ (g : ℕ) (runs part : List PageRun) (access : View) (is : part ≡ gigabyte_runs g runs) where
   same : (n : ℕ) → n / 512 / 512 ≡ g → covers part n ≡ covers runs n

@@ -6,11 +6,12 @@ use Rattle.base.specs.Pages.{PageRun, covers}
 use Rattle.pool.specs.Pool.{Pool, Pages}
 use Rattle.stage2.specs.Slot.{Layout}
 use Rattle.stage2.specs.Walk.{walked}
-use Rattle.stage2.specs.Chunks.{edited}
-use Rattle.stage2.specs.Gigabytes.{sum_below, touches_chunk, IsUnderway, IsPast}
+use Rattle.stage2.specs.Edits.{edited, touches_chunk}
+use Rattle.stage2.specs.Room.{sum_below}
+use Rattle.stage2.specs.inner.Gigabytes.{IsUnderway, IsPast}
 use Rattle.stage2.specs.Moments.{StaysInStep}
 use Rattle.stage2.specs.Orderly.{answers, linked}
-use Rattle.stage2.specs.Steps.{disturbed_below}
+use Rattle.stage2.specs.inner.Steps.{disturbed_below}
 use Rattle.stage2.proofs.Walkers.GigabyteSteps.{disturbed_before, cross-skip}
 use Rattle.stage2.proofs.Walkers.ChunkSteps.{march-skip}
 use Rattle.stage2.proofs.Editing.GigabyteByGigabyte.{past-skip}

@@ -9,7 +9,7 @@ use Rattle.stage2.specs.declared.walked.Walked.TheVariants.{None as Unmapped}
 use Rattle.stage2.specs.Slot.{Layout, Slot, Empty, Next, Maps, Bad, slot, slot_from}
 use Rattle.stage2.specs.Walk.{index_1, at_1, walk, walk_across, Gigabyte, next_page, table_at}
 use Rattle.stage2.specs.Sound.{IsSound, IsTidy}
-use Rattle.stage2.specs.Change.{IsFresh}
+use Rattle.stage2.specs.inner.Change.{IsFresh}
 use Rattle.stage2.proofs.Tree.WalkFrame.{IsUnheld}
 
 -- a word that points at a page of the pool

@@ -8,10 +8,11 @@ use Rattle.pool.specs.Pool.{Pool, Pages}
 use Rattle.stage2.specs.Slot.{Layout}
 use Rattle.stage2.specs.Walk.{walked}
 use Rattle.stage2.specs.Orderly.{answers, linked}
-use Rattle.stage2.specs.Chunks.{edited, answers_in}
-use Rattle.stage2.specs.Gigabytes.{touches_chunk, IsUnderway}
+use Rattle.stage2.specs.Edits.{edited, touches_chunk, AreFree, disturbs, disturbed}
+use Rattle.stage2.specs.inner.Chunks.{answers_in}
+use Rattle.stage2.specs.inner.Gigabytes.{IsUnderway}
 use Rattle.stage2.specs.Moments.{StaysInStep}
-use Rattle.stage2.specs.Steps.{IsSeated, AreFree, disturbs, disturbed, disturbed_below}
+use Rattle.stage2.specs.inner.Steps.{IsSeated, disturbed_below}
 use Rattle.stage2.proofs.Editing.ChunkByChunk.{quotient, still-answers, still-mixed, now-mixed}
 use Rattle.stage2.proofs.Walkers.ZeroedTables.{stays-wider, stays-more, stays-as}
 use Rattle.stage2.proofs.Walkers.SeatedChunks.{seated-after}

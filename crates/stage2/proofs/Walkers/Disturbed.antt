@@ -9,9 +9,10 @@ use Rattle.stage2.specs.declared.walked.Walked.{Walked}
 use Rattle.stage2.specs.Slot.{Layout}
 use Rattle.stage2.specs.Walk.{walked}
 use Rattle.base.specs.Need.{is_mixed}
-use Rattle.stage2.specs.Chunks.{edited, IsOutcome}
+use Rattle.stage2.specs.Edits.{edited, disturbs, disturbed}
+use Rattle.stage2.specs.inner.Chunks.{IsOutcome}
 use Rattle.stage2.specs.Moments.{StaysInStep}
-use Rattle.stage2.specs.Steps.{disturbs, disturbed, disturbed_below}
+use Rattle.stage2.specs.inner.Steps.{disturbed_below}
 use Rattle.stage2.proofs.Walkers.ZeroedTables.{stays-wider}
 use Rattle.base.proofs.Booleans.{both}
 

@@ -9,10 +9,9 @@ use Rattle.stage2.specs.Slot.{Layout}
 use Rattle.stage2.specs.Walk.{walked}
 use Rattle.base.specs.Need.{is_mixed}
 use Rattle.stage2.specs.Orderly.{answers}
-use Rattle.stage2.specs.Chunks.{edited}
-use Rattle.stage2.specs.Gigabytes.{IsPast}
+use Rattle.stage2.specs.Edits.{edited, AreFree, disturbed}
+use Rattle.stage2.specs.inner.Gigabytes.{IsPast}
 use Rattle.stage2.specs.Moments.{StaysInStep}
-use Rattle.stage2.specs.Steps.{AreFree, disturbed}
 use Rattle.stage2.proofs.Editing.GigabyteByGigabyte.{still-answers, still-edited}
 use Rattle.stage2.proofs.Counting.Needs.{mixed-same}
 use Rattle.stage2.proofs.Walkers.ZeroedTables.{stays-wider, stays-more}

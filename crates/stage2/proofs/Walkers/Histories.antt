@@ -6,7 +6,7 @@ use Rattle.pool.specs.declared.operation.Op.TheVariants.{Set, Invalidate, Clear}
 use Rattle.pool.specs.Pool.{Words, Pool, words_of, put, after_set}
 use Rattle.stage2.specs.Moments.{words_after}
 use Rattle.pool.specs.Pool.{counted}
-use Rattle.stage2.specs.History.{Made, AreSets, AllChange, Filled}
+use Rattle.stage2.specs.inner.History.{Made, AreSets, AllChange, Filled}
 
 after-append : (b a : List Op) (w : Words) → words_after (b ++ a) w ≡ words_after b (words_after a w)
 after-append [] a w = refl

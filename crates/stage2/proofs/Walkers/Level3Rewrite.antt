@@ -11,8 +11,8 @@ use Rattle.stage2.specs.declared.walked.Walked.{Walked}
 use Rattle.stage2.specs.declared.walked.Walked.TheVariants.{None as Unmapped}
 use Rattle.stage2.specs.Slot.{Layout, slot}
 use Rattle.stage2.specs.Walk.{index_1, at_3, walk, walked, Gigabyte, Chunk, table_at}
-use Rattle.stage2.specs.Chunks.{planned}
-use Rattle.stage2.specs.History.{AreSets, Filled}
+use Rattle.stage2.specs.inner.Chunks.{planned}
+use Rattle.stage2.specs.inner.History.{AreSets, Filled}
 use Rattle.stage2.specs.Moments.{words_after, IsInvalid, OpenCall, MayGive, IsInStep, nothing, LeavesDue, StaysInStep}
 use Rattle.stage2.proofs.Tree.WalkFrame.{put-other, IsUnheld, IsLevel3Write, table_at-level_3, walk-level_3, walk-level_3-other, forest-level_3, walk-chunk}
 use Rattle.stage2.proofs.Walkers.Level3Write.{slot-zero, at_3-word, which_page}

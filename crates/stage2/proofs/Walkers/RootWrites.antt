@@ -14,10 +14,10 @@ use Rattle.stage2.specs.Slot.{Layout, Slot, Empty, Next, Maps, Bad, slot}
 use Rattle.stage2.specs.Walk.{index_1, at_1, walk, walked, Root, Gigabyte, next_page, table_at, IsForest}
 use Rattle.base.specs.Need.{is_mixed}
 use Rattle.stage2.specs.Orderly.{IsOrderly, IsCanonical, answers, linked}
-use Rattle.stage2.specs.Chunks.{edited}
-use Rattle.stage2.specs.Gigabytes.{touches_chunk, IsUnderway}
+use Rattle.stage2.specs.Edits.{edited, touches_chunk, AreFree, disturbed}
+use Rattle.stage2.specs.inner.Gigabytes.{IsUnderway}
 use Rattle.stage2.specs.Moments.{IsInvalid, MayGive, IsInStep, IsLogged, nothing, StaysInStep}
-use Rattle.stage2.specs.Steps.{IsSeated, AreFree, disturbed, disturbed_below}
+use Rattle.stage2.specs.inner.Steps.{IsSeated, disturbed_below}
 use Rattle.stage2.proofs.Tree.WalkFrame.{put-same, put-other, table_at-root}
 use Rattle.stage2.proofs.Walkers.InStep.{may-now, walk-inside, gigabyte-now}
 use Rattle.stage2.proofs.Walkers.BreakBeforeMake.{invalid-empty}

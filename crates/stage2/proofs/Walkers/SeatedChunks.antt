@@ -10,8 +10,8 @@ use Rattle.stage2.proofs.Walkers.BreakBeforeMake.{empty-invalid}
 use Rattle.stage2.proofs.Walkers.TableWrites.{unmapped_3}
 use Rattle.stage2.specs.Walk.{at_2, walk, walked, Place, Gigabyte, Chunk, next_page, table_at, IsPlace, IsForest}
 use Rattle.stage2.specs.Orderly.{answers, linked}
-use Rattle.stage2.specs.Chunks.{Redoes_in, IsSite, IsEntryFor, IsOutcome}
-use Rattle.stage2.specs.Steps.{IsSeated}
+use Rattle.stage2.specs.inner.Chunks.{Redoes_in, IsSite, IsEntryFor, IsOutcome}
+use Rattle.stage2.specs.inner.Steps.{IsSeated}
 use Rattle.std.proofs.lemmas.Bool.Decides.{nat_tests}
 use Rattle.stage2.proofs.Tree.WalkFrame.{IsLevel3Write, IsUnheld, AgreeOutside, table_at-outside}
 use Rattle.stage2.proofs.Tree.PutTwice.{put-twice, put-there}

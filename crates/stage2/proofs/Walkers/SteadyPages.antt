@@ -5,9 +5,7 @@ use Rattle.std.proofs.lemmas.Bool.Decides.{nat_tests}
 use Rattle.base.specs.Pages.{PageRun, in_run, covers}
 use Rattle.base.specs.Access.{View}
 use Rattle.base.specs.Need.{is_mixed}
-use Rattle.stage2.specs.Chunks.{edited}
-use Rattle.stage2.specs.Gigabytes.{touches_run, touches_chunk}
-use Rattle.stage2.specs.Steps.{AreFree, disturbs, disturbed}
+use Rattle.stage2.specs.Edits.{edited, touches_run, touches_chunk, AreFree, disturbs, disturbed}
 use Rattle.stage2.proofs.Counting.Needs.{mixed-same, equal-first}
 use Rattle.base.proofs.Booleans.{both}
 
@@ -29,7 +27,7 @@ page-of c run t =
     inside : (first count x : ℕ) → first ≤ x → x < first + count → (leb first x && ltb x (first + count)) ≡ true
     inside first count x a b = grind (arith, nat_tests)
 
-covered-page : (c : ℕ) (runs : List PageRun) → touches_chunk c runs ≡ true → (x : ℕ) × (x / 512 ≡ c) × (covers runs x ≡ true)
+pub covered-page : (c : ℕ) (runs : List PageRun) → touches_chunk c runs ≡ true → (x : ℕ) × (x / 512 ≡ c) × (covers runs x ≡ true)
 covered-page c [] t = absurd (cc)
 covered-page c (run ∷ runs) t = elim (cases_Bool (touches_run c run)) [
   | inl here ↦ let p = page-of c run here in (p.0, p.1, rw p.2 refl)

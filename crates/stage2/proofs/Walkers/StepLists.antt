@@ -12,7 +12,7 @@ use Rattle.stage2.specs.declared.walked.Walked.TheVariants.{None as Unmapped}
 use Rattle.stage2.specs.Slot.{Layout, slot}
 use Rattle.stage2.specs.Walk.{at_2, Place, Gigabyte, Chunk, next_page, table_at, IsPlace, IsForest}
 use Rattle.pool.specs.Pool.{counted}
-use Rattle.stage2.specs.History.{Made, AreSets, Filled, broken, replaced}
+use Rattle.stage2.specs.inner.History.{Made, AreSets, Filled, broken, replaced}
 use Rattle.stage2.specs.Moments.{words_after, IsInvalid, OpenCall, MayGive, IsInStep, IsInStepIn, nothing, StaysInStep}
 use Rattle.stage2.proofs.Tree.WalkFrame.{put-same, IsUnheld, table_at-unheld, IsLevel2Write, table_at-level_2, table_at-level_2-other, walk-level_2}
 use Rattle.stage2.proofs.Tree.RootWrites.{is_chunk, forest-level_2}

@@ -1,5 +1,5 @@
 -- What walkers see of a whole call: from its entry on, over an edit, and at its end.
-use Rattle.std.proofs.Common.{◌≡◌, ℕ, ◌/◌, ◌^◌, ◌<◌, Bool, true, false, ◌&&◌, eqb, cond, List, [], ◌∷◌, None, refl, arith, ap, sym, subst, ◌∙◌, ◌⊎◌, inl, inr, eq-eqb}
+use Rattle.std.proofs.Common.{◌≡◌, ℕ, ◌/◌, ◌^◌, ◌<◌, Bool, true, false, ◌&&◌, eqb, cond, List, [], None, refl, arith, ap, sym, subst, ◌∙◌, ◌⊎◌, inl, inr, eq-eqb}
 use Rattle.std.proofs.lemmas.Bool.{ltb-true}
 use Rattle.base.specs.Pages.{PageRun, covers}
 use Rattle.base.specs.Access.{View}
@@ -9,10 +9,9 @@ use Rattle.pool.specs.Pool.{Words, words_of, all_lie_in}
 use Rattle.stage2.specs.Slot.{Layout}
 use Rattle.stage2.specs.Walk.{walk, walked, translation, Agrees}
 use Rattle.stage2.specs.Orderly.{answers, answer_of}
-use Rattle.stage2.specs.Chunks.{edited}
+use Rattle.stage2.specs.Edits.{edited, AreFree, disturbed, with_pages}
 use Rattle.stage2.specs.Moments.{IsSteady, StaysInStep, Moments}
-use Rattle.stage2.specs.Steps.{AreFree, disturbed, with_pages}
-use Rattle.stage2.specs.Tables.{TablesView, view_of, has_root, ReachSo, AreFreeFor, ShowsMoments, ClearsNothing, edit_from, IsCallInStep, EditsInStep, AreUnmappedForAll, ClearsInStep}
+use Rattle.stage2.specs.Tables.{TablesView, view_of, has_root, ReachSo, AreFreeFor, ShowsMoments, ClearsNothing, edit_from, IsCallInStep, EditsInStep}
 use Rattle.stage2.proofs.Tree.Rows.{same_row}
 use Rattle.stage2.proofs.Editing.ChunkKeeps.{answer-walked}
 use Rattle.stage2.proofs.Walkers.SteadyPages.{differ-mixed, none-steady}
@@ -44,11 +43,6 @@ call-edited entry old new p runs access cleared begun edits placed same free =
     let here : EditsOver entry.layout (words_of entry.pool.memory.words) = subst (λ (words : Words). EditsOver entry.layout words) same (subst (λ (layout : Layout). EditsOver layout (words_of old.pool.memory.words)) placed edits) in
     let own : (n : ℕ) → e.which n ≡ true → (eqb e.row e.row && e.which n) ≡ true = λ n t. rw (eq-eqb e.row e.row refl, t) refl in
     here free e (record { same_layout = refl; same_row = refl; may = λ n small t. (inr (own n t, inl refl), inr (own n t, inr refl)) }) begun
-
--- a clear of pages that no partition reaches
-pub call-cleared : (entry old new : TablesView) (p : ℕ) (runs : List PageRun) (access : View) (cleared : List PageRun) (run : PageRun) → IsCallInStep entry p runs access cleared old → ClearsInStep run old new
-    → old.layout ≡ entry.layout → AreUnmappedForAll run old → IsCallInStep entry p runs access (run ∷ cleared) new
-call-cleared entry old new p runs access cleared run begun clears placed none = clears none (edit_from entry p runs access cleared) (sym placed) begun
 
 -- ---- its end
 

@@ -1,9 +1,7 @@
-use Rattle.std.proofs.Common.{◌≡◌, ◌≢◌, ◌+◌, ◌-◌, ◌*◌, ◌%◌, ◌^◌, ◌<◌, length, slice_index, ap, sym, subst, ◌∙◌, refl, arith, inl, inr}
-use Rattle.std.proofs.lemmas.Bool.{cases_eq}
-use Rattle.pool.specs.Pool.{Pool, words_of, nonzero_in, put, index_from}
+use Rattle.std.proofs.Common.{◌≡◌, ◌≢◌, ◌+◌, ◌-◌, ◌*◌, ◌%◌, ◌^◌, ◌<◌, length, slice_index, ap, sym, subst, ◌∙◌, refl, arith}
+use Rattle.pool.specs.Pool.{Pool, words_of, index_from}
 use Rattle.pool.specs.Shown.{IsShown}
-use Rattle.pool.proofs.Nonzero.{word-read, nonzero-le, nonzero-some, nonzero-put}
-use Rattle.pool.proofs.Words.{words_of-set_at}
+use Rattle.pool.proofs.Nonzero.{nonzero-le, recount-some, recount}
 use Rattle.pool.proofs.RunWords.{page-index, page-outside, page-written, page-there, after_run-outside}
 use Rattle.pool.proofs.runs.set_one.Goals as goal
 
@@ -12,7 +10,7 @@ returns-then-index-ge-WORDS-clause-shown g c = λ pool shown.
     let w = c.args.with in
     let inside : c.number.result < 2 ^ 27 = omega (arith, c.number.ensures.same, c.number.ensures.in_range) in
     let none : index_from w.start (c.args.page + 1) ≡ index_from w.start c.args.page =
-    rw (← c.number.ensures.same) (page-outside w.start c.number.result _ c.requires.start_in inside refl c.if-index-ge-WORDS.true) in
+    rw (← c.number.ensures.same) (page-outside w.start c.number.result _ c.requires.may.start_in inside refl c.if-index-ge-WORDS.true) in
     subst (λ (p : Pool). IsShown (g.S.WordStore.words c.args.store.now) c.args.operations.now.items p)
     (sym (after_run-outside w.page w.start w.word w.step (record { first = c.args.page; count = 1 }) pool none)) shown
 
@@ -21,23 +19,15 @@ returns-then-before-word-clause-shown g c = λ pool shown.
     let w = c.args.with in
     let i = (c.number.result + (2 ^ 32 - w.start)) % 2 ^ 32 in
     let inside : c.number.result < 2 ^ 27 = omega (arith, c.number.ensures.same, c.number.ensures.in_range) in
-    let at = page-index w.start c.number.result i c.requires.start_in inside refl c.if-index-ge-WORDS.false in
+    let at = page-index w.start c.number.result i c.requires.may.start_in inside refl c.if-index-ge-WORDS.false in
     let is : w.word + w.step * i ≡ c.standing_word-before.result = sym (c.if-before-word.true ∙ ap (λ k. w.word + w.step * k) c.from.ensures) in
-    let stands : 512 * w.page + i < length (g.S.WordStore.words c.args.store.now) = omega (arith, c.requires.inside, c.if-index-ge-WORDS.false) in
+    let stands : 512 * w.page + i < length (g.S.WordStore.words c.args.store.now) = omega (arith, c.requires.may.inside, c.if-index-ge-WORDS.false) in
     page-there w.page w.start w.word w.step c.args.page i c.standing_word-before.result (g.S.WordStore.words c.args.store.now) c.args.operations.now.items pool
     (at.0 ∙ ap (λ n. index_from w.start n) c.number.ensures.same) (at.1 ∙ ap (λ n. index_from w.start (n + 1)) c.number.ensures.same) is stands (sym c.standing_word-before.ensures) shown
 
 pub recounted-requires-clause-counted : goal.recounted-requires-clause-counted
 recounted-requires-clause-counted g c =
-    let words = g.S.WordStore.words c.args.store.now in
-    let i = (c.number.result + (2 ^ 32 - c.args.with.start)) % 2 ^ 32 in
-    let read : c.standing_word-before.result ≡ words_of words c.args.with.page i = word-read words c.args.with.page i c.standing_word-before.result c.if-index-ge-WORDS.false c.standing_word-before.ensures in
-    elim (cases_eq c.standing_word-before.result 0) [
-      | inl zero ↦ inr zero
-      | inr some ↦
-          let least = nonzero-some (words_of words) c.args.with.page i c.if-index-ge-WORDS.false (λ is. some (read ∙ is)) in
-          inl (let counted = c.requires.counted in omega (arith, counted, least))
-    ]
+    recount-some (g.S.WordStore.words c.args.store.now) c.args.with.page ((c.number.result + (2 ^ 32 - c.args.with.start)) % 2 ^ 32) c.args.count c.standing_word-before.result c.if-index-ge-WORDS.false c.requires.counted c.standing_word-before.ensures
 
 pub recounted-requires-clause-most : goal.recounted-requires-clause-most
 recounted-requires-clause-most g c =
@@ -52,7 +42,7 @@ returns-clause-shown g c = λ pool shown.
     let i = (c.number.result + (2 ^ 32 - w.start)) % 2 ^ 32 in
     let next = w.word + w.step * c.from.result in
     let inside : c.number.result < 2 ^ 27 = omega (arith, c.number.ensures.same, c.number.ensures.in_range) in
-    let at = page-index w.start c.number.result i c.requires.start_in inside refl c.if-index-ge-WORDS.false in
+    let at = page-index w.start c.number.result i c.requires.may.start_in inside refl c.if-index-ge-WORDS.false in
     let is : w.word + w.step * i ≡ next = ap (λ k. w.word + w.step * k) (sym c.from.ensures) in
     let differs : slice_index words (512 * w.page + i) ≢ next = λ same. c.if-before-word.false (c.standing_word-before.ensures ∙ same) in
     rw (c.set_word.ensures.words, c.push_reserved.ensures.items) (page-written w.page w.start w.word w.step c.args.page i next words c.args.operations.now.items pool
@@ -60,15 +50,6 @@ returns-clause-shown g c = λ pool shown.
 
 pub returns-clause-counted : goal.returns-clause-counted
 returns-clause-counted g c =
-    let words = g.S.WordStore.words c.args.store.now in
-    let page = c.args.with.page in
-    let i = (c.number.result + (2 ^ 32 - c.args.with.start)) % 2 ^ 32 in
-    let next = c.args.with.word + c.args.with.step * c.from.result in
-    let below = c.if-index-ge-WORDS.false in
-    let written = ap words_of c.set_word.ensures.words ∙ words_of-set_at words page i next below (omega (arith, below, c.requires.inside)) in
-    let now = nonzero-put (words_of words) page i next below in
-    let read : c.standing_word-before.result ≡ words_of words page i = word-read words page i c.standing_word-before.result below c.standing_word-before.ensures in
-    let recounted = rw read at c.recounted.ensures in
-    let counted = c.requires.counted in
-    let right : c.recounted.result ≡ nonzero_in (put page i next (words_of words)) page = omega (arith, now, recounted, counted) in
-    right ∙ ap (λ w. nonzero_in w page) (sym written)
+    let w = c.args.with in
+    recount (g.S.WordStore.words c.args.store.now) (g.S.WordStore.words c.set_word.new.self) w.page ((c.number.result + (2 ^ 32 - w.start)) % 2 ^ 32) (w.word + w.step * c.from.result) c.args.count c.standing_word-before.result c.recounted.result
+    c.if-index-ge-WORDS.false c.requires.may.inside c.requires.counted c.standing_word-before.ensures c.set_word.ensures.words c.recounted.ensures

@@ -1,19 +1,18 @@
 use Rattle.std.proofs.Common.{length, vec_capacity, refl, sym, subst, ◌∙◌, arith}
 use Rattle.pool.specs.Pool.{Pool, after_run}
 use Rattle.pool.specs.Shown.{IsShown}
-use Rattle.pool.proofs.RunWords.{words_in-normal, words_in-left, after_runs-left, after_runs-done}
+use Rattle.pool.proofs.RunWords.{words_in-left, after_runs-left, after_runs-done}
 use Rattle.pool.proofs.runs.write_runs.Goals as goal
 
 pub loop-run-init : goal.loop-run-init
 loop-run-init g c =
-    let few = words_in-normal c.args.with.start c.args.runs.now c.requires.normal in
     record {
       shown = λ pool shown. (pool, shown, refl);
       whole = λ i. length (g.S.WordStore.words c.args.store.now);
       counted = c.requires.counted;
       standing = λ i. g.S.WordStore.stands c.args.store.now;
       capacity = λ i. vec_capacity c.args.operations;
-      len = omega (arith, few);
+      len = omega arith;
     }
 
 pub loop-run-preserved : goal.loop-run-preserved
@@ -34,8 +33,8 @@ loop-run-preserved g c =
       whole = c.write_run.ensures.whole ∙ before.whole;
       counted = c.write_run.ensures.counted;
       standing = c.write_run.ensures.standing ∙ before.standing;
-      capacity = c.write_run.ensures.capacity ∙ before.capacity;
-      len = omega (arith, before.len, c.write_run.ensures.len, left);
+      capacity = c.write_run.ensures.grows.capacity ∙ before.capacity;
+      len = omega (arith, before.len, c.write_run.ensures.grows.len, left);
     }
 
 pub returns-clause-shown : goal.returns-clause-shown

@@ -1,7 +1,6 @@
 use Rattle.std.proofs.Common.{◌≡◌, ◌+◌, ◌≤◌, length, drop, vec_len, vec_capacity}
-use Rattle.pool.specs.Pool.{Pool, words_of, nonzero_in, after_runs}
+use Rattle.pool.specs.Pool.{Pool, words_of, nonzero_in, words_in, after_runs}
 use Rattle.pool.specs.Shown.{IsShown}
-use Rattle.pool.proofs.RunWords.{words_in}
 use Rattle.pool.proofs.runs.write_runs.Given as goal
 
 -- with the words of the runs that are left it is done
@@ -14,5 +13,5 @@ invariant-loop-run g l = record {
   counted : l.count ≡ nonzero_in (words_of (g.S.WordStore.words l.store)) l.with.page;
   standing : g.S.WordStore.stands l.store ≡ g.S.WordStore.stands l.fn.store;
   capacity : vec_capacity l.operations ≡ vec_capacity l.fn.operations;
-  len : vec_len l.operations + words_in l.with.start (drop l.run-index l.runs) ≤ vec_len l.fn.operations + 512;
+  len : vec_len l.operations + words_in l.with.start (drop l.run-index l.runs) ≤ vec_len l.fn.operations + words_in l.with.start l.runs;
 }

@@ -1,13 +1,12 @@
-use Rattle.std.proofs.Common.{◌≡◌, ℕ, ◌-◌, ◌≤◌, drop, [], ◌∷◌, Some, refl, sym, ap, subst, ◌∙◌, arith}
+use Rattle.std.proofs.Common.{◌≡◌, ℕ, ◌-◌, drop, List, [], ◌∷◌, Some, sym, ap, subst, ◌∙◌, arith}
 use Rattle.base.specs.Access.{View}
 use Rattle.base.specs.Manifest.{grant}
 use Rattle.base.specs.Pages.{PageRun}
 use Rattle.pool.specs.Pool.{Pool, pages_of}
 use Rattle.stage2.specs.Boot.{PendingPages}
-use Rattle.stage2.specs.Gigabytes.{FitsRow, row_operations}
-use Rattle.stage2.specs.Parts.{operations_for}
+use Rattle.stage2.specs.inner.Clauses.{row_view}
+use Rattle.stage2.specs.inner.Gigabytes.{FitsRow}
 use Rattle.stage2.proofs.Editing.BootRegions.{pending-fits}
-use Rattle.stage2.proofs.Runs.ChunkCounts.{row-operations}
 use Rattle.stage2.proofs.boot.map_pending.Goals as goal
 
 -- the access and the run of the pending pages
@@ -20,23 +19,22 @@ is-run inside now run first same at is =
 
 pub edit_row-requires-clause-free : goal.edit_row-requires-clause-free
 edit_row-requires-clause-free g c =
-    let layout = c.args.layout.now in
+    let layout = c.args.grants.now.layout.now in
     let pending = c.args.pending.now in
     let inside : PendingPages = record { first = c.pending.inside.first; end = c.pending.inside.end; access = c.pending.inside.access } in
     let m = pages_of (g.M.TableMem.state c.args.memory.now).memory in
     let a = c.in-Some.access in
     let is : pending.access ≡ Some a = is-access inside pending (Some a) c.pending.view_is c.in-Some.is in
     let run = is-run inside pending c.new-run.result c.new.result c.pending.view_is c.new.ensures c.new-run.ensures in
-    let fits = pending-fits layout c.args.row (grant c.args.manifest.now c.args.p) (drop c.args.index c.args.manifest.now.regions) c.args.p pending m c.requires.mapping a is (c.requires.edge (λ none. cc)) in
-    subst (λ (x : Pool). FitsRow layout c.args.row (c.new-run.result ∷ []) (Some a) (pages_of x.memory)) (sym c.in_ok-ready.ensures.state)
-    (subst (λ (x : PageRun). FitsRow layout c.args.row (x ∷ []) (Some a) m) (sym run) fits)
+    let fits = pending-fits layout c.args.grants.now.row (grant c.args.grants.now.manifest.now c.args.grants.now.p) (drop c.args.index c.args.grants.now.manifest.now.regions) c.args.grants.now.p pending m c.requires.mapping a is (c.requires.edge (λ none. cc)) in
+    subst (λ (x : Pool). FitsRow layout c.args.grants.now.row (c.new-run.result ∷ []) (Some a) (pages_of x.memory)) (sym c.in_ok-ready.ensures.state)
+    (subst (λ (x : PageRun). FitsRow layout c.args.grants.now.row (x ∷ []) (Some a) m) (sym run) fits)
 
 pub edit_row-requires-clause-room : goal.edit_row-requires-clause-room
 edit_row-requires-clause-room g c =
-    let most = row-operations (c.new-run.result ∷ []) refl in
-    let enough : c.operations.result ≤ g.M.TableMem.room c.ready.new.self = c.in_ok-ready.ensures.room in
-    let same : c.operations.result ≡ operations_for (c.new-run.result ∷ []) = c.operations.ensures.same in
-    at-most (row_operations (c.new-run.result ∷ [])) (operations_for (c.new-run.result ∷ [])) c.operations.result (g.M.TableMem.room c.ready.new.self) most same enough
-  where
-    at-most : (a b c d : ℕ) → a ≤ b → c ≡ b → c ≤ d → a ≤ d
-    at-most a b c d x y z = omega arith
+    let runs : List PageRun = c.new-run.result ∷ [] in
+    let view : ℕ → View = row_view c.args.grants.now.layout.now c.args.grants.now.row (g.M.TableMem.state c.ready.new.self) in
+    let most = c.plan_row.ensures.operations in
+    let enough = c.in_ok-ready.ensures.room in
+    let same : view ≡ row_view c.args.grants.now.layout.now c.args.grants.now.row (g.M.TableMem.state c.args.memory.now) = ap (row_view c.args.grants.now.layout.now c.args.grants.now.row) c.in_ok-ready.ensures.state in
+    rw same (omega (arith, most, enough))

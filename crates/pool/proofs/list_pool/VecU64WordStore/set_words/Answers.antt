@@ -4,25 +4,25 @@ use Rattle.pool.proofs.list_pool.VecU64WordStore.set_words.Goals as goal
 
 pub loop-index-init : goal.loop-index-init
 loop-index-init c =
-    let none : c.args.first - c.args.first ≡ 0 = omega arith in
-    record { words = rw none (sym (words_set-none c.args.self.now.items c.args.page c.args.first c.args.word c.args.step)); next = rw none (omega arith) }
+    let none : c.args.range.first - c.args.range.first ≡ 0 = omega arith in
+    record { words = rw none (sym (words_set-none c.args.self.now.items c.args.range.page c.args.range.first c.args.range.word c.args.range.step)); next = rw none (omega arith) }
 
 pub index_mut-requires : goal.index_mut-requires
 index_mut-requires c =
-    let long = ap length c.loop-index.invariant.words ∙ length-words_set c.args.self.now.items c.args.page c.args.first (c.loop-index.index - c.args.first) c.args.word c.args.step in
-    omega (arith, long, c.requires.inside, c.requires.index_in, c.loop-index-test.true)
+    let long = ap length c.loop-index.invariant.words ∙ length-words_set c.args.self.now.items c.args.range.page c.args.range.first (c.loop-index.index - c.args.range.first) c.args.range.word c.args.range.step in
+    omega (arith, long, c.requires.may.inside, c.requires.may.index_in, c.loop-index-test.true)
 
 pub loop-index-preserved : goal.loop-index-preserved
 loop-index-preserved c =
     let i = c.loop-index.index in
-    let n = i - c.args.first in
+    let n = i - c.args.range.first in
     let before = c.loop-index.invariant in
     let from = c.loop-index.auto.index in
-    let index : c.args.first + n ≡ i = omega (arith, from) in
-    let next : c.args.word + c.args.step * n ≡ c.loop-index.next = sym before.next in
-    let more : (i + 1) - c.args.first ≡ n + 1 = omega (arith, from) in
+    let index : c.args.range.first + n ≡ i = omega (arith, from) in
+    let next : c.args.range.word + c.args.range.step * n ≡ c.loop-index.next = sym before.next in
+    let more : (i + 1) - c.args.range.first ≡ n + 1 = omega (arith, from) in
     rw more record {
-      words = ap (λ items. slice_set items (512 * c.args.page + i) c.loop-index.next) before.words
-          ∙ sym (words_set-next c.args.self.now.items c.args.page c.args.first n c.args.word c.args.step i c.loop-index.next index next);
+      words = ap (λ items. slice_set items (512 * c.args.range.page + i) c.loop-index.next) before.words
+          ∙ sym (words_set-next c.args.self.now.items c.args.range.page c.args.range.first n c.args.range.word c.args.range.step i c.loop-index.next index next);
       next = omega (arith, next);
     }

@@ -1,11 +1,10 @@
-use Rattle.std.proofs.Common.{◌≡◌, ◌∙◌, arith, inl, inr}
+use Rattle.std.proofs.Common.{◌≡◌, ◌∙◌, arith}
 use Rattle.std.proofs.Math.ListN.{length-set}
-use Rattle.std.proofs.lemmas.Bool.{cases_eq}
 use Rattle.std.proofs.lemmas.List.{get_or_read}
 use Rattle.base.specs.Manifest.{page_count}
 use Rattle.pool.specs.Pool.{words_of}
 use Rattle.pool.proofs.Kept.{free_zero-set}
-use Rattle.pool.proofs.Nonzero.{word-read, nonzero-le, nonzero-some, counts_nonzero-set}
+use Rattle.pool.proofs.Nonzero.{word-read, nonzero-le, recount-some, counts_nonzero-set}
 use Rattle.pool.proofs.Within.{within-push, set-within}
 use Rattle.pool.proofs.table_pool.TablePoolTableMem.set_word.Goals as goal
 
@@ -33,14 +32,7 @@ recounted-requires-clause-counted g c =
     let counted = old.nonzero_counted.each c.args.page c.requires.page_in in
     let pages = old.nonzero_counted.pages in
     let here = get_or_read old.nonzero.items _ _ (omega (arith, pages, c.requires.page_in)) c.index-count.ensures 0 in
-    let read : c.standing_word-before.result ≡ words_of (g.S.WordStore.words old.store) c.args.page c.args.index =
-    word-read (g.S.WordStore.words old.store) c.args.page c.args.index c.standing_word-before.result c.requires.index_in c.standing_word-before.ensures in
-    elim (cases_eq c.standing_word-before.result 0) [
-      | inl zero ↦ inr zero
-      | inr some ↦
-          let least = nonzero-some (words_of (g.S.WordStore.words old.store)) c.args.page c.args.index c.requires.index_in (λ is. some (read ∙ is)) in
-          inl (omega (arith, here, counted, least))
-    ]
+    recount-some (g.S.WordStore.words old.store) c.args.page c.args.index c.index-count.result.now c.standing_word-before.result c.requires.index_in (omega (arith, here, counted)) c.standing_word-before.ensures
 
 pub invariant_of-self-clause-nonzero_counted : goal.invariant_of-self-clause-nonzero_counted
 invariant_of-self-clause-nonzero_counted g c =

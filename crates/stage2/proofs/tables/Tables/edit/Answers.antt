@@ -18,8 +18,8 @@ edit_row-requires-clause-room g c =
     let layout = c.self.inside.layout in
     let row = row-found layout.ids c.args.p c.in-Some.row (sym c.row.ensures.row ∙ c.in-Some.is) in
     let m = c.self.inside.memory in
-    room-row (view layout (g.M.TableMem.state m) (g.M.TableMem.room m)) c.args.p c.in-Some.row c.args.runs.now c.requires.normal row
-    (subst (λ (t : TablesView). edit_operations c.args.p c.args.runs.now t ≤ t.room) (sym c.self.view_is) c.requires.ready)
+    room-row (view layout (g.M.TableMem.state m) (g.M.TableMem.room m)) c.args.p c.in-Some.row c.args.runs.now c.args.access.now row
+    (subst (λ (t : TablesView). edit_operations c.args.p c.args.runs.now c.args.access.now t ≤ t.room) (sym c.self.view_is) c.requires.ready)
 
 -- the edit, where the partition has a root
 edit : (g : Over) (c : goal.After-edit_row g) → IsEdited c.args.p c.args.runs.now c.args.access.now c.args.self.now (view c.self.inside.layout (g.M.TableMem.state c.edit_row.new.memory) (g.M.TableMem.room c.edit_row.new.memory))
@@ -29,7 +29,7 @@ edit g c =
     let row = row-found layout.ids c.args.p c.in-Some.row (sym c.row.ensures.row ∙ c.in-Some.is) in
     subst (λ (t : TablesView). IsEdited c.args.p c.args.runs.now c.args.access.now t (view layout (g.M.TableMem.state new) (g.M.TableMem.room new))) c.self.view_is
     (edited-rooted layout (g.M.TableMem.state c.self.inside.memory) (g.M.TableMem.state new) (g.M.TableMem.room c.self.inside.memory) (g.M.TableMem.room new) c.args.p c.in-Some.row c.args.runs.now c.args.access.now
-    c.requires.normal row c.self.invariant c.edit_row.ensures.edits c.edit_row.ensures.in_step (g.met.M.TableMem.operations_lie_within new) c.edit_row.ensures.room)
+    row c.self.invariant c.edit_row.ensures.edits c.edit_row.ensures.in_step (g.met.M.TableMem.operations_lie_within new) c.edit_row.ensures.room)
 
 pub returns-in-Some-clause-walks : goal.returns-in-Some-clause-walks
 returns-in-Some-clause-walks g c = (edit g c).walks

@@ -1,0 +1,88 @@
+-- What the writers of a page's words ask for, and what they do.
+use Rattle.std.specs.Prelude.{◌≡◌, ℕ, ◌+◌, ◌-◌, ◌*◌, ◌<◌, ◌≤◌, ◌^◌, ◌++◌, Bool, true, List, length, reverse, Vec, vec_len, vec_capacity}
+use Rattle.std.specs.declared.alloc.Global.{Global}
+use Rattle.base.specs.Pages.{PageRun}
+use Rattle.pool.specs.Pool.{Pool, words_set, sets_of, index_from, after_replaces}
+use Rattle.pool.specs.Shown.{IsShown, AllDiffer}
+use Rattle.pool.specs.declared.operation.Op.{Op}
+use Rattle.pool.specs.declared.replace.Replacement.{Replacement}
+use Rattle.pool.specs.declared.runs.TableWords.{TableWords}
+use Rattle.pool.specs.declared.word_range.WordRange.{WordRange}
+
+-- ---- the list of operations
+
+-- it has room for so many more operations
+abbrev pub HasRoom : Vec Op Global → ℕ → Type 0
+HasRoom list more = vec_len list + more ≤ vec_capacity list
+
+-- it has so many more at most, and its capacity stays
+pub record Grows (most : ℕ) (old new : Vec Op Global) : Type 0 where
+  pub len : vec_len new ≤ vec_len old + most
+  pub capacity : vec_capacity new ≡ vec_capacity old
+
+-- where a store's words and a list show a pool, those after show what a step makes of it
+abbrev pub Shows : (Pool → Pool) → List ℕ → List ℕ → List Op → List Op → Type 0
+Shows step words now old new =
+    (pool : Pool) → IsShown words old pool → IsShown now new (step pool)
+
+-- ---- the words of a range
+
+-- a store's words with those of a range in their place
+abbrev pub with_range : List ℕ → WordRange → List ℕ
+with_range words range =
+    words_set words range.page range.first (range.end - range.first) range.word range.step
+
+-- the writes that make them, of those that are not there
+abbrev pub writes_of : List ℕ → WordRange → List Op
+writes_of words range =
+    sets_of words range.page range.first (range.end - range.first) range.word range.step
+
+-- none of them is there
+abbrev pub NoneThere : List ℕ → WordRange → Type 0
+NoneThere words range =
+    AllDiffer words range.page range.first (range.end - range.first) range.word range.step
+
+-- all words of a page are 0
+abbrev pub zeros_of : ℕ → WordRange
+zeros_of page = record { page = page; first = 0; end = 512; word = 0; step = 0 }
+
+-- the words of a range may be written to a store: they are below 2^64, and their page stands in memory
+pub record MayWrite (words : List ℕ) (stands : ℕ → Bool) (range : WordRange) : Type 0 where
+  pub ordered : range.first ≤ range.end
+  pub index_in : range.end ≤ 512
+  pub in_range : range.word + range.step * (range.end - range.first) < 2 ^ 64
+  pub inside : 512 * range.page + 512 ≤ length words
+  pub standing : stands range.page ≡ true
+
+-- the writes of those that are not there are recorded behind operations
+abbrev pub Records : List ℕ → WordRange → List Op → List Op → Type 0
+Records words range old new = reverse new ≡ writes_of words range ++ reverse old
+
+-- ---- words that stand for pages of runs
+
+-- they may be written to a store
+pub record MayWriteRuns (words : List ℕ) (stands : ℕ → Bool) (with : TableWords) : Type 0 where
+  pub start_in : with.start < 2 ^ 27
+  pub in_range : with.word + with.step * 512 < 2 ^ 64
+  pub inside : 512 * with.page + 512 ≤ length words
+  pub standing : stands with.page ≡ true
+
+-- how many of them stand for pages of a run
+abbrev pub words_for : ℕ → PageRun → ℕ
+words_for start run = index_from start (run.first + run.count) - index_from start run.first
+
+-- the run of one page
+abbrev pub page_alone : ℕ → PageRun
+page_alone page = record { first = page; count = 1 }
+
+-- ---- words that are replaced
+
+-- the 512 pages from one on, for which each of them stands
+abbrev pub block_from : ℕ → PageRun
+block_from start = record { first = start; count = 512 }
+
+-- what they make of a pool
+abbrev pub replaces : Replacement → Pool → Pool
+replaces with =
+    after_replaces with.who with.range.page with.range.first (with.range.end - with.range.first)
+    with.range.word with.range.step with.start

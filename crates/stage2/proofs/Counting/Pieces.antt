@@ -1,0 +1,346 @@
+-- How many pages of a chunk runs have, and what that tells of the words of its level 3 table.
+use Rattle.std.proofs.Common.{◌≡◌, ◌≢◌, ℕ, zero, suc, ◌+◌, ◌-◌, ◌*◌, ◌/◌, ◌<◌, ◌≤◌, ◌==◌, cond, Bool, true, false, not, ◌&&◌, ◌||◌, eqb, leb, ltb, max, min, List, [], ◌∷◌, Some, None, take, drop, length, get_or, refl, sym, ap, ◌∙◌, arith, inl, inr}
+use Rattle.std.proofs.lemmas.Bool.{cases_Bool, cases_lt, and_parts, ltb-true, eqb-true}
+use Rattle.std.proofs.lemmas.List.{at_drop_all, get_or-drop, length-drop}
+use Rattle.std.proofs.lemmas.Bool.Decides.{nat_tests}
+use Rattle.base.specs.Counts.{count_below}
+use Rattle.base.specs.Pages.{PageRun, in_run, covers, are_normal, rise_above}
+use Rattle.pool.specs.Pool.{Words, nonzero_in, index_from, words_in}
+use Rattle.pool.proofs.Count.{count_below-same, count_below-some, count_below-none, count_below-tail, count_below-more, count_below-le, count_below-all, count_below-witness}
+use Rattle.pool.proofs.RunWords.{words_in-left}
+use Rattle.stage2.specs.inner.Clauses.{is_between}
+use Rattle.stage2.specs.Room.{pages_among, pages_in}
+use Rattle.stage2.specs.Parts.{end_from, part_in}
+use Rattle.stage2.proofs.Runs.Parts.{part-some, covers-take, take-all}
+use Rattle.stage2.proofs.Runs.Between.{before-first}
+use Rattle.stage2.proofs.Runs.Normal.{end_of, from-rise, normal-next, normal-take, normal-drop}
+
+-- ---- counts of any kind
+
+-- of two kinds that share no number
+count_below-either : (a b : ℕ → Bool) (n : ℕ) → ((k : ℕ) → k < n → (a k && b k) ≡ false) → count_below (λ k. a k || b k) n ≡ count_below a n + count_below b n
+unfolding count_below
+count_below-either a b zero apart = refl
+count_below-either a b (suc n) apart =
+    let rest = count_below-either a b n (λ k lt. apart k (omega arith)) in
+    let here = apart n (omega arith) in
+    elim (cases_Bool (a n)) [
+      | inl p ↦ elim (cases_Bool (b n)) [
+        | inl q ↦ let bad : true ≡ false = (rw (p, q) at here) in absurd (cc)
+        | inr q ↦ rw (p, q, rest) (omega arith)
+      ]
+      | inr p ↦ elim (cases_Bool (b n)) [
+        | inl q ↦ rw (p, q, rest) (omega arith)
+        | inr q ↦ rw (p, q, rest) (omega arith)
+      ]
+    ]
+
+-- the numbers from one up to another
+between-more : (first end k : ℕ) → first + k ≤ end → count_below (is_between first end) (first + k) ≡ k
+between-more first end zero within =
+    let none = count_below-none (is_between first end) first (λ k lt. grind (arith, nat_tests, lt)) in
+    let start : first + 0 ≡ first = omega arith in
+    rw start none
+between-more first end (suc k) within =
+    let rest = between-more first end k (omega (arith, within)) in
+    let next : first + suc k ≡ first + k + 1 = omega arith in
+    let here : is_between first end (first + k) ≡ true = grind (arith, nat_tests, within) in
+    let more = count_below-more (is_between first end) (first + k) in
+    rw next (more ∙ (rw (here, rest) (omega arith)))
+
+pub count_below-between : (first end n : ℕ) → first ≤ end → end ≤ n → count_below (is_between first end) n ≡ end - first
+count_below-between first end n ordered most =
+    let last : first + (end - first) ≡ end = omega (arith, ordered) in
+    let tail = count_below-tail (is_between first end) end n most (λ k from lt. grind (arith, nat_tests, from)) in
+    tail ∙ (ap (count_below (is_between first end)) (sym last) ∙ between-more first end (end - first) (omega (arith, ordered)))
+
+apart-self : (a : Bool) → (a && not a) ≡ false
+apart-self true = refl
+apart-self false = refl
+
+or-not : (a : Bool) → (a || not a) ≡ true
+or-not true = refl
+or-not false = refl
+
+-- ---- pages of a chunk
+
+pub pages_among-le : (which : ℕ → Bool) → pages_among which ≤ 512
+unfolding pages_among
+pages_among-le which = count_below-le which 512
+
+pub pages_among-between : (first end : ℕ) → first ≤ end → end ≤ 512 → pages_among (is_between first end) ≡ end - first
+unfolding pages_among
+pages_among-between first end ordered most = count_below-between first end 512 ordered most
+
+-- the same pages
+pub pages_among-same : (a b : ℕ → Bool) → ((i : ℕ) → i < 512 → b i ≡ a i) → pages_among b ≡ pages_among a
+unfolding pages_among
+pages_among-same a b same = count_below-same a b 512 same
+
+-- no pages
+pub pages_among-none : (which : ℕ → Bool) → ((i : ℕ) → i < 512 → which i ≡ false) → pages_among which ≡ 0
+unfolding pages_among
+pages_among-none which none = count_below-none which 512 none
+
+-- pages of two kinds, which share none
+pub pages_among-either : (a b : ℕ → Bool) → ((i : ℕ) → i < 512 → (a i && b i) ≡ false) → pages_among (λ i. a i || b i) ≡ pages_among a + pages_among b
+unfolding pages_among
+pages_among-either a b apart = count_below-either a b 512 apart
+
+-- ---- the pages of the first runs of some that stand upward, and of one more
+
+rise-covers : (end n : ℕ) (runs : List PageRun) → rise_above end runs ≡ true → covers runs n ≡ true → n < end_from end runs
+rise-covers end n [] rises covered = absurd (cc)
+rise-covers end n (r ∷ runs) rises covered =
+    let parts = and_parts (ltb end r.first) (rise_above (end_of r) runs) rises in
+    elim (cases_Bool (in_run r n)) [
+      | inl here ↦
+          let rest = from-rise (end_of r) runs parts.1 in
+          let within : n < end_of r = grind (arith, nat_tests, here) in
+          omega (arith, rest, within)
+      | inr other ↦ rise-covers (end_of r) n runs parts.1 (rw other at covered)
+    ]
+
+normal-covers : (n : ℕ) (runs : List PageRun) → are_normal runs ≡ true → covers runs n ≡ true → n < end_from 0 runs
+normal-covers n [] normal covered = absurd (cc)
+normal-covers n (r ∷ runs) normal covered = elim (cases_Bool (in_run r n)) [
+  | inl here ↦
+      let rest = from-rise (end_of r) runs normal in
+      let within : n < end_of r = grind (arith, nat_tests, here) in
+      omega (arith, rest, within)
+  | inr other ↦ rise-covers (end_of r) n runs normal (rw other at covered)
+]
+
+-- no page is in a run and in one of those before it
+pub first-apart : (runs : List PageRun) (i : ℕ) (run : PageRun) (n : ℕ) → are_normal runs ≡ true → i < length runs → run ≡ get_or runs i run → (covers (take i runs) n && in_run run n) ≡ false
+first-apart runs i run n normal lt is = elim (cases_Bool (covers (take i runs) n)) [
+  | inl before ↦
+      let end = normal-covers n (take i runs) (normal-take i runs normal) before in
+      let next = normal-next runs i run normal lt is in
+      let from = next.0 in
+      let out : in_run run n ≡ false = (let lt : n < run.first = omega (arith, end, from) in grind (arith, nat_tests, lt)) in
+      rw (before, out) refl
+  | inr none ↦ rw none refl
+]
+
+-- all pages
+pub pages_among-all : (which : ℕ → Bool) → ((i : ℕ) → i < 512 → which i ≡ true) → pages_among which ≡ 512
+unfolding pages_among
+pages_among-all which all = count_below-all which 512 all
+
+-- the others
+pub pages_among-not : (which : ℕ → Bool) → pages_among (λ i. not (which i)) + pages_among which ≡ 512
+pages_among-not which =
+    let parts = pages_among-either which (λ i. not (which i)) (λ i lt. apart-self (which i)) in
+    let all = pages_among-all (λ i. which i || not (which i)) (λ i lt. or-not (which i)) in
+    omega (arith, parts, all)
+
+-- ---- a page among some
+
+pub page-among : (which : ℕ → Bool) → 0 < pages_among which → (i : ℕ) × (i < 512) × (which i ≡ true)
+unfolding pages_among
+page-among which some = count_below-witness which 512 some
+
+-- ---- the words of pages beside some
+
+pub nonzero-most : (words : Words) (k : ℕ) → nonzero_in words k ≤ 512
+unfolding nonzero_in
+nonzero-most words k = count_below-le (λ i. not (words k i == 0)) 512
+
+or-most : (a b : ℕ → Bool) (n : ℕ) → count_below (λ k. a k || b k) n ≤ count_below a n + count_below b n
+unfolding count_below
+or-most a b zero = omega arith
+or-most a b (suc n) = let rest = or-most a b n in let here = bits (a n) (b n) in omega (arith, rest, here)
+  where
+    bits : (x y : Bool) → cond (x || y) 1 0 ≤ cond x 1 0 + cond y 1 0
+    bits true y = omega arith
+    bits false y = omega arith
+
+not-or : (a x : Bool) → not (a || x) ≡ true → (a ≡ false) × (x ≡ false)
+not-or true x e = absurd (cc)
+not-or false true e = absurd (cc)
+not-or false false e = (refl, refl)
+
+count_below-fewer : (a b : ℕ → Bool) (n : ℕ) → ((k : ℕ) → k < n → a k ≡ true → b k ≡ true) → count_below a n ≤ count_below b n
+unfolding count_below
+count_below-fewer a b zero is = omega arith
+count_below-fewer a b (suc n) is =
+    let rest = count_below-fewer a b n (λ k lt. is k (omega (arith, lt))) in
+    let here = bits (a n) (b n) (is n (omega arith)) in
+    omega (arith, rest, here)
+  where
+    bits : (x y : Bool) → (x ≡ true → y ≡ true) → cond x 1 0 ≤ cond y 1 0
+    bits false y e = omega arith
+    bits true y e = let t = e refl in rw t (omega arith)
+
+-- where there are fewer words that are not 0 than pages beside some, one of these has the word 0
+pub zero-beside : (words : Words) (k : ℕ) (which : ℕ → Bool) → nonzero_in words k + pages_among which < 512 → (i : ℕ) × (i < 512) × (which i ≡ false) × (words k i ≡ 0)
+unfolding pages_among nonzero_in
+zero-beside words k which fewer =
+    let some : ℕ → Bool = λ i. which i || not (words k i == 0) in
+    let most = or-most which (λ i. not (words k i == 0)) 512 in
+    let all = count_below-either some (λ i. not (some i)) 512 (λ j lt. apart-self (some j)) in
+    let whole = count_below-all (λ i. some i || not (some i)) 512 (λ j lt. or-not (some j)) in
+    let left = count_below-witness (λ i. not (some i)) 512 (omega (arith, most, all, whole, fewer)) in
+    let out = not-or (which left.0) (not (words k left.0 == 0)) left.2 in
+    (left.0, left.1, out.0, grind (arith, nat_tests, out.1))
+
+-- and where there are more of them than those pages, one beside them has another word
+pub word-beside : (words : Words) (k : ℕ) (which : ℕ → Bool) → pages_among which < nonzero_in words k → (i : ℕ) × (i < 512) × (which i ≡ false) × (words k i ≡ 0 → ⊥)
+unfolding pages_among nonzero_in
+word-beside words k which more =
+    let other : ℕ → Bool = λ i. not (which i) && not (words k i == 0) in
+    let same = count_below-same (λ i. (which i && not (words k i == 0)) || other i) (λ i. not (words k i == 0)) 512 (λ i lt. parts (which i) (not (words k i == 0))) in
+    let most = or-most (λ i. which i && not (words k i == 0)) other 512 in
+    let less = count_below-fewer (λ i. which i && not (words k i == 0)) which 512 (λ i lt both. (and_parts (which i) (not (words k i == 0)) both).0) in
+    let found = count_below-witness other 512 (omega (arith, same, most, less, more)) in
+    let both = and_parts (not (which found.0)) (not (words k found.0 == 0)) found.2 in
+    (found.0, found.1, not-true (which found.0) both.0, λ zero. grind (arith, nat_tests, zero, both.1))
+  where
+    parts : (a x : Bool) → x ≡ ((a && x) || (not a && x))
+    parts true true = refl
+    parts true false = refl
+    parts false x = refl
+
+    not-true : (b : Bool) → not b ≡ true → b ≡ false
+    not-true true e = absurd (cc)
+    not-true false e = refl
+
+-- and where there are as many, which are all of those pages, the words beside them are 0
+pub none-beside : (words : Words) (k : ℕ) (which : ℕ → Bool) → nonzero_in words k ≡ pages_among which → ((i : ℕ) → i < 512 → which i ≡ true → words k i ≢ 0) → (i : ℕ) → i < 512 → which i ≡ false → words k i ≡ 0
+unfolding pages_among nonzero_in
+none-beside words k which as_many all i lt out = elim (cases_Bool (words k i == 0)) [
+  | inl is ↦ eqb-true _ _ is
+  | inr isnt ↦
+      let other : ℕ → Bool = λ j. not (which j) && not (words k j == 0) in
+      let both = count_below-same (λ j. which j || other j) (λ j. not (words k j == 0)) 512 (λ j small. parts (which j) (words k j) (all j small)) in
+      let sum = count_below-either which other 512 (λ j small. apart-not (which j) (not (words k j == 0))) in
+      let one : other i ≡ true = rw (out, isnt) refl in
+      let some = count_below-some other 512 i lt one in
+      absurd (omega (arith, as_many, both, sum, some))
+]
+  where
+    parts : (a : Bool) (w : ℕ) → (a ≡ true → w ≢ 0) → not (w == 0) ≡ (a || (not a && not (w == 0)))
+    parts false w e = refl
+    parts true w e = let other = e refl in grind (arith, nat_tests, other)
+
+    apart-not : (a x : Bool) → (a && (not a && x)) ≡ false
+    apart-not true x = refl
+    apart-not false x = refl
+
+-- and where as many are left for the pages beside some, which are all of these, the words of those pages are 0
+pub none-among : (words : Words) (k : ℕ) (which : ℕ → Bool) → nonzero_in words k + pages_among which ≡ 512 → ((i : ℕ) → i < 512 → which i ≡ false → words k i ≢ 0) → (i : ℕ) → i < 512 → which i ≡ true → words k i ≡ 0
+none-among words k which left all i lt in_it =
+    let both = pages_among-not which in
+    none-beside words k (λ j. not (which j)) (omega (arith, left, both)) (λ j small beside. all j small (was-not (which j) beside)) i lt (ap not in_it)
+  where
+    was-not : (b : Bool) → not b ≡ true → b ≡ false
+    was-not true e = absurd (cc)
+    was-not false e = refl
+
+-- ---- the part of a run in a chunk
+
+pub part-within : (c : ℕ) (run part : PageRun) → part_in c run ≡ Some part → (512 * c ≤ part.first) × (part.first + part.count ≤ 512 * c + 512) × (0 < part.count)
+unfolding part_in
+part-within c run part e =
+    let first = max run.first (512 * c) in
+    let end = min (run.first + run.count) (512 * c + 512) in
+    elim (cases_Bool (ltb first end)) [
+      | inl t ↦
+          let lt : first < end = ltb-true first end t in
+          let got : Some (record { first = first; count = end - first }) ≡ Some part = rw t at e in
+          let at : first ≡ part.first = cc in
+          let many : end - first ≡ part.count = cc in
+          (omega (arith, lt, at, many), omega (arith, lt, at, many), omega (arith, lt, at, many))
+      | inr f ↦ let none : None ≡ Some part = rw f at e in absurd (cc)
+    ]
+
+pub part-pages : (c : ℕ) (run part : PageRun) → part_in c run ≡ Some part → pages_among (λ i. in_run run (512 * c + i)) ≡ part.count
+part-pages c run part e =
+    let within = part-within c run part e in
+    let low = within.0 in
+    let high = within.1 in
+    let first = part.first - 512 * c in
+    let end = part.first + part.count - 512 * c in
+    pages_among-same (is_between first end) (λ i. in_run run (512 * c + i))
+    (λ i lt. sym (there (in_run run (512 * c + i)) ((512 * c + i) / 512) c (omega (arith, lt))) ∙ sym (part-some c run part (512 * c + i) e) ∙ shifted part.first (part.first + part.count) (512 * c) i low)
+    ∙ pages_among-between first end (omega arith) (omega (arith, high)) ∙ omega (arith, low)
+  where
+    there : (b : Bool) (q c : ℕ) → q ≡ c → (b && eqb q c) ≡ b
+    there true q c e = grind (arith, nat_tests)
+    there false q c e = refl
+
+    shifted : (a b s i : ℕ) → s ≤ a → (leb a (s + i) && ltb (s + i) b) ≡ is_between (a - s) (b - s) i
+    shifted a b s i le = grind (arith, nat_tests)
+
+-- ---- one run after another
+
+-- the pages of the first runs and of the next one
+pub pages-more : (runs : List PageRun) (i c : ℕ) (run : PageRun) → are_normal runs ≡ true → i < length runs → run ≡ get_or runs i run
+    → pages_in (take (i + 1) runs) c ≡ pages_in (take i runs) c + pages_among (λ x. in_run run (512 * c + x))
+pages-more runs i c run normal lt is =
+    let first : ℕ → Bool = λ x. covers (take i runs) (512 * c + x) in
+    let one : ℕ → Bool = λ x. in_run run (512 * c + x) in
+    pages_among-same (λ x. first x || one x) (λ x. covers (take (i + 1) runs) (512 * c + x)) (λ x small. covers-take runs i run (512 * c + x) lt is)
+    ∙ pages_among-either first one (λ x small. first-apart runs i run (512 * c + x) normal lt is)
+
+pub pages-none : (c : ℕ) (runs : List PageRun) → pages_in (take 0 runs) c ≡ 0
+pages-none c runs = pages_among-none (λ x. covers (take 0 runs) (512 * c + x)) (λ x lt. refl)
+
+-- ---- the words for the runs' pages
+
+get_or-same : (runs : List PageRun) (i : ℕ) (d e : PageRun) → i < length runs → get_or runs i d ≡ get_or runs i e
+get_or-same [] i d e lt = absurd (omega (arith, lt))
+get_or-same (r ∷ runs) zero d e lt = refl
+get_or-same (r ∷ runs) (suc i) d e lt = get_or-same runs i d e (omega (arith, lt))
+
+run-words : (c : ℕ) (run : PageRun) → index_from (512 * c) (run.first + run.count) - index_from (512 * c) run.first ≡ pages_among (λ x. in_run run (512 * c + x))
+run-words c run =
+    let first = index_from (512 * c) run.first in
+    let end = index_from (512 * c) (run.first + run.count) in
+    sym (pages_among-same (is_between first end) (λ x. in_run run (512 * c + x)) (λ x lt. among run.first (run.first + run.count) (512 * c) x lt) ∙ pages_among-between first end (omega arith) (omega arith))
+  where
+    among : (a b s x : ℕ) → x < 512 → (leb a (s + x) && ltb (s + x) b) ≡ is_between (min (a - s) 512) (min (b - s) 512) x
+    among a b s x lt = grind (arith, nat_tests)
+
+-- those of the runs from the i-th on, and the pages of those before it
+words-from : (c n i : ℕ) (runs : List PageRun) → are_normal runs ≡ true → n + i ≡ length runs → pages_in (take i runs) c + words_in (512 * c) (drop i runs) ≡ pages_in runs c
+words-from c zero i runs normal all =
+    let whole = take-all runs i (omega (arith, all)) (omega (arith, all)) in
+    let none = at_drop_all (words_in (512 * c)) runs i (omega (arith, all)) in
+    rw (whole, none) (omega arith)
+words-from c (suc n) i runs normal all =
+    let run = get_or runs i (record { first = 0; count = 0 }) in
+    let lt : i < length runs = omega (arith, all) in
+    let is : run ≡ get_or runs i run = get_or-same runs i (record { first = 0; count = 0 }) run lt in
+    let rest = words-from c n (i + 1) runs normal (omega (arith, all)) in
+    let left = words_in-left (512 * c) i runs run lt is in
+    let more = pages-more runs i c run normal lt is in
+    let here = run-words c run in
+    omega (arith, rest, left, more, here)
+
+pub words-pages : (c : ℕ) (runs : List PageRun) → are_normal runs ≡ true → words_in (512 * c) runs ≡ pages_in runs c
+words-pages c runs normal =
+    let none = pages-none c runs in
+    let all = words-from c (length runs) 0 runs normal (omega arith) in
+    omega (arith, none, all)
+
+-- the words that are left from a run on lie behind its first
+pub words-behind : (c i : ℕ) (runs : List PageRun) (run : PageRun) → are_normal runs ≡ true → i < length runs → run ≡ get_or runs i run → words_in (512 * c) (drop i runs) + min (run.first - 512 * c) 512 ≤ 512
+unfolding pages_among
+words-behind c i runs run normal lt is =
+    let first = min (run.first - 512 * c) 512 in
+    let left = normal-drop i runs normal in
+    let some : 0 < length (drop i runs) = (let len = length-drop i runs in omega (arith, len, lt)) in
+    let head : run ≡ get_or (drop i runs) 0 run = is ∙ ap (λ k. get_or runs k run) (let e : i ≡ i + 0 = omega arith in e) ∙ sym (get_or-drop i runs 0 run) in
+    let words : words_in (512 * c) (drop i runs) ≡ pages_in (drop i runs) c = words-pages c (drop i runs) left in
+    let fewer = count_below-fewer (λ x. covers (drop i runs) (512 * c + x)) (is_between first 512) 512
+    (λ x lt covered. from first x lt (λ before. let out = before-first (drop i runs) run (512 * c + x) left some head (omega (arith, before)) in let bad : true ≡ false = sym covered ∙ out in absurd (cc))) in
+    let most = count_below-between first 512 512 (omega arith) (omega arith) in
+    omega (arith, words, fewer, most)
+  where
+    from : (first x : ℕ) → x < 512 → (x < first → ⊥) → is_between first 512 x ≡ true
+    from first x lt not_before = elim (cases_lt x first) [
+      | inl before ↦ absurd (not_before before)
+      | inr behind ↦ grind (arith, nat_tests, lt, behind)
+    ]

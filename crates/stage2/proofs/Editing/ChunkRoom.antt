@@ -1,0 +1,58 @@
+-- How many operations each of the four edits of a chunk makes, by the words that are there.
+use Rattle.std.proofs.Common.{◌≡◌, ℕ, ◌+◌, ◌*◌, ◌/◌, ◌%◌, ◌<◌, Bool, true, false, ◌||◌, cond, List, is_some, Some, None, refl, arith, ap, sym, ◌∙◌}
+use Rattle.base.specs.Access.{View}
+use Rattle.base.specs.Pages.{PageRun, covers}
+use Rattle.pool.specs.Pool.{Pages, nonzero_in}
+use Rattle.stage2.specs.Edits.{edited}
+use Rattle.stage2.specs.inner.Chunks.{answers_in, IsOutcome, IsSite}
+use Rattle.stage2.specs.Parts.{part_count}
+use Rattle.stage2.specs.Room.{pages_in, reached_in, table_operations}
+use Rattle.stage2.specs.Slot.{Layout, Slot, Next, slot}
+use Rattle.stage2.specs.Walk.{next_page}
+use Rattle.stage2.proofs.Counting.Needs.{mixed-none}
+use Rattle.stage2.proofs.Counting.Operations.{kept, hung, dropped, reached-as}
+use Rattle.stage2.proofs.Editing.FourChunkEdits.{entry-mixed, third-words}
+
+module _ (layout : Layout) (row c j : ℕ) (m : Pages) (h : IsSite layout row c j m) (runs : List PageRun) (access : View) where
+  abbrev view : ℕ → View
+  view = answers_in layout row c j m
+
+  abbrev entry : Slot
+  entry = slot layout 2 (m.words j (c % 512))
+
+  -- the table is given back
+  pub dropped-words : (answer : View) (k : ℕ) → slot layout 2 (m.words j (c % 512)) ≡ Next k → IsOutcome c (edited runs access (answers_in layout row c j m)) (Some answer)
+      → table_operations runs access (answers_in layout row c j m) c ≡ cond (is_some answer) (nonzero_in m.words k) (pages_in runs c)
+  dropped-words answer k table is =
+      dropped runs access view c answer (entry-mixed layout row c j m h ∙ ap (λ (s : Slot). is_some (next_page s)) table) is
+      ∙ ap (λ n. cond (is_some answer) n (pages_in runs c)) (sym (third-words layout row c j m h k table))
+
+  -- it stays
+  pub kept-words : (k : ℕ) → slot layout 2 (m.words j (c % 512)) ≡ Next k → IsOutcome c (edited runs access (answers_in layout row c j m)) None
+      → table_operations runs access (answers_in layout row c j m) c ≡ pages_in runs c + cond (is_some access) 0 (part_count c runs)
+  kept-words k table is = kept runs access view c (entry-mixed layout row c j m h ∙ ap (λ (s : Slot). is_some (next_page s)) table) is
+
+  -- one is hung
+  module _ (before : View) (none : next_page (slot layout 2 (m.words j (c % 512))) ≡ None) (is : IsOutcome c (edited runs access (answers_in layout row c j m)) None)
+      (all : (n : ℕ) → n / 512 ≡ c → answers_in layout row c j m n ≡ before) where
+    pub hung-words : table_operations runs access (answers_in layout row c j m) c ≡ reached_in (edited runs access (λ n. before)) c
+    hung-words =
+        hung runs access view c (entry-mixed layout row c j m h ∙ ap (λ o. is_some o) none) is
+        ∙ reached-as (edited runs access (λ n. before)) (edited runs access view) c (λ i lt. ap (λ a. cond (covers runs (512 * c + i)) access a) (all (512 * c + i) (omega (arith, lt))))
+
+    -- of which some are reached
+    pub hung-some : (is_some before || is_some access) ≡ true
+    hung-some = each before access refl refl
+      where
+        either : (b : Bool) (x y : View) → x ≡ None → y ≡ None → cond b x y ≡ None
+        either true x y e f = e
+        either false x y e f = f
+
+        each : (b a : View) → b ≡ before → a ≡ access → (is_some b || is_some a) ≡ true
+        each (Some x) a was now = refl
+        each None (Some y) was now = refl
+        each None None was now =
+            let unreached : (i : ℕ) → i < 512 → edited runs access view (512 * c + i) ≡ None =
+            λ i lt. either (covers runs (512 * c + i)) access (view (512 * c + i)) (sym now) (all (512 * c + i) (omega (arith, lt)) ∙ sym was) in
+            let bad : true ≡ false = is.mixed ∙ mixed-none (edited runs access view) c unreached in
+            absurd (cc)

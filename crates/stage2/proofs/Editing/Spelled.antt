@@ -1,0 +1,32 @@
+-- Each word of a level 3 table is the one for its page's answer.
+use Rattle.std.proofs.Common.{◌≡◌, ℕ, ◌/◌, ◌%◌, refl, sym, ap, subst, ◌∙◌, arith}
+use Rattle.pool.specs.Pool.{Pages}
+use Rattle.words.specs.declared.word.Entry.{Entry}
+use Rattle.words.specs.declared.word.Entry.TheVariants.{Invalid, Table, Leaf, Wrong}
+use Rattle.words.specs.Words.{entry_of}
+use Rattle.words.proofs.RoundTrip.{word-table}
+use Rattle.stage2.specs.inner.Chunks.{answers_at, IsSite, IsWordFor}
+use Rattle.stage2.specs.Orderly.{answer_of, linked}
+use Rattle.stage2.specs.Slot.{Layout, Slot, Empty, Next, slot, slot_from}
+use Rattle.stage2.specs.Sound.{IsTidy}
+use Rattle.stage2.specs.Walk.{at_2, at_3, walk}
+use Rattle.stage2.proofs.Editing.FourChunkEdits.{walk-entry, at_2-seen, table-entry, clean-words}
+
+word-spelled : (layout : Layout) (n w : ℕ) → IsTidy n (at_3 (slot layout 3 w)) → (slot layout 3 w ≡ Empty → w ≡ 0) → IsWordFor n (answer_of (at_3 (slot layout 3 w))) w
+unfolding slot
+word-spelled layout n w tidy clean = told (entry_of 3 w) refl tidy clean
+  where
+    told : (e : Entry) → entry_of 3 w ≡ e → IsTidy n (at_3 (slot_from layout e)) → (slot_from layout e ≡ Empty → w ≡ 0) → IsWordFor n (answer_of (at_3 (slot_from layout e))) w
+    told Invalid is tidy clean = record { entry = is; zero = λ _. clean refl }
+    told (Leaf m a) is tidy clean = record { entry = is ∙ ap (λ x. Leaf x a) tidy; zero = λ e. absurd (cc) }
+    told (Table m) is tidy clean = let below = (word-table 3 w m is).at_level in absurd (omega (arith, below))
+    told Wrong is tidy clean = absurd tidy
+
+pub spelled-words : (layout : Layout) (row c j : ℕ) (m : Pages) (h : IsSite layout row c j m) (k : ℕ) → slot layout 2 (m.words j (c % 512)) ≡ Next k → (n : ℕ) → n / 512 ≡ c → IsWordFor n (answers_at layout m.words (Next k) n) (m.words k (n % 512))
+spelled-words layout row c j m h k is n at =
+    let below = h.chunk in
+    let old = (linked layout row (c / 512) j m).words in
+    let entry = slot layout 2 (m.words j (c % 512)) in
+    let tidy : IsTidy n (walk layout old row n) = h.orderly.tidy row n h.partition (omega (arith, at, below)) in
+    let same : walk layout old row n ≡ at_2 layout m.words n (Next k) = walk-entry layout row c j m h n at ∙ at_2-seen layout row c j m h n entry (sym (table-entry layout row c j m h)) ∙ ap (at_2 layout m.words n) is in
+    word-spelled layout n (m.words k (n % 512)) (subst (IsTidy n) same tidy) (λ empty. clean-words layout row c j m h entry k refl is n at (ap (λ (s : Slot). answer_of (at_3 s)) empty))

@@ -1,0 +1,31 @@
+-- Whoever goes upward over chunks needs the runs that are left alone: those that do not end before the chunk.
+use Rattle.std.proofs.Common.{◌≡◌, ℕ, ◌/◌, not, ◌&&◌, List, refl, sym, ap, ◌∙◌, arith}
+use Rattle.base.specs.Access.{View}
+use Rattle.base.specs.Need.{is_mixed}
+use Rattle.base.specs.Pages.{PageRun, covers}
+use Rattle.stage2.specs.Edits.{edited, touches_chunk}
+use Rattle.stage2.specs.inner.Gigabytes.{grows_at}
+use Rattle.stage2.specs.Parts.{part_count, chunk_runs}
+use Rattle.stage2.specs.Room.{chunk_operations}
+use Rattle.stage2.proofs.Counting.Operations.{chunk-same}
+use Rattle.stage2.proofs.Runs.Between.{AreLeft}
+use Rattle.stage2.proofs.Runs.OwnRuns.{chunk-covers, chunk-touches, chunk-count, chunk-mixed}
+
+module _ (c : ℕ) (rest runs : List PageRun) (left : AreLeft c rest runs) where
+  same : chunk_runs c rest ≡ chunk_runs c runs
+  same = left.parts c (omega arith)
+
+  left-covers : (n : ℕ) → n / 512 ≡ c → covers rest n ≡ covers runs n
+  left-covers n at = sym (chunk-covers c rest (chunk_runs c rest) refl n at) ∙ chunk-covers c runs (chunk_runs c rest) same n at
+
+  pub left-touches : touches_chunk c rest ≡ touches_chunk c runs
+  left-touches = sym (chunk-touches c rest (chunk_runs c rest) refl) ∙ chunk-touches c runs (chunk_runs c rest) same
+
+  left-count : part_count c rest ≡ part_count c runs
+  left-count = sym (chunk-count c rest (chunk_runs c rest) refl) ∙ chunk-count c runs (chunk_runs c rest) same
+
+  pub left-operations : (access : View) (v : ℕ → View) → chunk_operations rest access v c ≡ chunk_operations runs access v c
+  left-operations access v = chunk-same runs rest access v v c left-covers left-count (λ i lt. refl) left-touches
+
+  pub left-grows : (access : View) (v : ℕ → View) → grows_at v (edited rest access v) c ≡ grows_at v (edited runs access v) c
+  left-grows access v = ap (λ m. m && not (is_mixed v c)) (chunk-mixed c runs rest access left-covers v)

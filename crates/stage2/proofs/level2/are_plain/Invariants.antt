@@ -1,0 +1,11 @@
+use Rattle.std.proofs.Common.{◌≡◌, ℕ, ◌<◌, ◌≤◌, true, None}
+use Rattle.stage2.specs.inner.Clauses.{word_in}
+use Rattle.stage2.specs.Slot.{Layout, slot}
+use Rattle.stage2.specs.Walk.{next_page}
+use Rattle.stage2.proofs.level2.are_plain.Given as goal
+
+-- the chunks before this one have no table, if it is so yet
+abbrev pub invariant-loop-index : goal.invariant-loop-index
+invariant-loop-index g l = record {
+  before : l.are ≡ true → (layout : Layout) (x : ℕ) → l.fn.first ≤ x → x < l.index → next_page (slot layout 2 (word_in (g.M.TableMem.state l.memory) l.second x)) ≡ None;
+}

@@ -1,0 +1,13 @@
+use Rattle.std.proofs.Common.{◌≡◌, ◌+◌, ◌/◌, ◌&&◌, eqb, take}
+use Rattle.base.specs.Pages.{covers}
+use Rattle.stage2.specs.Parts.{part_count}
+use Rattle.stage2.specs.Moments.{Settles}
+use Rattle.stage2.proofs.level3.invalidate_parts.Given as goal
+
+-- the parts of the first runs are invalidated
+abbrev pub invariant-loop-run : goal.invariant-loop-run
+invariant-loop-run g l = record {
+  memory : (g.M.TableMem.state l.memory).memory ≡ (g.M.TableMem.state l.fn.memory).memory;
+  settles : Settles l.p (λ n. covers (take l.run-index l.runs) n && eqb (n / 512) l.chunk) (g.M.TableMem.state l.fn.memory) (g.M.TableMem.state l.memory);
+  room : g.M.TableMem.room l.fn.memory ≡ g.M.TableMem.room l.memory + part_count l.chunk (take l.run-index l.runs);
+}

@@ -1,0 +1,96 @@
+use Rattle.std.proofs.Common.{◌≡◌, ◌≤◌, ℕ, ◌+◌, ◌-◌, ◌*◌, cond, is_some, max, min, inl, inr, ap, ◌∙◌, subst, arith, ◌⊎◌}
+use Rattle.base.specs.Access.{View}
+use Rattle.pool.specs.Pool.{Pool, words_of}
+use Rattle.stage2.specs.declared.plan.Plan.{Plan}
+use Rattle.stage2.specs.declared.site.ChunkEdit.{ChunkEdit}
+use Rattle.stage2.specs.inner.Chunks.{IsOutcome}
+use Rattle.stage2.specs.inner.Clauses.{IsSpelled, read_before, read_after, tells, words_left}
+use Rattle.stage2.specs.Room.{pages_in, reached_in, table_operations}
+use Rattle.stage2.specs.Slot.{Next}
+use Rattle.stage2.proofs.Counting.Operations.{kept, dropped, table-either, table-words}
+use Rattle.stage2.proofs.Counting.Outcomes.{one}
+use Rattle.stage2.proofs.plan.plan_table.Goals as goal
+
+-- what a table loses, by the pages that are reached
+gone-words : (e : ChunkEdit) (k gone : ℕ) (pool : Pool) → IsSpelled e k pool → gone ≡ words_left k e pool → gone ≡ cond (is_some e.access) (reached_in (read_before e (Next k) pool) e.chunk) (pages_in e.runs.now e.chunk)
+gone-words e k gone pool spelled is =
+    is ∙ ap (λ r. cond (is_some e.access) r (pages_in e.runs.now e.chunk)) (table-words e.layout.now (words_of pool.memory.words) e.chunk k (λ n at none. (spelled n at).zero none))
+
+-- the more of two numbers that differ little
+near : (t kept gone most least : ℕ) → (t ≡ kept) ⊎ (t ≡ gone) → most ≡ max kept gone → least ≡ min kept gone → most - least ≤ 4 → (t ≤ most) × (most ≤ 4 + t)
+near t kept gone most least either is least_is few = elim either [
+  | inl e ↦ (omega (arith, e, is), omega (arith, e, is, least_is, few))
+  | inr e ↦ (omega (arith, e, is), omega (arith, e, is, least_is, few))
+]
+
+pub returns-then-most-min-le-SURPLUS-clause-operations : goal.returns-then-most-min-le-SURPLUS-clause-operations
+returns-then-most-min-le-SURPLUS-clause-operations g c =
+    let e = c.args.edit.now in
+    let pool = g.M.TableMem.state c.args.memory.now in
+    let view : ℕ → View = read_before e (Next c.args.third) pool in
+    let gone = gone-words e c.args.third c.operations_gone-gone.result pool c.requires.spelled c.operations_gone-gone.ensures.same in
+    let page = one e in
+    let lt = page.1 in
+    let either = table-either e.runs.now e.access view e.chunk (512 * e.chunk + page.0) c.requires.mixed (omega (arith, lt)) page.2 in
+    let both = near (table_operations e.runs.now e.access view e.chunk) c.operations_kept-kept.result c.operations_gone-gone.result c.max-most.result c.min.result (rw (c.operations_kept-kept.ensures.same, gone) either) c.max-most.ensures c.min.ensures c.if-most-min-le-SURPLUS.true in
+    let least = both.0 in
+    let is : c.new.result.operations ≡ 3 + c.max-most.result = ap (λ (p : Plan). p.operations) c.new.ensures in
+    omega (arith, least, is)
+
+pub returns-then-most-min-le-SURPLUS-clause-close : goal.returns-then-most-min-le-SURPLUS-clause-close
+returns-then-most-min-le-SURPLUS-clause-close g c =
+    let e = c.args.edit.now in
+    let pool = g.M.TableMem.state c.args.memory.now in
+    let view : ℕ → View = read_before e (Next c.args.third) pool in
+    let gone = gone-words e c.args.third c.operations_gone-gone.result pool c.requires.spelled c.operations_gone-gone.ensures.same in
+    let page = one e in
+    let lt = page.1 in
+    let either = table-either e.runs.now e.access view e.chunk (512 * e.chunk + page.0) c.requires.mixed (omega (arith, lt)) page.2 in
+    let both = near (table_operations e.runs.now e.access view e.chunk) c.operations_kept-kept.result c.operations_gone-gone.result c.max-most.result c.min.result (rw (c.operations_kept-kept.ensures.same, gone) either) c.max-most.ensures c.min.ensures c.if-most-min-le-SURPLUS.true in
+    let most = both.1 in
+    let is : c.new.result.operations ≡ 3 + c.max-most.result = ap (λ (p : Plan). p.operations) c.new.ensures in
+    omega (arith, most, is)
+
+-- a table that goes
+pub returns-then-is_alike_in_table-clause-operations : goal.returns-then-is_alike_in_table-clause-operations
+returns-then-is_alike_in_table-clause-operations g c =
+    let e = c.args.edit.now in
+    let pool = g.M.TableMem.state c.args.memory.now in
+    let view : ℕ → View = read_before e (Next c.args.third) pool in
+    let gone = gone-words e c.args.third c.operations_gone-gone.result pool c.requires.spelled c.operations_gone-gone.ensures.same in
+    let outcome = subst (λ b. IsOutcome e.chunk (read_after e (Next c.args.third) pool) (tells b e.access)) c.if-is_alike_in_table.true c.is_alike_in_table.ensures in
+    let all = dropped e.runs.now e.access view e.chunk e.access c.requires.mixed outcome in
+    let is : c.new-then-is_alike_in_table.result.operations ≡ 3 + c.operations_gone-gone.result = ap (λ (p : Plan). p.operations) c.new-then-is_alike_in_table.ensures in
+    omega (arith, all, is, gone)
+
+pub returns-then-is_alike_in_table-clause-close : goal.returns-then-is_alike_in_table-clause-close
+returns-then-is_alike_in_table-clause-close g c =
+    let e = c.args.edit.now in
+    let pool = g.M.TableMem.state c.args.memory.now in
+    let view : ℕ → View = read_before e (Next c.args.third) pool in
+    let gone = gone-words e c.args.third c.operations_gone-gone.result pool c.requires.spelled c.operations_gone-gone.ensures.same in
+    let outcome = subst (λ b. IsOutcome e.chunk (read_after e (Next c.args.third) pool) (tells b e.access)) c.if-is_alike_in_table.true c.is_alike_in_table.ensures in
+    let all = dropped e.runs.now e.access view e.chunk e.access c.requires.mixed outcome in
+    let is : c.new-then-is_alike_in_table.result.operations ≡ 3 + c.operations_gone-gone.result = ap (λ (p : Plan). p.operations) c.new-then-is_alike_in_table.ensures in
+    omega (arith, all, is, gone)
+
+-- one that stays
+pub returns-else-is_alike_in_table-clause-operations : goal.returns-else-is_alike_in_table-clause-operations
+returns-else-is_alike_in_table-clause-operations g c =
+    let e = c.args.edit.now in
+    let pool = g.M.TableMem.state c.args.memory.now in
+    let view : ℕ → View = read_before e (Next c.args.third) pool in
+    let outcome = subst (λ b. IsOutcome e.chunk (read_after e (Next c.args.third) pool) (tells b e.access)) c.if-is_alike_in_table.false c.is_alike_in_table.ensures in
+    let all = kept e.runs.now e.access view e.chunk c.requires.mixed outcome in
+    let is : c.new-else-is_alike_in_table.result.operations ≡ 3 + c.operations_kept-kept.result = ap (λ (p : Plan). p.operations) c.new-else-is_alike_in_table.ensures in
+    omega (arith, all, is, c.operations_kept-kept.ensures.same)
+
+pub returns-else-is_alike_in_table-clause-close : goal.returns-else-is_alike_in_table-clause-close
+returns-else-is_alike_in_table-clause-close g c =
+    let e = c.args.edit.now in
+    let pool = g.M.TableMem.state c.args.memory.now in
+    let view : ℕ → View = read_before e (Next c.args.third) pool in
+    let outcome = subst (λ b. IsOutcome e.chunk (read_after e (Next c.args.third) pool) (tells b e.access)) c.if-is_alike_in_table.false c.is_alike_in_table.ensures in
+    let all = kept e.runs.now e.access view e.chunk c.requires.mixed outcome in
+    let is : c.new-else-is_alike_in_table.result.operations ≡ 3 + c.operations_kept-kept.result = ap (λ (p : Plan). p.operations) c.new-else-is_alike_in_table.ensures in
+    omega (arith, all, is, c.operations_kept-kept.ensures.same)

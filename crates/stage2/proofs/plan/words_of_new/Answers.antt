@@ -1,0 +1,23 @@
+use Rattle.std.proofs.Common.{is_some, sym, ap, ap₂, ◌∙◌, arith}
+use Rattle.base.specs.Access.{View}
+use Rattle.stage2.specs.Edits.{edited}
+use Rattle.stage2.specs.Room.{reached_in}
+use Rattle.stage2.proofs.Counting.Operations.{new-mapped, new-unmapped, new-all, new-none}
+use Rattle.stage2.proofs.plan.words_of_new.Goals as goal
+
+pub returns-in-None-None-clause-same : goal.returns-in-None-None-clause-same
+returns-in-None-None-clause-same c = λ runs k pages.
+    sym (ap₂ (λ (a b : View). reached_in (edited runs a (λ n. b)) k) c.in-None-None.is-1 c.in-None-None.is-0 ∙ new-none runs k)
+
+pub returns-in-None-Some-clause-same : goal.returns-in-None-Some-clause-same
+returns-in-None-Some-clause-same c = λ runs k pages.
+    pages ∙ sym (ap (λ (b : View). reached_in (edited runs c.args.access.now (λ n. b)) k) c.in-None-Some.is-0 ∙ new-mapped runs c.args.access.now k (ap (λ a. is_some a) c.in-None-Some.is-1))
+
+pub returns-in-Some-None-clause-same : goal.returns-in-Some-None-clause-same
+returns-in-Some-None-clause-same c = λ runs k pages.
+    let all = new-unmapped runs c.args.access.now c.args.before.now k c.in-Some-None.is-1 (ap (λ a. is_some a) c.in-Some-None.is-0) in
+    omega (arith, all, pages)
+
+pub returns-in-Some-Some-clause-same : goal.returns-in-Some-Some-clause-same
+returns-in-Some-Some-clause-same c = λ runs k pages.
+    sym (new-all runs c.args.access.now c.args.before.now k (ap (λ a. is_some a) c.in-Some-Some.is-1) (ap (λ a. is_some a) c.in-Some-Some.is-0))

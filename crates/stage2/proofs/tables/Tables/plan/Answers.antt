@@ -1,0 +1,24 @@
+use Rattle.std.proofs.Common.{sym, ap, ◌∙◌, arith}
+use Rattle.base.specs.Need.{grow}
+use Rattle.stage2.specs.Edits.{edited}
+use Rattle.stage2.specs.Sound.{TablesView}
+use Rattle.stage2.specs.Tables.{view_of, edit_operations}
+use Rattle.stage2.proofs.Tree.Rows.{row-found}
+use Rattle.stage2.proofs.Editing.WholeTables.{view, grow-found, room-found}
+use Rattle.stage2.proofs.tables.Tables.plan.Goals as goal
+
+pub plan_row-requires-clause-partition : goal.plan_row-requires-clause-partition
+plan_row-requires-clause-partition g c = λ row is. (row-found c.self.inside.layout.ids c.args.p row (sym c.row.ensures.row ∙ is)).inside
+
+pub returns-clause-tables : goal.returns-clause-tables
+returns-clause-tables g c =
+    c.plan_row.ensures.tables
+    ∙ grow-found (view c.self.inside.layout (g.M.TableMem.state c.self.inside.memory) (g.M.TableMem.room c.self.inside.memory)) c.args.p c.args.runs.now c.args.access.now c.row.result c.row.ensures.row
+    ∙ ap (λ (t : TablesView). grow (view_of t c.args.p) (edited c.args.runs.now c.args.access.now (view_of t c.args.p))) c.self.view_is
+
+pub returns-clause-operations : goal.returns-clause-operations
+returns-clause-operations g c =
+    let t = view c.self.inside.layout (g.M.TableMem.state c.self.inside.memory) (g.M.TableMem.room c.self.inside.memory) in
+    let most = room-found t c.args.p c.args.runs.now c.args.access.now c.row.result c.row.ensures.row in
+    let same = ap (λ (t : TablesView). edit_operations c.args.p c.args.runs.now c.args.access.now t) c.self.view_is in
+    omega (arith, most, same, c.plan_row.ensures.operations)

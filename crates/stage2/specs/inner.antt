@@ -1,0 +1,7 @@
+-- What the proofs of an edit say of its steps: chunk by chunk, and word by word.
+pub mod Change
+pub mod Chunks
+pub mod Gigabytes
+pub mod History
+pub mod Steps
+pub mod Clauses

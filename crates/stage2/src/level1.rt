@@ -1,0 +1,199 @@
+//! Level 1: the word of a gigabyte, and its level 2 table.
+
+ghost use Rattle.base.specs.Manifest.{page_count, row_of};
+ghost use Rattle.base.specs.Pages.{are_normal, covers};
+ghost use Rattle.pool.specs.Pool.{pages_of, taken_of, row_in, InShare};
+ghost use Rattle.stage2.specs.inner.Clauses.{operations_in_gigabyte, second_at, IsEmpty, Unlinks, UnlinksInStep, FitsInGigabyte, EditsInGigabyte, GigabyteInStep, operations_in_row, FitsInRow, EditsInRow, RowInStep};
+ghost use Rattle.stage2.specs.inner.Gigabytes.{Touches};
+ghost use Rattle.stage2.specs.Orderly.{IsCanonical};
+ghost use Rattle.stage2.specs.Parts.{gigabyte_runs};
+ghost use Rattle.stage2.specs.Slot.{Layout};
+ghost use Rattle.std.specs.Prelude.{◌≡◌, ℕ, ◌+◌, ◌<◌, ◌≤◌, length, true, false, Some, None, is_some, ◌/◌};
+
+use crate::layout::Layout;
+use crate::level2::{edit_chunks, table_of};
+use crate::memory::{give_page, is_empty, put_word, take_page};
+use crate::parts::{gigabyte_runs, gigabyte_span};
+use crate::place::Gigabyte;
+use crate::read::read_gigabyte;
+use crate::site::RowEdit;
+use crate::table_page::{Row, TablePage};
+use base::{PartitionId, Run};
+use pool::TableMem;
+use words::table_word;
+
+/// The level 2 table of a gigabyte, if one hangs there.
+#[tactic(auto, unfolding(crate::specs::Walk::table_at))]
+pub(crate) fn find_table<M: TableMem>(
+    memory: &M,
+    layout: &Layout,
+    row: Row,
+    gigabyte: Gigabyte,
+) -> Option<TablePage>
+    requires pages { layout.now.pages ≡ page_count (M.state memory.now).memory.quotas }
+    requires row { row < layout.now.pages }
+    ensures { result ≡ second_at layout.now row gigabyte (M.state memory.now) }
+{
+    table_of(&read_gigabyte(memory, layout, row, gigabyte))
+}
+
+/// Takes the link of an empty level 2 table away, and gives the table back.
+fn unlink<M: TableMem>(
+    memory: &mut M,
+    p: PartitionId,
+    row: Row,
+    gigabyte: Gigabyte,
+    second: TablePage,
+)
+    requires root { row < length (M.state memory.old).memory.quotas }
+    requires row { row_in (M.state memory.old).memory p ≡ row }
+    requires inside { InShare (M.state memory.old).memory.quotas row second }
+    requires taken { taken_of (M.state memory.old).memory.taken second ≡ true }
+    requires empty { IsEmpty second (M.state memory.old) }
+    requires room { 2 ≤ M.room memory.old }
+    ensures pages { Unlinks row gigabyte second (M.state memory.old) (M.state memory.new) }
+    ensures in_step { UnlinksInStep p row gigabyte (M.state memory.old) (M.state memory.new) }
+    ensures room { M.room memory.old ≤ M.room memory.new + 2 }
+{
+    put_word(memory, row.root(), gigabyte.index(), 0);
+    memory.invalidate(p, gigabyte.pages());
+    give_page(memory, p, second);
+}
+
+/// Edits a gigabyte that has its level 2 table, and gives that back where it becomes empty.
+fn edit_tabled<M: TableMem>(
+    memory: &mut M,
+    edit: &RowEdit,
+    second: TablePage,
+    gigabyte: Gigabyte,
+    runs: &[Run],
+)
+    requires canonical { IsCanonical edit.now.layout.now (pages_of (M.state memory.old).memory) }
+    requires table { second_at edit.now.layout.now edit.now.row gigabyte (M.state memory.old) ≡ Some second }
+    requires touched { Touches runs.now gigabyte }
+    requires row { row_of edit.now.layout.now.ids edit.now.p ≡ edit.now.row }
+    requires partition { edit.now.row < length edit.now.layout.now.ids }
+    requires normal { are_normal runs.now ≡ true }
+    requires free { FitsInGigabyte edit.now gigabyte runs.now
+        (M.state memory.old) }
+    requires room { operations_in_gigabyte edit.now gigabyte runs.now
+        (M.state memory.old) ≤ M.room memory.old }
+    ensures edits { EditsInGigabyte edit.now gigabyte runs.now
+        (M.state memory.old) (M.state memory.new) }
+    ensures in_step { GigabyteInStep edit.now gigabyte runs.now
+        (M.state memory.old) (M.state memory.new) }
+    ensures room { M.room memory.old ≤ M.room memory.new
+        + operations_in_gigabyte edit.now gigabyte runs.now
+        (M.state memory.old) }
+{
+    edit_chunks(memory, edit, second, gigabyte, runs);
+    if is_empty(memory, second) {
+        unlink(memory, edit.p, edit.row, gigabyte, second);
+    }
+}
+
+/// Edits a gigabyte that has no level 2 table: one is taken, and linked after its last chunk.
+fn edit_untabled<M: TableMem>(memory: &mut M, edit: &RowEdit, gigabyte: Gigabyte, runs: &[Run])
+    requires canonical { IsCanonical edit.now.layout.now (pages_of (M.state memory.old).memory) }
+    requires none { second_at edit.now.layout.now edit.now.row gigabyte (M.state memory.old) ≡ None }
+    requires touched { Touches runs.now gigabyte }
+    requires maps { is_some edit.now.access ≡ true }
+    requires row { row_of edit.now.layout.now.ids edit.now.p ≡ edit.now.row }
+    requires partition { edit.now.row < length edit.now.layout.now.ids }
+    requires normal { are_normal runs.now ≡ true }
+    requires free { FitsInGigabyte edit.now gigabyte runs.now
+        (M.state memory.old) }
+    requires room { operations_in_gigabyte edit.now gigabyte runs.now
+        (M.state memory.old) ≤ M.room memory.old }
+    ensures edits { EditsInGigabyte edit.now gigabyte runs.now
+        (M.state memory.old) (M.state memory.new) }
+    ensures in_step { GigabyteInStep edit.now gigabyte runs.now
+        (M.state memory.old) (M.state memory.new) }
+    ensures room { M.room memory.old ≤ M.room memory.new
+        + operations_in_gigabyte edit.now gigabyte runs.now
+        (M.state memory.old) }
+{
+    let second = take_page(memory, edit.p);
+    edit_chunks(memory, edit, second, gigabyte, runs);
+    put_word(
+        memory,
+        edit.row.root(),
+        gigabyte.index(),
+        table_word(edit.layout.address(second)),
+    );
+}
+
+/// Edits the pages of runs in a gigabyte: they are reached with this access, or not at all.
+pub(crate) fn edit_gigabyte<M: TableMem>(
+    memory: &mut M,
+    edit: &RowEdit,
+    gigabyte: Gigabyte,
+    runs: &[Run],
+)
+    requires canonical { IsCanonical edit.now.layout.now (pages_of (M.state memory.old).memory) }
+    requires touched { Touches runs.now gigabyte }
+    requires row { row_of edit.now.layout.now.ids edit.now.p ≡ edit.now.row }
+    requires partition { edit.now.row < length edit.now.layout.now.ids }
+    requires normal { are_normal runs.now ≡ true }
+    requires free { FitsInGigabyte edit.now gigabyte runs.now
+        (M.state memory.old) }
+    requires room { operations_in_gigabyte edit.now gigabyte runs.now
+        (M.state memory.old) ≤ M.room memory.old }
+    ensures edits { EditsInGigabyte edit.now gigabyte runs.now
+        (M.state memory.old) (M.state memory.new) }
+    ensures in_step { GigabyteInStep edit.now gigabyte runs.now
+        (M.state memory.old) (M.state memory.new) }
+    ensures room { M.room memory.old ≤ M.room memory.new
+        + operations_in_gigabyte edit.now gigabyte runs.now
+        (M.state memory.old) }
+{
+    match find_table(memory, edit.layout, edit.row, gigabyte) {
+        Some(second) => edit_tabled(memory, edit, second, gigabyte, runs),
+        None => {
+            if edit.access.is_some() {
+                edit_untabled(memory, edit, gigabyte, runs);
+            }
+        }
+    }
+}
+
+/// Whether runs have a page in a gigabyte, by those of them that have one.
+pub(crate) fn touches(runs: &[Run], part: &[Run], gigabyte: Gigabyte) -> bool
+    requires { part.now ≡ gigabyte_runs gigabyte runs.now }
+    ensures yes { result ≡ true → Touches part.now gigabyte }
+    ensures no { result ≡ false → (n : ℕ) → n / 512 / 512 ≡ gigabyte → covers part.now n ≡ false }
+{
+    match part.first() {
+        Some(run) => {
+            let (_runs, _gigabyte, _end) = (runs, gigabyte, run.end());
+            true
+        }
+        None => false,
+    }
+}
+
+/// Edits the pages of runs: they are reached with this access, or not at all.
+pub(crate) fn edit_row<M: TableMem>(memory: &mut M, edit: &RowEdit, runs: &[Run])
+    requires canonical { IsCanonical edit.now.layout.now (pages_of (M.state memory.old).memory) }
+    requires row { row_of edit.now.layout.now.ids edit.now.p ≡ edit.now.row }
+    requires partition { edit.now.row < length edit.now.layout.now.ids }
+    requires normal { are_normal runs.now ≡ true }
+    requires free { FitsInRow edit.now runs.now (M.state memory.old) }
+    requires room { operations_in_row edit.now runs.now (M.state memory.old)
+        ≤ M.room memory.old }
+    ensures edits { EditsInRow edit.now runs.now
+        (M.state memory.old) (M.state memory.new) }
+    ensures in_step { RowInStep edit.now runs.now
+        (M.state memory.old) (M.state memory.new) }
+    ensures room { M.room memory.old ≤ M.room memory.new
+        + operations_in_row edit.now runs.now (M.state memory.old) }
+{
+    let span = gigabyte_span(runs);
+    for number in span.first..span.end {
+        let gigabyte = Gigabyte::new(number);
+        let part = gigabyte_runs(runs, gigabyte);
+        if touches(runs, part, gigabyte) {
+            edit_gigabyte(memory, edit, gigabyte, part);
+        }
+    }
+}

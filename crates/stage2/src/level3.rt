@@ -1,0 +1,438 @@
+//! Level 3: the words of a chunk's pages, in its table.
+
+ghost use Rattle.base.specs.Manifest.{page_count};
+ghost use Rattle.base.specs.Pages.{covers, in_run};
+ghost use Rattle.pool.specs.Pool.{words_of, taken_of, after_sets, after_runs, words_in, nonzero_in, HasRow};
+ghost use Rattle.stage2.specs.inner.Change.{entry_for, step_for};
+ghost use Rattle.stage2.specs.inner.Chunks.{planned, filling, IsWordFor};
+ghost use Rattle.stage2.specs.Edits.{edited};
+ghost use Rattle.stage2.specs.inner.Clauses.{WritesPlan, some_pages, IsEmpty, IsOther, word_in, words_left, IsStray, OthersAnswer, gaps, covers_in};
+ghost use Rattle.stage2.specs.inner.History.{Filled};
+ghost use Rattle.stage2.specs.Moments.{Settles};
+ghost use Rattle.stage2.specs.Parts.{part_count};
+ghost use Rattle.stage2.specs.Room.{pages_in, reached_in};
+ghost use Rattle.std.specs.Prelude.{◌≡◌, ℕ, ◌+◌, ◌-◌, ◌*◌, ◌^◌, ◌<◌, ◌≤◌, true, None, [], ◌||◌, false, Some, is_some, if◌then◌else◌, min, ◌≢◌};
+ghost use Rattle.words.specs.Words.{entry_of};
+
+use crate::parts::{part_in, runs_from, stretch_at};
+use crate::place::{Chunk, Span, page_index};
+use crate::read::{AT_ONCE, read_word};
+use crate::site::ChunkEdit;
+use crate::table_page::TablePage;
+use base::{Access, Page, PartitionId, Run};
+use pool::{TableMem, TableWords, WordRange};
+use words::leaf_word;
+
+/// Writes words that follow one another in a root or in a page that is taken, each a step more than
+/// the one before, where they are not there.
+pub(crate) fn put_words<M: TableMem>(
+    memory: &mut M,
+    table: TablePage,
+    indexes: Span,
+    word: u64,
+    step: u64,
+)
+    requires page_in { table < page_count (M.state memory.old).memory.quotas }
+    requires ordered { indexes.first ≤ indexes.end }
+    requires index_in { indexes.end ≤ 512 }
+    requires taken { taken_of (M.state memory.old).memory.taken table ≡ true }
+    requires in_range { word + step * (indexes.end - indexes.first) < 2 ^ 64 }
+    requires room { indexes.end ≤ M.room memory.old + indexes.first }
+    ensures state { M.state memory.new ≡ after_sets table indexes.first
+        (indexes.end - indexes.first) word step (M.state memory.old) }
+    ensures room { M.room memory.old + indexes.first ≤ M.room memory.new + indexes.end }
+{
+    memory.set_words(WordRange {
+        page: table.number(),
+        first: indexes.first,
+        end: indexes.end,
+        word,
+        step,
+    });
+}
+
+/// Writes the words of a chunk's table, a page that is taken, that stand for the pages of runs, where
+/// they are not there: for the chunk's first page this word, and for each other one a step more.
+pub(crate) fn put_runs<M: TableMem>(
+    memory: &mut M,
+    table: TablePage,
+    edit: &ChunkEdit,
+    word: u64,
+    step: u64,
+)
+    requires page_in { table < page_count (M.state memory.old).memory.quotas }
+    requires taken { taken_of (M.state memory.old).memory.taken table ≡ true }
+    requires in_range { word + step * 512 < 2 ^ 64 }
+    requires room { words_in (512 * edit.now.chunk) edit.now.runs.now ≤ M.room memory.old }
+    ensures state { M.state memory.new
+        ≡ after_runs table (512 * edit.now.chunk) word step edit.now.runs.now (M.state memory.old) }
+    ensures room { M.room memory.old ≤ M.room memory.new + words_in (512 * edit.now.chunk) edit.now.runs.now }
+{
+    let words = TableWords {
+        page: table.number(),
+        start: edit.chunk.first().number(),
+        word,
+        step,
+    };
+    memory.set_runs(words, edit.runs);
+}
+
+/// Writes 0 into each word of a page that is taken that is not 0, upward.
+pub(crate) fn clear_words<M: TableMem>(memory: &mut M, table: TablePage)
+    requires page_in { table < page_count (M.state memory.old).memory.quotas }
+    requires taken { taken_of (M.state memory.old).memory.taken table ≡ true }
+    requires room { nonzero_in (words_of (M.state memory.old).memory.words) table
+        ≤ M.room memory.old }
+    ensures state { M.state memory.new ≡ after_sets table 0 512 0 0 (M.state memory.old) }
+    ensures room { M.room memory.old
+        ≤ M.room memory.new + nonzero_in (words_of (M.state memory.old).memory.words) table }
+{
+    memory.clear_words(table.number());
+}
+
+/// The level 3 word of a page that is reached with this access, or not at all.
+#[tactic(auto, unfolding(words::specs::Words::entry_of))]
+pub(crate) fn word_of(page: Page, access: &Option<Access>) -> u64
+    ensures same { entry_of 3 result ≡ entry_for page access.now }
+    ensures zero { access.now ≡ None → result ≡ 0 }
+{
+    match access {
+        Some(access) => leaf_word(page, *access, false),
+        None => 0,
+    }
+}
+
+/// What the level 3 word of each page that is reached so is more than that of the page before.
+pub(crate) fn step_of(access: &Option<Access>) -> u64
+    ensures { result ≡ step_for access.now }
+{
+    if access.is_some() { 1 << 12 } else { 0 }
+}
+
+/// Writes the words for pages of a chunk that follow one another, counted from its first, into a
+/// table, where they are not there. The pages have one answer.
+pub(crate) fn write_pages<M: TableMem>(
+    memory: &mut M,
+    third: TablePage,
+    chunk: Chunk,
+    pages: Span,
+    answer: Option<Access>,
+)
+    requires page_in { third < page_count (M.state memory.old).memory.quotas }
+    requires taken { taken_of (M.state memory.old).memory.taken third ≡ true }
+    requires ordered { pages.first ≤ pages.end }
+    requires most { pages.end ≤ 512 }
+    requires room { pages.end ≤ M.room memory.old + pages.first }
+    ensures writes { WritesPlan third chunk (some_pages chunk pages.first pages.end answer)
+        (M.state memory.old) (M.state memory.new) }
+    ensures filled { Filled third chunk pages.end (some_pages chunk pages.first pages.end answer)
+        (M.state memory.old) (M.state memory.new) }
+    ensures room { M.room memory.old + pages.first ≤ M.room memory.new + pages.end }
+{
+    if pages.first < pages.end {
+        let word = word_of(chunk.page(pages.first), &answer);
+        put_words(memory, third, pages, word, step_of(&answer));
+    }
+}
+
+/// Writes the words for the pages of the runs in a chunk into a table, where they are not there.
+pub(crate) fn write_runs<M: TableMem>(memory: &mut M, third: TablePage, edit: &ChunkEdit)
+    requires page_in { third < page_count (M.state memory.old).memory.quotas }
+    requires taken { taken_of (M.state memory.old).memory.taken third ≡ true }
+    requires room { pages_in edit.now.runs.now edit.now.chunk ≤ M.room memory.old }
+    ensures writes { WritesPlan third edit.now.chunk (planned edit.now.runs.now edit.now.access None)
+        (M.state memory.old) (M.state memory.new) }
+    ensures filled { Filled third edit.now.chunk 512 (planned edit.now.runs.now edit.now.access None)
+        (M.state memory.old) (M.state memory.new) }
+    ensures room { M.room memory.old ≤ M.room memory.new + pages_in edit.now.runs.now edit.now.chunk }
+{
+    let word = word_of(edit.chunk.first(), &edit.access);
+    put_runs(memory, third, edit, word, step_of(&edit.access));
+}
+
+/// What pages answer that the runs have, or that they have not.
+fn answer_of(is_covered: bool, access: &Option<Access>, other: &Option<Access>) -> Option<Access>
+    ensures { result ≡ (if is_covered then access.now else other.now) }
+{
+    if is_covered { *access } else { *other }
+}
+
+/// Writes the words for all pages of a chunk, upward, into a table, where they are not there: pages of
+/// the runs get one answer, and the others another one.
+fn write_all<M: TableMem>(
+    memory: &mut M,
+    third: TablePage,
+    edit: &ChunkEdit,
+    other: &Option<Access>,
+)
+    requires page_in { third < page_count (M.state memory.old).memory.quotas }
+    requires taken { taken_of (M.state memory.old).memory.taken third ≡ true }
+    requires room { 512 ≤ M.room memory.old }
+    ensures writes { WritesPlan third edit.now.chunk (planned edit.now.runs.now edit.now.access (Some other.now))
+        (M.state memory.old) (M.state memory.new) }
+    ensures filled { Filled third edit.now.chunk 512 (planned edit.now.runs.now edit.now.access (Some other.now))
+        (M.state memory.old) (M.state memory.new) }
+    ensures room { M.room memory.old ≤ M.room memory.new + 512 }
+{
+    let chunk = edit.chunk;
+    let mut rest = edit.runs;
+    let mut first = 0;
+    while first < 512 {
+        rest = runs_from(rest, chunk.page(first));
+        let part = stretch_at(rest, chunk, first, 512);
+        let end = part.end;
+        let answer = answer_of(part.is_covered, &edit.access, other);
+        write_pages(memory, third, chunk, Span { first, end }, answer);
+        first = end;
+    }
+}
+
+/// Fills a table whose words are all 0, for a chunk all of whose pages had one answer: those of the runs
+/// get another one. The words for pages that are not to be reached are there.
+#[inline(always)]
+pub(crate) fn fill_table<M: TableMem>(
+    memory: &mut M,
+    third: TablePage,
+    edit: &ChunkEdit,
+    before: &Option<Access>,
+)
+    requires page_in { third < page_count (M.state memory.old).memory.quotas }
+    requires taken { taken_of (M.state memory.old).memory.taken third ≡ true }
+    requires empty { IsEmpty third (M.state memory.old) }
+    requires some { (is_some before.now || is_some edit.now.access) ≡ true }
+    requires room { reached_in (edited edit.now.runs.now edit.now.access (λ n. before.now)) edit.now.chunk
+        ≤ M.room memory.old }
+    ensures writes { WritesPlan third edit.now.chunk (planned edit.now.runs.now edit.now.access (filling before.now))
+        (M.state memory.old) (M.state memory.new) }
+    ensures filled { Filled third edit.now.chunk 512 (planned edit.now.runs.now edit.now.access (filling before.now))
+        (M.state memory.old) (M.state memory.new) }
+    ensures room { M.room memory.old ≤ M.room memory.new
+        + reached_in (edited edit.now.runs.now edit.now.access (λ n. before.now)) edit.now.chunk }
+{
+    match (before, edit.access) {
+        (None, _) => write_runs(memory, third, edit),
+        (Some(_), None) => fill_gaps(memory, third, edit, before),
+        (Some(_), Some(_)) => write_all(memory, third, edit, before),
+    }
+}
+
+/// Writes 0 into all words of a table, whose chunk's pages are all reached alike after an edit. Where they are not reached, the
+/// words beside the runs are 0; where they are, all of those have to go, and mostly no others.
+pub(crate) fn empty_table<M: TableMem>(memory: &mut M, third: TablePage, edit: &ChunkEdit)
+    requires page_in { third < page_count (M.state memory.old).memory.quotas }
+    requires taken { taken_of (M.state memory.old).memory.taken third ≡ true }
+    requires left { OthersAnswer third edit.now.chunk edit.now.runs.now edit.now.access (M.state memory.old) }
+    requires room { words_left third edit.now (M.state memory.old)
+        ≤ M.room memory.old }
+    ensures writes { WritesPlan third edit.now.chunk (planned [] None (Some None))
+        (M.state memory.old) (M.state memory.new) }
+    ensures filled { Filled third edit.now.chunk 512 (planned [] None (Some None))
+        (M.state memory.old) (M.state memory.new) }
+    ensures room { M.room memory.old ≤ M.room memory.new
+        + words_left third edit.now (M.state memory.old) }
+{
+    if edit.access.is_none() {
+        write_runs(memory, third, edit);
+    } else if memory.nonzero(third.number()) + edit.pieces.pages == 512 {
+        write_gaps(memory, third, edit, &None);
+    } else {
+        clear_words(memory, third);
+    }
+}
+
+/// Whether the words of 64 pages of a chunk that follow one another, from this one on, are those of
+/// pages with this answer.
+fn are_words<M: TableMem>(
+    memory: &M,
+    third: TablePage,
+    chunk: Chunk,
+    first: u32,
+    answer: &Option<Access>,
+) -> bool
+    requires page_in { third < page_count (M.state memory.now).memory.quotas }
+    requires most { first + 64 ≤ 512 }
+    ensures { result ≡ true → (x : ℕ) → first ≤ x → x < first + 64
+        → IsWordFor (512 * chunk + x) answer.now (word_in (M.state memory.now) third x) }
+{
+    let step = step_of(answer);
+    let mut word = word_of(chunk.page(first), answer);
+    let mut are = true;
+    for index in first..first + AT_ONCE {
+        are &= read_word(memory, third, index) == word;
+        word += step;
+    }
+    are
+}
+
+/// Up to where the words of some pages of a chunk, counted from its first, are those of pages with
+/// this answer, as far as many words at once tell it.
+fn alike_until<M: TableMem>(
+    memory: &M,
+    third: TablePage,
+    chunk: Chunk,
+    pages: Span,
+    answer: &Option<Access>,
+) -> u32
+    requires page_in { third < page_count (M.state memory.now).memory.quotas }
+    requires most { pages.end ≤ 512 }
+    ensures from { pages.first ≤ result }
+    ensures alike { (x : ℕ) → pages.first ≤ x → x < result
+        → IsWordFor (512 * chunk + x) answer.now (word_in (M.state memory.now) third x) }
+{
+    let mut first = pages.first;
+    while first < pages.end && pages.end - first >= AT_ONCE {
+        if !are_words(memory, third, chunk, first, answer) {
+            return first;
+        }
+        first += AT_ONCE;
+    }
+    first
+}
+
+/// Whether the words of pages of a chunk, counted from its first, are those of pages with this answer.
+pub(crate) fn are_all_words<M: TableMem>(
+    memory: &M,
+    third: TablePage,
+    chunk: Chunk,
+    pages: Span,
+    answer: &Option<Access>,
+) -> bool
+    requires page_in { third < page_count (M.state memory.now).memory.quotas }
+    requires most { pages.end ≤ 512 }
+    ensures yes { result ≡ true → (x : ℕ) → pages.first ≤ x → x < pages.end
+        → IsWordFor (512 * chunk + x) answer.now (word_in (M.state memory.now) third x) }
+    ensures no { result ≡ false
+        → IsOther third chunk pages.first pages.end answer.now (M.state memory.now) }
+{
+    for index in alike_until(memory, third, chunk, pages, answer)..pages.end {
+        if read_word(memory, third, index) != word_of(chunk.page(index), answer) {
+            return false;
+        }
+    }
+    true
+}
+
+/// The index of a page in a chunk: 0 for those before it, and 512 for those behind it.
+fn index_in(chunk: Chunk, page: u32) -> u32
+    ensures { result ≡ min (page - 512 * chunk) 512 }
+{
+    page.saturating_sub(chunk.first().number()).min(512)
+}
+
+/// Writes the words for the pages of a chunk beside runs, upward, where they are not there.
+fn write_gaps<M: TableMem>(
+    memory: &mut M,
+    third: TablePage,
+    edit: &ChunkEdit,
+    answer: &Option<Access>,
+)
+    requires page_in { third < page_count (M.state memory.old).memory.quotas }
+    requires taken { taken_of (M.state memory.old).memory.taken third ≡ true }
+    requires room { 512 ≤ M.room memory.old + pages_in edit.now.runs.now edit.now.chunk }
+    ensures writes { WritesPlan third edit.now.chunk (gaps edit.now.runs.now answer.now)
+        (M.state memory.old) (M.state memory.new) }
+    ensures filled { Filled third edit.now.chunk 512 (gaps edit.now.runs.now answer.now)
+        (M.state memory.old) (M.state memory.new) }
+    ensures room { M.room memory.old + pages_in edit.now.runs.now edit.now.chunk ≤ M.room memory.new + 512 }
+{
+    let chunk = edit.chunk;
+    let mut first = 0;
+    for run in edit.runs {
+        let start = index_in(chunk, run.first().number());
+        if first < start {
+            write_pages(memory, third, chunk, Span { first, end: start }, *answer);
+        }
+        first = first.max(index_in(chunk, run.end()));
+    }
+    write_pages(memory, third, chunk, Span { first, end: 512 }, *answer);
+}
+
+/// Fills a table whose words are all 0, as those of the runs' pages are to stay: the words beside them
+/// are written alone.
+pub(crate) fn fill_gaps<M: TableMem>(
+    memory: &mut M,
+    third: TablePage,
+    edit: &ChunkEdit,
+    other: &Option<Access>,
+)
+    requires page_in { third < page_count (M.state memory.old).memory.quotas }
+    requires taken { taken_of (M.state memory.old).memory.taken third ≡ true }
+    requires empty { IsEmpty third (M.state memory.old) }
+    requires room { 512 ≤ M.room memory.old + pages_in edit.now.runs.now edit.now.chunk }
+    ensures writes { WritesPlan third edit.now.chunk (planned edit.now.runs.now None (Some other.now))
+        (M.state memory.old) (M.state memory.new) }
+    ensures filled { Filled third edit.now.chunk 512 (planned edit.now.runs.now None (Some other.now))
+        (M.state memory.old) (M.state memory.new) }
+    ensures room { M.room memory.old + pages_in edit.now.runs.now edit.now.chunk ≤ M.room memory.new + 512 }
+{
+    write_gaps(memory, third, edit, other);
+}
+
+/// Whether the word of some page of a chunk beside runs is not that of a page that is reached as theirs are after an edit.
+pub(crate) fn has_stray<M: TableMem>(memory: &M, third: TablePage, edit: &ChunkEdit) -> bool
+    requires page_in { third < page_count (M.state memory.now).memory.quotas }
+    ensures yes { result ≡ true → IsStray third edit.now (M.state memory.now) }
+    ensures no { result ≡ false → OthersAnswer third edit.now.chunk edit.now.runs.now edit.now.access
+        (M.state memory.now) }
+{
+    let chunk = edit.chunk;
+    let mut first = 0;
+    for run in edit.runs {
+        let end = index_in(chunk, run.first().number());
+        if !are_all_words(memory, third, chunk, Span { first, end }, &edit.access) {
+            return true;
+        }
+        first = first.max(index_in(chunk, run.end()));
+    }
+    !are_all_words(memory, third, chunk, Span { first, end: 512 }, &edit.access)
+}
+
+/// Whether no word of a run's pages in a chunk is 0.
+fn is_mapped<M: TableMem>(memory: &M, third: TablePage, chunk: Chunk, run: Run) -> bool
+    requires { third < page_count (M.state memory.now).memory.quotas }
+    ensures { result ≡ true → (i : ℕ) → i < 512 → in_run run (512 * chunk + i) ≡ true
+        → word_in (M.state memory.now) third i ≢ 0 }
+{
+    let first = index_in(chunk, run.first().number());
+    for index in first..index_in(chunk, run.end()) {
+        if read_word(memory, third, index) == 0 {
+            return false;
+        }
+    }
+    true
+}
+
+/// Whether no word of the runs' pages in a chunk is 0.
+pub(crate) fn are_all_mapped<M: TableMem>(memory: &M, edit: &ChunkEdit, third: TablePage) -> bool
+    requires { third < page_count (M.state memory.now).memory.quotas }
+    ensures { result ≡ true → (i : ℕ) → i < 512 → covers edit.now.runs.now (512 * edit.now.chunk + i) ≡ true
+        → word_in (M.state memory.now) third i ≢ 0 }
+{
+    for run in edit.runs {
+        if !is_mapped(memory, third, edit.chunk, *run) {
+            return false;
+        }
+    }
+    true
+}
+
+/// Invalidates the runs' parts in a chunk.
+pub(crate) fn invalidate_parts<M: TableMem>(
+    memory: &mut M,
+    p: PartitionId,
+    chunk: Chunk,
+    runs: &[Run],
+)
+    requires partition { HasRow (M.state memory.old).memory p }
+    requires room { part_count chunk runs.now ≤ M.room memory.old }
+    ensures memory { (M.state memory.new).memory ≡ (M.state memory.old).memory }
+    ensures settles { Settles p (covers_in chunk runs.now)
+        (M.state memory.old) (M.state memory.new) }
+    ensures room { M.room memory.old ≡ M.room memory.new + part_count chunk runs.now }
+{
+    for run in runs {
+        if let Some(part) = part_in(*run, chunk) {
+            memory.invalidate(p, part);
+        }
+    }
+}

@@ -1,0 +1,304 @@
+//! The parts of runs in a gigabyte, and in a chunk.
+
+ghost use Rattle.base.specs.Pages.{are_normal, covers};
+ghost use Rattle.stage2.specs.inner.Chunks.{covers_chunk};
+ghost use Rattle.stage2.specs.Edits.{touches_chunk};
+ghost use Rattle.stage2.specs.Parts as parts;
+ghost use Rattle.stage2.specs.Parts.{part_in, part_count, end_from, lie_within};
+ghost use Rattle.stage2.specs.Room.{pages_in};
+ghost use Rattle.std.specs.Prelude.{◌≡◌, ℕ, ◌+◌, ◌*◌, ◌<◌, ◌≤◌, true, take, drop, length, ◌/◌, ◌^◌};
+
+use crate::place::{Chunk, Gigabyte, Span, whole_chunks};
+use base::{Page, Run};
+
+/// How many runs are looked at one by one before they are halved: from chunk to chunk mostly one ends, or none.
+const LOOKS: usize = 2;
+
+/// Pages of a chunk that follow one another, all of which the runs have, or none.
+#[derive(Clone, Copy)]
+pub(crate) struct Stretch {
+    /// Whether the runs have them.
+    pub(crate) is_covered: bool,
+    /// The page after the last of them, counted from the chunk's first.
+    pub(crate) end: u32,
+}
+
+/// How many of the runs end at or before a page: for whoever goes upward none, or few, which a look tells.
+fn ended(runs: &[Run], first: u32) -> usize
+    requires { are_normal runs.now ≡ true }
+    ensures same { drop result runs.now ≡ parts.runs_past first runs.now }
+    ensures most { result ≤ length runs.now }
+{
+    for index in 0..runs.len().min(LOOKS) {
+        if first < runs[index].end() {
+            return index;
+        }
+    }
+    runs.partition_point(|run| run.end() <= first)
+}
+
+/// How many of the runs begin before a page.
+fn begun(runs: &[Run], end: u32) -> usize
+    requires { are_normal runs.now ≡ true }
+    ensures same { take result runs.now ≡ parts.runs_before end runs.now }
+    ensures most { result ≤ length runs.now }
+{
+    for index in 0..runs.len().min(LOOKS) {
+        if end <= runs[index].first().number() {
+            return index;
+        }
+    }
+    runs.partition_point(|run| run.first().number() < end)
+}
+
+/// Those of the runs that end behind a page: whoever goes upward needs no others.
+pub(crate) fn runs_past(runs: &[Run], first: u32) -> &[Run]
+    requires { are_normal runs.now ≡ true }
+    ensures same { result.now ≡ parts.runs_past first runs.now }
+    ensures normal { are_normal result.now ≡ true }
+{
+    &runs[ended(runs, first)..]
+}
+
+/// Those of the runs that have a page from one up to another, of whatever runs.
+fn runs_among(runs: &[Run], first: u32, end: u32) -> &[Run]
+    requires { are_normal runs.now ≡ true }
+    ensures same { result.now ≡ parts.runs_between first end runs.now }
+    ensures normal { are_normal result.now ≡ true }
+{
+    let rest = runs_past(runs, first);
+    &rest[..begun(rest, end)]
+}
+
+/// The same. One run alone is told by its bounds, without a call.
+#[inline(always)]
+pub(crate) fn runs_between(runs: &[Run], first: u32, end: u32) -> &[Run]
+    requires { are_normal runs.now ≡ true }
+    ensures same { result.now ≡ parts.runs_between first end runs.now }
+    ensures normal { are_normal result.now ≡ true }
+{
+    if runs.len() == 1 {
+        let run = runs[0];
+        let is_between = first < run.end() && run.first().number() < end;
+        return &runs[..usize::from(is_between)];
+    }
+    runs_among(runs, first, end)
+}
+
+/// Whether a page is in one of the runs. Where the first of them does not end before it, that one
+/// tells.
+pub(crate) fn is_covered(runs: &[Run], page: Page) -> bool
+    requires normal { are_normal runs.now ≡ true }
+    ensures { result ≡ covers runs.now page }
+{
+    let n = page.number();
+    match runs.first() {
+        Some(run) => {
+            if n < run.end() {
+                run.first().number() <= n
+            } else {
+                !runs_between(runs, n, n + 1).is_empty()
+            }
+        }
+        None => false,
+    }
+}
+
+/// The runs without the first, if that ends before a page: whoever goes along with the pages has the
+/// run of a page, or the next one, always first.
+pub(crate) fn runs_from(runs: &[Run], page: Page) -> &[Run]
+    requires normal { are_normal runs.now ≡ true }
+    ensures same { (n : ℕ) → page ≤ n → covers result.now n ≡ covers runs.now n }
+    ensures normal { are_normal result.now ≡ true }
+{
+    match runs.first() {
+        Some(run) => {
+            if run.end() <= page.number() {
+                &runs[1..]
+            } else {
+                runs
+            }
+        }
+        None => runs,
+    }
+}
+
+/// The pages of a chunk from one on that the runs have as they have that one, up to a limit, counted
+/// from the chunk's first.
+pub(crate) fn stretch_at(runs: &[Run], chunk: Chunk, index: u32, limit: u32) -> Stretch
+    requires normal { are_normal runs.now ≡ true }
+    requires index { index < limit }
+    requires limit { limit ≤ 512 }
+    ensures behind { index < result.end }
+    ensures most { result.end ≤ limit }
+    ensures alike { (x : ℕ) → index ≤ x → x < result.end
+        → covers runs.now (512 * chunk + x) ≡ result.is_covered }
+{
+    let start = chunk.first().number();
+    let page = chunk.page(index);
+    let n = page.number();
+    match runs.first() {
+        Some(run) => {
+            if n < run.first().number() {
+                Stretch {
+                    is_covered: false,
+                    end: limit.min(run.first().number() - start),
+                }
+            } else if n < run.end() {
+                Stretch {
+                    is_covered: true,
+                    end: limit.min(run.end() - start),
+                }
+            } else {
+                Stretch {
+                    is_covered: is_covered(runs, page),
+                    end: index + 1,
+                }
+            }
+        }
+        None => Stretch {
+            is_covered: false,
+            end: limit,
+        },
+    }
+}
+
+/// Those of the runs that have a page in a gigabyte.
+pub(crate) fn gigabyte_runs(runs: &[Run], gigabyte: Gigabyte) -> &[Run]
+    requires normal { are_normal runs.now ≡ true }
+    ensures same { result.now ≡ parts.gigabyte_runs gigabyte runs.now }
+    ensures normal { are_normal result.now ≡ true }
+{
+    runs_between(runs, gigabyte.first().number(), gigabyte.end())
+}
+
+/// How many pages of a chunk runs have, and how many of the runs have some.
+#[derive(Clone, Copy)]
+pub(crate) struct Pieces {
+    pub(crate) pages: u32,
+    pub(crate) runs: u32,
+}
+
+/// The pages of a run in a chunk, if there are any.
+#[tactic(auto, unfolding(crate::specs::Parts::part_in))]
+pub(crate) fn part_in(run: Run, chunk: Chunk) -> Option<Run>
+    ensures same { result ≡ part_in chunk run }
+    ensures behind { result ≡ None → 512 * chunk < run.first + run.count
+        → 512 * chunk + 512 ≤ run.first }
+{
+    let first = run.first().number().max(chunk.first().number());
+    let end = run.end().min(chunk.end());
+    if first < end {
+        Some(Run::new(Page::new(first), end - first))
+    } else {
+        None
+    }
+}
+
+/// The pieces of runs in a chunk, before whose first page none of them ends: those that have a piece stand first.
+pub(crate) fn count_pieces(runs: &[Run], chunk: Chunk) -> Pieces
+    requires normal { are_normal runs.now ≡ true }
+    requires past { parts.runs_past (512 * chunk) runs.now ≡ runs.now }
+    ensures same { take result.runs runs.now ≡ parts.chunk_runs chunk runs.now }
+    ensures within { result.runs ≤ length runs.now }
+    ensures pages { result.pages ≡ pages_in (take result.runs runs.now) chunk }
+    ensures runs { result.runs ≡ part_count chunk (take result.runs runs.now) }
+    ensures few { result.runs ≤ result.pages }
+    ensures most { result.pages ≤ 512 }
+{
+    let mut pieces = Pieces { pages: 0, runs: 0 };
+    for run in runs {
+        let Some(part) = part_in(*run, chunk) else {
+            return pieces;
+        };
+        pieces.pages += part.count();
+        pieces.runs += 1;
+    }
+    pieces
+}
+
+/// The pages from the first of the first run to the last of the last one.
+pub(crate) fn bounds(runs: &[Run]) -> Span
+    requires { are_normal runs.now ≡ true }
+    ensures ordered { result.first ≤ result.end }
+    ensures most { result.end ≤ 2 ^ 27 }
+    ensures within { lie_within result.first result.end runs.now ≡ true }
+{
+    match runs.first() {
+        Some(first) => Span {
+            first: first.first().number(),
+            end: end_of_last(runs),
+        },
+        None => Span { first: 0, end: 0 },
+    }
+}
+
+/// The number of the page after the last of the runs; 0 where there is none.
+fn end_of_last(runs: &[Run]) -> u32
+    requires { are_normal runs.now ≡ true }
+    ensures same { result ≡ end_from 0 runs.now }
+    ensures most { result ≤ 2 ^ 27 }
+{
+    match runs.last() {
+        Some(last) => last.end(),
+        None => 0,
+    }
+}
+
+/// The gigabytes from the first that the runs touch to the last.
+pub(crate) fn gigabyte_span(runs: &[Run]) -> Span
+    requires normal { are_normal runs.now ≡ true }
+    ensures ordered { result.first ≤ result.end }
+    ensures most { result.end ≤ 512 }
+    ensures within { (n : ℕ) → covers runs.now n ≡ true
+        → (result.first ≤ n / 512 / 512) × (n / 512 / 512 < result.end) }
+{
+    let pages = bounds(runs);
+    Span {
+        first: pages.first / 512 / 512,
+        end: (pages.end + 262_143) / 512 / 512,
+    }
+}
+
+/// The chunks of a gigabyte, counted from its first, from the first that the runs touch to the
+/// last.
+pub(crate) fn chunk_span(runs: &[Run], gigabyte: Gigabyte) -> Span
+    requires normal { are_normal runs.now ≡ true }
+    ensures ordered { result.first ≤ result.end }
+    ensures most { result.end ≤ 512 }
+    ensures within { (x : ℕ) → x < 512 → touches_chunk (512 * gigabyte + x) runs.now ≡ true
+        → (result.first ≤ x) × (x < result.end) }
+    ensures in_range { gigabyte < 512 }
+{
+    let pages = bounds(runs);
+    let chunks = gigabyte.chunks();
+    let first = (pages.first / 512).max(chunks.first).min(chunks.end);
+    let end = ((pages.end + 511) / 512).max(chunks.first).min(chunks.end);
+    Span {
+        first: first - chunks.first,
+        end: end - chunks.first,
+    }
+}
+
+/// The first chunk of a gigabyte from this one on, counted from its first, that is not known to be
+/// filled by the first of the runs. Chunks from the last one's end on are not asked for.
+pub(crate) fn first_unfilled(runs: &[Run], gigabyte: Gigabyte, index: u32, end: u32) -> u32
+    requires normal { are_normal runs.now ≡ true }
+    requires index { index ≤ 512 }
+    requires end { end ≤ 512 }
+    ensures from { index ≤ result }
+    ensures most { result ≤ 512 }
+    ensures filled { (x : ℕ) → index ≤ x → x < result
+        → covers_chunk (512 * gigabyte + x) runs.now ≡ true }
+{
+    if end <= index {
+        return index;
+    }
+    let next = gigabyte.chunk(index).first().number();
+    match runs.first() {
+        Some(run) if run.first().number() <= next && next < run.end() => {
+            whole_chunks(run.end().min(gigabyte.end())) - gigabyte.chunks().first
+        }
+        _ => index,
+    }
+}

@@ -1,0 +1,393 @@
+//! What an edit needs: how many table pages it takes, and how many operations it makes.
+
+ghost use Rattle.base.specs.Access.{View};
+ghost use Rattle.base.specs.Manifest.{page_count};
+ghost use Rattle.base.specs.Need.{is_mixed, grow};
+ghost use Rattle.base.specs.Pages.{PageRun, are_normal};
+ghost use Rattle.pool.specs.Pool.{pages_of};
+ghost use Rattle.stage2.specs.inner.Chunks.{block_answer, covers_chunk};
+ghost use Rattle.stage2.specs.Edits.{edited};
+ghost use Rattle.stage2.specs.inner.Clauses as clauses;
+ghost use Rattle.stage2.specs.inner.Clauses.{IsSpelled, read_before, read_after, view_in, second_in, entry_read, chunks_growth, words_left};
+ghost use Rattle.stage2.specs.inner.Gigabytes.{grows_at, gigabyte_growth, Touches};
+ghost use Rattle.stage2.specs.Orderly.{IsCanonical};
+ghost use Rattle.stage2.specs.Parts.{runs_past, operations_for};
+ghost use Rattle.stage2.specs.Room.{pages_in, reached_in, table_operations, chunk_operations, chunks_operations, gigabyte_operations, row_operations};
+ghost use Rattle.stage2.specs.Slot.{Layout};
+ghost use Rattle.stage2.specs.Walk.{next_page};
+ghost use Rattle.stage2.specs.declared.walked.Slot.TheVariants.{Next};
+ghost use Rattle.std.specs.Prelude.{◌≡◌, ℕ, ◌+◌, ◌*◌, ◌/◌, ◌%◌, ◌^◌, ◌<◌, ◌≤◌, ◌&&◌, true, Some, None, not, List, length, is_some, if◌then◌else◌};
+
+use crate::layout::Layout;
+use crate::level1::{find_table, touches};
+use crate::level2::{block_of, plain_until, table_of};
+use crate::outcome::{is_alike_in_block, is_alike_in_table};
+use crate::parts::{bounds, chunk_span, first_unfilled, gigabyte_runs, gigabyte_span, runs_past};
+use crate::place::{Chunk, Gigabyte, Span, end_chunk, first_chunk};
+use crate::read::read_chunk;
+use crate::site::{ChunkEdit, RowPlan};
+use crate::table_page::{Row, TablePage};
+use crate::walked::Slot;
+use base::{Access, Run};
+use pool::TableMem;
+
+/// How many operations more than an edit makes in a chunk it may ask for. Where a table that stays needs no more than these beside one that goes, or
+/// the other way, no word is looked at to tell which it is. With them a list that had room for the split of blocks has it for any edit of
+/// a run in each of these chunks, which needs no plan then.
+const SURPLUS: u32 = 4;
+
+/// What an edit needs: how many tables it takes, and how many operations it makes at most.
+#[derive(Clone, Copy)]
+pub(crate) struct Plan {
+    pub(crate) tables: u32,
+    pub(crate) operations: u32,
+}
+
+impl Plan {
+    /// So many tables and operations.
+    fn new(tables: u32, operations: u32) -> Self
+        ensures { result ≡ record { tables = tables; operations = operations } }
+    {
+        Plan { tables, operations }
+    }
+}
+
+/// The level 2 table of a gigabyte of a row, if there are both.
+fn second_at<M: TableMem>(
+    memory: &M,
+    layout: &Layout,
+    row: &Option<Row>,
+    gigabyte: Gigabyte,
+) -> Option<TablePage>
+    requires canonical { IsCanonical layout.now (pages_of (M.state memory.now).memory) }
+    requires partition { (r : ℕ) → row.now ≡ Some r → r < length layout.now.ids }
+    ensures { result ≡ second_in layout.now row.now gigabyte (M.state memory.now) }
+{
+    match row {
+        Some(row) => find_table(memory, layout, *row, gigabyte),
+        None => None,
+    }
+}
+
+/// A chunk's level 2 word, in a gigabyte's table, if it has one.
+fn entry_at<M: TableMem>(
+    memory: &M,
+    layout: &Layout,
+    second: &Option<TablePage>,
+    chunk: Chunk,
+) -> Slot
+    requires pages { layout.now.pages ≡ page_count (M.state memory.now).memory.quotas }
+    requires table { (j : ℕ) → second.now ≡ Some j → j < layout.now.pages }
+    ensures same { result ≡ entry_read layout.now second.now (chunk % 512) (M.state memory.now) }
+    ensures inside { (k : ℕ) → result ≡ Next k → k < layout.now.pages }
+{
+    match second {
+        Some(second) => read_chunk(memory, layout, *second, chunk),
+        None => Slot::Empty,
+    }
+}
+
+/// How many words a table gets that is hung in a chunk all of whose pages had one answer, where the runs
+/// have so many pages.
+fn words_of_new(pages: u32, before: &Option<Access>, access: &Option<Access>) -> u32
+    requires { pages ≤ 512 }
+    ensures same { (runs : List PageRun) (c : ℕ) → pages ≡ pages_in runs c
+        → result ≡ reached_in (edited runs access.now (λ n. before.now)) c }
+    ensures most { result ≤ 512 }
+{
+    match (before, access) {
+        (None, None) => 0,
+        (None, Some(_)) => pages,
+        (Some(_), None) => 512 - pages,
+        (Some(_), Some(_)) => 512,
+    }
+}
+
+/// How many words are written in a table that stays, and how many runs are invalidated there.
+fn operations_kept(edit: &ChunkEdit) -> u32
+    ensures same { result ≡ clauses.operations_kept edit.now }
+    ensures most { result ≤ 1024 }
+{
+    match edit.access {
+        Some(_) => edit.pieces.pages,
+        None => edit.pieces.pages + edit.pieces.runs,
+    }
+}
+
+/// What the edit of a chunk without a table needs.
+fn plan_block(edit: &ChunkEdit, entry: &Slot) -> Plan
+    ensures tables { (before : ℕ → View)
+        → ((n : ℕ) → n / 512 ≡ edit.now.chunk → before n ≡ block_answer entry.now)
+        → result.tables
+        ≡ (if is_mixed (edited edit.now.runs.now edit.now.access before) edit.now.chunk then 1 else 0) }
+    ensures operations { (before : ℕ → View)
+        → ((n : ℕ) → n / 512 ≡ edit.now.chunk → before n ≡ block_answer entry.now)
+        → 3 + table_operations edit.now.runs.now edit.now.access before edit.now.chunk
+        ≤ result.operations }
+    ensures close { (before : ℕ → View)
+        → ((n : ℕ) → n / 512 ≡ edit.now.chunk → before n ≡ block_answer entry.now)
+        → result.operations
+        ≤ 7 + table_operations edit.now.runs.now edit.now.access before edit.now.chunk }
+    ensures most { result.operations ≤ 1027 }
+{
+    if is_alike_in_block(edit, entry) {
+        return Plan::new(0, 3);
+    }
+    let words = words_of_new(edit.pieces.pages, &block_of(entry), &edit.access);
+    Plan::new(1, 3 + words + SURPLUS)
+}
+
+/// How many words a table loses that goes.
+fn operations_gone<M: TableMem>(memory: &M, edit: &ChunkEdit, third: TablePage) -> u32
+    requires table { third < page_count (M.state memory.now).memory.quotas }
+    ensures same { result ≡ words_left third edit.now (M.state memory.now) }
+    ensures most { result ≤ 512 }
+{
+    match edit.access {
+        Some(_) => memory.nonzero(third.number()),
+        None => edit.pieces.pages,
+    }
+}
+
+/// What the edit of a chunk with a table needs. Words are looked at only where it makes a difference of more than a few operations
+/// whether the table stays.
+fn plan_table<M: TableMem>(memory: &M, edit: &ChunkEdit, third: TablePage) -> Plan
+    requires table { third < page_count (M.state memory.now).memory.quotas }
+    requires spelled { IsSpelled edit.now third (M.state memory.now) }
+    requires mixed { is_mixed (read_before edit.now (Next third) (M.state memory.now)) edit.now.chunk
+        ≡ true }
+    ensures tables { result.tables ≡ 0 }
+    ensures operations { let before = read_before edit.now (Next third) (M.state memory.now) in
+        3 + table_operations edit.now.runs.now edit.now.access before edit.now.chunk
+        ≤ result.operations }
+    ensures close { let before = read_before edit.now (Next third) (M.state memory.now) in
+        result.operations
+        ≤ 7 + table_operations edit.now.runs.now edit.now.access before edit.now.chunk }
+    ensures most { result.operations ≤ 1027 }
+{
+    let kept = operations_kept(edit);
+    let gone = operations_gone(memory, edit, third);
+    let most = kept.max(gone);
+    if most - kept.min(gone) <= SURPLUS {
+        Plan::new(0, 3 + most)
+    } else if is_alike_in_table(memory, edit, third) {
+        Plan::new(0, 3 + gone)
+    } else {
+        Plan::new(0, 3 + kept)
+    }
+}
+
+/// What the edit of a chunk needs that has pages of the runs.
+fn plan_chunk<M: TableMem>(memory: &M, edit: &ChunkEdit, entry: &Slot) -> Plan
+    requires table { (k : ℕ) → entry.now ≡ Next k
+        → k < page_count (M.state memory.now).memory.quotas }
+    requires spelled { (k : ℕ) → entry.now ≡ Next k
+        → IsSpelled edit.now k (M.state memory.now) }
+    requires mixed { is_mixed (read_before edit.now entry.now (M.state memory.now)) edit.now.chunk
+        ≡ is_some (next_page entry.now) }
+    ensures tables { let after = read_after edit.now entry.now (M.state memory.now) in
+        result.tables
+        ≡ (if is_mixed after edit.now.chunk && not (is_some (next_page entry.now)) then 1 else 0) }
+    ensures operations { let before = read_before edit.now entry.now (M.state memory.now) in
+        3 + table_operations edit.now.runs.now edit.now.access before edit.now.chunk
+        ≤ result.operations }
+    ensures close { let before = read_before edit.now entry.now (M.state memory.now) in
+        result.operations
+        ≤ 7 + table_operations edit.now.runs.now edit.now.access before edit.now.chunk }
+    ensures most { result.operations ≤ 1027 }
+{
+    match table_of(entry) {
+        Some(third) => plan_table(memory, edit, third),
+        None => plan_block(edit, entry),
+    }
+}
+
+/// What an edit needs for this chunk of a gigabyte.
+fn plan_at<M: TableMem>(
+    memory: &M,
+    edit: &RowPlan,
+    second: &Option<TablePage>,
+    gigabyte: Gigabyte,
+    index: u32,
+) -> Plan
+    requires canonical { IsCanonical edit.now.layout.now (pages_of (M.state memory.now).memory) }
+    requires partition { (r : ℕ) → edit.now.row ≡ Some r → r < length edit.now.layout.now.ids }
+    requires normal { are_normal edit.now.runs.now ≡ true }
+    requires past { runs_past (512 * (512 * gigabyte + index)) edit.now.runs.now ≡ edit.now.runs.now }
+    requires index { index < 512 }
+    requires table { second_in edit.now.layout.now edit.now.row gigabyte (M.state memory.now) ≡ second.now }
+    ensures tables { let before = view_in edit.now.layout.now edit.now.row (M.state memory.now) in
+        let after = edited edit.now.runs.now edit.now.access before in
+        result.tables ≡ (if grows_at before after (512 * gigabyte + index) then 1 else 0) }
+    ensures operations { let before = view_in edit.now.layout.now edit.now.row (M.state memory.now) in
+        chunk_operations edit.now.runs.now edit.now.access before (512 * gigabyte + index)
+        ≤ result.operations }
+    ensures most { result.operations ≤ 1027 }
+{
+    let chunk = gigabyte.chunk(index);
+    let Some(here) = ChunkEdit::new(edit.layout, edit.runs, chunk, &edit.access) else {
+        return Plan::new(0, 0);
+    };
+    let entry = entry_at(memory, edit.layout, second, chunk);
+    plan_chunk(memory, &here, &entry)
+}
+
+/// Up to where chunks of a gigabyte, counted from its first, have no table and are filled by a run: as far as it is
+/// told without a look at each.
+fn plain_filled<M: TableMem>(
+    memory: &M,
+    second: &Option<TablePage>,
+    gigabyte: Gigabyte,
+    runs: &[Run],
+    chunks: Span,
+) -> u32
+    requires page_in { (j : ℕ) → second.now ≡ Some j → j < page_count (M.state memory.now).memory.quotas }
+    requires normal { are_normal runs.now ≡ true }
+    requires ordered { chunks.first ≤ chunks.end }
+    requires most { chunks.end ≤ 512 }
+    ensures from { chunks.first ≤ result }
+    ensures most { chunks.first < result → result ≤ chunks.end }
+    ensures filled { (x : ℕ) → chunks.first ≤ x → x < result
+        → covers_chunk (512 * gigabyte + x) runs.now ≡ true }
+    ensures plain { (layout : Layout) (x : ℕ) → chunks.first ≤ x → x < result
+        → next_page (entry_read layout second.now x (M.state memory.now)) ≡ None }
+{
+    let Span { first, end } = chunks;
+    let filled = first_unfilled(runs, gigabyte, first, end).min(end);
+    match second {
+        Some(second) => plain_until(memory, *second, first, filled),
+        None => filled,
+    }
+}
+
+/// What an edit needs for the chunks of a gigabyte.
+fn plan_chunks<M: TableMem>(
+    memory: &M,
+    edit: &RowPlan,
+    second: &Option<TablePage>,
+    gigabyte: Gigabyte,
+) -> Plan
+    requires canonical { IsCanonical edit.now.layout.now (pages_of (M.state memory.now).memory) }
+    requires partition { (r : ℕ) → edit.now.row ≡ Some r → r < length edit.now.layout.now.ids }
+    requires normal { are_normal edit.now.runs.now ≡ true }
+    requires table { second_in edit.now.layout.now edit.now.row gigabyte (M.state memory.now) ≡ second.now }
+    ensures tables { let before = view_in edit.now.layout.now edit.now.row (M.state memory.now) in
+        result.tables ≡ chunks_growth before (edited edit.now.runs.now edit.now.access before) gigabyte }
+    ensures operations { let before = view_in edit.now.layout.now edit.now.row (M.state memory.now) in
+        chunks_operations edit.now.runs.now edit.now.access before gigabyte
+        ≤ result.operations }
+    ensures few { result.tables ≤ 512 }
+    ensures most { result.operations ≤ 1027 * 512 }
+{
+    let span = chunk_span(edit.runs, gigabyte);
+    let end = span.end;
+    let mut plan = Plan::new(0, 0);
+    let mut rest = edit.runs;
+    let mut first = span.first;
+    while first < end {
+        rest = runs_past(rest, gigabyte.chunk(first).first().number());
+        let plain = plain_filled(memory, second, gigabyte, rest, Span { first, end });
+        if first < plain {
+            plan.operations += 3 * (plain - first);
+            first = plain;
+        } else {
+            let here = RowPlan {
+                runs: rest,
+                ..*edit
+            };
+            let more = plan_at(memory, &here, second, gigabyte, first);
+            plan.tables += more.tables;
+            plan.operations += more.operations;
+            first += 1;
+        }
+    }
+    plan
+}
+
+/// What an edit needs for a gigabyte, its level 2 table with it.
+fn plan_gigabyte<M: TableMem>(memory: &M, edit: &RowPlan, gigabyte: Gigabyte) -> Plan
+    requires canonical { IsCanonical edit.now.layout.now (pages_of (M.state memory.now).memory) }
+    requires touched { Touches edit.now.runs.now gigabyte }
+    requires partition { (r : ℕ) → edit.now.row ≡ Some r → r < length edit.now.layout.now.ids }
+    requires normal { are_normal edit.now.runs.now ≡ true }
+    ensures tables { let before = view_in edit.now.layout.now edit.now.row (M.state memory.now) in
+        result.tables ≡ gigabyte_growth before (edited edit.now.runs.now edit.now.access before) gigabyte }
+    ensures operations { let before = view_in edit.now.layout.now edit.now.row (M.state memory.now) in
+        gigabyte_operations edit.now.runs.now edit.now.access before gigabyte
+        ≤ result.operations }
+    ensures few { result.tables ≤ 513 }
+    ensures most { result.operations ≤ 1027 * 512 + 2 }
+{
+    let second = second_at(memory, edit.layout, &edit.row, gigabyte);
+    let chunks = plan_chunks(memory, edit, &second, gigabyte);
+    let operations = chunks.operations + chunks.operations.min(2);
+    match second {
+        Some(_) => Plan::new(chunks.tables, operations),
+        None => {
+            if edit.access.is_some() {
+                Plan::new(chunks.tables + 1, operations)
+            } else {
+                Plan::new(chunks.tables, operations)
+            }
+        }
+    }
+}
+
+/// What an edit needs: the tables after it at places where there is none before it, and its operations.
+pub(crate) fn plan_row<M: TableMem>(memory: &M, edit: &RowPlan) -> Plan
+    requires canonical { IsCanonical edit.now.layout.now (pages_of (M.state memory.now).memory) }
+    requires partition { (r : ℕ) → edit.now.row ≡ Some r → r < length edit.now.layout.now.ids }
+    requires normal { are_normal edit.now.runs.now ≡ true }
+    ensures tables { let before = view_in edit.now.layout.now edit.now.row (M.state memory.now) in
+        result.tables ≡ grow before (edited edit.now.runs.now edit.now.access before) }
+    ensures operations { let before = view_in edit.now.layout.now edit.now.row (M.state memory.now) in
+        row_operations edit.now.runs.now edit.now.access before ≤ result.operations }
+    ensures most { result.operations ≤ 2 ^ 29 }
+{
+    let span = gigabyte_span(edit.runs);
+    let mut plan = Plan::new(0, 0);
+    for number in span.first..span.end {
+        let gigabyte = Gigabyte::new(number);
+        let part = gigabyte_runs(edit.runs, gigabyte);
+        if touches(edit.runs, part, gigabyte) {
+            let here = RowPlan {
+                runs: part,
+                ..*edit
+            };
+            let more = plan_gigabyte(memory, &here, gigabyte);
+            plan.tables += more.tables;
+            plan.operations += more.operations;
+        }
+    }
+    plan
+}
+
+/// How many table pages an edit of the pages of these runs takes at most: one for each chunk and each
+/// gigabyte from the first that they touch to the last. It reads no table.
+pub fn most_growth(runs: &[Run]) -> u32
+    requires normal { are_normal runs.now ≡ true }
+    ensures { (before : ℕ → View) (access : View)
+        → grow before (edited runs.now access before) ≤ result }
+{
+    let pages = bounds(runs);
+    let gigabytes = (pages.end + 262_143) / 512 / 512 - pages.first / 512 / 512;
+    let chunks = (pages.end + 511) / 512 - pages.first / 512;
+    gigabytes + chunks
+}
+
+/// The operations that an edit of the runs makes at most, whatever the tables are. A chunk that several runs touch has one table.
+pub(crate) fn operations(runs: &[Run]) -> usize
+    requires normal { are_normal runs.now ≡ true }
+    ensures same { result ≡ operations_for runs.now }
+    ensures most { result ≤ 518 * 2 ^ 27 }
+    ensures few { length runs.now ≤ 2 ^ 27 }
+{
+    let mut touched = 0;
+    let mut next = 0;
+    for run in runs {
+        let (first, end) = (first_chunk(*run).number(), end_chunk(*run));
+        touched += end.saturating_sub(first.max(next));
+        next = end.max(next);
+    }
+    518 * touched as usize
+}

@@ -1,0 +1,84 @@
+//! What the functions of an edit are told.
+
+ghost use Rattle.base.specs.Pages.{are_normal};
+ghost use Rattle.stage2.specs.Edits.{touches_chunk};
+ghost use Rattle.stage2.specs.Parts.{chunk_runs, part_count, runs_past};
+ghost use Rattle.stage2.specs.Room.{pages_in};
+ghost use Rattle.std.specs.Prelude.{◌≡◌, ◌*◌, ◌<◌, ◌≤◌, true, false, None, IfSome};
+
+use crate::layout::Layout;
+use crate::parts::{Pieces, count_pieces};
+use crate::place::Chunk;
+use crate::table_page::{Row, TablePage};
+use base::{Access, PartitionId, Run};
+
+/// The edit of a partition's pages: those that are edited are reached with this access, or not at all.
+#[derive(Clone, Copy)]
+pub(crate) struct RowEdit<'a> {
+    pub(crate) layout: &'a Layout,
+    pub(crate) p: PartitionId,
+    pub(crate) row: Row,
+    pub(crate) access: Option<Access>,
+}
+
+/// The same of one chunk, by runs that have pages there, and how many they have.
+#[derive(Drop)]
+pub(crate) struct ChunkEdit<'a, 'b> {
+    pub(crate) layout: &'a Layout,
+    pub(crate) chunk: Chunk,
+    pub(crate) runs: &'b [Run],
+    pub(crate) pieces: Pieces,
+    pub(crate) access: Option<Access>,
+    pub(crate) ghost normal: { are_normal runs.now ≡ true },
+    pub(crate) ghost pages: { pieces.pages ≡ pages_in runs.now chunk },
+    pub(crate) ghost count: { pieces.runs ≡ part_count chunk runs.now },
+    pub(crate) ghost few: { pieces.runs ≤ pieces.pages },
+    pub(crate) ghost most: { pieces.pages ≤ 512 },
+    pub(crate) ghost touched: { 0 < pieces.pages },
+}
+
+impl<'a, 'b> ChunkEdit<'a, 'b> {
+    /// The edit of a chunk by those of the runs that have pages there, if some have. No run ends before the chunk.
+    pub(crate) fn new(
+        layout: &'a Layout,
+        runs: &'b [Run],
+        chunk: Chunk,
+        access: &Option<Access>,
+    ) -> Option<Self>
+        requires normal { are_normal runs.now ≡ true }
+        requires past { runs_past (512 * chunk) runs.now ≡ runs.now }
+        ensures some { IfSome result (λ edit. (edit.layout.now ≡ layout.now) × (edit.chunk ≡ chunk)
+            × (edit.runs.now ≡ chunk_runs chunk runs.now) × (edit.access ≡ access.now)) }
+        ensures none { result ≡ None → touches_chunk chunk runs.now ≡ false }
+    {
+        let pieces = count_pieces(runs, chunk);
+        if pieces.pages == 0 {
+            return None;
+        }
+        let runs = &runs[..pieces.runs as usize];
+        Some(ChunkEdit {
+            layout,
+            chunk,
+            runs,
+            pieces,
+            access: *access,
+        })
+    }
+}
+
+/// Where a chunk's word stands: in the level 2 table of its gigabyte, which is this page, of a partition.
+#[derive(Clone, Copy)]
+pub(crate) struct Site {
+    pub(crate) p: PartitionId,
+    pub(crate) row: Row,
+    pub(crate) second: TablePage,
+}
+
+/// An edit of runs that is planned, of a partition that may have no root.
+#[derive(Clone, Copy)]
+pub(crate) struct RowPlan<'a, 'b> {
+    pub(crate) layout: &'a Layout,
+    pub(crate) row: Option<Row>,
+    pub(crate) runs: &'b [Run],
+    pub(crate) access: Option<Access>,
+}
