@@ -12,13 +12,19 @@
 
 /* ---- the bounds */
 
+/* The bytes of an operation. */
+#define OPERATION_SIZE 24
+
 /* Bytes that a manager has when it is made, beside the words: these, and so many for each page of the pool. */
 #define MOST_BESIDE 65536
 #define MOST_BESIDE_A_PAGE 8
 
-/* Places that the list of operations has for 512 ranges of a page in two chunks: 517 for each chunk, and one for each range. The bytes of one. */
-#define MOST_OPERATIONS (2 * 517 + 512)
-#define OPERATION_SIZE 24
+/* The same while it is made, with what the manifest's document takes; and for each chunk of 2 MB of the largest region, which is three operations. */
+#define MOST_WHILE_MADE (MOST_BESIDE + 262144)
+#define MOST_A_CHUNK (3 * OPERATION_SIZE)
+
+/* Places that the list of operations has for 512 ranges of a page in two chunks, each other page of which they have: one for each range, and some. */
+#define MOST_OPERATIONS (RANGES + 20)
 
 #define PAGE 4096
 #define ROWS 64 /* partitions and regions, as many as a manifest may have */
@@ -115,7 +121,9 @@ static void write_shape(const struct shape *shape)
 static void look_at_shape(const struct shape *shape)
 {
     write_shape(shape);
+    heap_forget();
     make();
+    size_t peak = heap_most();
     uint64_t address;
     uint32_t pages;
     if (ffaspm_pool(&spm, &address, &pages) != FFASPM_DONE)
@@ -125,9 +133,12 @@ static void look_at_shape(const struct shape *shape)
     if (heap_taken() < words)
         stop("the heap does not have the words");
     size_t beside = heap_taken() - words;
-    printf("%u partitions, %u regions, %u of them %s: %zu bytes of words, %zu beside them, bound %zu\n", ROWS, ROWS,
-           shape->count, shape->name, words, beside, most);
+    size_t chunks = shape->pages / 512 + 1;
+    printf("%u partitions, %u regions, %u of them %s: %zu bytes of words, %zu beside them, bound %zu; %zu at most while it is made\n",
+           ROWS, ROWS, shape->count, shape->name, words, beside, most, peak - words);
     bound("a manager that is made, beside the words", beside, most);
+    bound("a manager while it is made, beside the words", peak - words,
+          MOST_WHILE_MADE + MOST_BESIDE_A_PAGE * (size_t)pages + MOST_A_CHUNK * chunks);
     end();
 }
 

@@ -87,10 +87,10 @@ fn kept(counts: &Counts) -> u64 {
     ])
 }
 
-/// The list of operations, which has places for each word of the chunks that the ranges of a call touch, for an
-/// invalidation of each part of a range, and for a clear of each range.
+/// The list of operations, which has places for each word of the chunks that the ranges of a call touch, with the few that it may ask
+/// for beside, for an invalidation of each part of a range, and for a clear of each range.
 fn operations(counts: &Counts) -> u64 {
-    let most = total(&[places(counts.chunks, 518), places(counts.ranges, 2)]);
+    let most = total(&[places(counts.chunks, 520), places(counts.ranges, 2)]);
     places(most, 24)
 }
 
@@ -138,7 +138,7 @@ fn answer(counts: &Counts) -> u64 {
 fn bound(counts: &Counts, length: u64) -> u64 {
     let running = total(&[
         kept(counts),
-        places(operations(counts), 3),
+        places(operations(counts), 2),
         transactions(counts),
         map(counts, counts.pages),
         map(counts, live_ranges(counts)),
