@@ -393,8 +393,11 @@ fn is_mapped<M: TableMem>(memory: &M, third: TablePage, chunk: Chunk, run: Run) 
     ensures { result ≡ true → (i : ℕ) → i < 512 → in_run run (512 * chunk + i) ≡ true
         → word_in (M.state memory.now) third i ≢ 0 }
 {
-    let first = index_in(chunk, run.first().number());
-    for index in first..index_in(chunk, run.end()) {
+    let Some(part) = part_in(run, chunk) else {
+        return true;
+    };
+    let first = page_index(part.first());
+    for index in first..first + part.count() {
         if read_word(memory, third, index) == 0 {
             return false;
         }

@@ -163,6 +163,16 @@ pub(crate) fn stretch_at(runs: &[Run], chunk: Chunk, index: u32, limit: u32) -> 
     }
 }
 
+/// Those of the runs that have a page in a chunk, of whatever runs that end behind its first page.
+pub(crate) fn chunk_runs(runs: &[Run], chunk: Chunk) -> &[Run]
+    requires normal { are_normal runs.now ≡ true }
+    requires past { parts.runs_past (512 * chunk) runs.now ≡ runs.now }
+    ensures same { result.now ≡ parts.chunk_runs chunk runs.now }
+    ensures normal { are_normal result.now ≡ true }
+{
+    &runs[..begun(runs, chunk.end())]
+}
+
 /// Those of the runs that have a page in a gigabyte.
 pub(crate) fn gigabyte_runs(runs: &[Run], gigabyte: Gigabyte) -> &[Run]
     requires normal { are_normal runs.now ≡ true }
@@ -182,9 +192,7 @@ pub(crate) struct Pieces {
 /// The pages of a run in a chunk, if there are any.
 #[tactic(auto, unfolding(crate::specs::Parts::part_in))]
 pub(crate) fn part_in(run: Run, chunk: Chunk) -> Option<Run>
-    ensures same { result ≡ part_in chunk run }
-    ensures behind { result ≡ None → 512 * chunk < run.first + run.count
-        → 512 * chunk + 512 ≤ run.first }
+    ensures { result ≡ part_in chunk run }
 {
     let first = run.first().number().max(chunk.first().number());
     let end = run.end().min(chunk.end());
@@ -195,24 +203,20 @@ pub(crate) fn part_in(run: Run, chunk: Chunk) -> Option<Run>
     }
 }
 
-/// The pieces of runs in a chunk, before whose first page none of them ends: those that have a piece stand first.
+/// The pieces of runs in a chunk.
 pub(crate) fn count_pieces(runs: &[Run], chunk: Chunk) -> Pieces
     requires normal { are_normal runs.now ≡ true }
-    requires past { parts.runs_past (512 * chunk) runs.now ≡ runs.now }
-    ensures same { take result.runs runs.now ≡ parts.chunk_runs chunk runs.now }
-    ensures within { result.runs ≤ length runs.now }
-    ensures pages { result.pages ≡ pages_in (take result.runs runs.now) chunk }
-    ensures runs { result.runs ≡ part_count chunk (take result.runs runs.now) }
+    ensures pages { result.pages ≡ pages_in runs.now chunk }
+    ensures runs { result.runs ≡ part_count chunk runs.now }
     ensures few { result.runs ≤ result.pages }
     ensures most { result.pages ≤ 512 }
 {
     let mut pieces = Pieces { pages: 0, runs: 0 };
     for run in runs {
-        let Some(part) = part_in(*run, chunk) else {
-            return pieces;
-        };
-        pieces.pages += part.count();
-        pieces.runs += 1;
+        if let Some(part) = part_in(*run, chunk) {
+            pieces.pages += part.count();
+            pieces.runs += 1;
+        }
     }
     pieces
 }

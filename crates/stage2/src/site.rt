@@ -7,7 +7,7 @@ ghost use Rattle.stage2.specs.Room.{pages_in};
 ghost use Rattle.std.specs.Prelude.{◌≡◌, ◌*◌, ◌<◌, ◌≤◌, true, false, None, IfSome};
 
 use crate::layout::Layout;
-use crate::parts::{Pieces, count_pieces};
+use crate::parts::{Pieces, chunk_runs, count_pieces};
 use crate::place::Chunk;
 use crate::table_page::{Row, TablePage};
 use base::{Access, PartitionId, Run};
@@ -51,11 +51,11 @@ impl<'a, 'b> ChunkEdit<'a, 'b> {
             × (edit.runs.now ≡ chunk_runs chunk runs.now) × (edit.access ≡ access.now)) }
         ensures none { result ≡ None → touches_chunk chunk runs.now ≡ false }
     {
+        let runs = chunk_runs(runs, chunk);
         let pieces = count_pieces(runs, chunk);
         if pieces.pages == 0 {
             return None;
         }
-        let runs = &runs[..pieces.runs as usize];
         Some(ChunkEdit {
             layout,
             chunk,

@@ -11,7 +11,7 @@ use Rattle.pool.proofs.RunWords.{words_in-left}
 use Rattle.stage2.specs.inner.Clauses.{is_between}
 use Rattle.stage2.specs.Room.{pages_among, pages_in}
 use Rattle.stage2.specs.Parts.{end_from, part_in}
-use Rattle.stage2.proofs.Runs.Parts.{part-some, covers-take, take-all}
+use Rattle.stage2.proofs.Runs.Parts.{part-some, part-none, covers-take, take-all}
 use Rattle.stage2.proofs.Runs.Between.{before-first}
 use Rattle.stage2.proofs.Runs.Normal.{end_of, from-rise, normal-next, normal-take, normal-drop}
 
@@ -272,6 +272,13 @@ part-pages c run part e =
 
     shifted : (a b s i : ℕ) → s ≤ a → (leb a (s + i) && ltb (s + i) b) ≡ is_between (a - s) (b - s) i
     shifted a b s i le = grind (arith, nat_tests)
+
+pub no-part-pages : (c : ℕ) (run : PageRun) → part_in c run ≡ None → pages_among (λ i. in_run run (512 * c + i)) ≡ 0
+no-part-pages c run e = pages_among-none (λ i. in_run run (512 * c + i)) (λ i lt. there (in_run run (512 * c + i)) ((512 * c + i) / 512) c (omega (arith, lt)) (part-none c run (512 * c + i) e))
+  where
+    there : (b : Bool) (q c : ℕ) → q ≡ c → (b && eqb q c) ≡ false → b ≡ false
+    there true q c e none = let at : eqb q c ≡ true = grind (arith, nat_tests) in absurd (cc)
+    there false q c e none = refl
 
 -- ---- one run after another
 

@@ -1,5 +1,5 @@
 -- The runs with pages from one up to another are found by two halvings, as runs stand upward.
-use Rattle.std.proofs.Common.{◌≡◌, ℕ, zero, suc, ◌+◌, ◌*◌, ◌<◌, ◌≤◌, true, false, not, ◌&&◌, ◌||◌, Bool, cond, eqb, leb, ltb, List, [], ◌∷◌, get_or, length, take, drop, refl, arith, ap, ◌∙◌, inl, inr, subst}
+use Rattle.std.proofs.Common.{◌≡◌, ℕ, zero, suc, ◌+◌, ◌*◌, ◌<◌, ◌≤◌, true, false, not, ◌&&◌, ◌||◌, Bool, cond, eqb, leb, ltb, List, [], ◌∷◌, get_or, length, take, drop, refl, arith, ap, ◌∙◌, inl, inr}
 use Rattle.std.proofs.lemmas.Bool.{cases_Bool, ltb-true, and_parts}
 use Rattle.std.proofs.lemmas.Bool.Decides.{nat_tests}
 use Rattle.std.specs.List.{list_any}
@@ -34,21 +34,6 @@ before-halved end (r ∷ runs) zero early late =
 before-halved end (r ∷ runs) (suc n) early late =
     let here : ltb r.first end ≡ true = early 0 r (omega arith) (omega arith) in
     rw here (ap (λ rest. r ∷ rest) (before-halved end runs n (λ k d lt small. early (suc k) d (omega (arith, lt)) (omega (arith, small))) (λ k d le lt. late (suc k) d (omega (arith, le)) (omega (arith, lt)))))
-
--- each of those that end behind a page does
-past-each : (first : ℕ) (runs : List PageRun) (k : ℕ) (d : PageRun) → k < length (runs_past first runs) → ltb first (end_of (get_or (runs_past first runs) k d)) ≡ true
-past-each first [] k d lt = absurd (omega (arith, lt))
-past-each first (r ∷ runs) k d lt = elim (cases_Bool (ltb first (end_of r))) [
-  | inl past ↦ rw past (either k (λ j small. past-each first runs j d small) past (rw past at lt))
-  | inr over ↦ rw over (past-each first runs k d (rw over at lt))
-]
-  where
-    either : (k : ℕ) → ((j : ℕ) → j < length (runs_past first runs) → ltb first (end_of (get_or (runs_past first runs) j d)) ≡ true) → ltb first (end_of r) ≡ true → k < length (r ∷ runs_past first runs) → ltb first (end_of (get_or (r ∷ runs_past first runs) k d)) ≡ true
-    either zero rest past lt = past
-    either (suc k) rest past lt = rest k (omega (arith, lt))
-
-pub past-ends : (first : ℕ) (runs : List PageRun) → runs_past first runs ≡ runs → (k : ℕ) (d : PageRun) → k < length runs → first < end_of (get_or runs k d)
-past-ends first runs all k d lt = ltb-true _ _ (subst (λ (rs : List PageRun). k < length rs → ltb first (end_of (get_or rs k d)) ≡ true) all (past-each first runs k d) lt)
 
 -- both tests, one after the other
 pub between-parts : (first end : ℕ) (runs : List PageRun) → runs_before end (runs_past first runs) ≡ runs_between first end runs

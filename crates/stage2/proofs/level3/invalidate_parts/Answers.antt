@@ -23,7 +23,7 @@ loop-run-preserved g c =
       | in-Some w ↦
           let part = w.in-Some.part in
           let new = g.M.TableMem.state w.invalidate.new.self in
-          let is : part_in c.args.chunk run ≡ Some part = sym c.part_in.ensures.same ∙ w.in-Some.is in
+          let is : part_in c.args.chunk run ≡ Some part = sym c.part_in.ensures ∙ w.in-Some.is in
           let here : count run ≡ 1 = ap (λ o. option_map_or (λ (part : PageRun). 1) o 0) is in
           let same : new.memory ≡ mid.memory = ap (λ (p : Pool). p.memory) w.invalidate.ensures.state in
           let logged : IsLogged (Invalidate c.args.p part) mid new = record { operations = ap (λ (p : Pool). p.operations) w.invalidate.ensures.state; made = ap (λ (p : Pool). p.made) w.invalidate.ensures.state } in
@@ -34,7 +34,7 @@ loop-run-preserved g c =
             room = omega (arith, c.loop-run.invariant.room, w.invalidate.ensures.room, more, here);
           })
       | in_default w ↦
-          let is : part_in c.args.chunk run ≡ None = sym c.part_in.ensures.same ∙ w.in_default.is in
+          let is : part_in c.args.chunk run ≡ None = sym c.part_in.ensures ∙ w.in_default.is in
           let here : count run ≡ 0 = ap (λ o. option_map_or (λ (part : PageRun). 1) o 0) is in
           rw w.memory-is (record {
             memory = c.loop-run.invariant.memory;
