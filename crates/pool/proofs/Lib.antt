@@ -6,6 +6,8 @@ pub mod Nonzero
 pub mod Stretches
 pub mod Replaced
 pub mod RunWords
+pub mod FirstRuns
+pub mod Gaps
 pub mod Applying
 mod Contents
 mod Held

@@ -29,33 +29,8 @@ sets-none page first word step pool = refl
 
 -- ---- what is kept
 
-pub run-ordered : (start : ℕ) (run : PageRun) → index_from start run.first ≤ index_from start (run.first + run.count)
-run-ordered start run = omega arith
-
 pub run-within : (start : ℕ) (run : PageRun) → index_from start run.first + (index_from start (run.first + run.count) - index_from start run.first) ≤ 512
 run-within start run = omega arith
-
-pub ids-after_runs : (page start word step : ℕ) (runs : List PageRun) (pool : Pool) → (after_runs page start word step runs pool).memory.ids ≡ pool.memory.ids
-unfolding after_runs
-ids-after_runs page start word step [] pool = refl
-ids-after_runs page start word step (run ∷ runs) pool = ids-after_runs page start word step runs (after_run page start word step run pool)
-
-pub quotas-after_runs : (page start word step : ℕ) (runs : List PageRun) (pool : Pool) → (after_runs page start word step runs pool).memory.quotas ≡ pool.memory.quotas
-unfolding after_runs
-quotas-after_runs page start word step [] pool = refl
-quotas-after_runs page start word step (run ∷ runs) pool = quotas-after_runs page start word step runs (after_run page start word step run pool)
-
-pub taken-after_runs : (page start word step : ℕ) (runs : List PageRun) (pool : Pool) → (after_runs page start word step runs pool).memory.taken ≡ pool.memory.taken
-unfolding after_runs
-taken-after_runs page start word step [] pool = refl
-taken-after_runs page start word step (run ∷ runs) pool = taken-after_runs page start word step runs (after_run page start word step run pool)
-
-pub length-after_runs : (page start word step : ℕ) (runs : List PageRun) (pool : Pool) → length (after_runs page start word step runs pool).memory.words ≡ length pool.memory.words
-unfolding after_runs
-length-after_runs page start word step [] pool = refl
-length-after_runs page start word step (run ∷ runs) pool =
-    length-after_runs page start word step runs (after_run page start word step run pool)
-    ∙ length-words_set pool.memory.words page (index_from start run.first) (index_from start (run.first + run.count) - index_from start run.first) (word + step * index_from start run.first) step
 
 pub keeps-sets : (page first n word step : ℕ) (a : Pool) → first + n ≤ 512 → 512 * page + 512 ≤ length a.memory.words → Keeps page a (after_sets page first n word step a)
 keeps-sets page first n word step a small room =
@@ -99,20 +74,6 @@ pub page-outside : (start number index : ℕ) → start < 2 ^ 27 → number < 2 
     → index_from start (number + 1) ≡ index_from start number
 page-outside start number index below inside is large = omega (arith, below, inside, is, large)
 
-words_in-rise : (start end : ℕ) (runs : List PageRun) → rise_above end runs ≡ true → index_from start end + words_in start runs ≤ 512
-words_in-rise start end [] up = omega arith
-words_in-rise start end (run ∷ runs) up =
-    let rest = words_in-rise start (run.first + run.count) runs (and_parts (nat_lt end run.first) (rise_above (run.first + run.count) runs) up).1 in
-    let above : end < run.first = (let test = (and_parts (nat_lt end run.first) (rise_above (run.first + run.count) runs) up).0 in grind (arith, nat_tests, test)) in
-    omega (arith, rest, above)
-
--- each at most once
-pub words_in-normal : (start : ℕ) (runs : List PageRun) → are_normal runs ≡ true → words_in start runs ≤ 512
-words_in-normal start [] normal = omega arith
-words_in-normal start (run ∷ runs) normal =
-    let rest = words_in-rise start (run.first + run.count) runs normal in
-    omega (arith, rest)
-
 -- ---- what is shown
 
 pub shown-sets : (store new : List ℕ) (list more : List Op) (page first n word step : ℕ) (pool : Pool) → new ≡ words_set store page first n word step
@@ -121,14 +82,6 @@ shown-sets store new list more page first n word step pool written made shown = 
   words = written ∙ ap (λ w. words_set w page first n word step) shown.words;
   operations = made ∙ ap₂ (λ w l. sets_of w page first n word step ++ l) shown.words shown.operations;
 }
-
-pub shown-run : (store new : List ℕ) (list more : List Op) (page start word step first end from : ℕ) (run : PageRun) (pool : Pool)
-    → first ≡ index_from start run.first → end ≡ index_from start (run.first + run.count) → from ≡ first
-    → new ≡ words_set store page first (end - first) (word + step * from) step → reverse more ≡ sets_of store page first (end - first) (word + step * from) step ++ reverse list
-    → IsShown store list pool → IsShown new more (after_run page start word step run pool)
-shown-run store new list more page start word step first end from run pool at to same written made shown =
-    shown-sets store new list more page (index_from start run.first) (index_from start (run.first + run.count) - index_from start run.first) (word + step * index_from start run.first) step pool
-    (rw (same, at, to) at written) (rw (same, at, to) at made) shown
 
 -- what words of other pages show
 pub others-runs : (page start word step : ℕ) (runs : List PageRun) (store new : List ℕ) (list more : List Op) → 512 * page + 512 ≤ length store
@@ -219,3 +172,17 @@ after_runs-one page start word step (r ∷ []) run first pool one is begins alon
     ∙ ap (λ x. after_run page start word step x pool) (sym is)
     ∙ ap₂ (λ (n k : ℕ). after_run page start word step (record { first = n; count = k }) pool) (sym begins) alone
 after_runs-one page start word step (r ∷ q ∷ rs) run first pool one is begins alone = absurd (omega (arith, one))
+
+-- a run of one page
+pub run-alone : (run : PageRun) (first : ℕ) → first ≡ run.first → run.count ≡ 1 → record { first = first; count = 1 } ≡ run
+run-alone run first is one = ap₂ (λ (n k : ℕ). let r : PageRun = record { first = n; count = k } in r) is (sym one)
+
+-- some runs, and others behind them
+pub after_runs-append : (page start word step : ℕ) (a b : List PageRun) (pool : Pool) → after_runs page start word step (a ++ b) pool ≡ after_runs page start word step b (after_runs page start word step a pool)
+unfolding after_runs
+after_runs-append page start word step [] b pool = refl
+after_runs-append page start word step (run ∷ a) b pool = after_runs-append page start word step a b (after_run page start word step run pool)
+
+pub words_in-append : (start : ℕ) (a b : List PageRun) → words_in start (a ++ b) ≡ words_in start a + words_in start b
+words_in-append start [] b = omega arith
+words_in-append start (run ∷ a) b = let rest = words_in-append start a b in omega (arith, rest)

@@ -1,5 +1,5 @@
 -- What a table memory holds, and what its calls make of it.
-use Rattle.std.specs.Prelude.{◌≡◌, ℕ, zero, suc, ◌+◌, ◌-◌, ◌*◌, ◌%◌, ◌^◌, ◌<◌, ◌≤◌, Bool, true, false, not, ◌==◌, ◌&&◌, if◌then◌else◌, nat_lt, nat_le, min, List, [], ◌∷◌, ◌++◌, length, sum, take, replicate, slice_index, slice_index_or, slice_set}
+use Rattle.std.specs.Prelude.{◌≡◌, ℕ, zero, suc, ◌+◌, ◌-◌, ◌*◌, ◌%◌, ◌^◌, ◌<◌, ◌≤◌, Bool, true, false, not, ◌==◌, ◌&&◌, if◌then◌else◌, nat_lt, nat_le, min, max, List, [], ◌∷◌, ◌++◌, length, sum, take, replicate, slice_index, slice_index_or, slice_set}
 use Rattle.std.specs.List.{list_all}
 use Rattle.base.specs.Counts.{count_below}
 use Rattle.base.specs.Pages.{PageRun}
@@ -196,6 +196,22 @@ after_run page start word step run pool =
 unfoldable pub after_runs : ℕ → ℕ → ℕ → ℕ → List PageRun → Pool → Pool
 after_runs page start word step [] pool = pool
 after_runs page start word step (run ∷ runs) pool = after_runs page start word step runs (after_run page start word step run pool)
+
+-- the pages for which the words from one index up to another stand, as a run, if there are any
+abbrev pub gap : ℕ → ℕ → ℕ → List PageRun
+gap start first end =
+    if nat_lt first end then (record { first = start + first; count = end - first } ∷ []) else []
+
+-- the pages in none of some runs, of those for which the words from an index on stand, as runs
+unfoldable pub gaps_from : ℕ → ℕ → List PageRun → List PageRun
+gaps_from start first [] = gap start first 512
+gaps_from start first (run ∷ runs) =
+    gap start first (index_from start run.first)
+    ++ gaps_from start (max first (index_from start (run.first + run.count))) runs
+
+-- of all 512
+abbrev pub gaps_of : ℕ → List PageRun → List PageRun
+gaps_of start runs = gaps_from start 0 runs
 
 abbrev pub after_invalidate : ℕ → PageRun → Pool → Pool
 after_invalidate p run pool = logged (Invalidate p run) pool.memory pool

@@ -1,8 +1,8 @@
 -- What the writers of a page's words ask for, and what they do.
-use Rattle.std.specs.Prelude.{◌≡◌, ℕ, ◌+◌, ◌-◌, ◌*◌, ◌<◌, ◌≤◌, ◌^◌, ◌++◌, Bool, true, List, length, reverse, Vec, vec_len, vec_capacity}
+use Rattle.std.specs.Prelude.{◌≡◌, ◌≢◌, ℕ, ◌+◌, ◌-◌, ◌*◌, ◌<◌, ◌≤◌, ◌^◌, ◌++◌, ◌==◌, not, Bool, true, List, length, reverse, Vec, vec_len, vec_capacity}
 use Rattle.std.specs.declared.alloc.Global.{Global}
-use Rattle.base.specs.Pages.{PageRun}
-use Rattle.pool.specs.Pool.{Pool, words_set, sets_of, index_from, after_replaces}
+use Rattle.base.specs.Pages.{PageRun, covers}
+use Rattle.pool.specs.Pool.{Pool, words_of, words_set, sets_of, index_from, gaps_of, after_replaces}
 use Rattle.pool.specs.Shown.{IsShown, AllDiffer}
 use Rattle.pool.specs.declared.operation.Op.{Op}
 use Rattle.pool.specs.declared.replace.Replacement.{Replacement}
@@ -42,6 +42,18 @@ abbrev pub NoneThere : List ℕ → WordRange → Type 0
 NoneThere words range =
     AllDiffer words range.page range.first (range.end - range.first) range.word range.step
 
+-- each of them is there
+abbrev pub AreThere : List ℕ → WordRange → Type 0
+AreThere words range =
+    (x : ℕ) → x < range.end - range.first
+    → words_of words range.page (range.first + x) ≡ range.word + range.step * x
+
+-- one of them is not
+pub record IsMissing (words : List ℕ) (range : WordRange) : Type 0 where
+  pub index : ℕ
+  pub small : index < range.end - range.first
+  pub other : words_of words range.page (range.first + index) ≢ range.word + range.step * index
+
 -- all words of a page are 0
 abbrev pub zeros_of : ℕ → WordRange
 zeros_of page = record { page = page; first = 0; end = 512; word = 0; step = 0 }
@@ -66,6 +78,36 @@ pub record MayWriteRuns (words : List ℕ) (stands : ℕ → Bool) (with : Table
   pub in_range : with.word + with.step * 512 < 2 ^ 64
   pub inside : 512 * with.page + 512 ≤ length words
   pub standing : stands with.page ≡ true
+
+-- each of them that stands for a page in none of the runs is there
+abbrev pub AreGapsThere : List ℕ → TableWords → List PageRun → Type 0
+AreGapsThere words with runs =
+    (i : ℕ) → i < 512 → covers (gaps_of with.start runs) (with.start + i) ≡ true
+    → words_of words with.page i ≡ with.word + with.step * i
+
+-- one of those is not
+pub record IsGapMissing (words : List ℕ) (with : TableWords) (runs : List PageRun) : Type 0 where
+  pub index : ℕ
+  pub small : index < 512
+  pub gap : covers (gaps_of with.start runs) (with.start + index) ≡ true
+  pub other : words_of words with.page index ≢ with.word + with.step * index
+
+-- a word is 0 that stands for a page of some runs, in a page of words of which the first stands for `start`
+pub record HasZero (words : List ℕ) (page start : ℕ) (runs : List PageRun) : Type 0 where
+  pub index : ℕ
+  pub small : index < 512
+  pub covered : covers runs (start + index) ≡ true
+  pub zero : words_of words page index ≡ 0
+
+-- the word at an index is 0 exactly where they are not
+abbrev pub IsTurned : List ℕ → TableWords → ℕ → Type 0
+IsTurned words with i = (words_of words with.page i == 0) ≡ not (with.word == 0)
+
+-- all are turned that stand for pages in none of the runs: none is there, and it is known which are 0
+pub record TurnGaps (words : List ℕ) (with : TableWords) (runs : List PageRun) : Type 0 where
+  pub zeros : with.word ≡ 0 → with.step ≡ 0
+  pub each : (i : ℕ) → i < 512 → covers (gaps_of with.start runs) (with.start + i) ≡ true
+      → IsTurned words with i
 
 -- how many of them stand for pages of a run
 abbrev pub words_for : ℕ → PageRun → ℕ

@@ -104,38 +104,6 @@ fn put_words(base: Base<u64>, cells: &mut Cells<u64>, range: WordRange)
     }
 }
 
-/// Whether words of a filled page are all 0.
-#[inline(always)]
-fn are_zeros(base: Base<u64>, cells: &Cells<u64>, page: u32, first: u32, end: u32) -> bool
-    requires place { base.ptr ≡ cells.now.at }
-    requires filled { IsPageFilled cells.now.slots page }
-    requires index_in { end ≤ 512 }
-    ensures { result ≡ true → (x : ℕ) → x < end - first
-        → words_of (held cells.now.slots) page (first + x) ≡ 0 }
-{
-    let mut are = true;
-    for index in first..end {
-        are &= *cells.get(base, PAGE * page as usize + index as usize) == 0;
-    }
-    are
-}
-
-/// Whether none of them is 0.
-#[inline(always)]
-fn are_others(base: Base<u64>, cells: &Cells<u64>, page: u32, first: u32, end: u32) -> bool
-    requires place { base.ptr ≡ cells.now.at }
-    requires filled { IsPageFilled cells.now.slots page }
-    requires index_in { end ≤ 512 }
-    ensures { result ≡ true → (x : ℕ) → x < end - first
-        → words_of (held cells.now.slots) page (first + x) ≢ 0 }
-{
-    let mut are = true;
-    for index in first..end {
-        are &= *cells.get(base, PAGE * page as usize + index as usize) != 0;
-    }
-    are
-}
-
 impl Block {
     /// Where the first word lies.
     pub(crate) fn address(&self) -> *const u64
@@ -241,14 +209,6 @@ impl WordStore for Block {
 
     fn set_words(&mut self, range: WordRange) {
         put_words(self.base, &mut self.cells, range);
-    }
-
-    fn are_zeros(&self, page: u32, first: u32, end: u32) -> bool {
-        are_zeros(self.base, &self.cells, page, first, end)
-    }
-
-    fn are_others(&self, page: u32, first: u32, end: u32) -> bool {
-        are_others(self.base, &self.cells, page, first, end)
     }
 
     fn copy(&self, alloc: Global) -> Result<Vec<u64>, OutOfMemory> {

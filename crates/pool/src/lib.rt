@@ -5,6 +5,7 @@ mod block;
 mod cells;
 mod image;
 mod list_pool;
+mod looks;
 mod operation;
 mod places;
 mod raw_pool;

@@ -40,22 +40,6 @@ impl WordStore for Vec<u64> {
         }
     }
 
-    fn are_zeros(&self, page: u32, first: u32, end: u32) -> bool {
-        let mut are = true;
-        for index in first..end {
-            are &= self.word(page, index) == 0;
-        }
-        are
-    }
-
-    fn are_others(&self, page: u32, first: u32, end: u32) -> bool {
-        let mut are = true;
-        for index in first..end {
-            are &= self.word(page, index) != 0;
-        }
-        are
-    }
-
     fn copy(&self, alloc: Global) -> Result<Vec<u64>, OutOfMemory> {
         Ok(self.to_vec(alloc)?)
     }

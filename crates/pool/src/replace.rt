@@ -5,8 +5,9 @@ ghost use Rattle.pool.specs.Pool.{words_of, nonzero_in, after_break, after_make}
 ghost use Rattle.pool.specs.Writing.{MayWrite, Shows, HasRoom, Grows, block_from, replaces};
 ghost use Rattle.pool.specs.declared.operation.Op.TheVariants.{Invalidate};
 
+use crate::looks::WORDS;
 use crate::operation::Op;
-use crate::stretch::{WORDS, recounted, write_words};
+use crate::stretch::{recounted, write_words};
 use crate::word_range::WordRange;
 use crate::word_store::WordStore;
 use base::{Page, PartitionId, Run};

@@ -1,11 +1,12 @@
 //! Words of a page that stand for the pages of runs.
 
-ghost use Rattle.std.specs.Prelude.{◌≡◌, ◌+◌, ◌*◌, ◌^◌, ◌<◌, length};
-ghost use Rattle.pool.specs.Pool.{words_of, nonzero_in, index_from, words_in, after_run, after_runs};
-ghost use Rattle.pool.specs.Writing.{MayWriteRuns, Shows, HasRoom, Grows, words_for, page_alone};
+ghost use Rattle.std.specs.Prelude.{◌≡◌, ℕ, ◌+◌, ◌*◌, ◌^◌, ◌<◌, ◌≤◌, length};
+ghost use Rattle.pool.specs.Pool.{words_of, nonzero_in, index_from, words_in, after_run, after_runs, gap, gaps_of};
+ghost use Rattle.pool.specs.Writing.{MayWriteRuns, IsTurned, TurnGaps, Shows, HasRoom, Grows, words_for, page_alone};
 
+use crate::looks::WORDS;
 use crate::operation::Op;
-use crate::stretch::{WORDS, recounted, write_others, write_words};
+use crate::stretch::{recounted, write_all, write_words};
 use crate::word_range::WordRange;
 use crate::word_store::WordStore;
 use base::{Page, Run};
@@ -27,7 +28,7 @@ pub struct TableWords {
 impl TableWords {
     /// The words from one index up to another.
     #[inline(always)]
-    fn range(self, first: u32, end: u32) -> WordRange
+    pub(crate) fn range(self, first: u32, end: u32) -> WordRange
         requires { self.word + self.step * first < 2 ^ 64 }
         ensures { result ≡ record {
           page = self.page;
@@ -50,7 +51,7 @@ impl TableWords {
 /// Which of 512 words stands for a page, where the first stands for `start`: 512 where it is behind them
 /// all, and 0 where it is before.
 #[inline(always)]
-fn index_from(start: u32, number: u32) -> u32
+pub(crate) fn index_from(start: u32, number: u32) -> u32
     ensures { result ≡ index_from start number }
 {
     number.saturating_sub(start).min(WORDS)
@@ -62,7 +63,7 @@ fn index_from(start: u32, number: u32) -> u32
 #[inline(always)]
 fn write_run<S: WordStore>(
     store: &mut S,
-    operations: Vec<Op>,
+    mut operations: Vec<Op>,
     count: u32,
     run: Run,
     with: TableWords,
@@ -78,11 +79,8 @@ fn write_run<S: WordStore>(
     ensures grows { Grows (words_for with.start run) operations result.0 }
 {
     if run.count() == 1 {
-        let index = run.first().number().wrapping_sub(with.start);
-        if index >= WORDS {
-            return (operations, count);
-        }
-        return write_others(store, operations, count, with.range(index, index + 1));
+        let count = set_one(store, &mut operations, count, run.first(), with);
+        return (operations, count);
     }
     let first = index_from(with.start, run.first().number());
     let end = index_from(with.start, run.end());
@@ -183,6 +181,128 @@ pub(crate) fn set_runs<S: WordStore>(
     let alloc = *operations.allocator();
     let list = replace(operations, Vec::new(alloc));
     let (list, count) = write_runs(store, list, count, runs, with);
+    *operations = list;
+    count
+}
+
+/// Some of the 512 words, from one index up to another.
+#[derive(Clone, Copy)]
+struct Indexes {
+    first: u32,
+    end: u32,
+}
+
+/// How many words of a page are not 0, once so many were turned: they were 0, or they are, where the new word is 0.
+#[inline(always)]
+fn recounted_all(count: u32, written: u32, word: u64) -> u32
+    requires least { word ≡ 0 → written ≤ count }
+    requires most { count ≤ 512 }
+    requires few { written ≤ 512 }
+    ensures zeros { word ≡ 0 → result + written ≡ count }
+    ensures others { 0 < word → result ≡ count + written }
+{
+    if word == 0 {
+        count - written
+    } else {
+        count + written
+    }
+}
+
+/// Writes the words of some indexes, none of which is there, and records each write behind these operations. It answers
+/// these, and how many words of the page are not 0. It is no part of the loop over gaps: so the compiler makes two words
+/// at once.
+fn write_gap<S: WordStore>(
+    store: &mut S,
+    operations: Vec<Op>,
+    count: u32,
+    indexes: Indexes,
+    with: TableWords,
+) -> (Vec<Op>, u32)
+    requires may { MayWriteRuns (S.words store.old) (S.stands store.old) with }
+    requires most { indexes.end ≤ 512 }
+    requires zeros { with.word ≡ 0 → with.step ≡ 0 }
+    requires turned { (i : ℕ) → indexes.first ≤ i → i < indexes.end → IsTurned (S.words store.old) with i }
+    requires counted { count ≡ nonzero_in (words_of (S.words store.old)) with.page }
+    requires ready { HasRoom operations (words_in with.start (gap with.start indexes.first indexes.end)) }
+    ensures shown { let gap = gap with.start indexes.first indexes.end in
+        Shows (after_runs with.page with.start with.word with.step gap)
+        (S.words store.old) (S.words store.new) operations.items result.0.items }
+    ensures beside { (i : ℕ) → indexes.end ≤ i
+        → words_of (S.words store.new) with.page i ≡ words_of (S.words store.old) with.page i }
+    ensures standing { S.stands store.new ≡ S.stands store.old }
+    ensures whole { length (S.words store.new) ≡ length (S.words store.old) }
+    ensures counted { result.1 ≡ nonzero_in (words_of (S.words store.new)) with.page }
+    ensures grows { Grows (words_in with.start (gap with.start indexes.first indexes.end)) operations result.0 }
+{
+    let Indexes { first, end } = indexes;
+    if first >= end {
+        return (operations, count);
+    }
+    let operations = write_all(store, operations, with.range(first, end));
+    (operations, recounted_all(count, end - first, with.word))
+}
+
+/// Writes the words for pages in none of the runs, gap by gap, and records each write behind these operations. It
+/// answers these, and how many words of the page are not 0.
+#[inline(always)]
+fn write_gaps<S: WordStore>(
+    store: &mut S,
+    mut operations: Vec<Op>,
+    mut count: u32,
+    runs: &[Run],
+    with: TableWords,
+) -> (Vec<Op>, u32)
+    requires may { MayWriteRuns (S.words store.old) (S.stands store.old) with }
+    requires counted { count ≡ nonzero_in (words_of (S.words store.old)) with.page }
+    requires turned { TurnGaps (S.words store.old) with runs.now }
+    requires ready { HasRoom operations (words_in with.start (gaps_of with.start runs.now)) }
+    ensures shown { let gaps = gaps_of with.start runs.now in
+        Shows (after_runs with.page with.start with.word with.step gaps)
+        (S.words store.old) (S.words store.new) operations.items result.0.items }
+    ensures standing { S.stands store.new ≡ S.stands store.old }
+    ensures whole { length (S.words store.new) ≡ length (S.words store.old) }
+    ensures counted { result.1 ≡ nonzero_in (words_of (S.words store.new)) with.page }
+    ensures grows { Grows (words_in with.start (gaps_of with.start runs.now)) operations result.0 }
+{
+    let mut first = 0;
+    for run in runs {
+        let end = index_from(with.start, run.first().number());
+        (operations, count) = write_gap(store, operations, count, Indexes { first, end }, with);
+        first = first.max(index_from(with.start, run.end()));
+    }
+    write_gap(
+        store,
+        operations,
+        count,
+        Indexes { first, end: WORDS },
+        with,
+    )
+}
+
+/// Writes the words for pages in none of the runs, and records each write behind these operations.
+/// It answers how many words of the page are not 0.
+pub(crate) fn set_gaps<S: WordStore>(
+    store: &mut S,
+    operations: &mut Vec<Op>,
+    count: u32,
+    runs: &[Run],
+    with: TableWords,
+) -> u32
+    requires may { MayWriteRuns (S.words store.old) (S.stands store.old) with }
+    requires counted { count ≡ nonzero_in (words_of (S.words store.old)) with.page }
+    requires turned { TurnGaps (S.words store.old) with runs.now }
+    requires ready { HasRoom operations.old (words_in with.start (gaps_of with.start runs.now)) }
+    ensures shown { let gaps = gaps_of with.start runs.now in
+        Shows (after_runs with.page with.start with.word with.step gaps)
+        (S.words store.old) (S.words store.new) operations.old.items operations.new.items }
+    ensures standing { S.stands store.new ≡ S.stands store.old }
+    ensures whole { length (S.words store.new) ≡ length (S.words store.old) }
+    ensures counted { result ≡ nonzero_in (words_of (S.words store.new)) with.page }
+    ensures grows { Grows (words_in with.start (gaps_of with.start runs.now)) operations.old operations.new }
+{
+    let alloc = *operations.allocator();
+    let list = replace(operations, Vec::new(alloc));
+    let (list, count) = write_gaps(store, list, count, runs, with);
     *operations = list;
     count
 }

@@ -1,21 +1,19 @@
 //! Words of a page that follow one another, and are written at once.
 
-ghost use Rattle.std.specs.Prelude.{◌≡◌, true, ◌+◌, ◌-◌, ◌*◌, ◌<◌, ◌≤◌, ◌⊎◌, length, if◌then◌else◌, ◌==◌};
+ghost use Rattle.std.specs.Prelude.{◌≡◌, ℕ, List, true, ◌+◌, ◌-◌, ◌*◌, ◌^◌, ◌<◌, ◌≤◌, ◌⊎◌, length, if◌then◌else◌, ◌==◌};
 ghost use Rattle.pool.specs.Pool.{words_of, nonzero_in};
 ghost use Rattle.pool.specs.Writing.{with_range, writes_of, zeros_of, NoneThere, MayWrite, Records, HasRoom, Grows};
 
+use crate::looks::{WORDS, are_others, are_zeros};
 use crate::operation::Op;
 use crate::word_range::WordRange;
 use crate::word_store::WordStore;
-
-/// How many words a page has.
-pub(crate) const WORDS: u32 = 512;
 
 /// How many words are looked at, at most, before they are written: 512 bytes, which are close at hand then.
 const MOST: u32 = 64;
 
 /// Fewer words than these are written one by one: to look at them all before takes longer.
-const FEW: u32 = 12;
+const FEW: u32 = 4;
 
 /// How many words of a page are not 0, once one that was this is that.
 #[inline(always)]
@@ -27,16 +25,17 @@ pub(crate) fn recounted(count: u32, before: u64, after: u64) -> u32
     count + u32::from(after != 0) - u32::from(before != 0)
 }
 
-/// Records the writes of words, none of which is there, behind these operations.
+/// Records the writes of all words of a range behind these operations.
 #[inline(always)]
-fn record_all<S: WordStore>(store: &S, mut operations: Vec<Op>, range: WordRange) -> Vec<Op>
-    requires may { MayWrite (S.words store.now) (S.stands store.now) range }
-    requires differ { NoneThere (S.words store.now) range }
+fn record_all(mut operations: Vec<Op>, range: WordRange) -> Vec<Op>
+    requires ordered { range.first ≤ range.end }
+    requires index_in { range.end ≤ 512 }
+    requires in_range { range.word + range.step * (range.end - range.first) < 2 ^ 64 }
     requires ready { HasRoom operations (range.end - range.first) }
-    ensures records { Records (S.words store.now) range operations.items result.items }
+    ensures records { (words : List ℕ) → 512 * range.page + 512 ≤ length words → NoneThere words range
+        → Records words range operations.items result.items }
     ensures grows { Grows (range.end - range.first) operations result }
 {
-    let _store = store;
     let mut word = range.word;
     for index in range.first..range.end {
         operations.push_reserved(Op::Set {
@@ -51,7 +50,11 @@ fn record_all<S: WordStore>(store: &S, mut operations: Vec<Op>, range: WordRange
 
 /// Writes all of these words, none of which is there, and records each write behind these operations.
 #[inline(always)]
-fn write_all<S: WordStore>(store: &mut S, operations: Vec<Op>, range: WordRange) -> Vec<Op>
+pub(crate) fn write_all<S: WordStore>(
+    store: &mut S,
+    operations: Vec<Op>,
+    range: WordRange,
+) -> Vec<Op>
     requires may { MayWrite (S.words store.old) (S.stands store.old) range }
     requires differ { NoneThere (S.words store.old) range }
     requires ready { HasRoom operations (range.end - range.first) }
@@ -60,7 +63,7 @@ fn write_all<S: WordStore>(store: &mut S, operations: Vec<Op>, range: WordRange)
     ensures records { Records (S.words store.old) range operations.items result.items }
     ensures grows { Grows (range.end - range.first) operations result }
 {
-    let operations = record_all(store, operations, range);
+    let operations = record_all(operations, range);
     store.set_words(range);
     operations
 }
@@ -130,10 +133,10 @@ fn clear_part<S: WordStore>(
     } = range;
     let written = end - first;
     if store.standing_word(page, first) == 0 {
-        if store.are_zeros(page, first, end) {
+        if are_zeros(store, page, first, end) {
             return (operations, count);
         }
-    } else if written <= count && store.are_others(page, first, end) {
+    } else if written <= count && are_others(store, page, first, end) {
         return (write_all(store, operations, range), count - written);
     }
     write_others(store, operations, count, range)
@@ -166,7 +169,7 @@ fn write_part<S: WordStore>(
         ..
     } = range;
     let written = end - first;
-    if range.word > 0 && count <= WORDS - written && store.are_zeros(page, first, end) {
+    if range.word > 0 && count <= WORDS - written && are_zeros(store, page, first, end) {
         return (write_all(store, operations, range), count + written);
     }
     if range.word == 0 && range.step == 0 {
@@ -261,8 +264,12 @@ pub(crate) fn write_words<S: WordStore>(
     ensures counted { result.1 ≡ nonzero_in (words_of (S.words store.new)) range.page }
     ensures grows { Grows (range.end - range.first) operations result.0 }
 {
-    if range.end - range.first < FEW {
+    let written = range.end - range.first;
+    if written < FEW {
         return write_others(store, operations, count, range);
+    }
+    if written <= MOST {
+        return write_part(store, operations, count, range);
     }
     write_many(store, operations, count, range)
 }

@@ -1,7 +1,8 @@
-ghost use Rattle.std.specs.Prelude.{◌≡◌, ℕ, ◌+◌, ◌-◌, ◌*◌, ◌^◌, ◌<◌, ◌≤◌, length, reverse, IfOk, OnOk, true, false};
+ghost use Rattle.std.specs.Prelude.{◌≡◌, ◌≢◌, ℕ, ◌+◌, ◌-◌, ◌*◌, ◌^◌, ◌<◌, ◌≤◌, length, reverse, IfOk, OnOk, true, false};
 ghost use Rattle.base.specs.Manifest.{page_count};
-ghost use Rattle.base.specs.Pages.{are_normal};
-ghost use Rattle.pool.specs.Pool.{Pool, IsWhole, HasRow, all_lie_in, InShareOf, IsLowestFreeOf, pages_of, words_of, taken_of, nonzero_in, words_in, new_pool, after_set, after_sets, after_runs, after_replaces, after_invalidate, after_clear, after_take, after_give, emptied, free_of, image_of};
+ghost use Rattle.base.specs.Pages.{are_normal, covers};
+ghost use Rattle.pool.specs.Pool.{Pool, IsWhole, HasRow, all_lie_in, InShareOf, IsLowestFreeOf, pages_of, words_of, taken_of, nonzero_in, words_in, new_pool, after_set, after_sets, after_runs, gaps_of, after_replaces, after_invalidate, after_clear, after_take, after_give, emptied, free_of, image_of};
+ghost use Rattle.pool.specs.Writing.{AreGapsThere, IsGapMissing, TurnGaps, HasZero};
 
 use crate::image::Image;
 use crate::operation::Op;
@@ -16,7 +17,7 @@ use std::alloc::Global;
 /// shares in the same order, each as many pages as its partition's quota.
 ///
 /// A page of a share is free or taken, and a free page holds zeros alone. `set_word`, `set_words`,
-/// `set_runs`, `clear_words` and `replace_words` change words, and nothing else changes any. Each word that
+/// `set_runs`, `set_gaps`, `clear_words` and `replace_words` change words, and nothing else changes any. Each word that
 /// is written, each invalidation and each clear is recorded as an `Op`.
 pub trait TableMem {
     /// What the pages hold, which are taken, and what was done.
@@ -41,6 +42,25 @@ pub trait TableMem {
     fn nonzero(&self, page: u32) -> u32
         requires { page < page_count (state self.now).memory.quotas }
         ensures { result ≡ nonzero_in (words_of (state self.now).memory.words) page };
+
+    /// Whether all words of a root, or of a page that is taken, that stand for pages in none of the runs are these.
+    fn has_gaps(&self, words: TableWords, runs: &[Run]) -> bool
+        requires page_in { words.page < page_count (state self.now).memory.quotas }
+        requires taken { taken_of (state self.now).memory.taken words.page ≡ true }
+        requires start_in { words.start < 2 ^ 27 }
+        requires in_range { words.word + words.step * 512 < 2 ^ 64 }
+        ensures yes { result ≡ true → AreGapsThere (state self.now).memory.words words runs.now }
+        ensures no { result ≡ false → IsGapMissing (state self.now).memory.words words runs.now };
+
+    /// Whether no word of a root, or of a page that is taken, is 0 that stands for a page of the runs. The first
+    /// stands for page `start`, and each other one for a page more than the one before.
+    fn has_all(&self, page: u32, start: u32, runs: &[Run]) -> bool
+        requires page_in { page < page_count (state self.now).memory.quotas }
+        requires taken { taken_of (state self.now).memory.taken page ≡ true }
+        requires start_in { start < 2 ^ 27 }
+        ensures yes { result ≡ true → (i : ℕ) → i < 512 → covers runs.now (start + i) ≡ true
+            → words_of (state self.now).memory.words page i ≢ 0 }
+        ensures no { result ≡ false → HasZero (state self.now).memory.words page start runs.now };
 
     /// Writes a word of a root or of a page that is taken.
     fn set_word(&mut self, page: u32, index: u32, word: u64)
@@ -76,6 +96,20 @@ pub trait TableMem {
         ensures state { state self.new ≡ after_runs words.page words.start words.word words.step
             runs.now (state self.old) }
         ensures room { room self.old ≤ room self.new + words_in words.start runs.now };
+
+    /// Writes the words of a root, or of a page that is taken, that stand for the pages in none of the runs. None of
+    /// them is there: they are 0 exactly where the first of these words is not.
+    fn set_gaps(&mut self, words: TableWords, runs: &[Run])
+        requires page_in { words.page < page_count (state self.old).memory.quotas }
+        requires taken { taken_of (state self.old).memory.taken words.page ≡ true }
+        requires start_in { words.start < 2 ^ 27 }
+        requires in_range { words.word + words.step * 512 < 2 ^ 64 }
+        requires turned { TurnGaps (state self.old).memory.words words runs.now }
+        requires ready { words_in words.start (gaps_of words.start runs.now) ≤ room self.old }
+        ensures state { state self.new ≡ after_runs words.page words.start words.word words.step
+            (gaps_of words.start runs.now) (state self.old) }
+        ensures room { room self.old
+            ≤ room self.new + words_in words.start (gaps_of words.start runs.now) };
 
     /// Writes 0 into each word of a root, or of a page that is taken, that is not 0, upward.
     fn clear_words(&mut self, page: u32)

@@ -6,10 +6,11 @@ ghost use Rattle.std.specs.List.{list_all};
 ghost use Rattle.pool.specs.Pool as shares;
 
 use crate::image::Image;
+use crate::looks::{are_filled, are_gaps_there};
 use crate::operation::Op;
 use crate::places::{row_of, share_start, total};
 use crate::replace::{Replacement, replace_words};
-use crate::runs::{TableWords, set_runs};
+use crate::runs::{TableWords, set_gaps, set_runs};
 use crate::stretch::{clear_page, recounted, write_words};
 use crate::table_mem::TableMem;
 use crate::word_range::WordRange;
@@ -141,6 +142,14 @@ impl<S: WordStore> TableMem for TablePool<S> {
         self.nonzero[page as usize]
     }
 
+    fn has_gaps(&self, words: TableWords, runs: &[Run]) -> bool {
+        are_gaps_there(&self.store, runs, words)
+    }
+
+    fn has_all(&self, page: u32, start: u32, runs: &[Run]) -> bool {
+        are_filled(&self.store, page, start, runs)
+    }
+
     fn set_word(&mut self, page: u32, index: u32, word: u64) {
         let before = self.store.standing_word(page, index);
         self.store.set_word(page, index, word);
@@ -161,6 +170,12 @@ impl<S: WordStore> TableMem for TablePool<S> {
     fn set_runs(&mut self, words: TableWords, runs: &[Run]) {
         let count = self.nonzero[words.page as usize];
         let count = set_runs(&mut self.store, &mut self.operations, count, runs, words);
+        self.nonzero[words.page as usize] = count;
+    }
+
+    fn set_gaps(&mut self, words: TableWords, runs: &[Run]) {
+        let count = self.nonzero[words.page as usize];
+        let count = set_gaps(&mut self.store, &mut self.operations, count, runs, words);
         self.nonzero[words.page as usize] = count;
     }
 

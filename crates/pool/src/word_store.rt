@@ -1,4 +1,4 @@
-ghost use Rattle.std.specs.Prelude.{◌≡◌, ◌≢◌, ℕ, ◌+◌, ◌-◌, ◌*◌, ◌<◌, ◌≤◌, List, Bool, true, length, replicate, slice_index, slice_set, IfOk};
+ghost use Rattle.std.specs.Prelude.{◌≡◌, ℕ, ◌+◌, ◌-◌, ◌*◌, ◌<◌, ◌≤◌, List, Bool, true, length, replicate, slice_index, slice_set, IfOk};
 ghost use Rattle.pool.specs.Pool.{words_of};
 ghost use Rattle.pool.specs.Writing.{with_range, MayWrite};
 
@@ -54,22 +54,6 @@ pub trait WordStore: Drop {
         requires may { MayWrite (words self.old) (stands self.old) range }
         ensures words { words self.new ≡ with_range (words self.old) range }
         ensures standing { stands self.new ≡ stands self.old };
-
-    /// Whether the words of a page from one index up to another are all 0.
-    fn are_zeros(&self, page: u32, first: u32, end: u32) -> bool
-        requires index_in { end ≤ 512 }
-        requires inside { 512 * page + 512 ≤ length (words self.now) }
-        requires standing { stands self.now page ≡ true }
-        ensures { result ≡ true → (x : ℕ) → x < end - first
-            → words_of (words self.now) page (first + x) ≡ 0 };
-
-    /// Whether none of them is 0.
-    fn are_others(&self, page: u32, first: u32, end: u32) -> bool
-        requires index_in { end ≤ 512 }
-        requires inside { 512 * page + 512 ≤ length (words self.now) }
-        requires standing { stands self.now page ≡ true }
-        ensures { result ≡ true → (x : ℕ) → x < end - first
-            → words_of (words self.now) page (first + x) ≢ 0 };
 
     /// A copy of all words.
     fn copy(&self, alloc: Global) -> Result<Vec<u64>, OutOfMemory>

@@ -5,4 +5,3 @@ pub mod Normal
 pub mod OwnRuns
 pub mod Left
 pub mod Between
-pub mod ChunkUnion

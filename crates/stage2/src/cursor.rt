@@ -4,6 +4,7 @@ ghost use Rattle.std.specs.Prelude.{◌≡◌, ℕ, ◌+◌, ◌*◌, ◌%◌, �
 ghost use Rattle.std.specs.Iterator.{YieldsFirst};
 ghost use Rattle.pool.specs.Pool.{Words, words_of};
 ghost use Rattle.stage2.specs.declared.table_page.Level.{Level};
+ghost use Rattle.stage2.specs.declared.table_page.Level.TheVariants.{Third};
 ghost use Rattle.stage2.specs.Reading as spec;
 ghost use Rattle.stage2.specs.Reading.{left_in, IsCursor, PassTheSame, pages_at};
 
@@ -126,25 +127,23 @@ impl Cursor {
         self.left == 0 || self.index >= WORDS
     }
 
-    /// Passes words of two tables that are the same, 64 at once, as far as both stand for the same pages and are
+    /// Passes words of two level 3 tables that are the same, 64 at once, as far as both stand for the same pages and are
     /// read up to the same index.
     pub(crate) fn pass_same<W: WordSource, V: WordSource>(
         &mut self,
         words: &W,
         other: &mut Cursor,
         others: &V,
-        level: Level,
     )
-        requires is { IsCursor (W.pages words.now) (words_of (W.words words.now)) level self.old }
-        requires other_is { IsCursor (V.pages others.now) (words_of (V.words others.now)) level other.old }
+        requires is { IsCursor (W.pages words.now) (words_of (W.words words.now)) Third self.old }
+        requires other_is { IsCursor (V.pages others.now) (words_of (V.words others.now)) Third other.old }
         ensures same { let ours = words_of (W.words words.now) in
             let theirs = words_of (V.words others.now) in
             PassTheSame (left_in ours self.old) (left_in ours self.new)
             (left_in theirs other.old) (left_in theirs other.new) }
-        ensures is { IsCursor (W.pages words.now) (words_of (W.words words.now)) level self.new }
-        ensures other_is { IsCursor (V.pages others.now) (words_of (V.words others.now)) level other.new }
+        ensures is { IsCursor (W.pages words.now) (words_of (W.words words.now)) Third self.new }
+        ensures other_is { IsCursor (V.pages others.now) (words_of (V.words others.now)) Third other.new }
     {
-        let _level = level;
         let (table, other_table) = (self.table, other.table);
         while self.first == other.first
             && self.index == other.index

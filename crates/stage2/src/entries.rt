@@ -77,7 +77,7 @@ impl<W: WordSource + Drop> Entries<W> {
         ensures { PassTheSame self.old self.new other.old other.new }
     {
         self.third
-            .pass_same(&self.words, &mut other.third, &other.words, Level::Third);
+            .pass_same(&self.words, &mut other.third, &other.words);
     }
 
     /// Passes the entries right behind a block or page that is mapped to itself, as far as they stand in a row

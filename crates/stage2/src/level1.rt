@@ -1,14 +1,14 @@
 //! Level 1: the word of a gigabyte, and its level 2 table.
 
 ghost use Rattle.base.specs.Manifest.{page_count, row_of};
-ghost use Rattle.base.specs.Pages.{are_normal, covers};
+ghost use Rattle.base.specs.Pages.{PageRun, are_normal, covers};
 ghost use Rattle.pool.specs.Pool.{pages_of, taken_of, row_in, InShare};
 ghost use Rattle.stage2.specs.inner.Clauses.{operations_in_gigabyte, second_at, IsEmpty, Unlinks, UnlinksInStep, FitsInGigabyte, EditsInGigabyte, GigabyteInStep, operations_in_row, FitsInRow, EditsInRow, RowInStep};
 ghost use Rattle.stage2.specs.inner.Gigabytes.{Touches};
 ghost use Rattle.stage2.specs.Orderly.{IsCanonical};
 ghost use Rattle.stage2.specs.Parts.{gigabyte_runs};
 ghost use Rattle.stage2.specs.Slot.{Layout};
-ghost use Rattle.std.specs.Prelude.{◌≡◌, ℕ, ◌+◌, ◌<◌, ◌≤◌, length, true, false, Some, None, is_some, ◌/◌};
+ghost use Rattle.std.specs.Prelude.{◌≡◌, ℕ, ◌+◌, ◌<◌, ◌≤◌, List, length, true, false, Some, None, is_some};
 
 use crate::layout::Layout;
 use crate::level2::{edit_chunks, table_of};
@@ -157,17 +157,14 @@ pub(crate) fn edit_gigabyte<M: TableMem>(
     }
 }
 
-/// Whether runs have a page in a gigabyte, by those of them that have one.
-pub(crate) fn touches(runs: &[Run], part: &[Run], gigabyte: Gigabyte) -> bool
-    requires { part.now ≡ gigabyte_runs gigabyte runs.now }
-    ensures yes { result ≡ true → Touches part.now gigabyte }
-    ensures no { result ≡ false → (n : ℕ) → n / 512 / 512 ≡ gigabyte → covers part.now n ≡ false }
+/// Whether there is a page in these runs, those of some that have one in a gigabyte.
+pub(crate) fn touches(part: &[Run]) -> bool
+    ensures yes { result ≡ true → (gigabyte : ℕ) (runs : List PageRun) → part.now ≡ gigabyte_runs gigabyte runs
+        → Touches part.now gigabyte }
+    ensures no { result ≡ false → (n : ℕ) → covers part.now n ≡ false }
 {
     match part.first() {
-        Some(run) => {
-            let (_runs, _gigabyte, _end) = (runs, gigabyte, run.end());
-            true
-        }
+        Some(run) => run.count() > 0,
         None => false,
     }
 }
@@ -192,7 +189,7 @@ pub(crate) fn edit_row<M: TableMem>(memory: &mut M, edit: &RowEdit, runs: &[Run]
     for number in span.first..span.end {
         let gigabyte = Gigabyte::new(number);
         let part = gigabyte_runs(runs, gigabyte);
-        if touches(runs, part, gigabyte) {
+        if touches(part) {
             edit_gigabyte(memory, edit, gigabyte, part);
         }
     }

@@ -6,7 +6,7 @@ ghost use Rattle.pool.specs.Pool.{words_of, taken_of, after_sets, after_runs, wo
 ghost use Rattle.stage2.specs.inner.Change.{entry_for, step_for};
 ghost use Rattle.stage2.specs.inner.Chunks.{planned, filling, IsWordFor};
 ghost use Rattle.stage2.specs.Edits.{edited};
-ghost use Rattle.stage2.specs.inner.Clauses.{WritesPlan, some_pages, IsEmpty, IsOther, word_in, words_left, IsStray, OthersAnswer, gaps, covers_in};
+ghost use Rattle.stage2.specs.inner.Clauses.{AreWordsOf, AreTurned, WritesPlan, some_pages, IsEmpty, word_in, words_left, IsStray, OthersAnswer, gaps, covers_in};
 ghost use Rattle.stage2.specs.inner.History.{Filled};
 ghost use Rattle.stage2.specs.Moments.{Settles};
 ghost use Rattle.stage2.specs.Parts.{part_count};
@@ -15,8 +15,7 @@ ghost use Rattle.std.specs.Prelude.{◌≡◌, ℕ, ◌+◌, ◌-◌, ◌*◌, �
 ghost use Rattle.words.specs.Words.{entry_of};
 
 use crate::parts::{part_in, runs_from, stretch_at};
-use crate::place::{Chunk, Span, page_index};
-use crate::read::{AT_ONCE, read_word};
+use crate::place::{Chunk, Span};
 use crate::site::ChunkEdit;
 use crate::table_page::TablePage;
 use base::{Access, Page, PartitionId, Run};
@@ -51,32 +50,6 @@ pub(crate) fn put_words<M: TableMem>(
     });
 }
 
-/// Writes the words of a chunk's table, a page that is taken, that stand for the pages of runs, where
-/// they are not there: for the chunk's first page this word, and for each other one a step more.
-pub(crate) fn put_runs<M: TableMem>(
-    memory: &mut M,
-    table: TablePage,
-    edit: &ChunkEdit,
-    word: u64,
-    step: u64,
-)
-    requires page_in { table < page_count (M.state memory.old).memory.quotas }
-    requires taken { taken_of (M.state memory.old).memory.taken table ≡ true }
-    requires in_range { word + step * 512 < 2 ^ 64 }
-    requires room { words_in (512 * edit.now.chunk) edit.now.runs.now ≤ M.room memory.old }
-    ensures state { M.state memory.new
-        ≡ after_runs table (512 * edit.now.chunk) word step edit.now.runs.now (M.state memory.old) }
-    ensures room { M.room memory.old ≤ M.room memory.new + words_in (512 * edit.now.chunk) edit.now.runs.now }
-{
-    let words = TableWords {
-        page: table.number(),
-        start: edit.chunk.first().number(),
-        word,
-        step,
-    };
-    memory.set_runs(words, edit.runs);
-}
-
 /// Writes 0 into each word of a page that is taken that is not 0, upward.
 pub(crate) fn clear_words<M: TableMem>(memory: &mut M, table: TablePage)
     requires page_in { table < page_count (M.state memory.old).memory.quotas }
@@ -107,6 +80,19 @@ pub(crate) fn step_of(access: &Option<Access>) -> u64
     ensures { result ≡ step_for access.now }
 {
     if access.is_some() { 1 << 12 } else { 0 }
+}
+
+/// The words of a chunk's table, where all its pages have this answer.
+fn chunk_words(third: TablePage, chunk: Chunk, answer: &Option<Access>) -> TableWords
+    ensures { AreWordsOf third chunk answer.now result }
+{
+    let first = chunk.first();
+    TableWords {
+        page: third.number(),
+        start: first.number(),
+        word: word_of(first, answer),
+        step: step_of(answer),
+    }
 }
 
 /// Writes the words for pages of a chunk that follow one another, counted from its first, into a
@@ -146,8 +132,8 @@ pub(crate) fn write_runs<M: TableMem>(memory: &mut M, third: TablePage, edit: &C
         (M.state memory.old) (M.state memory.new) }
     ensures room { M.room memory.old ≤ M.room memory.new + pages_in edit.now.runs.now edit.now.chunk }
 {
-    let word = word_of(edit.chunk.first(), &edit.access);
-    put_runs(memory, third, edit, word, step_of(&edit.access));
+    let words = chunk_words(third, edit.chunk, &edit.access);
+    memory.set_runs(words, edit.runs);
 }
 
 /// What pages answer that the runs have, or that they have not.
@@ -240,86 +226,8 @@ pub(crate) fn empty_table<M: TableMem>(memory: &mut M, third: TablePage, edit: &
     }
 }
 
-/// Whether the words of 64 pages of a chunk that follow one another, from this one on, are those of
-/// pages with this answer.
-fn are_words<M: TableMem>(
-    memory: &M,
-    third: TablePage,
-    chunk: Chunk,
-    first: u32,
-    answer: &Option<Access>,
-) -> bool
-    requires page_in { third < page_count (M.state memory.now).memory.quotas }
-    requires most { first + 64 ≤ 512 }
-    ensures { result ≡ true → (x : ℕ) → first ≤ x → x < first + 64
-        → IsWordFor (512 * chunk + x) answer.now (word_in (M.state memory.now) third x) }
-{
-    let step = step_of(answer);
-    let mut word = word_of(chunk.page(first), answer);
-    let mut are = true;
-    for index in first..first + AT_ONCE {
-        are &= read_word(memory, third, index) == word;
-        word += step;
-    }
-    are
-}
-
-/// Up to where the words of some pages of a chunk, counted from its first, are those of pages with
-/// this answer, as far as many words at once tell it.
-fn alike_until<M: TableMem>(
-    memory: &M,
-    third: TablePage,
-    chunk: Chunk,
-    pages: Span,
-    answer: &Option<Access>,
-) -> u32
-    requires page_in { third < page_count (M.state memory.now).memory.quotas }
-    requires most { pages.end ≤ 512 }
-    ensures from { pages.first ≤ result }
-    ensures alike { (x : ℕ) → pages.first ≤ x → x < result
-        → IsWordFor (512 * chunk + x) answer.now (word_in (M.state memory.now) third x) }
-{
-    let mut first = pages.first;
-    while first < pages.end && pages.end - first >= AT_ONCE {
-        if !are_words(memory, third, chunk, first, answer) {
-            return first;
-        }
-        first += AT_ONCE;
-    }
-    first
-}
-
-/// Whether the words of pages of a chunk, counted from its first, are those of pages with this answer.
-pub(crate) fn are_all_words<M: TableMem>(
-    memory: &M,
-    third: TablePage,
-    chunk: Chunk,
-    pages: Span,
-    answer: &Option<Access>,
-) -> bool
-    requires page_in { third < page_count (M.state memory.now).memory.quotas }
-    requires most { pages.end ≤ 512 }
-    ensures yes { result ≡ true → (x : ℕ) → pages.first ≤ x → x < pages.end
-        → IsWordFor (512 * chunk + x) answer.now (word_in (M.state memory.now) third x) }
-    ensures no { result ≡ false
-        → IsOther third chunk pages.first pages.end answer.now (M.state memory.now) }
-{
-    for index in alike_until(memory, third, chunk, pages, answer)..pages.end {
-        if read_word(memory, third, index) != word_of(chunk.page(index), answer) {
-            return false;
-        }
-    }
-    true
-}
-
-/// The index of a page in a chunk: 0 for those before it, and 512 for those behind it.
-fn index_in(chunk: Chunk, page: u32) -> u32
-    ensures { result ≡ min (page - 512 * chunk) 512 }
-{
-    page.saturating_sub(chunk.first().number()).min(512)
-}
-
-/// Writes the words for the pages of a chunk beside runs, upward, where they are not there.
+/// Writes the words for the pages of a chunk beside runs, upward. None of them is there: they are valid exactly where
+/// these are not.
 fn write_gaps<M: TableMem>(
     memory: &mut M,
     third: TablePage,
@@ -328,6 +236,7 @@ fn write_gaps<M: TableMem>(
 )
     requires page_in { third < page_count (M.state memory.old).memory.quotas }
     requires taken { taken_of (M.state memory.old).memory.taken third ≡ true }
+    requires turned { AreTurned third edit.now answer.now (M.state memory.old) }
     requires room { 512 ≤ M.room memory.old + pages_in edit.now.runs.now edit.now.chunk }
     ensures writes { WritesPlan third edit.now.chunk (gaps edit.now.runs.now answer.now)
         (M.state memory.old) (M.state memory.new) }
@@ -335,16 +244,8 @@ fn write_gaps<M: TableMem>(
         (M.state memory.old) (M.state memory.new) }
     ensures room { M.room memory.old + pages_in edit.now.runs.now edit.now.chunk ≤ M.room memory.new + 512 }
 {
-    let chunk = edit.chunk;
-    let mut first = 0;
-    for run in edit.runs {
-        let start = index_in(chunk, run.first().number());
-        if first < start {
-            write_pages(memory, third, chunk, Span { first, end: start }, *answer);
-        }
-        first = first.max(index_in(chunk, run.end()));
-    }
-    write_pages(memory, third, chunk, Span { first, end: 512 }, *answer);
+    let words = chunk_words(third, edit.chunk, answer);
+    memory.set_gaps(words, edit.runs);
 }
 
 /// Fills a table whose words are all 0, as those of the runs' pages are to stay: the words beside them
@@ -358,6 +259,7 @@ pub(crate) fn fill_gaps<M: TableMem>(
     requires page_in { third < page_count (M.state memory.old).memory.quotas }
     requires taken { taken_of (M.state memory.old).memory.taken third ≡ true }
     requires empty { IsEmpty third (M.state memory.old) }
+    requires some { is_some other.now ≡ true }
     requires room { 512 ≤ M.room memory.old + pages_in edit.now.runs.now edit.now.chunk }
     ensures writes { WritesPlan third edit.now.chunk (planned edit.now.runs.now None (Some other.now))
         (M.state memory.old) (M.state memory.new) }
@@ -371,52 +273,22 @@ pub(crate) fn fill_gaps<M: TableMem>(
 /// Whether the word of some page of a chunk beside runs is not that of a page that is reached as theirs are after an edit.
 pub(crate) fn has_stray<M: TableMem>(memory: &M, third: TablePage, edit: &ChunkEdit) -> bool
     requires page_in { third < page_count (M.state memory.now).memory.quotas }
+    requires taken { taken_of (M.state memory.now).memory.taken third ≡ true }
     ensures yes { result ≡ true → IsStray third edit.now (M.state memory.now) }
     ensures no { result ≡ false → OthersAnswer third edit.now.chunk edit.now.runs.now edit.now.access
         (M.state memory.now) }
 {
-    let chunk = edit.chunk;
-    let mut first = 0;
-    for run in edit.runs {
-        let end = index_in(chunk, run.first().number());
-        if !are_all_words(memory, third, chunk, Span { first, end }, &edit.access) {
-            return true;
-        }
-        first = first.max(index_in(chunk, run.end()));
-    }
-    !are_all_words(memory, third, chunk, Span { first, end: 512 }, &edit.access)
-}
-
-/// Whether no word of a run's pages in a chunk is 0.
-fn is_mapped<M: TableMem>(memory: &M, third: TablePage, chunk: Chunk, run: Run) -> bool
-    requires { third < page_count (M.state memory.now).memory.quotas }
-    ensures { result ≡ true → (i : ℕ) → i < 512 → in_run run (512 * chunk + i) ≡ true
-        → word_in (M.state memory.now) third i ≢ 0 }
-{
-    let Some(part) = part_in(run, chunk) else {
-        return true;
-    };
-    let first = page_index(part.first());
-    for index in first..first + part.count() {
-        if read_word(memory, third, index) == 0 {
-            return false;
-        }
-    }
-    true
+    !memory.has_gaps(chunk_words(third, edit.chunk, &edit.access), edit.runs)
 }
 
 /// Whether no word of the runs' pages in a chunk is 0.
 pub(crate) fn are_all_mapped<M: TableMem>(memory: &M, edit: &ChunkEdit, third: TablePage) -> bool
-    requires { third < page_count (M.state memory.now).memory.quotas }
+    requires page_in { third < page_count (M.state memory.now).memory.quotas }
+    requires taken { taken_of (M.state memory.now).memory.taken third ≡ true }
     ensures { result ≡ true → (i : ℕ) → i < 512 → covers edit.now.runs.now (512 * edit.now.chunk + i) ≡ true
         → word_in (M.state memory.now) third i ≢ 0 }
 {
-    for run in edit.runs {
-        if !is_mapped(memory, third, edit.chunk, *run) {
-            return false;
-        }
-    }
-    true
+    memory.has_all(third.number(), edit.chunk.first().number(), edit.runs)
 }
 
 /// Invalidates the runs' parts in a chunk.

@@ -3,6 +3,7 @@
 ghost use Rattle.base.specs.Access.{View};
 ghost use Rattle.base.specs.Manifest.{page_count};
 ghost use Rattle.base.specs.Need as needs;
+ghost use Rattle.pool.specs.Pool.{taken_of};
 ghost use Rattle.stage2.specs.inner.Chunks.{IsOutcome, block_answer};
 ghost use Rattle.stage2.specs.Edits.{edited};
 ghost use Rattle.stage2.specs.inner.Clauses.{IsSpelled, IsStray, LeavesNone, read_after, tells};
@@ -55,6 +56,7 @@ fn is_told_mixed<M: TableMem>(memory: &M, edit: &ChunkEdit, third: TablePage) ->
 /// looked at, as long as they are no more than those beside them.
 fn is_emptied<M: TableMem>(memory: &M, edit: &ChunkEdit, third: TablePage) -> bool
     requires table { third < page_count (M.state memory.now).memory.quotas }
+    requires taken { taken_of (M.state memory.now).memory.taken third ≡ true }
     ensures { result ≡ true
         → (edit.now.access ≡ None) × (LeavesNone third edit.now (M.state memory.now)) }
 {
@@ -70,6 +72,7 @@ fn is_emptied<M: TableMem>(memory: &M, edit: &ChunkEdit, third: TablePage) -> bo
 /// it open, words are looked at: those of the runs, or those beside them.
 pub(crate) fn is_alike_in_table<M: TableMem>(memory: &M, edit: &ChunkEdit, third: TablePage) -> bool
     requires table { third < page_count (M.state memory.now).memory.quotas }
+    requires taken { taken_of (M.state memory.now).memory.taken third ≡ true }
     requires spelled { IsSpelled edit.now third (M.state memory.now) }
     ensures { IsOutcome edit.now.chunk (read_after edit.now (Next third) (M.state memory.now))
         (tells result edit.now.access) }
@@ -84,6 +87,8 @@ pub(crate) fn is_alike_in_table<M: TableMem>(memory: &M, edit: &ChunkEdit, third
 pub(crate) fn becomes_alike<M: TableMem>(memory: &M, edit: &ChunkEdit, entry: &Slot) -> bool
     requires table { (k : ℕ) → entry.now ≡ Next k
         → k < page_count (M.state memory.now).memory.quotas }
+    requires taken { (k : ℕ) → entry.now ≡ Next k
+        → taken_of (M.state memory.now).memory.taken k ≡ true }
     requires spelled { (k : ℕ) → entry.now ≡ Next k
         → IsSpelled edit.now k (M.state memory.now) }
     ensures { IsOutcome edit.now.chunk (read_after edit.now entry.now (M.state memory.now))

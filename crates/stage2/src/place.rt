@@ -212,18 +212,3 @@ pub(crate) fn whole_chunks(page: u32) -> u32
 {
     page / WORDS
 }
-
-/// The first chunk that a run touches.
-pub(crate) fn first_chunk(run: Run) -> Chunk
-    ensures { result ≡ run.first / 512 }
-{
-    Chunk::of(run.first())
-}
-
-/// The number after that of the last chunk that a run touches.
-pub(crate) fn end_chunk(run: Run) -> u32
-    ensures same { result ≡ (run.first + run.count + 511) / 512 }
-    ensures in_range { IsRun run }
-{
-    (run.end() + (WORDS - 1)) / WORDS
-}

@@ -4,26 +4,26 @@ ghost use Rattle.base.specs.Access.{View};
 ghost use Rattle.base.specs.Manifest.{page_count};
 ghost use Rattle.base.specs.Need.{is_mixed, grow};
 ghost use Rattle.base.specs.Pages.{PageRun, are_normal};
-ghost use Rattle.pool.specs.Pool.{pages_of};
+ghost use Rattle.pool.specs.Pool.{pages_of, taken_of};
 ghost use Rattle.stage2.specs.inner.Chunks.{block_answer, covers_chunk};
 ghost use Rattle.stage2.specs.Edits.{edited};
 ghost use Rattle.stage2.specs.inner.Clauses as clauses;
 ghost use Rattle.stage2.specs.inner.Clauses.{IsSpelled, read_before, read_after, view_in, second_in, entry_read, chunks_growth, words_left};
 ghost use Rattle.stage2.specs.inner.Gigabytes.{grows_at, gigabyte_growth, Touches};
 ghost use Rattle.stage2.specs.Orderly.{IsCanonical};
-ghost use Rattle.stage2.specs.Parts.{runs_past, operations_for};
+ghost use Rattle.stage2.specs.Parts.{runs_past};
 ghost use Rattle.stage2.specs.Room.{pages_in, reached_in, table_operations, chunk_operations, chunks_operations, gigabyte_operations, row_operations};
 ghost use Rattle.stage2.specs.Slot.{Layout};
 ghost use Rattle.stage2.specs.Walk.{next_page};
 ghost use Rattle.stage2.specs.declared.walked.Slot.TheVariants.{Next};
-ghost use Rattle.std.specs.Prelude.{◌≡◌, ℕ, ◌+◌, ◌*◌, ◌/◌, ◌%◌, ◌^◌, ◌<◌, ◌≤◌, ◌&&◌, true, Some, None, not, List, length, is_some, if◌then◌else◌};
+ghost use Rattle.std.specs.Prelude.{◌≡◌, ℕ, ◌+◌, ◌-◌, ◌*◌, ◌/◌, ◌%◌, ◌^◌, ◌<◌, ◌≤◌, ◌&&◌, true, Some, None, not, List, length, is_some, if◌then◌else◌};
 
 use crate::layout::Layout;
 use crate::level1::{find_table, touches};
 use crate::level2::{block_of, plain_until, table_of};
 use crate::outcome::{is_alike_in_block, is_alike_in_table};
 use crate::parts::{bounds, chunk_span, first_unfilled, gigabyte_runs, gigabyte_span, runs_past};
-use crate::place::{Chunk, Gigabyte, Span, end_chunk, first_chunk};
+use crate::place::{Chunk, Gigabyte, Span};
 use crate::read::read_chunk;
 use crate::site::{ChunkEdit, RowPlan};
 use crate::table_page::{Row, TablePage};
@@ -153,6 +153,7 @@ fn operations_gone<M: TableMem>(memory: &M, edit: &ChunkEdit, third: TablePage) 
 /// whether the table stays.
 fn plan_table<M: TableMem>(memory: &M, edit: &ChunkEdit, third: TablePage) -> Plan
     requires table { third < page_count (M.state memory.now).memory.quotas }
+    requires taken { taken_of (M.state memory.now).memory.taken third ≡ true }
     requires spelled { IsSpelled edit.now third (M.state memory.now) }
     requires mixed { is_mixed (read_before edit.now (Next third) (M.state memory.now)) edit.now.chunk
         ≡ true }
@@ -181,6 +182,8 @@ fn plan_table<M: TableMem>(memory: &M, edit: &ChunkEdit, third: TablePage) -> Pl
 fn plan_chunk<M: TableMem>(memory: &M, edit: &ChunkEdit, entry: &Slot) -> Plan
     requires table { (k : ℕ) → entry.now ≡ Next k
         → k < page_count (M.state memory.now).memory.quotas }
+    requires taken { (k : ℕ) → entry.now ≡ Next k
+        → taken_of (M.state memory.now).memory.taken k ≡ true }
     requires spelled { (k : ℕ) → entry.now ≡ Next k
         → IsSpelled edit.now k (M.state memory.now) }
     requires mixed { is_mixed (read_before edit.now entry.now (M.state memory.now)) edit.now.chunk
@@ -349,7 +352,7 @@ pub(crate) fn plan_row<M: TableMem>(memory: &M, edit: &RowPlan) -> Plan
     for number in span.first..span.end {
         let gigabyte = Gigabyte::new(number);
         let part = gigabyte_runs(edit.runs, gigabyte);
-        if touches(edit.runs, part, gigabyte) {
+        if touches(part) {
             let here = RowPlan {
                 runs: part,
                 ..*edit
@@ -362,6 +365,14 @@ pub(crate) fn plan_row<M: TableMem>(memory: &M, edit: &RowPlan) -> Plan
     plan
 }
 
+/// How many chunks there are from the first that the runs touch to the last.
+fn chunks_between(pages: Span) -> u32
+    requires { pages.end ≤ 2 ^ 27 }
+    ensures { result ≡ (pages.end + 511) / 512 - pages.first / 512 }
+{
+    ((pages.end + 511) / 512).saturating_sub(pages.first / 512)
+}
+
 /// How many table pages an edit of the pages of these runs takes at most: one for each chunk and each
 /// gigabyte from the first that they touch to the last. It reads no table.
 pub fn most_growth(runs: &[Run]) -> u32
@@ -371,23 +382,16 @@ pub fn most_growth(runs: &[Run]) -> u32
 {
     let pages = bounds(runs);
     let gigabytes = (pages.end + 262_143) / 512 / 512 - pages.first / 512 / 512;
-    let chunks = (pages.end + 511) / 512 - pages.first / 512;
-    gigabytes + chunks
+    gigabytes + chunks_between(pages)
 }
 
-/// The operations that an edit of the runs makes at most, whatever the tables are. A chunk that several runs touch has one table.
-pub(crate) fn operations(runs: &[Run]) -> usize
+/// How many operations an edit of the runs makes at most, whatever the tables are: 518 for each chunk from the first
+/// that they touch to the last. It looks at no run between.
+pub(crate) fn most_operations(runs: &[Run]) -> usize
     requires normal { are_normal runs.now ≡ true }
-    ensures same { result ≡ operations_for runs.now }
-    ensures most { result ≤ 518 * 2 ^ 27 }
-    ensures few { length runs.now ≤ 2 ^ 27 }
+    ensures bound { (before : ℕ → View) (access : View)
+        → row_operations runs.now access before ≤ result }
+    ensures most { result ≤ 518 * 2 ^ 18 }
 {
-    let mut touched = 0;
-    let mut next = 0;
-    for run in runs {
-        let (first, end) = (first_chunk(*run).number(), end_chunk(*run));
-        touched += end.saturating_sub(first.max(next));
-        next = end.max(next);
-    }
-    518 * touched as usize
+    518 * chunks_between(bounds(runs)) as usize
 }

@@ -18,6 +18,7 @@ use Rattle.stage2.proofs.Tree.WalkFrame.{walk-gigabyte}
 use Rattle.stage2.specs.Room.{chunk_operations}
 use Rattle.stage2.proofs.Counting.Operations.{plain}
 use Rattle.stage2.proofs.Counting.Needs.{filled-touches, outcome-filled, mixed-same, mixed-none, reached-same, reached-none, reached-some}
+use Rattle.stage2.proofs.Editing.FourChunkEdits.{third-taken}
 use Rattle.stage2.proofs.Editing.Spelled.{spelled-words}
 use Rattle.stage2.proofs.Editing.Gigabyte.{linked-same}
 use Rattle.stage2.proofs.Editing.RootLinks.{untabled}
@@ -97,6 +98,18 @@ module _ (layout : Layout) (m : Pages) (canonical : IsCanonical layout m) (g : �
       let table = plain runs access v c access was (outcome-filled runs access v c filled) in
       ap₂ (λ t k. cond t (3 + k) 0) (filled-touches runs c filled) table
 
+  -- where it stands
+  site-at : (row : ℕ) → row < length layout.ids → (j i : ℕ) → i < 512 → table_at layout m.words (Gigabyte row g) ≡ Some j → IsSite layout row (512 * g + i) j m
+  site-at row here j i lt e =
+      let q : (512 * g + i) / 512 ≡ g = omega (arith, lt) in
+      let same : linked layout row g j m ≡ m = linked-same layout row g j m canonical here below e in
+      record {
+        orderly = subst (λ k. IsOrderly layout (linked layout row k j m)) (sym q) (subst (λ (x : Pages). IsOrderly layout x) (sym same) canonical.orderly);
+        partition = here;
+        chunk = omega (arith, lt, below);
+        second = subst (λ k. table_at layout (linked layout row k j m).words (Gigabyte row k) ≡ Some j) (sym q) (subst (λ (x : Pages). table_at layout x.words (Gigabyte row g) ≡ Some j) (sym same) e);
+      }
+
   -- and each word of it is the one for its page's answer
   pub view-spelled : (row : Option ℕ) → ((r : ℕ) → row ≡ Some r → r < length layout.ids) → (second : Option ℕ) (i : ℕ) → i < 512 → second_of layout m.words row g ≡ second
       → (k : ℕ) → entry_in layout m.words second i ≡ Next k → (n : ℕ) → n / 512 ≡ 512 * g + i → IsWordFor n (answers_at layout m.words (Next k) n) (m.words k (n % 512))
@@ -104,17 +117,18 @@ module _ (layout : Layout) (m : Pages) (canonical : IsCanonical layout m) (g : �
   view-spelled None inside None i lt e k next n at = absurd (cc)
   view-spelled (Some row) inside None i lt e k next n at = absurd (cc)
   view-spelled (Some row) inside (Some j) i lt e k next n at =
-      let here = inside row refl in
-      let q : (512 * g + i) / 512 ≡ g = omega (arith, lt) in
       let r : (512 * g + i) % 512 ≡ i = omega (arith, lt) in
-      let same : linked layout row g j m ≡ m = linked-same layout row g j m canonical here below e in
-      let site : IsSite layout row (512 * g + i) j m = record {
-        orderly = subst (λ k. IsOrderly layout (linked layout row k j m)) (sym q) (subst (λ (x : Pages). IsOrderly layout x) (sym same) canonical.orderly);
-        partition = here;
-        chunk = omega (arith, lt, below);
-        second = subst (λ k. table_at layout (linked layout row k j m).words (Gigabyte row k) ≡ Some j) (sym q) (subst (λ (x : Pages). table_at layout x.words (Gigabyte row g) ≡ Some j) (sym same) e);
-      } in
-      spelled-words layout row (512 * g + i) j m site k (ap (λ x. slot layout 2 (m.words j x)) r ∙ next) n at
+      spelled-words layout row (512 * g + i) j m (site-at row (inside row refl) j i lt e) k (ap (λ x. slot layout 2 (m.words j x)) r ∙ next) n at
+
+  -- which is taken
+  pub view-taken : (row : Option ℕ) → ((r : ℕ) → row ≡ Some r → r < length layout.ids) → (second : Option ℕ) (i : ℕ) → i < 512 → second_of layout m.words row g ≡ second
+      → (k : ℕ) → entry_in layout m.words second i ≡ Next k → m.taken k ≡ true
+  view-taken None inside (Some j) i lt e k next = absurd (cc)
+  view-taken None inside None i lt e k next = absurd (cc)
+  view-taken (Some row) inside None i lt e k next = absurd (cc)
+  view-taken (Some row) inside (Some j) i lt e k next =
+      let r : (512 * g + i) % 512 ≡ i = omega (arith, lt) in
+      third-taken layout row (512 * g + i) j m (site-at row (inside row refl) j i lt e) k (ap (λ x. slot layout 2 (m.words j x)) r ∙ next)
 
   reached-second : (row : Option ℕ) → ((r : ℕ) → row ≡ Some r → r < length layout.ids) → is_some (second_of layout m.words row g) ≡ is_reached (answers_of layout m.words row) g
   reached-second None inside = let nothing : ℕ → View = answers_of layout m.words None in sym (reached-none nothing g (λ i small. refl))

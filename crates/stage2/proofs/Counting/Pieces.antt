@@ -11,7 +11,8 @@ use Rattle.pool.proofs.RunWords.{words_in-left}
 use Rattle.stage2.specs.inner.Clauses.{is_between}
 use Rattle.stage2.specs.Room.{pages_among, pages_in}
 use Rattle.stage2.specs.Parts.{end_from, part_in}
-use Rattle.stage2.proofs.Runs.Parts.{part-some, part-none, covers-take, take-all}
+use Rattle.pool.proofs.FirstRuns.{covers-take, take-all}
+use Rattle.stage2.proofs.Runs.Parts.{part-some, part-none}
 use Rattle.stage2.proofs.Runs.Between.{before-first}
 use Rattle.stage2.proofs.Runs.Normal.{end_of, from-rise, normal-next, normal-take, normal-drop}
 

@@ -1,19 +1,19 @@
 -- The words for the pages of runs in a table, written at once.
-use Rattle.std.proofs.Common.{◌≡◌, ℕ, ◌+◌, ◌-◌, ◌*◌, ◌<◌, ◌≤◌, ltb, true, false, List, [], ◌∷◌, Option, Some, None, refl, subst, ◌∙◌, arith}
-use Rattle.std.proofs.lemmas.Bool.{and_parts, ltb-true}
+use Rattle.std.proofs.Common.{◌≡◌, ℕ, ◌+◌, ◌-◌, ◌*◌, ◌<◌, ◌≤◌, leb, true, false, List, [], ◌∷◌, Option, Some, None, refl, subst, ◌∙◌, arith}
+use Rattle.std.proofs.lemmas.Bool.{and_parts}
 use Rattle.std.proofs.lemmas.Bool.Decides.{nat_tests}
 use Rattle.base.specs.Access.{View}
 use Rattle.base.specs.Manifest.{page_count}
-use Rattle.base.specs.Pages.{PageRun, in_run, covers, rise_above, are_normal}
+use Rattle.base.specs.Pages.{PageRun, in_run, covers, rise}
 use Rattle.pool.specs.Pool.{Pool, IsWhole, pages_of, index_from, after_run, after_runs}
 use Rattle.pool.proofs.Stretches.{length-words_set}
+use Rattle.pool.proofs.Gaps.{before-rise}
 use Rattle.pool.proofs.RunWords.{after_runs-none, after_runs-next}
 use Rattle.stage2.specs.inner.Chunks.{planned, below, Writes, IsWordFor}
 use Rattle.stage2.specs.inner.History.{Filled}
 use Rattle.stage2.proofs.Editing.Level3Words.{writes-none, writes-pass, writes-all}
 use Rattle.stage2.proofs.Editing.PlannedWords.{writes-join, filled-join}
 use Rattle.stage2.proofs.Editing.Stretches.{writes-stretch, filled-stretch}
-use Rattle.stage2.proofs.Runs.Between.{before-all}
 use Rattle.stage2.proofs.Walkers.Histories.{filled-none, filled-wider}
 
 -- ---- where a run lies in a chunk
@@ -47,7 +47,7 @@ module _ (k c word step : ℕ) (answer : View) (is : (x : ℕ) → x < 512 → I
   -- ---- one run more
 
   module _ (plan : ℕ → Option View) (run : PageRun) (rest : List PageRun) (i : ℕ) (a s : Pool) (whole : IsWhole s.memory) (inside : k < page_count s.memory.quotas)
-      (from : i ≤ index_from (512 * c) run.first) (rises : rise_above (run.first + run.count) rest ≡ true) (left : IsLeft plan (run ∷ rest) i) (so : AreWritten plan i a s) where
+      (from : i ≤ index_from (512 * c) run.first) (rises : rise (run.first + run.count) rest ≡ true) (left : IsLeft plan (run ∷ rest) i) (so : AreWritten plan i a s) where
     abbrev first : ℕ
     first = index_from (512 * c) run.first
 
@@ -65,7 +65,7 @@ module _ (k c word step : ℕ) (answer : View) (is : (x : ℕ) → x < 512 → I
         let small : x < 512 = omega arith in
         let early = run-before c x run small lt in
         let out : in_run run (512 * c + x) ≡ false = grind (arith, nat_tests, early) in
-        let none : covers rest (512 * c + x) ≡ false = before-all (run.first + run.count) rest (512 * c + x) rises (omega (arith, early)) in
+        let none : covers rest (512 * c + x) ≡ false = before-rise rest (run.first + run.count) (512 * c + x) rises (omega (arith, early)) in
         left x least small ∙ rw (out, none) refl
 
     some-there : (x : ℕ) → first ≤ x → x < end → plan (512 * c + x) ≡ Some answer
@@ -111,13 +111,14 @@ module _ (k c word step : ℕ) (answer : View) (is : (x : ℕ) → x < 512 → I
   none-left plan i a s most left so =
       (writes-all k c i plan (pages_of a.memory) (pages_of s.memory) (λ x small from. left x from small) so.0, filled-wider k c i 512 plan a s most so.1)
 
-  rest-written : (plan : ℕ → Option View) (rest : List PageRun) (end : ℕ) (a s : Pool) → IsWhole s.memory → k < page_count s.memory.quotas → rise_above end rest ≡ true
+  rest-written : (plan : ℕ → Option View) (rest : List PageRun) (end : ℕ) (a s : Pool) → IsWhole s.memory → k < page_count s.memory.quotas → rise end rest ≡ true
       → IsLeft plan rest (index_from (512 * c) end) → AreWritten plan (index_from (512 * c) end) a s → IsDone plan a (after_runs k (512 * c) word step rest s)
   rest-written plan [] end a s whole inside rises left so =
       rw (after_runs-none k (512 * c) word step s) (none-left plan (index_from (512 * c) end) a s (omega arith) left so)
   rest-written plan (run ∷ rest) end a s whole inside rises left so =
-      let both = and_parts (ltb end run.first) (rise_above (run.first + run.count) rest) rises in
-      let above = ltb-true _ _ both.0 in
+      let both = and_parts (leb end run.first) (rise (run.first + run.count) rest) rises in
+      let test = both.0 in
+      let above : end ≤ run.first = grind (arith, nat_tests, test) in
       let from : index_from (512 * c) end ≤ index_from (512 * c) run.first = omega (arith, above) in
       rw (after_runs-next k (512 * c) word step run rest s)
       (rest-written plan rest (run.first + run.count) a (after_run k (512 * c) word step run s)
@@ -128,18 +129,9 @@ module _ (k c word step : ℕ) (answer : View) (is : (x : ℕ) → x < 512 → I
   start-written : (plan : ℕ → Option View) (s : Pool) → AreWritten plan 0 s s
   start-written plan s = (writes-none k c 0 plan (pages_of s.memory) (λ x lt. absurd (omega (arith, lt))), filled-none k c 0 plan s)
 
-  pub runs-written : (runs : List PageRun) (s : Pool) → IsWhole s.memory → k < page_count s.memory.quotas → are_normal runs ≡ true
+  pub runs-written : (runs : List PageRun) (s : Pool) → IsWhole s.memory → k < page_count s.memory.quotas → rise 0 runs ≡ true
       → IsDone (planned runs answer None) s (after_runs k (512 * c) word step runs s)
-  runs-written [] s whole inside normal =
-      let plan = plan_of [] answer in
-      rw (after_runs-none k (512 * c) word step s) (none-left plan 0 s s (omega arith) (λ x from small. refl) (start-written plan s))
-  runs-written (run ∷ rest) s whole inside normal =
-      let plan = plan_of (run ∷ rest) answer in
-      let left : IsLeft plan (run ∷ rest) 0 = λ x from small. refl in
-      let so = start-written plan s in
-      let from : 0 ≤ index_from (512 * c) run.first = omega arith in
-      rw (after_runs-next k (512 * c) word step run rest s)
-      (rest-written plan rest (run.first + run.count) s (after_run k (512 * c) word step run s)
-      (whole-more plan run rest 0 s s whole inside from normal left so) inside normal
-      (left-more plan run rest 0 s s whole inside from normal left so)
-      (written-more plan run rest 0 s s whole inside from normal left so))
+  runs-written runs s whole inside rises =
+      let plan = plan_of runs answer in
+      let none : 0 ≡ index_from (512 * c) 0 = omega arith in
+      rest-written plan runs 0 s s whole inside rises (λ x from small. refl) (subst (λ i. AreWritten plan i s s) none (start-written plan s))

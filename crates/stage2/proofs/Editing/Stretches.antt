@@ -1,5 +1,5 @@
 -- Words of a table that follow one another and are written at once.
-use Rattle.std.proofs.Common.{◌≡◌, ℕ, zero, suc, ◌+◌, ◌-◌, ◌*◌, ◌^◌, ◌<◌, ◌≤◌, ◌==◌, Bool, true, false, List, length, slice_index, Some, None, refl, sym, ap, subst, ◌∙◌, arith, inl, inr}
+use Rattle.std.proofs.Common.{◌≡◌, ◌≢◌, ℕ, zero, suc, ◌+◌, ◌-◌, ◌*◌, ◌^◌, ◌<◌, ◌≤◌, ◌==◌, Bool, true, false, List, length, slice_index, Some, None, refl, sym, ap, subst, ◌∙◌, arith, inl, inr}
 use Rattle.std.proofs.lemmas.Bool.{cases_eq, cases_lt}
 use Rattle.std.proofs.lemmas.Bool.Decides.{nat_tests}
 use Rattle.base.specs.Access.{Access, View}
@@ -41,6 +41,13 @@ word-further p x word a read small =
 -- the invalid word stays
 pub word-zero : (n x : ℕ) → IsWordFor n None (0 + 0 * x)
 word-zero n x = let zero : 0 + 0 * x ≡ 0 = omega arith in rw zero record { entry = entry-zero 3; zero = λ none. refl }
+
+-- a valid one is another
+pub word-some : (n : ℕ) (answer : View) (w : ℕ) → answer ≢ None → IsWordFor n answer w → w ≢ 0
+word-some n None w some is = absurd (some refl)
+word-some n (Some a) w some is = λ zero.
+    let entry : entry_of 3 0 ≡ entry_for n (Some a) = (rw zero at is.entry) in
+    let bad = sym (entry-zero 3) ∙ entry in cc
 
 -- the words of a stretch are in range
 pub stretch-small : (p word n : ℕ) (answer : View) → p < 2 ^ 27 → n ≤ 512 → entry_of 3 word ≡ entry_for p answer → (answer ≡ None → word ≡ 0) → word + step_for answer * n < 2 ^ 64

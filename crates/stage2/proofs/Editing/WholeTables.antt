@@ -6,7 +6,7 @@ use Rattle.std.proofs.lemmas.Bool.Decides.{nat_tests}
 use Rattle.base.specs.Access.{Access, View}
 use Rattle.base.specs.Manifest.{row_of}
 use Rattle.base.specs.Need.{is_mixed, is_reached, need, grow}
-use Rattle.base.specs.Pages.{PageRun, in_run, covers, are_normal}
+use Rattle.base.specs.Pages.{PageRun, in_run, covers}
 use Rattle.pool.specs.declared.operation.Op.TheVariants.{Clear}
 use Rattle.pool.specs.Pool.{Pool, Pages, pages_of, words_of, taken_of, used_by, row_quota, free_of, after_clear, all_lie_in}
 use Rattle.pool.proofs.Count.{count_below-same, count_below-none, count_below-some}
@@ -18,9 +18,7 @@ use Rattle.stage2.specs.inner.Chunks.{answers_of}
 use Rattle.stage2.specs.inner.Gigabytes.{EditsRow, FitsRow}
 use Rattle.stage2.specs.Moments.{cleared_by, StaysInStep}
 use Rattle.stage2.specs.Orderly.{IsOrderly, IsCanonical, answers, answer_of}
-use Rattle.stage2.specs.Parts.{operations_for}
 use Rattle.stage2.specs.Room.{row_operations}
-use Rattle.stage2.proofs.Runs.ChunkCounts.{row-operations}
 use Rattle.stage2.specs.Slot.{Layout}
 use Rattle.stage2.specs.Tables.{TablesView, walk_in, view_of, has_root, AreCanonical, Fits, edit_operations, ReachSo, ShowsMoments, ClearsNothing, EditsInStep, ClearsInStep}
 use Rattle.stage2.specs.Walk.{walk, walk_across, walked}
@@ -298,11 +296,10 @@ room-found t p runs access (Some row) e =
       | inr none ↦ rw none (omega arith)
     ]
 
--- and at most what the runs alone tell
-pub room-most : (t : TablesView) (p : ℕ) (runs : List PageRun) (access : View) → are_normal runs ≡ true → edit_operations p runs access t ≤ operations_for runs
-room-most t p runs access normal =
-    let most = row-operations runs access (view_of t p) normal in
+-- and at most what an edit of the view makes
+pub room-most : (t : TablesView) (p : ℕ) (runs : List PageRun) (access : View) (most : ℕ) → row_operations runs access (view_of t p) ≤ most → edit_operations p runs access t ≤ most
+room-most t p runs access most so =
     elim (cases_Bool (has_root t p)) [
-      | inl root ↦ rw root most
+      | inl root ↦ rw root so
       | inr none ↦ rw none (omega arith)
     ]

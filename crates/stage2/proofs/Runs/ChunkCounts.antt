@@ -1,12 +1,12 @@
 -- How many chunks runs touch, and how many operations their edit takes at most, whatever the tables are.
-use Rattle.std.proofs.Common.{◌≡◌, ℕ, zero, suc, ◌+◌, ◌-◌, ◌*◌, ◌/◌, ◌%◌, ◌<◌, ◌≤◌, min, max, Bool, true, false, cond, is_some, ltb, List, [], ◌∷◌, refl, sym, ap, subst, ◌∙◌, arith, add-one, inl, inr}
+use Rattle.std.proofs.Common.{◌≡◌, ℕ, zero, suc, ◌+◌, ◌-◌, ◌*◌, ◌/◌, ◌%◌, ◌<◌, ◌≤◌, min, max, Bool, true, false, cond, is_some, ◌&&◌, leb, ltb, List, [], ◌∷◌, refl, sym, ap, subst, ◌∙◌, arith, add-one, inl, inr}
 use Rattle.std.specs.Option.{option_map_or}
 use Rattle.std.proofs.lemmas.Bool.{cases_Bool, cases_eq, ltb-true, and_parts}
 use Rattle.std.proofs.lemmas.Bool.Decides.{nat_tests}
 use Rattle.std.proofs.lemmas.List.Sums.{sum_by-cons}
 use Rattle.base.specs.Pages.{PageRun, covers, are_normal, rise_above}
-use Rattle.stage2.specs.Parts.{part_in, part_count, operations_for}
-use Rattle.stage2.specs.Edits.{edited, touches_chunk}
+use Rattle.stage2.specs.Parts.{part_in, part_count, lie_within}
+use Rattle.stage2.specs.Edits.{edited, touches_run, touches_chunk}
 use Rattle.stage2.specs.Room.{sum_below, pages_among, pages_in, reached_in, table_operations, chunk_operations, chunks_operations, gigabyte_operations, row_operations}
 use Rattle.stage2.specs.inner.Gigabytes.{Touches}
 use Rattle.stage2.proofs.Counting.Pieces.{pages_among-le, page-among, words-pages}
@@ -16,8 +16,7 @@ use Rattle.base.specs.Need.{is_mixed}
 use Rattle.stage2.proofs.Editing.ChunkByChunk.{sum_below-more, untouched}
 use Rattle.pool.specs.Pool.{index_from, words_in}
 use Rattle.stage2.proofs.Counting.Pieces.{words-pages}
-use Rattle.stage2.proofs.Runs.Normal.{end_of}
-use Rattle.stage2.proofs.Runs.ChunkUnion.{union}
+use Rattle.stage2.proofs.Runs.Normal.{end_of, any-within}
 use Rattle.stage2.proofs.Runs.Spans.{sum_below-none}
 use Rattle.stage2.proofs.Walkers.SteadyPages.{covered-page}
 
@@ -149,25 +148,63 @@ two : (runs : List PageRun) (c : ℕ) → min 2 (chunk_most runs c) ≤ 2 * touc
 unfolding chunk_most
 two runs c = omega arith
 
-all-most : (runs : List PageRun) → are_normal runs ≡ true → sum_below (of_gigabyte (chunk_most runs)) 512 ≤ operations_for runs
-unfolding of_gigabyte touched
-all-most runs normal =
-    let all = rows (chunk_most runs) (λ c. 2 * touched runs c) 512 (two runs) in
-    let pairs = twice runs (512 * 512) in
-    let most = sums runs (512 * 512) in
-    let together = union runs (512 * 512) normal in
-    omega (arith, all, pairs, most, together)
+-- ---- the chunks from the first that runs touch to the last
 
-pub row-operations : (runs : List PageRun) (access : View) (v : ℕ → View) → are_normal runs ≡ true → row_operations runs access v ≤ operations_for runs
-unfolding of_gigabyte
-row-operations runs access v normal =
-    let all = all-most runs normal in
-    let each = sum_below-le (gigabyte_operations runs access v) (of_gigabyte (chunk_most runs)) 512
-    (λ g. twos (chunks_operations runs access v g) (sum_below (λ y. chunk_most runs (512 * g + y)) 512) (sum_below-le (λ x. chunk_operations runs access v (512 * g + x)) (λ x. chunk_most runs (512 * g + x)) 512 (λ x. chunk-within runs access v (512 * g + x) normal))) in
-    omega (arith, all, each)
+between : ℕ → ℕ → ℕ → Bool
+between first end c = leb first c && ltb c end
+
+sum-between : (first end n : ℕ) → sum_below (λ c. cond (between first end c) 1 0) n ≤ min n end - first
+unfolding sum_below between
+sum-between first end zero = omega arith
+sum-between first end (suc n) =
+    let rest = sum-between first end n in
+    elim (cases_Bool (leb first n && ltb n end)) [
+      | inl t ↦ rw t (inside first end n (sum_below (λ c. cond (leb first c && ltb c end) 1 0) n) t rest)
+      | inr f ↦ rw f (omega (arith, rest))
+    ]
   where
-    twos : (a b : ℕ) → a ≤ b → a + min 2 a ≤ b + min 2 b
-    twos a b le = omega (arith, le)
+    inside : (first end n so : ℕ) → (leb first n && ltb n end) ≡ true → so ≤ min n end - first → 1 + so ≤ min (suc n) end - first
+    inside first end n so t rest = grind (arith, nat_tests)
+
+module _ (runs : List PageRun) (first end : ℕ) (within : lie_within first end runs ≡ true) where
+  one-between : (c : ℕ) → touched runs c ≤ cond (between (first / 512) ((end + 511) / 512) c) 1 0
+  unfolding touched between
+  one-between c = elim (cases_Bool (touches_chunk c runs)) [
+    | inr f ↦ rw f (omega arith)
+    | inl t ↦
+        let run = any-within (touches_run c) first end runs t within in
+        let is : (leb (first / 512) c && ltb c ((end + 511) / 512)) ≡ true = there run.0.first run.0.count c run.1 run.2 run.3 in
+        rw (t, is) (omega arith)
+  ]
+    where
+      there : (a n c : ℕ) → (ltb 0 n && (leb (a / 512) c && ltb c ((a + n + 511) / 512))) ≡ true → first ≤ a → a + n ≤ end → (leb (first / 512) c && ltb c ((end + 511) / 512)) ≡ true
+      there a n c t low high = grind (arith, nat_tests, t, low, high)
+
+  together : (n : ℕ) → sum_below (touched runs) n ≤ (end + 511) / 512 - first / 512
+  together n =
+      let each = sum_below-le (touched runs) (λ c. cond (between (first / 512) ((end + 511) / 512) c) 1 0) n one-between in
+      let all = sum-between (first / 512) ((end + 511) / 512) n in
+      omega (arith, each, all)
+
+  all-most : sum_below (of_gigabyte (chunk_most runs)) 512 ≤ 518 * ((end + 511) / 512 - first / 512)
+  unfolding of_gigabyte
+  all-most =
+      let all = rows (chunk_most runs) (λ c. 2 * touched runs c) 512 (two runs) in
+      let pairs = twice runs (512 * 512) in
+      let most = sums runs (512 * 512) in
+      let so = together (512 * 512) in
+      omega (arith, all, pairs, most, so)
+
+  pub row-operations : (access : View) (v : ℕ → View) → are_normal runs ≡ true → row_operations runs access v ≤ 518 * ((end + 511) / 512 - first / 512)
+  unfolding of_gigabyte
+  row-operations access v normal =
+      let each = sum_below-le (gigabyte_operations runs access v) (of_gigabyte (chunk_most runs)) 512
+      (λ g. twos (chunks_operations runs access v g) (sum_below (λ y. chunk_most runs (512 * g + y)) 512) (sum_below-le (λ x. chunk_operations runs access v (512 * g + x)) (λ x. chunk_most runs (512 * g + x)) 512 (λ x. chunk-within runs access v (512 * g + x) normal))) in
+      let most = all-most in
+      omega (arith, most, each)
+    where
+      twos : (a b : ℕ) → a ≤ b → a + min 2 a ≤ b + min 2 b
+      twos a b le = omega (arith, le)
 
 -- ---- a gigabyte that the runs touch
 

@@ -1,11 +1,11 @@
 -- Maximal runs, which stand upward: how many there are, and how many chunks they touch.
-use Rattle.std.proofs.Common.{◌≡◌, ℕ, zero, suc, ◌+◌, ◌-◌, ◌^◌, ◌<◌, ◌≤◌, true, Bool, leb, ltb, ◌&&◌, List, [], ◌∷◌, get_or, length, take, drop, inl, inr, refl, arith, ap, ◌∙◌}
+use Rattle.std.proofs.Common.{◌≡◌, ℕ, zero, suc, ◌+◌, ◌-◌, ◌<◌, ◌≤◌, true, Bool, leb, ltb, ◌&&◌, List, [], ◌∷◌, get_or, length, take, drop, inl, inr, refl, arith, ap, ◌∙◌}
 use Rattle.std.specs.List.{list_any}
 use Rattle.std.specs.List.Sorted.{IsNonDecreasingBy}
 use Rattle.std.proofs.lemmas.Bool.{cases_Bool, cases_eq, ltb-true, and_parts}
 use Rattle.std.proofs.lemmas.Bool.Decides.{nat_tests}
 use Rattle.stage2.specs.Parts.{end_from, lie_within}
-use Rattle.base.specs.Pages.{PageRun, IsRun, rise_above, are_normal}
+use Rattle.base.specs.Pages.{PageRun, rise_above, are_normal}
 
 abbrev pub end_of : PageRun → ℕ
 end_of run = run.first + run.count
@@ -83,25 +83,6 @@ normal-next (r ∷ runs) (suc i) run normal lt is =
     let next = rise-next (end_of r) runs i run normal (omega arith) is in
     let before = next.0 in
     (omega (arith, before), next.1)
-
--- the first i runs: they end within input addresses of 39 bits, and have at least a page for each of them
-pub record IsCounted (runs : List PageRun) (i : ℕ) : Type 0 where
-  pub few : i ≤ end_from 0 (take i runs)
-  pub within : end_from 0 (take i runs) ≤ 2 ^ 27
-
-pub counted-next : (runs : List PageRun) (i : ℕ) (run : PageRun) → are_normal runs ≡ true → i < length runs → run ≡ get_or runs i run → IsRun run → IsCounted runs i → IsCounted runs (i + 1)
-counted-next runs i run normal lt is some h =
-    let next = normal-next runs i run normal lt is in
-    let from = next.0 in
-    let e : i + 1 ≡ suc i = omega arith in
-    let to : end_from 0 (take (i + 1) runs) ≡ run.first + run.count = ap (λ k. end_from 0 (take k runs)) e ∙ next.1 in
-    let few = h.few in
-    let a = some.0 in
-    let b = some.1 in
-    record {
-      few = omega (arith, to, from, few, a);
-      within = omega (arith, to, b);
-    }
 
 -- ---- where they begin and end
 

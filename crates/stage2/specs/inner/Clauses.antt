@@ -1,10 +1,11 @@
 -- What the clauses of an edit say, of the pool before it and the pool after it.
-use Rattle.std.specs.Prelude.{◌≡◌, ◌≢◌, ℕ, ◌+◌, ◌-◌, ◌*◌, ◌/◌, ◌%◌, ◌^◌, ◌<◌, ◌≤◌, Bool, nat_le, nat_lt, true, false, ◌&&◌, ◌==◌, if◌then◌else◌, is_some, Option, Some, None, List, length}
+use Rattle.std.specs.Prelude.{◌≡◌, ◌≢◌, ℕ, ◌+◌, ◌-◌, ◌*◌, ◌/◌, ◌%◌, ◌^◌, ◌<◌, Bool, nat_le, nat_lt, true, false, not, ◌&&◌, ◌==◌, if◌then◌else◌, is_some, Option, Some, None, List, length}
 use Rattle.base.specs.Access.{View}
 use Rattle.base.specs.Counts.{count_below}
 use Rattle.base.specs.Manifest.{row_of}
 use Rattle.base.specs.Pages.{PageRun, covers}
 use Rattle.pool.specs.Pool.{Pool, pages_of, words_of, nonzero_in, with_put, with_mark, after_replaces, used_by, row_quota}
+use Rattle.pool.specs.declared.runs.TableWords.{TableWords}
 use Rattle.stage2.specs.declared.site.ChunkEdit.{ChunkEdit}
 use Rattle.stage2.specs.declared.site.RowEdit.{RowEdit}
 use Rattle.stage2.specs.declared.site.Site.{Site}
@@ -32,6 +33,22 @@ Puts page index word old new = pages_of new.memory ≡ with_put page index word 
 -- of the words for a chunk's pages in a table those are written that are planned
 abbrev pub WritesPlan : ℕ → ℕ → (ℕ → Option View) → Pool → Pool → Type 0
 WritesPlan k c plan old new = Writes k c plan (pages_of old.memory) (pages_of new.memory)
+
+-- the words of table k for the pages of a chunk, all of which have this answer
+pub record AreWordsOf (k c : ℕ) (answer : View) (words : TableWords) : Type 0 where
+  pub page : words.page ≡ k
+  pub start : words.start ≡ 512 * c
+  pub below : words.start < 2 ^ 27
+  pub small : words.word + words.step * 512 < 2 ^ 64
+  pub each : (x : ℕ) → x < 512 → IsWordFor (512 * c + x) answer (words.word + words.step * x)
+  pub valid : not (words.word == 0) ≡ is_some answer
+  pub zeros : words.word ≡ 0 → words.step ≡ 0
+
+-- the words for pages in none of the runs are valid exactly where those of pages with this answer are not
+abbrev pub AreTurned : ℕ → ChunkEdit → View → Pool → Type 0
+AreTurned k e answer pool =
+    (i : ℕ) → i < 512 → covers e.runs.now (512 * e.chunk + i) ≡ false
+    → (words_of pool.memory.words k i == 0) ≡ is_some answer
 
 -- the words of a chunk's pages from one up to another, counted from its first
 abbrev pub some_pages : ℕ → ℕ → ℕ → View → ℕ → Option View
@@ -147,13 +164,6 @@ pub record IsStray (k : ℕ) (e : ChunkEdit) (pool : Pool) : Type 0 where
   pub small : index < 512
   pub out : covers e.runs.now (512 * e.chunk + index) ≡ false
   pub other : IsWordFor (512 * e.chunk + index) e.access (words_of pool.memory.words k index) → ⊥
-
--- a page of some that follow one another, whose word is not that of this answer
-pub record IsOther (k c first end : ℕ) (answer : View) (pool : Pool) : Type 0 where
-  pub index : ℕ
-  pub from : first ≤ index
-  pub below : index < end
-  pub other : IsWordFor (512 * c + index) answer (words_of pool.memory.words k index) → ⊥
 
 -- the words for pages in none of the runs are those of pages with this answer
 abbrev pub OthersAnswer : ℕ → ℕ → List PageRun → View → Pool → Type 0

@@ -31,7 +31,7 @@ write_all-requires-clause-ready g c =
     let n = s.end - s.first in
     let words = g.S.WordStore.words c.args.store.now in
     let small : s.first + n ≤ 512 = omega (arith, c.requires.some, c.requires.may.index_in) in
-    let cleared = nonzero-cleared words s.page s.first n c.requires.may.inside small (c.are_others.ensures c.if-are_others.true) in
+    let cleared = nonzero-cleared words s.page s.first n c.requires.may.inside small (c.are_others.ensures.yes c.if-are_others.true) in
     let made = nonzero-sets_of words s.page s.first n c.requires.may.inside small in
     let same = ap₂ (λ word step. length (sets_of words s.page s.first n word step)) c.requires.zero c.requires.same in
     omega (arith, cleared, made, same, c.requires.ready, c.requires.some)
@@ -41,7 +41,7 @@ returns-then-are_others-clause-counted g c =
     let s = c.args.range in
     let n = s.end - s.first in
     let words = g.S.WordStore.words c.args.store.now in
-    let cleared = nonzero-cleared words s.page s.first n c.requires.may.inside (omega (arith, c.requires.some, c.requires.may.index_in)) (c.are_others.ensures c.if-are_others.true) in
+    let cleared = nonzero-cleared words s.page s.first n c.requires.may.inside (omega (arith, c.requires.some, c.requires.may.index_in)) (c.are_others.ensures.yes c.if-are_others.true) in
     let less : c.args.count - n ≡ nonzero_in (words_of (words_set words s.page s.first n 0 0)) s.page = omega (arith, cleared, c.requires.counted) in
     less
     ∙ ap₂ (λ word step. nonzero_in (words_of (words_set words s.page s.first n word step)) s.page) (sym c.requires.zero) (sym c.requires.same)

@@ -26,7 +26,7 @@ edit_row-requires-clause-free g c =
     let a = c.in-Some.access in
     let is : pending.access ≡ Some a = is-access inside pending (Some a) c.pending.view_is c.in-Some.is in
     let run = is-run inside pending c.new-run.result c.new.result c.pending.view_is c.new.ensures c.new-run.ensures in
-    let fits = pending-fits layout c.args.grants.now.row (grant c.args.grants.now.manifest.now c.args.grants.now.p) (drop c.args.index c.args.grants.now.manifest.now.regions) c.args.grants.now.p pending m c.requires.mapping a is (c.requires.edge (λ none. cc)) in
+    let fits = pending-fits layout c.args.grants.now.row (grant c.args.grants.now.manifest.now c.args.grants.now.p) (drop c.requires.mapping.0 c.args.grants.now.manifest.now.regions) c.args.grants.now.p pending m c.requires.mapping.1 a is (c.requires.edge (λ none. cc)) in
     subst (λ (x : Pool). FitsRow layout c.args.grants.now.row (c.new-run.result ∷ []) (Some a) (pages_of x.memory)) (sym c.in_ok-ready.ensures.state)
     (subst (λ (x : PageRun). FitsRow layout c.args.grants.now.row (x ∷ []) (Some a) m) (sym run) fits)
 

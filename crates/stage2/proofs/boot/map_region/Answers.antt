@@ -6,6 +6,9 @@ use Rattle.stage2.specs.Boot.{PendingPages, IsMapping, follows}
 use Rattle.stage2.proofs.Editing.BootRegions.{rest-at, region-skip, region-joins, region-waits, pending-edge}
 use Rattle.stage2.proofs.boot.map_region.Goals as goal
 
+pub map_pending-requires-clause-mapping : goal.map_pending-requires-clause-mapping
+map_pending-requires-clause-mapping g c = (c.args.index, c.requires.mapping)
+
 pub map_pending-requires-clause-edge : goal.map_pending-requires-clause-edge
 map_pending-requires-clause-edge g c =
     let m = pages_of (g.M.TableMem.state c.args.memory.now).memory in

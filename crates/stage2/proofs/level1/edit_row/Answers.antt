@@ -14,6 +14,9 @@ use Rattle.stage2.specs.Walk.{walked}
 use Rattle.stage2.proofs.level1.edit_row.Goals as goal
 use Rattle.stage2.proofs.level1.edit_row.Goals.{then-touches, else-touches}
 
+pub edit_gigabyte-requires-clause-touched : goal.edit_gigabyte-requires-clause-touched
+edit_gigabyte-requires-clause-touched g c = c.touches.ensures.yes c.if-touches.true c.new-gigabyte.result c.args.runs.now c.gigabyte_runs-part.ensures.same
+
 pub edit_gigabyte-requires-clause-free : goal.edit_gigabyte-requires-clause-free
 edit_gigabyte-requires-clause-free g c =
     rw c.new-gigabyte.ensures (gigabyte-fits c.args.edit.now.layout.now c.args.edit.now.row c.loop-number.number c.args.runs.now c.gigabyte_runs-part.result.now c.args.edit.now.access (rw c.new-gigabyte.ensures at c.gigabyte_runs-part.ensures.same) (pages_of (g.M.TableMem.state c.loop-number.memory).memory)
@@ -67,7 +70,7 @@ loop-number-preserved g c =
       })
       | else-touches w ↦ rw w.memory-is (record {
         past = past-skip c.args.edit.now.layout.now c.args.edit.now.row c.args.runs.now c.args.edit.now.access old c.requires.partition i (omega (arith, c.loop-number-test.true, c.gigabyte_span-span.ensures.most)) mid c.loop-number.invariant.past
-            (λ n at. sym (gigabyte-covers i c.args.runs.now part is n at) ∙ (rw here at c.touches.ensures.no) w.if-touches.false n at);
+            (λ n at. sym (gigabyte-covers i c.args.runs.now part is n at) ∙ c.touches.ensures.no w.if-touches.false n);
         in_step = λ free. cross-skip c.args.edit.now.layout.now c.args.edit.now.row i c.args.runs.now (answers c.args.edit.now.layout.now old.words c.args.edit.now.row) (edited c.args.runs.now c.args.edit.now.access (answers c.args.edit.now.layout.now old.words c.args.edit.now.row))
             (g.M.TableMem.state c.args.memory.now) (g.M.TableMem.state c.loop-number.memory) (c.loop-number.invariant.in_step free);
         room = same r0 r1 (sum_below f i) (sum_below f (i + 1)) up c.loop-number.invariant.room;

@@ -1,7 +1,7 @@
-use Rattle.std.proofs.Common.{◌<◌, arith, sym, subst}
+use Rattle.std.proofs.Common.{◌<◌, arith, sym, subst, ◌∙◌}
 use Rattle.pool.specs.Pool.{pages_of}
 use Rattle.stage2.specs.inner.Clauses.{chunk_view, chunk_after}
-use Rattle.stage2.proofs.Editing.FourChunkEdits.{second-inside}
+use Rattle.stage2.proofs.Editing.FourChunkEdits.{second-inside, third-taken}
 use Rattle.stage2.proofs.Editing.OneChunk.{table-read, none-read, spelled-read, alike-after, mixed-after, left-after, words-dropped, words-kept, answers-before, grows-after, some-hung, words-hung}
 use Rattle.stage2.proofs.Walkers.Disturbed.{stays-whole, unmixed-after, unmixed-before}
 use Rattle.stage2.proofs.level2.edit_chunk.Goals as goal
@@ -13,6 +13,13 @@ read_chunk-entry-requires-clause-table g c =
     let pool = g.M.TableMem.state c.args.memory.now in
     let inside = second-inside e.layout.now s.row e.chunk s.second (pages_of pool.memory) c.requires.site in
     subst (λ x. s.second < x) (sym c.requires.site.orderly.pages) inside
+
+pub becomes_alike-requires-clause-taken : goal.becomes_alike-requires-clause-taken
+becomes_alike-requires-clause-taken g c = λ k next.
+    let s = c.args.site.now in
+    let e = c.args.edit.now in
+    let pool = g.M.TableMem.state c.args.memory.now in
+    third-taken e.layout.now s.row e.chunk s.second (pages_of pool.memory) c.requires.site k (sym c.read_chunk-entry.ensures.same ∙ next)
 
 pub becomes_alike-requires-clause-spelled : goal.becomes_alike-requires-clause-spelled
 becomes_alike-requires-clause-spelled g c =

@@ -1,17 +1,15 @@
 use Rattle.std.proofs.Common.{◌≡◌, ℕ, ◌+◌, ◌*◌, true, false, [], Bool, List, Option, Some, None, arith, refl, subst, not, ◌≢◌, is_some, sym, ◌∙◌, ap}
+use Rattle.std.proofs.lemmas.Bool.Decides.{nat_tests}
 use Rattle.base.specs.Access.{View}
 use Rattle.base.specs.Pages.{PageRun, covers}
 use Rattle.pool.specs.Pool.{pages_of, Words, words_of, nonzero_in}
-use Rattle.stage2.specs.inner.Chunks.{planned, Writes, IsWordFor}
+use Rattle.stage2.specs.inner.Chunks.{planned, Writes}
 use Rattle.stage2.specs.inner.Clauses.{some_pages, gaps}
 use Rattle.stage2.specs.inner.History.{Filled}
 use Rattle.stage2.proofs.Editing.PlannedWords.{writes-join, filled-join}
-use Rattle.stage2.proofs.Editing.Stretches.{word-zero, writes-stretch, filled-stretch}
+use Rattle.stage2.proofs.Editing.Stretches.{word-zero, word-some, writes-stretch, filled-stretch}
 use Rattle.stage2.proofs.Editing.Level3Words.{writes-none, writes-all, writes-rest, writes-zero}
 use Rattle.stage2.proofs.Walkers.Histories.{filled-none, filled-more}
-use Rattle.words.proofs.RoundTrip.{entry-zero}
-use Rattle.words.specs.Words.{entry_of}
-use Rattle.stage2.specs.inner.Change.{entry_for}
 use Rattle.stage2.proofs.Counting.Pieces.{nonzero-most, none-among}
 use Rattle.stage2.proofs.Editing.Gaps.{writes-gaps}
 use Rattle.stage2.proofs.level3.empty_table.Goals as goal
@@ -48,12 +46,6 @@ returns-then-is_none-clause-filled g c =
 
 -- ---- the words beside the runs, of which there are as many as words that are not 0
 
-word-some : (n : ℕ) (answer : View) (w : ℕ) → answer ≢ None → IsWordFor n answer w → w ≢ 0
-word-some n None w some is = absurd (some refl)
-word-some n (Some a) w some is = λ zero.
-    let entry : entry_of 3 0 ≡ entry_for n (Some a) = (rw zero at is.entry) in
-    let bad = sym (entry-zero 3) ∙ entry in cc
-
 counted : (n k table : ℕ) (words : Words) → n ≡ nonzero_in words k → k ≡ table → n ≡ nonzero_in words table
 counted n k table words is same = is ∙ ap (nonzero_in words) same
 
@@ -64,6 +56,13 @@ overflow_add-nonzero g c =
     let few = nonzero-most words c.args.third in
     let pages = c.args.edit.now.most in
     omega (arith, nonzero, few, pages)
+
+pub write_gaps-requires-clause-turned : goal.write_gaps-requires-clause-turned
+write_gaps-requires-clause-turned g c = λ i small out.
+    let e = c.args.edit.now in
+    let some : e.access ≢ None = λ none. let bad : false ≡ true = ap (λ a. is_some a) (sym none) ∙ c.is_none.ensures ∙ ap not c.if-is_none.false in cc in
+    let other = word-some (512 * e.chunk + i) e.access (words_of (g.M.TableMem.state c.args.memory.now).memory.words c.args.third i) some (c.requires.left i small out) in
+    grind (arith, nat_tests, other)
 
 pub returns-then-nonzero-edit-eq512-clause-writes : goal.returns-then-nonzero-edit-eq512-clause-writes
 returns-then-nonzero-edit-eq512-clause-writes g c =

@@ -1,10 +1,13 @@
-use Rattle.std.proofs.Common.{None, Some}
+use Rattle.std.proofs.Common.{ℕ, ◌==◌, None, Some, sym, ap, ◌∙◌}
 use Rattle.pool.specs.Pool.{pages_of}
 use Rattle.stage2.specs.inner.Chunks.{planned}
 use Rattle.stage2.specs.inner.Clauses.{gaps}
 use Rattle.stage2.proofs.Editing.Gaps.{writes-gaps, planned-gaps}
 use Rattle.stage2.proofs.Walkers.Histories.{filled-more}
 use Rattle.stage2.proofs.level3.fill_gaps.Goals as goal
+
+pub write_gaps-requires-clause-turned : goal.write_gaps-requires-clause-turned
+write_gaps-requires-clause-turned g c = λ i small out. ap (λ (w : ℕ). w == 0) (c.requires.empty i small) ∙ sym c.requires.some
 
 pub returns-clause-writes : goal.returns-clause-writes
 returns-clause-writes g c =

@@ -5,7 +5,8 @@ use Rattle.pool.specs.Pool.{Pool}
 use Rattle.pool.specs.declared.operation.Op.TheVariants.{Invalidate}
 use Rattle.stage2.specs.Parts.{part_in}
 use Rattle.stage2.specs.Moments.{IsLogged}
-use Rattle.stage2.proofs.Runs.Parts.{take-all, parts-more, parts-same, sum-take}
+use Rattle.pool.proofs.FirstRuns.{take-all}
+use Rattle.stage2.proofs.Runs.Parts.{parts-more, parts-same, sum-take}
 use Rattle.stage2.proofs.Walkers.ZeroedTables.{settles-one, settles-more, settles-as}
 use Rattle.stage2.proofs.level3.invalidate_parts.Goals as goal
 use Rattle.stage2.proofs.level3.invalidate_parts.Goals.{in-Some, in_default}

@@ -3,7 +3,8 @@ use Rattle.std.specs.Option.{option_map_or}
 use Rattle.base.specs.Pages.{PageRun, covers}
 use Rattle.stage2.specs.Parts.{part_in, part_count}
 use Rattle.stage2.specs.Room.{pages_in}
-use Rattle.stage2.proofs.Runs.Parts.{take-all, sum-take}
+use Rattle.pool.proofs.FirstRuns.{take-all}
+use Rattle.stage2.proofs.Runs.Parts.{sum-take}
 use Rattle.stage2.proofs.Counting.Pieces.{pages_among-le, pages-none, pages-more, part-pages, part-within, no-part-pages}
 use Rattle.stage2.proofs.parts.count_pieces.Goals as goal
 use Rattle.stage2.proofs.parts.count_pieces.Goals.{in-Some, in_default}

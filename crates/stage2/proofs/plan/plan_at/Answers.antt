@@ -10,7 +10,7 @@ use Rattle.stage2.specs.Parts.{chunk_runs}
 use Rattle.stage2.specs.Room.{table_operations, chunk_operations}
 use Rattle.stage2.proofs.Editing.ChunkByChunk.{bit, untouched}
 use Rattle.stage2.proofs.Editing.MadeEdit.{touches-made}
-use Rattle.stage2.proofs.Counting.Growth.{grows-entry, grows-nothing, second-inside, entry-view, view-mixed, view-spelled}
+use Rattle.stage2.proofs.Counting.Growth.{grows-entry, grows-nothing, second-inside, entry-view, view-mixed, view-spelled, view-taken}
 use Rattle.stage2.proofs.Counting.Operations.{chunk-same}
 use Rattle.stage2.proofs.Runs.OwnRuns.{chunk-covers, chunk-touches, chunk-count, chunk-mixed}
 use Rattle.stage2.specs.declared.plan.Plan.{Plan}
@@ -20,6 +20,14 @@ pub entry_at-entry-requires-clause-table : goal.entry_at-entry-requires-clause-t
 entry_at-entry-requires-clause-table g c = λ j e.
     let m = pages_of (g.M.TableMem.state c.args.memory.now).memory in
     second-inside c.args.edit.now.layout.now m c.requires.canonical c.args.gigabyte c.chunk-chunk.ensures.in_range c.args.edit.now.row c.requires.partition j (c.requires.table ∙ e)
+
+pub plan_chunk-requires-clause-taken : goal.plan_chunk-requires-clause-taken
+plan_chunk-requires-clause-taken g c = λ k next.
+    let m = pages_of (g.M.TableMem.state c.args.memory.now).memory in
+    let here = c.chunk-chunk.ensures.same in
+    let index : c.chunk-chunk.result % 512 ≡ c.args.index = omega (arith, here, c.requires.index) in
+    view-taken c.args.edit.now.layout.now m c.requires.canonical c.args.gigabyte c.chunk-chunk.ensures.in_range c.args.edit.now.row c.requires.partition c.args.second.now c.args.index c.requires.index c.requires.table k
+    (sym (rw index at c.entry_at-entry.ensures.same) ∙ next)
 
 pub plan_chunk-requires-clause-spelled : goal.plan_chunk-requires-clause-spelled
 plan_chunk-requires-clause-spelled g c = λ k next n there.

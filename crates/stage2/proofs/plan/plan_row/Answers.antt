@@ -16,6 +16,9 @@ use Rattle.stage2.proofs.Runs.OwnRuns.{gigabyte-covers, gigabyte-growth, gigabyt
 use Rattle.stage2.proofs.plan.plan_row.Goals as goal
 use Rattle.stage2.proofs.plan.plan_row.Goals.{then-touches, else-touches}
 
+pub plan_gigabyte-more-requires-clause-touched : goal.plan_gigabyte-more-requires-clause-touched
+plan_gigabyte-more-requires-clause-touched g c = c.touches.ensures.yes c.if-touches.true c.new-gigabyte.result c.args.edit.now.runs.now c.gigabyte_runs-part.ensures.same
+
 pub loop-number-init : goal.loop-number-init
 loop-number-init g c =
     let v = answers_of c.args.edit.now.layout.now (pages_of (g.M.TableMem.state c.args.memory.now).memory).words c.args.edit.now.row in
@@ -56,7 +59,7 @@ loop-number-preserved g c =
             most = bound 525826 c.loop-number.plan.operations w.plan_gigabyte-more.result.operations i so.most w.plan_gigabyte-more.ensures.most;
           })
       | else-touches w ↦
-          let out : (n : ℕ) → n / 512 / 512 ≡ i → covers runs n ≡ false = λ n at. sym (gigabyte-covers i runs part is n at) ∙ (rw here at c.touches.ensures.no) w.if-touches.false n at in
+          let out : (n : ℕ) → n / 512 / 512 ≡ i → covers runs n ≡ false = λ n at. sym (gigabyte-covers i runs part is n at) ∙ c.touches.ensures.no w.if-touches.false n in
           let grown : f i ≡ 0 = growth-nothing runs access v i out in
           let made : h i ≡ 0 = operations-nothing runs access v i out in
           rw w.plan-is (record {

@@ -1,5 +1,6 @@
 use Rattle.std.proofs.Common.{◌+◌, ◌≤◌, sym, ap, ◌∙◌, arith}
 use Rattle.pool.specs.Pool.{words_of}
+use Rattle.stage2.specs.declared.table_page.Level.TheVariants.{Third}
 use Rattle.stage2.proofs.Reading.Cursors.{further, same-more}
 use Rattle.stage2.proofs.cursor.Cursor.pass_same.Goals as goal
 
@@ -14,10 +15,10 @@ loop-self-preserved g c =
     let index = c.if-self-other.true in
     let inside : ours.index + 64 ≤ 512 = omega (arith, room) in
     record {
-      is = further _ words c.args.level ours so.is inside;
-      other_is = further _ others c.args.level theirs so.other_is (omega (arith, inside, index));
+      is = further _ words Third ours so.is inside;
+      other_is = further _ others Third theirs so.other_is (omega (arith, inside, index));
       table = so.table;
       other_table = so.other_table;
-      same = same-more _ _ words others c.args.level c.args.self.now ours c.args.other.now theirs so.is so.other_is so.same c.loop-self-test.true index inside
+      same = same-more _ _ words others Third c.args.self.now ours c.args.other.now theirs so.is so.other_is so.same c.loop-self-test.true index inside
           (λ x le lt. ap (λ t. words t x) so.table ∙ c.are_same_words.ensures c.if-are_same_words.true x le lt ∙ ap (λ t. others t x) (sym so.other_table));
     }

@@ -1,6 +1,6 @@
 use Rattle.std.proofs.Common.{◌≡◌, ◌+◌, ◌≤◌, Result, Ok, Err, sym, ap, subst, ◌∙◌, arith}
 use Rattle.std.specs.Result.{OnOk}
-use Rattle.stage2.specs.Tables.{TablesView, AreCanonical, edit_operations}
+use Rattle.stage2.specs.Tables.{TablesView, AreCanonical, view_of, edit_operations}
 use Rattle.pool.specs.Pool.{Pool, pages_of}
 use Rattle.stage2.specs.Orderly.{IsCanonical}
 use Rattle.stage2.proofs.Editing.WholeTables.{view, are-canonical, room-most}
@@ -11,10 +11,10 @@ returns-clause-canonical g c = are-canonical (view c.self.inside.layout (g.M.Tab
 
 pub returns-then-has_room-clause-room : goal.returns-then-has_room-clause-room
 returns-then-has_room-clause-room g c =
-    let most = room-most c.args.self.now c.args.p c.args.runs.now c.args.access c.requires.normal in
+    let most = room-most c.args.self.now c.args.p c.args.runs.now c.args.access c.most_operations.result (c.most_operations.ensures.bound (view_of c.args.self.now c.args.p) c.args.access) in
     let room : g.M.TableMem.room c.self.inside.memory ≡ c.args.self.now.room = ap (λ (t : TablesView). t.room) c.self.view_is in
     let has = c.has_room.ensures c.if-has_room.true in
-    omega (arith, most, room, has, c.operations.ensures.same)
+    omega (arith, most, room, has)
 
 pub returns-then-has_room-clause-canonical : goal.returns-then-has_room-clause-canonical
 returns-then-has_room-clause-canonical g c =

@@ -1,0 +1,245 @@
+-- The pages beside runs, as runs.
+use Rattle.std.proofs.Common.{◌≡◌, ℕ, ◌+◌, ◌-◌, ◌<◌, ◌≤◌, ◌||◌, Bool, true, false, nat_le, nat_lt, max, ◌*◌, List, [], ◌∷◌, ◌++◌, length, drop, get_or, refl, sym, ap, ap₂, ◌∙◌, arith, inl, inr}
+use Rattle.std.proofs.lemmas.Bool.{cases_Bool, cases_lt, and_parts}
+use Rattle.std.proofs.lemmas.Bool.Decides.{nat_tests}
+use Rattle.base.specs.Pages.{PageRun, in_run, covers, rise, rise_above, are_normal}
+use Rattle.std.proofs.lemmas.List.{at_drop_more, at_drop_all}
+use Rattle.pool.specs.Pool.{Pool, after_sets, index_from, words_in, after_run, after_runs, gap, gaps_from, gaps_of}
+use Rattle.pool.proofs.RunWords.{after_runs-none, after_runs-next, words_in-append}
+
+-- ---- one gap
+
+lt-test : (a b : ℕ) → a < b → nat_lt a b ≡ true
+lt-test a b lt = grind (arith, nat_tests, lt)
+
+ge-test : (a b : ℕ) → b ≤ a → nat_lt a b ≡ false
+ge-test a b le = grind (arith, nat_tests, le)
+
+pub gap-some : (start first end : ℕ) → first < end → gap start first end ≡ record { first = start + first; count = end - first } ∷ []
+gap-some start first end lt = rw (lt-test first end lt) refl
+
+pub gap-none : (start first end : ℕ) → end ≤ first → gap start first end ≡ []
+gap-none start first end le = rw (ge-test first end le) refl
+
+pub gaps-none : (start first : ℕ) → gaps_from start first [] ≡ gap start first 512
+unfolding gaps_from
+gaps-none start first = refl
+
+pub gaps-next : (start first : ℕ) (run : PageRun) (runs : List PageRun)
+    → gaps_from start first (run ∷ runs) ≡ gap start first (index_from start run.first) ++ gaps_from start (max first (index_from start (run.first + run.count))) runs
+unfolding gaps_from
+gaps-next start first run runs = refl
+
+-- its words are those from its first index up to its end
+pub gap-words : (start first end : ℕ) → end ≤ 512 → words_in start (gap start first end) ≡ end - first
+gap-words start first end most = elim (cases_lt first end) [
+  | inl lt ↦ rw (gap-some start first end lt) (omega (arith, lt, most))
+  | inr ge ↦ rw (gap-none start first end ge) (omega (arith, ge))
+]
+
+pub gap-one : (page start word step first end : ℕ) (pool : Pool) → first < end → end ≤ 512
+    → after_runs page start word step (gap start first end) pool ≡ after_sets page first (end - first) (word + step * first) step pool
+gap-one page start word step first end pool lt most =
+    let run : PageRun = record { first = start + first; count = end - first } in
+    let at : index_from start (start + first) ≡ first = omega (arith, lt, most) in
+    let to : index_from start (start + first + (end - first)) ≡ end = omega (arith, lt, most) in
+    ap (λ rs. after_runs page start word step rs pool) (gap-some start first end lt)
+    ∙ after_runs-next page start word step run [] pool ∙ after_runs-none page start word step (after_run page start word step run pool)
+    ∙ ap₂ (λ a b. after_sets page a (b - a) (word + step * a) step pool) at to
+
+-- ---- gaps that are left
+
+pub gaps-left : (start first i : ℕ) (runs : List PageRun) (run : PageRun) → i < length runs → run ≡ get_or runs i run
+    → gaps_from start first (drop i runs) ≡ gap start first (index_from start run.first) ++ gaps_from start (max first (index_from start (run.first + run.count))) (drop (i + 1) runs)
+gaps-left start first i runs run lt is =
+    at_drop_more (gaps_from start first) runs i run lt ∙ ap (λ r. gaps_from start first (r ∷ drop (i + 1) runs)) (sym is) ∙ gaps-next start first run (drop (i + 1) runs)
+
+pub gaps-done : (start first i : ℕ) (runs : List PageRun) → length runs ≤ i → gaps_from start first (drop i runs) ≡ gap start first 512
+gaps-done start first i runs all = at_drop_all (gaps_from start first) runs i all ∙ gaps-none start first
+
+-- ---- runs that stand upward
+
+above : (run : PageRun) (runs : List PageRun) (e : ℕ) → rise e (run ∷ runs) ≡ true → (e ≤ run.first) × (rise (run.first + run.count) runs ≡ true)
+above run runs e up =
+    let both = and_parts (nat_le e run.first) (rise (run.first + run.count) runs) up in
+    let test = both.0 in
+    (grind (arith, nat_tests, test), both.1)
+
+rise-lower : (runs : List PageRun) (a b : ℕ) → b ≤ a → rise a runs ≡ true → rise b runs ≡ true
+rise-lower [] a b le up = refl
+rise-lower (run ∷ runs) a b le up =
+    let both = above run runs a up in
+    let least = both.0 in
+    let test : nat_le b run.first ≡ true = grind (arith, nat_tests, least, le) in
+    rw (test, both.1) refl
+
+pub before-rise : (runs : List PageRun) (e n : ℕ) → rise e runs ≡ true → n < e → covers runs n ≡ false
+before-rise [] e n up lt = refl
+before-rise (run ∷ runs) e n up lt =
+    let both = above run runs e up in
+    let least = both.0 in
+    let out : in_run run n ≡ false = grind (arith, nat_tests, least, lt) in
+    rw out (before-rise runs (run.first + run.count) n both.1 (omega (arith, least, lt)))
+
+-- maximal runs do
+rise-strict : (e : ℕ) (runs : List PageRun) → rise_above e runs ≡ true → rise e runs ≡ true
+rise-strict e [] up = refl
+rise-strict e (run ∷ runs) up =
+    let both = and_parts (nat_lt e run.first) (rise_above (run.first + run.count) runs) up in
+    let test = both.0 in
+    let le : nat_le e run.first ≡ true = grind (arith, nat_tests, test) in
+    rw (le, rise-strict (run.first + run.count) runs both.1) refl
+
+pub rise-normal : (runs : List PageRun) → are_normal runs ≡ true → rise 0 runs ≡ true
+rise-normal [] normal = refl
+rise-normal (run ∷ runs) normal =
+    let le : nat_le 0 run.first ≡ true = grind (arith, nat_tests) in
+    rw (le, rise-strict (run.first + run.count) runs normal) refl
+
+module _ (start : ℕ) where
+  rise-gap : (first end e : ℕ) (rest : List PageRun) → e ≤ start + first → first ≤ end → rise (start + end) rest ≡ true → rise e (gap start first end ++ rest) ≡ true
+  rise-gap first end e rest least ordered up = elim (cases_lt first end) [
+    | inl lt ↦
+        let test : nat_le e (start + first) ≡ true = grind (arith, nat_tests, least) in
+        let sum : start + first + (end - first) ≡ start + end = omega (arith, lt) in
+        rw (gap-some start first end lt) (rw (test, sum) up)
+    | inr ge ↦ rw (gap-none start first end ge) (rise-lower rest (start + end) e (omega (arith, least, ordered)) up)
+  ]
+
+  last-rise : (first : ℕ) → rise (start + first) (gap start first 512) ≡ true
+  last-rise first = elim (cases_lt first 512) [
+    | inl lt ↦
+        let test : nat_le (start + first) (start + first) ≡ true = grind (arith, nat_tests) in
+        rw (gap-some start first 512 lt) (rw test refl)
+    | inr ge ↦ rw (gap-none start first 512 ge) refl
+  ]
+
+  -- gaps stand upward
+  rise-gaps : (runs : List PageRun) (first : ℕ) → rise (start + first) (gaps_from start first runs) ≡ true
+  rise-gaps [] first = rw gaps-none (last-rise first)
+  rise-gaps (run ∷ runs) first =
+      let a = index_from start run.first in
+      let b = max first (index_from start (run.first + run.count)) in
+      let rest = rise-gaps runs b in
+      rw gaps-next (elim (cases_lt first a) [
+        | inl lt ↦ rise-gap first a (start + first) (gaps_from start b runs) (omega arith) (omega (arith, lt)) (rise-lower (gaps_from start b runs) (start + b) (start + a) (omega (arith, lt)) rest)
+        | inr ge ↦ rw (gap-none start first a ge) (rise-lower (gaps_from start b runs) (start + b) (start + first) (omega arith) rest)
+      ])
+
+  pub gaps-rise : (runs : List PageRun) → rise 0 (gaps_of start runs) ≡ true
+  gaps-rise runs = rise-lower (gaps_of start runs) (start + 0) 0 (omega arith) (rise-gaps runs 0)
+
+  -- ---- how many words they have
+
+  words-from : (runs : List PageRun) (e first : ℕ) → first ≡ index_from start e → rise e runs ≡ true → words_in start (gaps_from start first runs) + words_in start runs + first ≡ 512
+  words-from [] e first at up = rw gaps-none (let words = gap-words start first 512 (omega arith) in omega (arith, words, at))
+  words-from (run ∷ runs) e first at up =
+      let both = above run runs e up in
+      let least = both.0 in
+      let a = index_from start run.first in
+      let b = max first (index_from start (run.first + run.count)) in
+      let next : b ≡ index_from start (run.first + run.count) = omega (arith, at, least) in
+      let rest = words-from runs (run.first + run.count) b next both.1 in
+      let here = gap-words start first a (omega arith) in
+      let all = words_in-append start (gap start first a) (gaps_from start b runs) in
+      rw gaps-next (omega (arith, rest, here, all, at, least, next))
+
+  pub gaps-words : (runs : List PageRun) → rise 0 runs ≡ true → words_in start (gaps_of start runs) + words_in start runs ≡ 512
+  gaps-words runs up = let all = words-from runs 0 0 (omega arith) up in omega (arith, all)
+
+  -- ---- which pages they have
+
+  or-parts : (a b : Bool) → (a || b) ≡ false → (a ≡ false) × (b ≡ false)
+  or-parts true b e = absurd (cc)
+  or-parts false b e = (refl, e)
+
+  pub or-right : (a : Bool) → (a || true) ≡ true
+  or-right true = refl
+  or-right false = refl
+
+  pub covers-append : (a b : List PageRun) (n : ℕ) → covers (a ++ b) n ≡ (covers a n || covers b n)
+  covers-append [] b n = refl
+  covers-append (run ∷ a) b n = elim (in_run run n) as (λ t. (t || covers (a ++ b) n) ≡ ((t || covers a n) || covers b n)) [ true ↦ refl | false ↦ covers-append a b n ]
+
+  pub gap-at : (first end n : ℕ) → covers (gap start first end) n ≡ true → (start + first ≤ n) × (n < start + end)
+  gap-at first end n there = elim (cases_lt first end) [
+    | inl lt ↦
+        let is : (in_run (record { first = start + first; count = end - first }) n || false) ≡ true = rw (gap-some start first end lt) at there in
+        (grind (arith, nat_tests, is, lt), grind (arith, nat_tests, is, lt))
+    | inr ge ↦ let none : false ≡ true = rw (gap-none start first end ge) at there in absurd (cc)
+  ]
+
+  pub gap-has : (first end x : ℕ) → first ≤ x → x < end → covers (gap start first end) (start + x) ≡ true
+  gap-has first end x from lt =
+      let some : first < end = omega (arith, from, lt) in
+      let is : in_run (record { first = start + first; count = end - first }) (start + x) ≡ true = grind (arith, nat_tests, from, lt) in
+      rw (gap-some start first end some) (rw is refl)
+
+  -- none behind the 512
+  gaps-below : (runs : List PageRun) (first n : ℕ) → covers (gaps_from start first runs) n ≡ true → n < start + 512
+  gaps-below [] first n there = (gap-at first 512 n (rw gaps-none at there)).1
+  gaps-below (run ∷ runs) first n there =
+      let a = index_from start run.first in
+      let b = max first (index_from start (run.first + run.count)) in
+      let all = sym (covers-append (gap start first a) (gaps_from start b runs) n) ∙ (rw gaps-next at there) in
+      elim (cases_Bool (covers (gap start first a) n)) [
+        | inl t ↦ let at = (gap-at first a n t).1 in omega (arith, at)
+        | inr f ↦ gaps-below runs b n (rw f at all)
+      ]
+
+  -- nor before the first
+  pub gaps-behind : (runs : List PageRun) (first n : ℕ) → covers (gaps_from start first runs) n ≡ true → start + first ≤ n
+  gaps-behind runs first n there = elim (cases_lt n (start + first)) [
+    | inl lt ↦ let none = before-rise (gaps_from start first runs) (start + first) n (rise-gaps runs first) lt in absurd (cc)
+    | inr ge ↦ ge
+  ]
+
+  out-from : (runs : List PageRun) (e first n : ℕ) → first ≡ index_from start e → rise e runs ≡ true → covers (gaps_from start first runs) n ≡ true → covers runs n ≡ false
+  out-from [] e first n at up there = refl
+  out-from (run ∷ runs) e first n at up there =
+      let both = above run runs e up in
+      let least = both.0 in
+      let a = index_from start run.first in
+      let b = max first (index_from start (run.first + run.count)) in
+      let next : b ≡ index_from start (run.first + run.count) = omega (arith, at, least) in
+      let all = sym (covers-append (gap start first a) (gaps_from start b runs) n) ∙ (rw gaps-next at there) in
+      elim (cases_Bool (covers (gap start first a) n)) [
+        | inl t ↦
+            let within = gap-at first a n t in
+            let early : n < run.first = (let low = within.0 in let high = within.1 in omega (arith, low, high)) in
+            let out : in_run run n ≡ false = grind (arith, nat_tests, early) in
+            rw out (before-rise runs (run.first + run.count) n both.1 (omega (arith, early)))
+        | inr f ↦
+            let behind : covers (gaps_from start b runs) n ≡ true = rw f at all in
+            let from = gaps-behind runs b n behind in
+            let below = gaps-below runs b n behind in
+            let past : run.first + run.count ≤ n = omega (arith, from, below, next) in
+            let out : in_run run n ≡ false = grind (arith, nat_tests, past) in
+            rw out (out-from runs (run.first + run.count) b n next both.1 behind)
+      ]
+
+  in-from : (runs : List PageRun) (e first x : ℕ) → first ≡ index_from start e → rise e runs ≡ true → first ≤ x → x < 512 → covers runs (start + x) ≡ false → covers (gaps_from start first runs) (start + x) ≡ true
+  in-from [] e first x at up from small out = rw gaps-none (gap-has first 512 x from small)
+  in-from (run ∷ runs) e first x at up from small out =
+      let both = above run runs e up in
+      let least = both.0 in
+      let a = index_from start run.first in
+      let b = max first (index_from start (run.first + run.count)) in
+      let next : b ≡ index_from start (run.first + run.count) = omega (arith, at, least) in
+      let none = or-parts (in_run run (start + x)) (covers runs (start + x)) out in
+      rw (gaps-next, covers-append (gap start first a) (gaps_from start b runs) (start + x)) (elim (cases_lt x a) [
+        | inl lt ↦ rw (gap-has first a x from lt) refl
+        | inr ge ↦
+            let begun : run.first ≤ start + x = omega (arith, ge, small) in
+            let test = none.0 in
+            let past : run.first + run.count ≤ start + x = grind (arith, nat_tests, test, begun) in
+            rw (in-from runs (run.first + run.count) b x next both.1 (omega (arith, past, next)) small none.1) (or-right (covers (gap start first a) (start + x)))
+      ])
+
+  -- a page of a gap is in none of the runs, and among the 512
+  pub gaps-out : (runs : List PageRun) (n : ℕ) → rise 0 runs ≡ true → covers (gaps_of start runs) n ≡ true → covers runs n ≡ false
+  gaps-out runs n up there = out-from runs 0 0 n (omega arith) up there
+
+  -- and each that is so is in one
+  pub gaps-in : (runs : List PageRun) (x : ℕ) → rise 0 runs ≡ true → x < 512 → covers runs (start + x) ≡ false → covers (gaps_of start runs) (start + x) ≡ true
+  gaps-in runs x up small out = in-from runs 0 0 x (omega arith) up (omega arith) small out

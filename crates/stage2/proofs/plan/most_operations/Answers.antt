@@ -1,0 +1,8 @@
+use Rattle.std.proofs.Common.{arith}
+use Rattle.stage2.proofs.Runs.ChunkCounts.{row-operations}
+use Rattle.stage2.proofs.plan.most_operations.Goals as goal
+
+pub returns-clause-bound : goal.returns-clause-bound
+returns-clause-bound c = λ before access.
+    let all = row-operations c.args.runs.now c.bounds.result.first c.bounds.result.end c.bounds.ensures.within access before c.requires.normal in
+    omega (arith, all, c.chunks_between.ensures)
