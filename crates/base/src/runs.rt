@@ -1,7 +1,7 @@
 ghost use Rattle.base.specs.Pages.{are_disjoint, are_normal, covers};
 ghost use Rattle.base.specs.Descriptors.Send.{pages_in};
 ghost use Rattle.std.specs.List.Sorted.{IsNonDecreasingBy, IsPermutation};
-ghost use Rattle.std.specs.Prelude.{◌≡◌, ◌∷◌, [], true, ℕ, ◌≤◌, ◌<◌, length, vec_capacity, IfOk};
+ghost use Rattle.std.specs.Prelude.{◌≡◌, ◌∷◌, [], true, ℕ, ◌≤◌, ◌<◌, length, reverse, vec_capacity, IfOk};
 
 use crate::page::Run;
 use crate::status::OutOfMemory;
@@ -12,7 +12,7 @@ use std::mem::replace;
 mod tests;
 
 /// The maximal runs of the pages that the runs cover, in ascending order. Runs that are maximal already
-/// are copied into the memory of the spare list, which is empty then. Where memory runs out, the spare
+/// and stand upward or downward are copied into the memory of the spare list, which is empty then. Where memory runs out, the spare
 /// list alone has changed.
 #[inline(always)]
 pub fn normal(alloc: Global, spare: &mut Vec<Run>, runs: &[Run]) -> Result<Vec<Run>, OutOfMemory>
@@ -55,8 +55,10 @@ fn normal_of_many(
     ensures sum { IfOk result (λ normal. pages_in normal.items ≡ pages_in runs.now) }
 {
     if are_normal(runs) {
-        let list = replace(spare, Vec::new(alloc));
-        return copied(list, runs);
+        return copied(replace(spare, Vec::new(alloc)), runs);
+    }
+    if fall(runs) {
+        return turned(replace(spare, Vec::new(alloc)), runs);
     }
     let ascending = ascending(alloc, runs)?;
     joined(alloc, &ascending)
@@ -79,6 +81,18 @@ pub(crate) fn are_normal(runs: &[Run]) -> bool
     true
 }
 
+/// Whether the runs are maximal already, and in descending order.
+fn fall(runs: &[Run]) -> bool
+    ensures { result ≡ true → are_normal (reverse runs.now) ≡ true }
+{
+    for index in 1..runs.len() {
+        if runs[index - 1].first().number() <= runs[index].end() {
+            return false;
+        }
+    }
+    true
+}
+
 /// The same runs, in the memory of a list.
 fn copied(list: Vec<Run>, runs: &[Run]) -> Result<Vec<Run>, OutOfMemory>
     ensures { IfOk result (λ copy. copy.items ≡ runs.now) }
@@ -86,6 +100,15 @@ fn copied(list: Vec<Run>, runs: &[Run]) -> Result<Vec<Run>, OutOfMemory>
     let mut copy = list;
     copy.clear();
     copy.extend_from_slice(runs)?;
+    Ok(copy)
+}
+
+/// The same runs, the last one first, in the memory of a list.
+fn turned(list: Vec<Run>, runs: &[Run]) -> Result<Vec<Run>, OutOfMemory>
+    ensures { IfOk result (λ turned. turned.items ≡ reverse runs.now) }
+{
+    let mut copy = copied(list, runs)?;
+    copy.reverse();
     Ok(copy)
 }
 

@@ -149,9 +149,9 @@ fn operations_gone<M: TableMem>(memory: &M, edit: &ChunkEdit, third: TablePage) 
     }
 }
 
-/// What the edit of a chunk with a table needs. Words are looked at only where it makes a difference of more than a few operations
-/// whether the table stays.
-fn plan_table<M: TableMem>(memory: &M, edit: &ChunkEdit, third: TablePage) -> Plan
+/// What the edit of a chunk with a table needs. Words are looked at, if at all, only where it makes a difference of more than a few
+/// operations whether the table stays.
+fn plan_table<M: TableMem>(memory: &M, edit: &ChunkEdit, third: TablePage, looks: bool) -> Plan
     requires table { third < page_count (M.state memory.now).memory.quotas }
     requires taken { taken_of (M.state memory.now).memory.taken third ≡ true }
     requires spelled { IsSpelled edit.now third (M.state memory.now) }
@@ -161,7 +161,7 @@ fn plan_table<M: TableMem>(memory: &M, edit: &ChunkEdit, third: TablePage) -> Pl
     ensures operations { let before = read_before edit.now (Next third) (M.state memory.now) in
         3 + table_operations edit.now.runs.now edit.now.access before edit.now.chunk
         ≤ result.operations }
-    ensures close { let before = read_before edit.now (Next third) (M.state memory.now) in
+    ensures close { looks ≡ true → let before = read_before edit.now (Next third) (M.state memory.now) in
         result.operations
         ≤ 7 + table_operations edit.now.runs.now edit.now.access before edit.now.chunk }
     ensures most { result.operations ≤ 1027 }
@@ -169,6 +169,9 @@ fn plan_table<M: TableMem>(memory: &M, edit: &ChunkEdit, third: TablePage) -> Pl
     let kept = operations_kept(edit);
     let gone = operations_gone(memory, edit, third);
     let most = kept.max(gone);
+    if !looks {
+        return Plan::new(0, 3 + most);
+    }
     if most - kept.min(gone) <= SURPLUS {
         Plan::new(0, 3 + most)
     } else if is_alike_in_table(memory, edit, third) {
@@ -179,7 +182,7 @@ fn plan_table<M: TableMem>(memory: &M, edit: &ChunkEdit, third: TablePage) -> Pl
 }
 
 /// What the edit of a chunk needs that has pages of the runs.
-fn plan_chunk<M: TableMem>(memory: &M, edit: &ChunkEdit, entry: &Slot) -> Plan
+fn plan_chunk<M: TableMem>(memory: &M, edit: &ChunkEdit, entry: &Slot, looks: bool) -> Plan
     requires table { (k : ℕ) → entry.now ≡ Next k
         → k < page_count (M.state memory.now).memory.quotas }
     requires taken { (k : ℕ) → entry.now ≡ Next k
@@ -194,13 +197,13 @@ fn plan_chunk<M: TableMem>(memory: &M, edit: &ChunkEdit, entry: &Slot) -> Plan
     ensures operations { let before = read_before edit.now entry.now (M.state memory.now) in
         3 + table_operations edit.now.runs.now edit.now.access before edit.now.chunk
         ≤ result.operations }
-    ensures close { let before = read_before edit.now entry.now (M.state memory.now) in
+    ensures close { looks ≡ true → let before = read_before edit.now entry.now (M.state memory.now) in
         result.operations
         ≤ 7 + table_operations edit.now.runs.now edit.now.access before edit.now.chunk }
     ensures most { result.operations ≤ 1027 }
 {
     match table_of(entry) {
-        Some(third) => plan_table(memory, edit, third),
+        Some(third) => plan_table(memory, edit, third, looks),
         None => plan_block(edit, entry),
     }
 }
@@ -232,7 +235,7 @@ fn plan_at<M: TableMem>(
         return Plan::new(0, 0);
     };
     let entry = entry_at(memory, edit.layout, second, chunk);
-    plan_chunk(memory, &here, &entry)
+    plan_chunk(memory, &here, &entry, edit.looks)
 }
 
 /// Up to where chunks of a gigabyte, counted from its first, have no table and are filled by a run: as far as it is

@@ -81,4 +81,6 @@ pub(crate) struct RowPlan<'a, 'b> {
     pub(crate) row: Option<Row>,
     pub(crate) runs: &'b [Run],
     pub(crate) access: Option<Access>,
+    /// Whether words of tables may be looked at, to tell which of them stay: else those count that need more.
+    pub(crate) looks: bool,
 }

@@ -51,3 +51,13 @@ fn the_last_page_is_reached(rt: HostRuntime) -> Result<(), Fail> {
     );
     Ok(())
 }
+
+#[test]
+fn runs_that_fall_are_turned(rt: HostRuntime) -> Result<(), Fail> {
+    let low = Run::new(Page::new(1), 1);
+    let middle = Run::new(Page::new(3), 2);
+    let high = Run::new(Page::new(6), 1);
+    let found = normal(rt.alloc(), &mut Vec::new(rt.alloc()), &[high, middle, low])?;
+    assert_eq!(rt; found.as_slice(), [low, middle, high].as_slice());
+    Ok(())
+}

@@ -23,6 +23,26 @@ near t kept gone most least either is least_is few = elim either [
   | inr e ↦ (omega (arith, e, is), omega (arith, e, is, least_is, few))
 ]
 
+-- where no word is looked at
+pub returns-then-not-looks-clause-operations : goal.returns-then-not-looks-clause-operations
+returns-then-not-looks-clause-operations g c =
+    let e = c.args.edit.now in
+    let pool = g.M.TableMem.state c.args.memory.now in
+    let view : ℕ → View = read_before e (Next c.args.third) pool in
+    let gone = gone-words e c.args.third c.operations_gone-gone.result pool c.requires.spelled c.operations_gone-gone.ensures.same in
+    let page = one e in
+    let lt = page.1 in
+    let either = table-either e.runs.now e.access view e.chunk (512 * e.chunk + page.0) c.requires.mixed (omega (arith, lt)) page.2 in
+    let most = within (table_operations e.runs.now e.access view e.chunk) c.operations_kept-kept.result c.operations_gone-gone.result c.max-most.result (rw (c.operations_kept-kept.ensures.same, gone) either) c.max-most.ensures in
+    let is : c.new.result.operations ≡ 3 + c.max-most.result = ap (λ (p : Plan). p.operations) c.new.ensures in
+    omega (arith, most, is)
+  where
+    within : (t kept gone most : ℕ) → (t ≡ kept) ⊎ (t ≡ gone) → most ≡ max kept gone → t ≤ most
+    within t kept gone most either is = elim either [
+      | inl e ↦ omega (arith, e, is)
+      | inr e ↦ omega (arith, e, is)
+    ]
+
 pub returns-then-most-min-le-SURPLUS-clause-operations : goal.returns-then-most-min-le-SURPLUS-clause-operations
 returns-then-most-min-le-SURPLUS-clause-operations g c =
     let e = c.args.edit.now in
@@ -34,7 +54,7 @@ returns-then-most-min-le-SURPLUS-clause-operations g c =
     let either = table-either e.runs.now e.access view e.chunk (512 * e.chunk + page.0) c.requires.mixed (omega (arith, lt)) page.2 in
     let both = near (table_operations e.runs.now e.access view e.chunk) c.operations_kept-kept.result c.operations_gone-gone.result c.max-most.result c.min.result (rw (c.operations_kept-kept.ensures.same, gone) either) c.max-most.ensures c.min.ensures c.if-most-min-le-SURPLUS.true in
     let least = both.0 in
-    let is : c.new.result.operations ≡ 3 + c.max-most.result = ap (λ (p : Plan). p.operations) c.new.ensures in
+    let is : c.new-then-most-min-le-SURPLUS.result.operations ≡ 3 + c.max-most.result = ap (λ (p : Plan). p.operations) c.new-then-most-min-le-SURPLUS.ensures in
     omega (arith, least, is)
 
 pub returns-then-most-min-le-SURPLUS-clause-close : goal.returns-then-most-min-le-SURPLUS-clause-close
@@ -48,7 +68,7 @@ returns-then-most-min-le-SURPLUS-clause-close g c =
     let either = table-either e.runs.now e.access view e.chunk (512 * e.chunk + page.0) c.requires.mixed (omega (arith, lt)) page.2 in
     let both = near (table_operations e.runs.now e.access view e.chunk) c.operations_kept-kept.result c.operations_gone-gone.result c.max-most.result c.min.result (rw (c.operations_kept-kept.ensures.same, gone) either) c.max-most.ensures c.min.ensures c.if-most-min-le-SURPLUS.true in
     let most = both.1 in
-    let is : c.new.result.operations ≡ 3 + c.max-most.result = ap (λ (p : Plan). p.operations) c.new.ensures in
+    let is : c.new-then-most-min-le-SURPLUS.result.operations ≡ 3 + c.max-most.result = ap (λ (p : Plan). p.operations) c.new-then-most-min-le-SURPLUS.ensures in
     omega (arith, most, is)
 
 -- a table that goes
