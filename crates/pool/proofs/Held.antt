@@ -80,22 +80,6 @@ filled-set cs page k x is all i lt =
       | inr other ↦ ap is_some (get_or-set_other cs k (512 * page + i) (Some x) None other) ∙ all i lt
     ])
 
-unmarked : (pages page : ℕ) → slice_index_or (replicate pages false) page false ≡ false
-unmarked zero page = refl
-unmarked (suc pages) zero = refl
-unmarked (suc pages) (suc page) = unmarked pages page
-
-nothing : (n k : ℕ) → get_or (replicate {A = Option ℕ} n None) k None ≡ None
-nothing zero k = refl
-nothing (suc n) zero = refl
-nothing (suc n) (suc k) = nothing n k
-
-pub marked-new : (pages n : ℕ) → AreMarked (replicate pages false) (replicate n None)
-marked-new pages n = record {
-  filled = λ page mark i lt. absurd (true≢false (sym mark ∙ unmarked pages page));
-  empty = λ page mark i lt. nothing n (512 * page + i);
-}
-
 -- ---- a page that is filled with zeros
 
 pub length-zeros : (cs : List (Option ℕ)) (page n : ℕ) → length (with_zeros cs page n) ≡ length cs

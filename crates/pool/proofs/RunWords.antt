@@ -1,10 +1,8 @@
 -- The words for the pages of runs, and what else is kept.
-use Rattle.std.proofs.Common.{◌≡◌, ◌≢◌, ℕ, ◌+◌, ◌-◌, ◌*◌, ◌%◌, ◌^◌, ◌<◌, ◌≤◌, arith, true, nat_lt, List, [], ◌∷◌, ◌++◌, length, get_or, drop, reverse, slice_index, slice_set, refl, sym, subst, ap, ap₂, ◌∙◌}
+use Rattle.std.proofs.Common.{◌≡◌, ◌≢◌, ℕ, ◌+◌, ◌-◌, ◌*◌, ◌%◌, ◌^◌, ◌<◌, ◌≤◌, arith, List, [], ◌∷◌, ◌++◌, length, get_or, drop, reverse, slice_index, slice_set, refl, sym, subst, ap, ap₂, ◌∙◌}
 use Rattle.std.proofs.Math.Nat.{mul-le-mul_left}
-use Rattle.std.proofs.lemmas.Bool.{and_parts}
-use Rattle.std.proofs.lemmas.Bool.Decides.{nat_tests}
 use Rattle.std.proofs.lemmas.List.{length-append, reverse-append, at_drop_more, at_drop_all}
-use Rattle.base.specs.Pages.{PageRun, rise_above, are_normal}
+use Rattle.base.specs.Pages.{PageRun}
 use Rattle.pool.specs.Pool.{Pool, words_of, words_set, sets_of, counted, after_sets, index_from, words_in, after_run, after_runs}
 use Rattle.pool.specs.Shown.{IsShown}
 use Rattle.pool.specs.declared.operation.Op.{Op}

@@ -325,9 +325,9 @@ pub(crate) fn plain_until<M: TableMem>(memory: &M, second: TablePage, first: u32
     index
 }
 
-/// Edits the pages of runs in the chunks of a gigabyte, upward, whose level 2 table may not be
-/// linked yet.
-pub(crate) fn edit_chunks<M: TableMem>(
+/// Edits the chunks of a gigabyte that the runs touch, upward: blocks together, and others one by one.
+#[inline(never)]
+fn edit_each_chunk<M: TableMem>(
     memory: &mut M,
     edit: &RowEdit,
     second: TablePage,
@@ -377,5 +377,44 @@ pub(crate) fn edit_chunks<M: TableMem>(
             }
             index += 1;
         }
+    }
+}
+
+/// Edits the pages of runs in the chunks of a gigabyte, upward, whose level 2 table may not be
+/// linked yet.
+pub(crate) fn edit_chunks<M: TableMem>(
+    memory: &mut M,
+    edit: &RowEdit,
+    second: TablePage,
+    gigabyte: Gigabyte,
+    runs: &[Run],
+)
+    requires orderly { IsLinkedOrderly edit.now gigabyte second (M.state memory.old) }
+    requires second { IsSecond edit.now gigabyte second (M.state memory.old) }
+    requires row { row_of edit.now.layout.now.ids edit.now.p ≡ edit.now.row }
+    requires partition { edit.now.row < length edit.now.layout.now.ids }
+    requires normal { are_normal runs.now ≡ true }
+    requires free { FitsChunks edit.now gigabyte second runs.now
+        (M.state memory.old) }
+    requires room { operations_in_chunks edit.now gigabyte second runs.now
+        (M.state memory.old) ≤ M.room memory.old }
+    ensures underway { EditsChunks edit.now gigabyte second runs.now
+        (M.state memory.old) (M.state memory.new) }
+    ensures in_step { ChunksInStep edit.now gigabyte second runs.now
+        (M.state memory.old) (M.state memory.new) }
+    ensures room { M.room memory.old ≤ M.room memory.new
+        + operations_in_chunks edit.now gigabyte second runs.now
+        (M.state memory.old) }
+{
+    match ChunkEdit::alone(edit.layout, runs, gigabyte, &edit.access) {
+        Some(here) => {
+            let site = Site {
+                p: edit.p,
+                row: edit.row,
+                second,
+            };
+            edit_chunk(memory, &site, &here);
+        }
+        None => edit_each_chunk(memory, edit, second, gigabyte, runs),
     }
 }

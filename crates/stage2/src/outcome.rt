@@ -41,7 +41,7 @@ pub(crate) fn is_alike_in_block(edit: &ChunkEdit, entry: &Slot) -> bool
 
 /// Whether so many words of a chunk's table are not 0 that a page beside the runs is reached after the edit and theirs are not, or
 /// the other way.
-fn is_told_mixed<M: TableMem>(memory: &M, edit: &ChunkEdit, third: TablePage) -> bool
+pub(crate) fn is_told_mixed<M: TableMem>(memory: &M, edit: &ChunkEdit, third: TablePage) -> bool
     requires { third < page_count (M.state memory.now).memory.quotas }
     ensures { result ≡ true → IsStray third edit.now (M.state memory.now) }
 {

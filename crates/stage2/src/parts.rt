@@ -1,12 +1,12 @@
 //! The parts of runs in a gigabyte, and in a chunk.
 
-ghost use Rattle.base.specs.Pages.{are_normal, covers};
+ghost use Rattle.base.specs.Pages.{are_normal, covers, in_run};
 ghost use Rattle.stage2.specs.inner.Chunks.{covers_chunk};
 ghost use Rattle.stage2.specs.Edits.{touches_chunk};
 ghost use Rattle.stage2.specs.Parts as parts;
 ghost use Rattle.stage2.specs.Parts.{part_in, part_count, end_from, lie_within};
-ghost use Rattle.stage2.specs.Room.{pages_in};
-ghost use Rattle.std.specs.Prelude.{◌≡◌, ℕ, ◌+◌, ◌*◌, ◌<◌, ◌≤◌, true, take, drop, length, ◌/◌, ◌^◌};
+ghost use Rattle.stage2.specs.Room.{pages_among, pages_in};
+ghost use Rattle.std.specs.Prelude.{◌≡◌, [], ◌∷◌, ℕ, ◌+◌, ◌*◌, ◌<◌, ◌≤◌, true, take, drop, length, ◌/◌, ◌^◌};
 
 use crate::place::{Chunk, Gigabyte, Span, whole_chunks};
 use base::{Page, Run};
@@ -203,6 +203,22 @@ pub(crate) fn part_in(run: Run, chunk: Chunk) -> Option<Run>
     }
 }
 
+/// The piece of a run in a chunk, if there is one.
+fn piece_of(run: Run, chunk: Chunk) -> Pieces
+    ensures pages { result.pages ≡ pages_among (λ i. in_run run (512 * chunk + i)) }
+    ensures runs { result.runs ≡ part_count chunk (run ∷ []) }
+    ensures few { result.runs ≤ result.pages }
+    ensures most { result.pages ≤ 512 }
+{
+    match part_in(run, chunk) {
+        Some(part) => Pieces {
+            pages: part.count(),
+            runs: 1,
+        },
+        None => Pieces { pages: 0, runs: 0 },
+    }
+}
+
 /// The pieces of runs in a chunk.
 pub(crate) fn count_pieces(runs: &[Run], chunk: Chunk) -> Pieces
     requires normal { are_normal runs.now ≡ true }
@@ -211,12 +227,14 @@ pub(crate) fn count_pieces(runs: &[Run], chunk: Chunk) -> Pieces
     ensures few { result.runs ≤ result.pages }
     ensures most { result.pages ≤ 512 }
 {
+    if let [run] = runs {
+        return piece_of(*run, chunk);
+    }
     let mut pieces = Pieces { pages: 0, runs: 0 };
     for run in runs {
-        if let Some(part) = part_in(*run, chunk) {
-            pieces.pages += part.count();
-            pieces.runs += 1;
-        }
+        let piece = piece_of(*run, chunk);
+        pieces.pages += piece.pages;
+        pieces.runs += piece.runs;
     }
     pieces
 }

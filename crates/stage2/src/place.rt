@@ -92,6 +92,14 @@ impl Gigabyte {
         Chunk(WORDS * self.0 + index)
     }
 
+    /// Whether a chunk is one of its chunks.
+    pub(crate) fn has(self, chunk: Chunk) -> bool
+        ensures same { result ≡ (chunk / 512 == self) }
+        ensures in_range { self < 512 }
+    {
+        chunk.number() / WORDS == self.0
+    }
+
     /// Its first page.
     pub(crate) fn first(self) -> Page
         ensures same { result ≡ 262144 * self }

@@ -21,7 +21,7 @@ ghost use Rattle.std.specs.Prelude.{◌≡◌, ℕ, ◌+◌, ◌-◌, ◌*◌, �
 use crate::layout::Layout;
 use crate::level1::{find_table, touches};
 use crate::level2::{block_of, plain_until, table_of};
-use crate::outcome::{is_alike_in_block, is_alike_in_table};
+use crate::outcome::{is_alike_in_block, is_alike_in_table, is_told_mixed};
 use crate::parts::{bounds, chunk_span, first_unfilled, gigabyte_runs, gigabyte_span, runs_past};
 use crate::place::{Chunk, Gigabyte, Span};
 use crate::read::read_chunk;
@@ -167,12 +167,14 @@ fn plan_table<M: TableMem>(memory: &M, edit: &ChunkEdit, third: TablePage, looks
     ensures most { result.operations ≤ 1027 }
 {
     let kept = operations_kept(edit);
+    if is_told_mixed(memory, edit, third) {
+        return Plan::new(0, 3 + kept);
+    }
     let gone = operations_gone(memory, edit, third);
     let most = kept.max(gone);
-    if !looks {
-        return Plan::new(0, 3 + most);
-    }
     if most - kept.min(gone) <= SURPLUS {
+        Plan::new(0, 3 + most)
+    } else if !looks {
         Plan::new(0, 3 + most)
     } else if is_alike_in_table(memory, edit, third) {
         Plan::new(0, 3 + gone)
@@ -182,6 +184,7 @@ fn plan_table<M: TableMem>(memory: &M, edit: &ChunkEdit, third: TablePage, looks
 }
 
 /// What the edit of a chunk needs that has pages of the runs.
+#[inline(always)]
 fn plan_chunk<M: TableMem>(memory: &M, edit: &ChunkEdit, entry: &Slot, looks: bool) -> Plan
     requires table { (k : ℕ) → entry.now ≡ Next k
         → k < page_count (M.state memory.now).memory.quotas }
@@ -208,34 +211,56 @@ fn plan_chunk<M: TableMem>(memory: &M, edit: &ChunkEdit, entry: &Slot, looks: bo
     }
 }
 
-/// What an edit needs for this chunk of a gigabyte.
+/// What the edit of a chunk needs that has pages of the runs, in a gigabyte with this level 2 table, if it has one.
+#[inline(always)]
+fn plan_in<M: TableMem>(
+    memory: &M,
+    row: &RowPlan,
+    second: &Option<TablePage>,
+    edit: &ChunkEdit,
+) -> Plan
+    requires canonical { IsCanonical row.now.layout.now (pages_of (M.state memory.now).memory) }
+    requires layout { edit.now.layout.now ≡ row.now.layout.now }
+    requires in_range { edit.now.chunk < 2 ^ 18 }
+    requires partition { (r : ℕ) → row.now.row ≡ Some r → r < length row.now.layout.now.ids }
+    requires table { second_in row.now.layout.now row.now.row (edit.now.chunk / 512) (M.state memory.now) ≡ second.now }
+    ensures tables { let before = view_in row.now.layout.now row.now.row (M.state memory.now) in
+        let after = edited edit.now.runs.now edit.now.access before in
+        result.tables ≡ (if grows_at before after edit.now.chunk then 1 else 0) }
+    ensures operations { let before = view_in row.now.layout.now row.now.row (M.state memory.now) in
+        chunk_operations edit.now.runs.now edit.now.access before edit.now.chunk
+        ≤ result.operations }
+    ensures most { result.operations ≤ 1027 }
+{
+    let entry = entry_at(memory, row.layout, second, edit.chunk);
+    plan_chunk(memory, edit, &entry, row.looks)
+}
+
+/// What an edit needs for a chunk by those of the runs that do not end before it.
 fn plan_at<M: TableMem>(
     memory: &M,
     edit: &RowPlan,
     second: &Option<TablePage>,
-    gigabyte: Gigabyte,
-    index: u32,
+    chunk: Chunk,
+    runs: &[Run],
 ) -> Plan
     requires canonical { IsCanonical edit.now.layout.now (pages_of (M.state memory.now).memory) }
     requires partition { (r : ℕ) → edit.now.row ≡ Some r → r < length edit.now.layout.now.ids }
-    requires normal { are_normal edit.now.runs.now ≡ true }
-    requires past { runs_past (512 * (512 * gigabyte + index)) edit.now.runs.now ≡ edit.now.runs.now }
-    requires index { index < 512 }
-    requires table { second_in edit.now.layout.now edit.now.row gigabyte (M.state memory.now) ≡ second.now }
+    requires normal { are_normal runs.now ≡ true }
+    requires past { runs_past (512 * chunk) runs.now ≡ runs.now }
+    requires in_range { chunk < 2 ^ 18 }
+    requires table { second_in edit.now.layout.now edit.now.row (chunk / 512) (M.state memory.now) ≡ second.now }
     ensures tables { let before = view_in edit.now.layout.now edit.now.row (M.state memory.now) in
-        let after = edited edit.now.runs.now edit.now.access before in
-        result.tables ≡ (if grows_at before after (512 * gigabyte + index) then 1 else 0) }
+        let after = edited runs.now edit.now.access before in
+        result.tables ≡ (if grows_at before after chunk then 1 else 0) }
     ensures operations { let before = view_in edit.now.layout.now edit.now.row (M.state memory.now) in
-        chunk_operations edit.now.runs.now edit.now.access before (512 * gigabyte + index)
-        ≤ result.operations }
+        chunk_operations runs.now edit.now.access before chunk ≤ result.operations }
     ensures most { result.operations ≤ 1027 }
 {
-    let chunk = gigabyte.chunk(index);
-    let Some(here) = ChunkEdit::new(edit.layout, edit.runs, chunk, &edit.access) else {
-        return Plan::new(0, 0);
-    };
-    let entry = entry_at(memory, edit.layout, second, chunk);
-    plan_chunk(memory, &here, &entry, edit.looks)
+    match ChunkEdit::new(edit.layout, runs, chunk, &edit.access) {
+        Some(here) => plan_in(memory, edit, second, &here),
+        None => Plan::new(0, 0),
+    }
 }
 
 /// Up to where chunks of a gigabyte, counted from its first, have no table and are filled by a run: as far as it is
@@ -266,42 +291,41 @@ fn plain_filled<M: TableMem>(
     }
 }
 
-/// What an edit needs for the chunks of a gigabyte.
-fn plan_chunks<M: TableMem>(
+/// What an edit needs for the chunks of a gigabyte that its runs touch.
+#[inline(never)]
+fn plan_each_chunk<M: TableMem>(
     memory: &M,
     edit: &RowPlan,
     second: &Option<TablePage>,
     gigabyte: Gigabyte,
+    runs: &[Run],
 ) -> Plan
     requires canonical { IsCanonical edit.now.layout.now (pages_of (M.state memory.now).memory) }
     requires partition { (r : ℕ) → edit.now.row ≡ Some r → r < length edit.now.layout.now.ids }
-    requires normal { are_normal edit.now.runs.now ≡ true }
+    requires normal { are_normal runs.now ≡ true }
     requires table { second_in edit.now.layout.now edit.now.row gigabyte (M.state memory.now) ≡ second.now }
     ensures tables { let before = view_in edit.now.layout.now edit.now.row (M.state memory.now) in
-        result.tables ≡ chunks_growth before (edited edit.now.runs.now edit.now.access before) gigabyte }
+        result.tables ≡ chunks_growth before (edited runs.now edit.now.access before) gigabyte }
     ensures operations { let before = view_in edit.now.layout.now edit.now.row (M.state memory.now) in
-        chunks_operations edit.now.runs.now edit.now.access before gigabyte
+        chunks_operations runs.now edit.now.access before gigabyte
         ≤ result.operations }
     ensures few { result.tables ≤ 512 }
     ensures most { result.operations ≤ 1027 * 512 }
 {
-    let span = chunk_span(edit.runs, gigabyte);
+    let span = chunk_span(runs, gigabyte);
     let end = span.end;
     let mut plan = Plan::new(0, 0);
-    let mut rest = edit.runs;
+    let mut rest = runs;
     let mut first = span.first;
     while first < end {
-        rest = runs_past(rest, gigabyte.chunk(first).first().number());
+        let chunk = gigabyte.chunk(first);
+        rest = runs_past(rest, chunk.first().number());
         let plain = plain_filled(memory, second, gigabyte, rest, Span { first, end });
         if first < plain {
             plan.operations += 3 * (plain - first);
             first = plain;
         } else {
-            let here = RowPlan {
-                runs: rest,
-                ..*edit
-            };
-            let more = plan_at(memory, &here, second, gigabyte, first);
+            let more = plan_at(memory, edit, second, chunk, rest);
             plan.tables += more.tables;
             plan.operations += more.operations;
             first += 1;
@@ -310,22 +334,48 @@ fn plan_chunks<M: TableMem>(
     plan
 }
 
-/// What an edit needs for a gigabyte, its level 2 table with it.
-fn plan_gigabyte<M: TableMem>(memory: &M, edit: &RowPlan, gigabyte: Gigabyte) -> Plan
+/// What an edit needs for the chunks of a gigabyte.
+fn plan_chunks<M: TableMem>(
+    memory: &M,
+    edit: &RowPlan,
+    second: &Option<TablePage>,
+    gigabyte: Gigabyte,
+    runs: &[Run],
+) -> Plan
     requires canonical { IsCanonical edit.now.layout.now (pages_of (M.state memory.now).memory) }
-    requires touched { Touches edit.now.runs.now gigabyte }
     requires partition { (r : ℕ) → edit.now.row ≡ Some r → r < length edit.now.layout.now.ids }
-    requires normal { are_normal edit.now.runs.now ≡ true }
+    requires normal { are_normal runs.now ≡ true }
+    requires table { second_in edit.now.layout.now edit.now.row gigabyte (M.state memory.now) ≡ second.now }
     ensures tables { let before = view_in edit.now.layout.now edit.now.row (M.state memory.now) in
-        result.tables ≡ gigabyte_growth before (edited edit.now.runs.now edit.now.access before) gigabyte }
+        result.tables ≡ chunks_growth before (edited runs.now edit.now.access before) gigabyte }
     ensures operations { let before = view_in edit.now.layout.now edit.now.row (M.state memory.now) in
-        gigabyte_operations edit.now.runs.now edit.now.access before gigabyte
+        chunks_operations runs.now edit.now.access before gigabyte
+        ≤ result.operations }
+    ensures few { result.tables ≤ 512 }
+    ensures most { result.operations ≤ 1027 * 512 }
+{
+    match ChunkEdit::alone(edit.layout, runs, gigabyte, &edit.access) {
+        Some(here) => plan_in(memory, edit, second, &here),
+        None => plan_each_chunk(memory, edit, second, gigabyte, runs),
+    }
+}
+
+/// What an edit needs for a gigabyte, its level 2 table with it.
+fn plan_gigabyte<M: TableMem>(memory: &M, edit: &RowPlan, gigabyte: Gigabyte, runs: &[Run]) -> Plan
+    requires canonical { IsCanonical edit.now.layout.now (pages_of (M.state memory.now).memory) }
+    requires touched { Touches runs.now gigabyte }
+    requires partition { (r : ℕ) → edit.now.row ≡ Some r → r < length edit.now.layout.now.ids }
+    requires normal { are_normal runs.now ≡ true }
+    ensures tables { let before = view_in edit.now.layout.now edit.now.row (M.state memory.now) in
+        result.tables ≡ gigabyte_growth before (edited runs.now edit.now.access before) gigabyte }
+    ensures operations { let before = view_in edit.now.layout.now edit.now.row (M.state memory.now) in
+        gigabyte_operations runs.now edit.now.access before gigabyte
         ≤ result.operations }
     ensures few { result.tables ≤ 513 }
     ensures most { result.operations ≤ 1027 * 512 + 2 }
 {
     let second = second_at(memory, edit.layout, &edit.row, gigabyte);
-    let chunks = plan_chunks(memory, edit, &second, gigabyte);
+    let chunks = plan_chunks(memory, edit, &second, gigabyte, runs);
     let operations = chunks.operations + chunks.operations.min(2);
     match second {
         Some(_) => Plan::new(chunks.tables, operations),
@@ -340,27 +390,23 @@ fn plan_gigabyte<M: TableMem>(memory: &M, edit: &RowPlan, gigabyte: Gigabyte) ->
 }
 
 /// What an edit needs: the tables after it at places where there is none before it, and its operations.
-pub(crate) fn plan_row<M: TableMem>(memory: &M, edit: &RowPlan) -> Plan
+pub(crate) fn plan_row<M: TableMem>(memory: &M, edit: &RowPlan, runs: &[Run]) -> Plan
     requires canonical { IsCanonical edit.now.layout.now (pages_of (M.state memory.now).memory) }
     requires partition { (r : ℕ) → edit.now.row ≡ Some r → r < length edit.now.layout.now.ids }
-    requires normal { are_normal edit.now.runs.now ≡ true }
+    requires normal { are_normal runs.now ≡ true }
     ensures tables { let before = view_in edit.now.layout.now edit.now.row (M.state memory.now) in
-        result.tables ≡ grow before (edited edit.now.runs.now edit.now.access before) }
+        result.tables ≡ grow before (edited runs.now edit.now.access before) }
     ensures operations { let before = view_in edit.now.layout.now edit.now.row (M.state memory.now) in
-        row_operations edit.now.runs.now edit.now.access before ≤ result.operations }
+        row_operations runs.now edit.now.access before ≤ result.operations }
     ensures most { result.operations ≤ 2 ^ 29 }
 {
-    let span = gigabyte_span(edit.runs);
+    let span = gigabyte_span(runs);
     let mut plan = Plan::new(0, 0);
     for number in span.first..span.end {
         let gigabyte = Gigabyte::new(number);
-        let part = gigabyte_runs(edit.runs, gigabyte);
+        let part = gigabyte_runs(runs, gigabyte);
         if touches(part) {
-            let here = RowPlan {
-                runs: part,
-                ..*edit
-            };
-            let more = plan_gigabyte(memory, &here, gigabyte);
+            let more = plan_gigabyte(memory, edit, gigabyte, part);
             plan.tables += more.tables;
             plan.operations += more.operations;
         }
@@ -397,4 +443,14 @@ pub(crate) fn most_operations(runs: &[Run]) -> usize
     ensures most { result ≤ 518 * 2 ^ 18 }
 {
     518 * chunks_between(bounds(runs)) as usize
+}
+
+/// How many operations an edit of the runs mostly makes, at most: a write for each page between the first and the last, and an
+/// invalidation for each run.
+pub(crate) fn likely_operations(runs: &[Run]) -> usize
+    requires normal { are_normal runs.now ≡ true }
+{
+    let pages = bounds(runs);
+    runs.len()
+        .saturating_add((pages.end - pages.first) as usize)
 }

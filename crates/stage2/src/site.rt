@@ -4,13 +4,13 @@ ghost use Rattle.base.specs.Pages.{are_normal};
 ghost use Rattle.stage2.specs.Edits.{touches_chunk};
 ghost use Rattle.stage2.specs.Parts.{chunk_runs, part_count, runs_past};
 ghost use Rattle.stage2.specs.Room.{pages_in};
-ghost use Rattle.std.specs.Prelude.{◌≡◌, ◌*◌, ◌<◌, ◌≤◌, true, false, None, IfSome};
+ghost use Rattle.std.specs.Prelude.{◌≡◌, ◌≢◌, ℕ, ◌*◌, ◌/◌, ◌<◌, ◌≤◌, true, false, None, IfSome};
 
 use crate::layout::Layout;
-use crate::parts::{Pieces, chunk_runs, count_pieces};
-use crate::place::Chunk;
+use crate::parts::{Pieces, bounds, chunk_runs, count_pieces};
+use crate::place::{Chunk, Gigabyte};
 use crate::table_page::{Row, TablePage};
-use base::{Access, PartitionId, Run};
+use base::{Access, Page, PartitionId, Run};
 
 /// The edit of a partition's pages: those that are edited are reached with this access, or not at all.
 #[derive(Clone, Copy)]
@@ -39,6 +39,7 @@ pub(crate) struct ChunkEdit<'a, 'b> {
 
 impl<'a, 'b> ChunkEdit<'a, 'b> {
     /// The edit of a chunk by those of the runs that have pages there, if some have. No run ends before the chunk.
+    #[inline(always)]
     pub(crate) fn new(
         layout: &'a Layout,
         runs: &'b [Run],
@@ -51,7 +52,46 @@ impl<'a, 'b> ChunkEdit<'a, 'b> {
             × (edit.runs.now ≡ chunk_runs chunk runs.now) × (edit.access ≡ access.now)) }
         ensures none { result ≡ None → touches_chunk chunk runs.now ≡ false }
     {
-        let runs = chunk_runs(runs, chunk);
+        Self::of_own(layout, chunk_runs(runs, chunk), chunk, access)
+    }
+
+    /// The edit of a chunk of a gigabyte by all of the runs, if they have pages there and nowhere else.
+    #[inline(always)]
+    pub(crate) fn alone(
+        layout: &'a Layout,
+        runs: &'b [Run],
+        gigabyte: Gigabyte,
+        access: &Option<Access>,
+    ) -> Option<Self>
+        requires normal { are_normal runs.now ≡ true }
+        ensures some { IfSome result (λ edit. (edit.layout.now ≡ layout.now) × (edit.chunk / 512 ≡ gigabyte)
+            × (edit.runs.now ≡ runs.now) × (edit.access ≡ access.now)
+            × ((c : ℕ) → c ≢ edit.chunk → touches_chunk c runs.now ≡ false) × (gigabyte < 512)) }
+    {
+        let pages = bounds(runs);
+        if pages.first >= pages.end {
+            return None;
+        }
+        let chunk = Chunk::of(Page::new(pages.first));
+        if chunk.end() < pages.end || !gigabyte.has(chunk) {
+            return None;
+        }
+        Self::of_own(layout, runs, chunk, access)
+    }
+
+    /// The edit of a chunk by these runs, if they have pages there.
+    #[inline(always)]
+    fn of_own(
+        layout: &'a Layout,
+        runs: &'b [Run],
+        chunk: Chunk,
+        access: &Option<Access>,
+    ) -> Option<Self>
+        requires normal { are_normal runs.now ≡ true }
+        ensures some { IfSome result (λ edit. (edit.layout.now ≡ layout.now) × (edit.chunk ≡ chunk)
+            × (edit.runs.now ≡ runs.now) × (edit.access ≡ access.now)) }
+        ensures none { result ≡ None → touches_chunk chunk runs.now ≡ false }
+    {
         let pieces = count_pieces(runs, chunk);
         if pieces.pages == 0 {
             return None;
@@ -74,12 +114,11 @@ pub(crate) struct Site {
     pub(crate) second: TablePage,
 }
 
-/// An edit of runs that is planned, of a partition that may have no root.
+/// The edit of a partition's pages that is planned, which may have no root.
 #[derive(Clone, Copy)]
-pub(crate) struct RowPlan<'a, 'b> {
+pub(crate) struct RowPlan<'a> {
     pub(crate) layout: &'a Layout,
     pub(crate) row: Option<Row>,
-    pub(crate) runs: &'b [Run],
     pub(crate) access: Option<Access>,
     /// Whether words of tables may be looked at, to tell which of them stay: else those count that need more.
     pub(crate) looks: bool,

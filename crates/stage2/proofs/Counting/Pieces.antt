@@ -1,7 +1,7 @@
 -- How many pages of a chunk runs have, and what that tells of the words of its level 3 table.
 use Rattle.std.proofs.Common.{◌≡◌, ◌≢◌, ℕ, zero, suc, ◌+◌, ◌-◌, ◌*◌, ◌/◌, ◌<◌, ◌≤◌, ◌==◌, cond, Bool, true, false, not, ◌&&◌, ◌||◌, eqb, leb, ltb, max, min, List, [], ◌∷◌, Some, None, take, drop, length, get_or, refl, sym, ap, ◌∙◌, arith, inl, inr}
-use Rattle.std.proofs.lemmas.Bool.{cases_Bool, cases_lt, and_parts, ltb-true, eqb-true}
-use Rattle.std.proofs.lemmas.List.{at_drop_all, get_or-drop, length-drop}
+use Rattle.std.proofs.lemmas.Bool.{cases_Bool, and_parts, ltb-true, eqb-true}
+use Rattle.std.proofs.lemmas.List.{at_drop_all}
 use Rattle.std.proofs.lemmas.Bool.Decides.{nat_tests}
 use Rattle.base.specs.Counts.{count_below}
 use Rattle.base.specs.Pages.{PageRun, in_run, covers, are_normal, rise_above}
@@ -13,8 +13,7 @@ use Rattle.stage2.specs.Room.{pages_among, pages_in}
 use Rattle.stage2.specs.Parts.{end_from, part_in}
 use Rattle.pool.proofs.FirstRuns.{covers-take, take-all}
 use Rattle.stage2.proofs.Runs.Parts.{part-some, part-none}
-use Rattle.stage2.proofs.Runs.Between.{before-first}
-use Rattle.stage2.proofs.Runs.Normal.{end_of, from-rise, normal-next, normal-take, normal-drop}
+use Rattle.stage2.proofs.Runs.Normal.{end_of, from-rise, normal-next, normal-take}
 
 -- ---- counts of any kind
 
@@ -332,23 +331,3 @@ words-pages c runs normal =
     let none = pages-none c runs in
     let all = words-from c (length runs) 0 runs normal (omega arith) in
     omega (arith, none, all)
-
--- the words that are left from a run on lie behind its first
-pub words-behind : (c i : ℕ) (runs : List PageRun) (run : PageRun) → are_normal runs ≡ true → i < length runs → run ≡ get_or runs i run → words_in (512 * c) (drop i runs) + min (run.first - 512 * c) 512 ≤ 512
-unfolding pages_among
-words-behind c i runs run normal lt is =
-    let first = min (run.first - 512 * c) 512 in
-    let left = normal-drop i runs normal in
-    let some : 0 < length (drop i runs) = (let len = length-drop i runs in omega (arith, len, lt)) in
-    let head : run ≡ get_or (drop i runs) 0 run = is ∙ ap (λ k. get_or runs k run) (let e : i ≡ i + 0 = omega arith in e) ∙ sym (get_or-drop i runs 0 run) in
-    let words : words_in (512 * c) (drop i runs) ≡ pages_in (drop i runs) c = words-pages c (drop i runs) left in
-    let fewer = count_below-fewer (λ x. covers (drop i runs) (512 * c + x)) (is_between first 512) 512
-    (λ x lt covered. from first x lt (λ before. let out = before-first (drop i runs) run (512 * c + x) left some head (omega (arith, before)) in let bad : true ≡ false = sym covered ∙ out in absurd (cc))) in
-    let most = count_below-between first 512 512 (omega arith) (omega arith) in
-    omega (arith, words, fewer, most)
-  where
-    from : (first x : ℕ) → x < 512 → (x < first → ⊥) → is_between first 512 x ≡ true
-    from first x lt not_before = elim (cases_lt x first) [
-      | inl before ↦ absurd (not_before before)
-      | inr behind ↦ grind (arith, nat_tests, lt, behind)
-    ]

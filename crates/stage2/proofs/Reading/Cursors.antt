@@ -170,11 +170,6 @@ row-more level first word (suc n) =
     ∙ ap (λ (xs : List TableEntry). record { level = level; first = first; word = word } ∷ xs) (row-more level (first + span) (word + 4096 * span) n)
     ∙ ap₂ (λ (f w : ℕ). record { level = level; first = first; word = word } ∷ (entry_row level (first + span) (word + 4096 * span) n ++ record { level = level; first = f; word = w } ∷ [])) f w
 
-pub few-steps : (level : Level) (n : ℕ) → n ≤ 512 → 4096 * pages_at level * n ≤ 2 ^ 39
-few-steps First n few = omega (arith, few)
-few-steps Second n few = omega (arith, few)
-few-steps Third n few = omega (arith, few)
-
 pub few-pages-behind : (level : Level) (first n : ℕ) → n ≤ 512 → first + 512 * pages_at level ≤ 2 ^ 27 → first + pages_at level * n ≤ 2 ^ 27
 few-pages-behind First first n few fits = omega (arith, few, fits)
 few-pages-behind Second first n few fits = omega (arith, few, fits)

@@ -208,7 +208,7 @@ module _ (runs : List PageRun) (first end : ℕ) (within : lie_within first end 
 
 -- ---- a gigabyte that the runs touch
 
-member : (f : ℕ → ℕ) (n x : ℕ) → x < n → f x ≤ sum_below f n
+pub member : (f : ℕ → ℕ) (n x : ℕ) → x < n → f x ≤ sum_below f n
 unfolding sum_below
 member f zero x lt = absurd (omega (arith, lt))
 member f (suc n) x lt = elim (cases_eq x n) [

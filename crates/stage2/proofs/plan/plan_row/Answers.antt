@@ -17,17 +17,17 @@ use Rattle.stage2.proofs.plan.plan_row.Goals as goal
 use Rattle.stage2.proofs.plan.plan_row.Goals.{then-touches, else-touches}
 
 pub plan_gigabyte-more-requires-clause-touched : goal.plan_gigabyte-more-requires-clause-touched
-plan_gigabyte-more-requires-clause-touched g c = c.touches.ensures.yes c.if-touches.true c.new-gigabyte.result c.args.edit.now.runs.now c.gigabyte_runs-part.ensures.same
+plan_gigabyte-more-requires-clause-touched g c = c.touches.ensures.yes c.if-touches.true c.new-gigabyte.result c.args.runs.now c.gigabyte_runs-part.ensures.same
 
 pub loop-number-init : goal.loop-number-init
 loop-number-init g c =
     let v = answers_of c.args.edit.now.layout.now (pages_of (g.M.TableMem.state c.args.memory.now).memory).words c.args.edit.now.row in
     let first = c.gigabyte_span-span.result.first in
     record {
-      tables = ap (λ (p : Plan). p.tables) c.new-plan.ensures ∙ sym (sum_below-none (gigabyte_growth v (edited c.args.edit.now.runs.now c.args.edit.now.access v)) first
-          (λ x lt. growth-nothing c.args.edit.now.runs.now c.args.edit.now.access v x (λ n at. outside-gigabytes c.args.edit.now.runs.now first c.gigabyte_span-span.result.end n c.gigabyte_span-span.ensures.within (inl (omega (arith, at, lt))))));
-      operations = let none = sum_below-none (gigabyte_operations c.args.edit.now.runs.now c.args.edit.now.access v) first
-          (λ x lt. operations-nothing c.args.edit.now.runs.now c.args.edit.now.access v x (λ n at. outside-gigabytes c.args.edit.now.runs.now first c.gigabyte_span-span.result.end n c.gigabyte_span-span.ensures.within (inl (omega (arith, at, lt))))) in omega (arith, none);
+      tables = ap (λ (p : Plan). p.tables) c.new-plan.ensures ∙ sym (sum_below-none (gigabyte_growth v (edited c.args.runs.now c.args.edit.now.access v)) first
+          (λ x lt. growth-nothing c.args.runs.now c.args.edit.now.access v x (λ n at. outside-gigabytes c.args.runs.now first c.gigabyte_span-span.result.end n c.gigabyte_span-span.ensures.within (inl (omega (arith, at, lt))))));
+      operations = let none = sum_below-none (gigabyte_operations c.args.runs.now c.args.edit.now.access v) first
+          (λ x lt. operations-nothing c.args.runs.now c.args.edit.now.access v x (λ n at. outside-gigabytes c.args.runs.now first c.gigabyte_span-span.result.end n c.gigabyte_span-span.ensures.within (inl (omega (arith, at, lt))))) in omega (arith, none);
       few = let none : c.new-plan.result.tables ≡ 0 = ap (λ (p : Plan). p.tables) c.new-plan.ensures in omega (arith, none);
       most = let none : c.new-plan.result.operations ≡ 0 = ap (λ (p : Plan). p.operations) c.new-plan.ensures in omega (arith, none);
     }
@@ -35,7 +35,7 @@ loop-number-init g c =
 pub loop-number-preserved : goal.loop-number-preserved
 loop-number-preserved g c =
     let v : ℕ → View = answers_of c.args.edit.now.layout.now (pages_of (g.M.TableMem.state c.args.memory.now).memory).words c.args.edit.now.row in
-    let runs = c.args.edit.now.runs.now in
+    let runs = c.args.runs.now in
     let access = c.args.edit.now.access in
     let f : ℕ → ℕ = gigabyte_growth v (edited runs access v) in
     let h : ℕ → ℕ = gigabyte_operations runs access v in
@@ -88,27 +88,27 @@ loop-number-preserved g c =
 pub returns-clause-tables : goal.returns-clause-tables
 returns-clause-tables g c =
     let v = answers_of c.args.edit.now.layout.now (pages_of (g.M.TableMem.state c.args.memory.now).memory).words c.args.edit.now.row in
-    let f : ℕ → ℕ = gigabyte_growth v (edited c.args.edit.now.runs.now c.args.edit.now.access v) in
+    let f : ℕ → ℕ = gigabyte_growth v (edited c.args.runs.now c.args.edit.now.access v) in
     let i = c.loop-number.number in
     let most = c.gigabyte_span-span.ensures.most in
     let end = c.loop-number-test.false in
     let last : i ≤ c.gigabyte_span-span.result.end = c.loop-number.auto.number-end c.gigabyte_span-span.ensures.ordered in
     let e : i + (512 - i) ≡ 512 = omega (arith, most, last) in
     c.loop-number.invariant.tables
-    ∙ sym (sum_below-tail f (512 - i) i (λ x from to. growth-nothing c.args.edit.now.runs.now c.args.edit.now.access v x (λ n at. outside-gigabytes c.args.edit.now.runs.now c.gigabyte_span-span.result.first c.gigabyte_span-span.result.end n c.gigabyte_span-span.ensures.within (inr (omega (arith, from, at, end))))))
-    ∙ ap (sum_below f) e ∙ grow-sum v (edited c.args.edit.now.runs.now c.args.edit.now.access v)
+    ∙ sym (sum_below-tail f (512 - i) i (λ x from to. growth-nothing c.args.runs.now c.args.edit.now.access v x (λ n at. outside-gigabytes c.args.runs.now c.gigabyte_span-span.result.first c.gigabyte_span-span.result.end n c.gigabyte_span-span.ensures.within (inr (omega (arith, from, at, end))))))
+    ∙ ap (sum_below f) e ∙ grow-sum v (edited c.args.runs.now c.args.edit.now.access v)
 
 pub returns-clause-operations : goal.returns-clause-operations
 returns-clause-operations g c =
     let v : ℕ → View = answers_of c.args.edit.now.layout.now (pages_of (g.M.TableMem.state c.args.memory.now).memory).words c.args.edit.now.row in
-    let h : ℕ → ℕ = gigabyte_operations c.args.edit.now.runs.now c.args.edit.now.access v in
+    let h : ℕ → ℕ = gigabyte_operations c.args.runs.now c.args.edit.now.access v in
     let i = c.loop-number.number in
     let most = c.gigabyte_span-span.ensures.most in
     let end = c.loop-number-test.false in
     let last : i ≤ c.gigabyte_span-span.result.end = c.loop-number.auto.number-end c.gigabyte_span-span.ensures.ordered in
     let e : i + (512 - i) ≡ 512 = omega (arith, most, last) in
     let so : sum_below h i ≤ c.loop-number.plan.operations = c.loop-number.invariant.operations in
-    let tail = sum_below-tail h (512 - i) i (λ x from to. operations-nothing c.args.edit.now.runs.now c.args.edit.now.access v x (λ n at. outside-gigabytes c.args.edit.now.runs.now c.gigabyte_span-span.result.first c.gigabyte_span-span.result.end n c.gigabyte_span-span.ensures.within (inr (omega (arith, from, at, end))))) in
+    let tail = sum_below-tail h (512 - i) i (λ x from to. operations-nothing c.args.runs.now c.args.edit.now.access v x (λ n at. outside-gigabytes c.args.runs.now c.gigabyte_span-span.result.first c.gigabyte_span-span.result.end n c.gigabyte_span-span.ensures.within (inr (omega (arith, from, at, end))))) in
     let whole : sum_below h (i + (512 - i)) ≡ sum_below h 512 = ap (sum_below h) e in
     omega (arith, so, tail, whole)
 

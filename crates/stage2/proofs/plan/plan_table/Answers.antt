@@ -8,7 +8,7 @@ use Rattle.stage2.specs.inner.Clauses.{IsSpelled, read_before, read_after, tells
 use Rattle.stage2.specs.Room.{pages_in, reached_in, table_operations}
 use Rattle.stage2.specs.Slot.{Next}
 use Rattle.stage2.proofs.Counting.Operations.{kept, dropped, table-either, table-words}
-use Rattle.stage2.proofs.Counting.Outcomes.{one}
+use Rattle.stage2.proofs.Counting.Outcomes.{one, stray-mixed}
 use Rattle.stage2.proofs.plan.plan_table.Goals as goal
 
 -- what a table loses, by the pages that are reached
@@ -34,11 +34,11 @@ returns-then-not-looks-clause-operations g c =
     let lt = page.1 in
     let either = table-either e.runs.now e.access view e.chunk (512 * e.chunk + page.0) c.requires.mixed (omega (arith, lt)) page.2 in
     let most = within (table_operations e.runs.now e.access view e.chunk) c.operations_kept-kept.result c.operations_gone-gone.result c.max-most.result (rw (c.operations_kept-kept.ensures.same, gone) either) c.max-most.ensures in
-    let is : c.new.result.operations ≡ 3 + c.max-most.result = ap (λ (p : Plan). p.operations) c.new.ensures in
+    let is : c.new-then-not-looks.result.operations ≡ 3 + c.max-most.result = ap (λ (p : Plan). p.operations) c.new-then-not-looks.ensures in
     omega (arith, most, is)
   where
-    within : (t kept gone most : ℕ) → (t ≡ kept) ⊎ (t ≡ gone) → most ≡ max kept gone → t ≤ most
-    within t kept gone most either is = elim either [
+    within : (t k1 k2 most : ℕ) → (t ≡ k1) ⊎ (t ≡ k2) → most ≡ max k1 k2 → t ≤ most
+    within t k1 k2 most either is = elim either [
       | inl e ↦ omega (arith, e, is)
       | inr e ↦ omega (arith, e, is)
     ]
@@ -114,3 +114,22 @@ returns-else-is_alike_in_table-clause-close g c =
     let all = kept e.runs.now e.access view e.chunk c.requires.mixed outcome in
     let is : c.new-else-is_alike_in_table.result.operations ≡ 3 + c.operations_kept-kept.result = ap (λ (p : Plan). p.operations) c.new-else-is_alike_in_table.ensures in
     omega (arith, all, is, c.operations_kept-kept.ensures.same)
+
+-- one that stays, as its count tells
+pub returns-then-is_told_mixed-clause-operations : goal.returns-then-is_told_mixed-clause-operations
+returns-then-is_told_mixed-clause-operations g c =
+    let e = c.args.edit.now in
+    let pool = g.M.TableMem.state c.args.memory.now in
+    let view : ℕ → View = read_before e (Next c.args.third) pool in
+    let all = kept e.runs.now e.access view e.chunk c.requires.mixed (stray-mixed e c.args.third pool c.requires.spelled (c.is_told_mixed.ensures c.if-is_told_mixed.true)) in
+    let is : c.new.result.operations ≡ 3 + c.operations_kept-kept.result = ap (λ (p : Plan). p.operations) c.new.ensures in
+    omega (arith, all, is, c.operations_kept-kept.ensures.same)
+
+pub returns-then-is_told_mixed-clause-close : goal.returns-then-is_told_mixed-clause-close
+returns-then-is_told_mixed-clause-close g c =
+    let e = c.args.edit.now in
+    let pool = g.M.TableMem.state c.args.memory.now in
+    let view : ℕ → View = read_before e (Next c.args.third) pool in
+    let all = kept e.runs.now e.access view e.chunk c.requires.mixed (stray-mixed e c.args.third pool c.requires.spelled (c.is_told_mixed.ensures c.if-is_told_mixed.true)) in
+    let is : c.new.result.operations ≡ 3 + c.operations_kept-kept.result = ap (λ (p : Plan). p.operations) c.new.ensures in
+    λ _. omega (arith, all, is, c.operations_kept-kept.ensures.same)

@@ -37,14 +37,14 @@ returns-clause-room g c =
     on-ok c.ready.result (c.plan-plan.result.operations + c.args.clears ≤ g.M.TableMem.room c.ready.new.self) (edit_operations c.args.p c.args.runs.now c.args.access new + c.args.clears ≤ g.M.TableMem.room c.ready.new.self)
     (λ has. omega (arith, same, most, has)) c.ready.ensures.room
 
-pub returns-then-has_room-2-clause-room : goal.returns-then-has_room-2-clause-room
-returns-then-has_room-2-clause-room g c =
+pub returns-then-has_room-3-clause-room : goal.returns-then-has_room-3-clause-room
+returns-then-has_room-3-clause-room g c =
     let most = c.plan-most.ensures.operations in
     let room : g.M.TableMem.room c.self.inside.memory ≡ c.args.self.now.room = ap (λ (t : TablesView). t.room) c.self.view_is in
-    let has = c.has_room-2.ensures c.if-has_room-2.true in
+    let has = c.has_room-then-has_room-2.ensures c.if-has_room-3.true in
     omega (arith, most, room, has)
 
-pub returns-then-has_room-2-clause-canonical : goal.returns-then-has_room-2-clause-canonical
-returns-then-has_room-2-clause-canonical g c =
+pub returns-then-has_room-3-clause-canonical : goal.returns-then-has_room-3-clause-canonical
+returns-then-has_room-3-clause-canonical g c =
     let m = c.self.inside.memory in
     subst (λ (t : TablesView). AreCanonical t) c.self.view_is (are-canonical (view c.self.inside.layout (g.M.TableMem.state m) (g.M.TableMem.room m)) c.self.invariant (g.met.M.TableMem.free_is_zero m) (g.met.M.TableMem.operations_lie_within m))

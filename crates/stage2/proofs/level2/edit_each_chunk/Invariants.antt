@@ -9,7 +9,7 @@ use Rattle.stage2.specs.Orderly.{answers, linked}
 use Rattle.stage2.specs.Room.{sum_below, chunk_operations}
 use Rattle.stage2.specs.inner.Gigabytes.{IsUnderway}
 use Rattle.stage2.proofs.Runs.Between.{AreLeft}
-use Rattle.stage2.proofs.level2.edit_chunks.Given as goal
+use Rattle.stage2.proofs.level2.edit_each_chunk.Given as goal
 
 -- the chunks before this one are edited
 abbrev pub invariant-loop-index : goal.invariant-loop-index
