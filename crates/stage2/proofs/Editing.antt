@@ -15,6 +15,7 @@ pub mod OneChunk
 pub mod MadeEdit
 pub mod RootLinks
 pub mod ChunkByChunk
+pub mod EachChunk
 pub mod FilledChunks
 pub mod Gigabyte
 pub mod GigabyteByGigabyte

@@ -1,4 +1,4 @@
-use Rattle.std.proofs.Common.{◌≡◌, ℕ, zero, suc, ◌+◌, ◌-◌, ◌*◌, ◌<◌, ◌≤◌, min, true, false, None, List, cond, inl, inr, sym, ap, subst, ◌∙◌, arith}
+use Rattle.std.proofs.Common.{◌≡◌, ℕ, zero, suc, ◌+◌, ◌-◌, ◌*◌, ◌<◌, ◌≤◌, min, true, false, None, List, inl, inr, sym, ap, subst, ◌∙◌, arith}
 use Rattle.base.specs.Access.{View}
 use Rattle.stage2.specs.Walk.{walked}
 use Rattle.stage2.specs.Orderly.{answers, linked}
@@ -13,23 +13,22 @@ use Rattle.stage2.specs.Moments.{StaysInStep}
 use Rattle.stage2.specs.Slot.{slot}
 use Rattle.stage2.specs.Walk.{next_page}
 use Rattle.stage2.specs.Parts.{chunk_runs, runs_past}
-use Rattle.stage2.specs.Room.{sum_below, table_operations, chunk_operations}
+use Rattle.stage2.specs.Room.{sum_below, chunk_operations}
 use Rattle.stage2.specs.inner.Gigabytes.{IsUnderway}
 use Rattle.stage2.specs.inner.Clauses.{operations_in_table}
-use Rattle.stage2.proofs.Counting.Operations.{chunk-same}
-use Rattle.stage2.proofs.Walkers.ChunkSteps.{march-edit, march-skip, march-seated, march-free}
-use Rattle.stage2.proofs.Editing.ChunkByChunk.{sum_below-more, sum_below-up, underway-start, underway-skip, underway-edit, still-answers, site, has-free, untouched}
+use Rattle.stage2.proofs.Walkers.ChunkSteps.{march-skip}
+use Rattle.stage2.proofs.Editing.ChunkByChunk.{sum_below-more, sum_below-up, underway-skip, site, untouched}
 use Rattle.stage2.proofs.Editing.FilledChunks.{edited-many, stays-many}
 use Rattle.stage2.proofs.Editing.FourChunkEdits.{second-inside, second-taken}
-use Rattle.stage2.proofs.Runs.Spans.{AreUntouched, UnderwayAt, StaysAt, underway-gap, stays-gap, outside-chunks}
-use Rattle.stage2.proofs.Runs.OwnRuns.{chunk-covers, chunk-touches, chunk-count, chunk-growing, chunk-redoes, chunk-free, chunk-stays}
+use Rattle.stage2.proofs.Runs.Spans.{outside-chunks}
+use Rattle.stage2.proofs.Runs.OwnRuns.{chunk-covers, chunk-touches, chunk-count}
 use Rattle.stage2.proofs.Runs.Between.{AreLeft, left-all, left-later, left-past, past-past}
 use Rattle.stage2.proofs.Walkers.ZeroedTables.{stays-none}
 use Rattle.stage2.proofs.Tree.Rows.{has-row}
 use Rattle.stage2.proofs.Runs.Left.{left-touches}
 use Rattle.stage2.proofs.level2.edit_each_chunk.Goals as goal
 use Rattle.stage2.proofs.level2.edit_each_chunk.Goals.{in-Some, in_default}
-use Rattle.stage2.proofs.Editing.MadeEdit.{touches-made, site-made, grows-made, room-made, edits-made, step-made}
+use Rattle.stage2.proofs.Editing.EachChunk.{each-site, each-free, each-cost, each-edits, each-steps, from-start, to-end, stays-to-end}
 
 -- the runs of a chunk, by those that are left
 own : (c page : ℕ) (rest past runs part : List PageRun) → page ≡ 512 * c → past ≡ runs_past page rest → AreLeft c rest runs → part ≡ chunk_runs c past → part ≡ chunk_runs c runs
@@ -39,55 +38,42 @@ own c page rest past runs part at is left same = same ∙ (left-past c page rest
 fills : (c page x : ℕ) (rest past runs : List PageRun) → page ≡ 512 * c → past ≡ runs_past page rest → AreLeft c rest runs → c ≤ x → covers_chunk x past ≡ true → covers_chunk x runs ≡ true
 fills c page x rest past runs at is left le filled = sym ((left-past c page rest past runs at is left).fills x le) ∙ filled
 
--- the operations of a chunk that is touched, whose pages are reached as at first
-cost : (c : ℕ) (runs part : List PageRun) (access : View) (v w : ℕ → View) → part ≡ chunk_runs c runs → touches_chunk c part ≡ true → ((i : ℕ) → i < 512 → w (512 * c + i) ≡ v (512 * c + i))
-    → chunk_operations runs access v c ≡ 3 + table_operations part access w c
-cost c runs part access v w is touched same =
-    sym (ap (λ t. cond t (3 + table_operations part access w c) 0) (sym touched) ∙ chunk-same runs part access v w c (chunk-covers c runs part is) (chunk-count c runs part is) same (chunk-touches c runs part is))
-
 pub edit_chunk-requires-clause-site : goal.edit_chunk-requires-clause-site
 edit_chunk-requires-clause-site g c =
     let h = c.in-Some.here in
     let so = c.in-Some.ensures.some in
-    let at : h.chunk ≡ 512 * c.args.gigabyte + c.loop-index.index = so.1 ∙ c.chunk-chunk.ensures.same in
-    let pool = g.M.TableMem.state c.loop-index.memory in
     let chunk = 512 * c.args.gigabyte + c.loop-index.index in
-    site-made (record { p = c.args.edit.now.p; row = c.args.edit.now.row; second = c.args.second }) h c.args.edit.now.layout.now chunk c.args.edit.now.access so.0 at so.3 pool pool (site c.args.edit.now.layout.now c.args.edit.now.row c.args.gigabyte c.args.second c.args.runs.now c.args.edit.now.access (pages_of (g.M.TableMem.state c.args.memory.now).memory) c.requires.partition c.chunk_span-span.ensures.in_range
-    c.loop-index.index (omega (arith, c.loop-index-test.true, c.chunk_span-span.ensures.most)) (pages_of (g.M.TableMem.state c.loop-index.memory).memory) c.loop-index.invariant.underway)
+    let at : h.chunk ≡ chunk = so.1 ∙ c.chunk-chunk.ensures.same in
+    let is = own chunk c.number.result c.loop-index.rest.now c.runs_past-rest.result.now c.args.runs.now h.runs.now (c.number.ensures.same ∙ c.first.ensures.same ∙ ap (λ k. 512 * k) c.chunk-chunk.ensures.same) c.runs_past-rest.ensures.same c.loop-index.invariant.left (so.2 ∙ ap (λ k. chunk_runs k c.runs_past-rest.result.now) c.chunk-chunk.ensures.same) in
+    each-site c.args.edit.now c.args.second c.args.gigabyte c.args.runs.now (g.M.TableMem.state c.args.memory.now) c.requires.partition c.chunk_span-span.ensures.in_range c.loop-index.index (omega (arith, c.loop-index-test.true, c.chunk_span-span.ensures.most)) (g.M.TableMem.state c.loop-index.memory) c.loop-index.invariant.underway h so.0 at so.3
+    (chunk-covers chunk c.args.runs.now h.runs.now is) (chunk-count chunk c.args.runs.now h.runs.now is) (chunk-touches chunk c.args.runs.now h.runs.now is)
 
 pub edit_chunk-requires-clause-free : goal.edit_chunk-requires-clause-free
-edit_chunk-requires-clause-free g c = λ grows.
+edit_chunk-requires-clause-free g c =
     let h = c.in-Some.here in
     let so = c.in-Some.ensures.some in
-    let at : h.chunk ≡ 512 * c.args.gigabyte + c.loop-index.index = so.1 ∙ c.chunk-chunk.ensures.same in
-    let pool = g.M.TableMem.state c.loop-index.memory in
     let chunk = 512 * c.args.gigabyte + c.loop-index.index in
-    let mid = pages_of pool.memory in
-    has-free c.args.edit.now.layout.now c.args.edit.now.row c.args.gigabyte c.args.second c.args.runs.now c.args.edit.now.access (pages_of (g.M.TableMem.state c.args.memory.now).memory) c.requires.partition c.chunk_span-span.ensures.in_range
-    c.loop-index.index (omega (arith, c.loop-index-test.true, c.chunk_span-span.ensures.most)) mid c.loop-index.invariant.underway c.requires.free.fits
-    (chunk-growing chunk c.args.runs.now h.runs.now c.args.edit.now.access (chunk-covers chunk c.args.runs.now h.runs.now (own (512 * c.args.gigabyte + c.loop-index.index) c.number.result c.loop-index.rest.now c.runs_past-rest.result.now c.args.runs.now h.runs.now (c.number.ensures.same ∙ c.first.ensures.same ∙ ap (λ k. 512 * k) c.chunk-chunk.ensures.same) c.runs_past-rest.ensures.same c.loop-index.invariant.left (so.2 ∙ ap (λ k. chunk_runs k c.runs_past-rest.result.now) c.chunk-chunk.ensures.same))) (answers_in c.args.edit.now.layout.now c.args.edit.now.row chunk c.args.second mid) (grows-made (record { p = c.args.edit.now.p; row = c.args.edit.now.row; second = c.args.second }) h c.args.edit.now.layout.now chunk c.args.edit.now.access so.0 at so.3 pool pool grows))
+    let at : h.chunk ≡ chunk = so.1 ∙ c.chunk-chunk.ensures.same in
+    let is = own chunk c.number.result c.loop-index.rest.now c.runs_past-rest.result.now c.args.runs.now h.runs.now (c.number.ensures.same ∙ c.first.ensures.same ∙ ap (λ k. 512 * k) c.chunk-chunk.ensures.same) c.runs_past-rest.ensures.same c.loop-index.invariant.left (so.2 ∙ ap (λ k. chunk_runs k c.runs_past-rest.result.now) c.chunk-chunk.ensures.same) in
+    each-free c.args.edit.now c.args.second c.args.gigabyte c.args.runs.now (g.M.TableMem.state c.args.memory.now) c.requires.partition c.chunk_span-span.ensures.in_range c.loop-index.index (omega (arith, c.loop-index-test.true, c.chunk_span-span.ensures.most)) (g.M.TableMem.state c.loop-index.memory) c.loop-index.invariant.underway h so.0 at so.3
+    (chunk-covers chunk c.args.runs.now h.runs.now is) (chunk-count chunk c.args.runs.now h.runs.now is) (chunk-touches chunk c.args.runs.now h.runs.now is) c.requires.free
 
 pub edit_chunk-requires-clause-room : goal.edit_chunk-requires-clause-room
 edit_chunk-requires-clause-room g c =
     let h = c.in-Some.here in
     let so = c.in-Some.ensures.some in
-    let at : h.chunk ≡ 512 * c.args.gigabyte + c.loop-index.index = so.1 ∙ c.chunk-chunk.ensures.same in
-    let pool = g.M.TableMem.state c.loop-index.memory in
     let chunk = 512 * c.args.gigabyte + c.loop-index.index in
-    let first : ℕ → View = answers c.args.edit.now.layout.now (linked c.args.edit.now.layout.now c.args.edit.now.row c.args.gigabyte c.args.second (pages_of (g.M.TableMem.state c.args.memory.now).memory)).words c.args.edit.now.row in
-    let f : ℕ → ℕ = λ x. chunk_operations c.args.runs.now c.args.edit.now.access first (512 * c.args.gigabyte + x) in
+    let at : h.chunk ≡ chunk = so.1 ∙ c.chunk-chunk.ensures.same in
+    let is = own chunk c.number.result c.loop-index.rest.now c.runs_past-rest.result.now c.args.runs.now h.runs.now (c.number.ensures.same ∙ c.first.ensures.same ∙ ap (λ k. 512 * k) c.chunk-chunk.ensures.same) c.runs_past-rest.ensures.same c.loop-index.invariant.left (so.2 ∙ ap (λ k. chunk_runs k c.runs_past-rest.result.now) c.chunk-chunk.ensures.same) in
+    let f : ℕ → ℕ = λ x. chunk_operations c.args.runs.now c.args.edit.now.access (answers c.args.edit.now.layout.now (linked c.args.edit.now.layout.now c.args.edit.now.row c.args.gigabyte c.args.second (pages_of (g.M.TableMem.state c.args.memory.now).memory)).words c.args.edit.now.row) (512 * c.args.gigabyte + x) in
     let more = sum_below-more f c.loop-index.index in
     let up = sum_below-up f (c.loop-index.index + 1) 512 (omega (arith, c.loop-index-test.true, c.chunk_span-span.ensures.most)) in
-    let mid = pages_of pool.memory in
-    let v : ℕ → View = answers_in c.args.edit.now.layout.now c.args.edit.now.row chunk c.args.second mid in
-    let one = cost chunk c.args.runs.now h.runs.now c.args.edit.now.access first v (own (512 * c.args.gigabyte + c.loop-index.index) c.number.result c.loop-index.rest.now c.runs_past-rest.result.now c.args.runs.now h.runs.now (c.number.ensures.same ∙ c.first.ensures.same ∙ ap (λ k. 512 * k) c.chunk-chunk.ensures.same) c.runs_past-rest.ensures.same c.loop-index.invariant.left (so.2 ∙ ap (λ k. chunk_runs k c.runs_past-rest.result.now) c.chunk-chunk.ensures.same)) (subst (λ x. touches_chunk x h.runs.now ≡ true) at (touches-made h))
-    (λ x small. still-answers c.args.edit.now.layout.now c.args.edit.now.row c.args.gigabyte c.args.second c.args.runs.now c.args.edit.now.access (pages_of (g.M.TableMem.state c.args.memory.now).memory) c.requires.partition c.chunk_span-span.ensures.in_range
-    c.loop-index.index (omega (arith, c.loop-index-test.true, c.chunk_span-span.ensures.most)) mid c.loop-index.invariant.underway (512 * chunk + x) (omega (arith, small, c.loop-index-test.true, c.chunk_span-span.ensures.most, c.chunk_span-span.ensures.in_range)) (omega (arith, small))) in
-    let needs = room-made (record { p = c.args.edit.now.p; row = c.args.edit.now.row; second = c.args.second }) h c.args.edit.now.layout.now chunk c.args.edit.now.access so.0 at so.3 pool pool in
-    enough (g.M.TableMem.room c.args.memory.now) (g.M.TableMem.room c.loop-index.memory) (f c.loop-index.index) (3 + table_operations h.runs.now c.args.edit.now.access v chunk) (3 + operations_in_table (record { p = c.args.edit.now.p; row = c.args.edit.now.row; second = c.args.second }) h pool) (sum_below f c.loop-index.index) (sum_below f (c.loop-index.index + 1)) (sum_below f 512) one (ap (λ n. 3 + n) needs) more up c.loop-index.invariant.room c.requires.room
+    let cost = each-cost c.args.edit.now c.args.second c.args.gigabyte c.args.runs.now (g.M.TableMem.state c.args.memory.now) c.requires.partition c.chunk_span-span.ensures.in_range c.loop-index.index (omega (arith, c.loop-index-test.true, c.chunk_span-span.ensures.most)) (g.M.TableMem.state c.loop-index.memory) c.loop-index.invariant.underway h so.0 at so.3
+    (chunk-covers chunk c.args.runs.now h.runs.now is) (chunk-count chunk c.args.runs.now h.runs.now is) (chunk-touches chunk c.args.runs.now h.runs.now is) in
+    enough (g.M.TableMem.room c.args.memory.now) (g.M.TableMem.room c.loop-index.memory) (f c.loop-index.index) (3 + operations_in_table (record { p = c.args.edit.now.p; row = c.args.edit.now.row; second = c.args.second }) h (g.M.TableMem.state c.loop-index.memory)) (sum_below f c.loop-index.index) (sum_below f (c.loop-index.index + 1)) (sum_below f 512) cost more up c.loop-index.invariant.room c.requires.room
   where
-    enough : (r0 r one cost made before next all : ℕ) → one ≡ cost → made ≡ cost → next ≡ one + before → next ≤ all → r0 ≤ r + before → all ≤ r0 → made ≤ r
-    enough r0 r one cost made before next all e m a b c d = omega arith
+    enough : (r0 r one cost before next all : ℕ) → one ≡ cost → next ≡ one + before → next ≤ all → r0 ≤ r + before → all ≤ r0 → cost ≤ r
+    enough r0 r one cost before next all e a b c d = omega arith
 
 -- what a chunk that is filled costs at least
 filled-cost : (runs : List PageRun) (access : View) (v : ℕ → View) (c : ℕ) → covers_chunk c runs ≡ true → 3 ≤ chunk_operations runs access v c
@@ -206,32 +192,21 @@ loop-index-preserved g c =
       | in-Some t ↦
           let h = t.in-Some.here in
           let so = t.in-Some.ensures.some in
-          let at : h.chunk ≡ 512 * c.args.gigabyte + c.loop-index.index = so.1 ∙ c.chunk-chunk.ensures.same in
+          let at : h.chunk ≡ chunk = so.1 ∙ c.chunk-chunk.ensures.same in
           let new = g.M.TableMem.state t.edit_chunk.new.memory in
-          let is = (own (512 * c.args.gigabyte + c.loop-index.index) c.number.result c.loop-index.rest.now c.runs_past-rest.result.now c.args.runs.now h.runs.now (c.number.ensures.same ∙ c.first.ensures.same ∙ ap (λ k. 512 * k) c.chunk-chunk.ensures.same) c.runs_past-rest.ensures.same c.loop-index.invariant.left (so.2 ∙ ap (λ k. chunk_runs k c.runs_past-rest.result.now) c.chunk-chunk.ensures.same)) in
-          let covered = chunk-covers chunk runs h.runs.now is in
-          let touched : touches_chunk chunk h.runs.now ≡ true = subst (λ x. touches_chunk x h.runs.now ≡ true) at (touches-made h) in
+          let is = own chunk c.number.result c.loop-index.rest.now c.runs_past-rest.result.now c.args.runs.now h.runs.now (c.number.ensures.same ∙ c.first.ensures.same ∙ ap (λ k. 512 * k) c.chunk-chunk.ensures.same) c.runs_past-rest.ensures.same c.loop-index.invariant.left (so.2 ∙ ap (λ k. chunk_runs k c.runs_past-rest.result.now) c.chunk-chunk.ensures.same) in
+          let cost = each-cost c.args.edit.now c.args.second c.args.gigabyte c.args.runs.now (g.M.TableMem.state c.args.memory.now) c.requires.partition c.chunk_span-span.ensures.in_range c.loop-index.index (omega (arith, c.loop-index-test.true, c.chunk_span-span.ensures.most)) (g.M.TableMem.state c.loop-index.memory) c.loop-index.invariant.underway h so.0 at so.3
+          (chunk-covers chunk c.args.runs.now h.runs.now is) (chunk-count chunk c.args.runs.now h.runs.now is) (chunk-touches chunk c.args.runs.now h.runs.now is) in
           rw t.memory-is (record {
-            underway = underway-edit c.args.edit.now.layout.now c.args.edit.now.row c.args.gigabyte c.args.second c.args.runs.now c.args.edit.now.access old c.requires.partition c.chunk_span-span.ensures.in_range
-                i (omega (arith, c.loop-index-test.true, c.chunk_span-span.ensures.most)) mid c.loop-index.invariant.underway (pages_of new.memory)
-                (chunk-redoes c.args.edit.now.layout.now c.args.edit.now.row chunk runs h.runs.now c.args.edit.now.access covered c.args.second v mid (pages_of new.memory) (edits-made (record { p = c.args.edit.now.p; row = c.args.edit.now.row; second = c.args.second }) h c.args.edit.now.layout.now chunk c.args.edit.now.access so.0 at so.3 pool new t.edit_chunk.ensures.redoes));
+            underway = each-edits c.args.edit.now c.args.second c.args.gigabyte c.args.runs.now (g.M.TableMem.state c.args.memory.now) c.requires.partition c.chunk_span-span.ensures.in_range c.loop-index.index (omega (arith, c.loop-index-test.true, c.chunk_span-span.ensures.most)) (g.M.TableMem.state c.loop-index.memory) c.loop-index.invariant.underway h so.0 at so.3
+                (chunk-covers chunk c.args.runs.now h.runs.now is) (chunk-count chunk c.args.runs.now h.runs.now is) (chunk-touches chunk c.args.runs.now h.runs.now is) new t.edit_chunk.ensures.redoes;
             in_step = λ seated free.
-                march-edit c.args.edit.now.layout.now c.args.edit.now.row c.args.gigabyte c.args.second c.args.runs.now c.args.edit.now.access old c.requires.partition c.chunk_span-span.ensures.in_range
-                i (omega (arith, c.loop-index-test.true, c.chunk_span-span.ensures.most)) mid c.loop-index.invariant.underway (g.M.TableMem.state c.args.memory.now) pool new
-                (sym (chunk-touches chunk runs h.runs.now is) ∙ touched) (c.loop-index.invariant.in_step seated free)
-                (chunk-stays c.args.edit.now.layout.now c.args.edit.now.row chunk runs h.runs.now c.args.edit.now.access covered v pool new
-                (step-made (record { p = c.args.edit.now.p; row = c.args.edit.now.row; second = c.args.second }) h c.args.edit.now.layout.now chunk c.args.edit.now.access so.0 at so.3 pool new t.edit_chunk.ensures.in_step
-                (march-seated c.args.edit.now.layout.now c.args.edit.now.row c.args.gigabyte c.args.second c.args.runs.now c.args.edit.now.access old c.requires.partition c.chunk_span-span.ensures.in_range i (omega (arith, c.loop-index-test.true, c.chunk_span-span.ensures.most)) mid c.loop-index.invariant.underway seated)
-                (chunk-free chunk runs h.runs.now c.args.edit.now.access covered v
-                (march-free c.args.edit.now.layout.now c.args.edit.now.row c.args.gigabyte c.args.second c.args.runs.now c.args.edit.now.access old c.requires.partition c.chunk_span-span.ensures.in_range i (omega (arith, c.loop-index-test.true, c.chunk_span-span.ensures.most)) mid c.loop-index.invariant.underway free))));
+                each-steps c.args.edit.now c.args.second c.args.gigabyte c.args.runs.now (g.M.TableMem.state c.args.memory.now) c.requires.partition c.chunk_span-span.ensures.in_range c.loop-index.index (omega (arith, c.loop-index-test.true, c.chunk_span-span.ensures.most)) (g.M.TableMem.state c.loop-index.memory) c.loop-index.invariant.underway h so.0 at so.3
+                (chunk-covers chunk c.args.runs.now h.runs.now is) (chunk-count chunk c.args.runs.now h.runs.now is) (chunk-touches chunk c.args.runs.now h.runs.now is) new t.edit_chunk.ensures.in_step seated free (c.loop-index.invariant.in_step seated free);
             left = left;
             normal = c.runs_past-rest.ensures.normal;
             last = omega (arith, c.loop-index-test.true);
-            room = less (g.M.TableMem.room c.args.memory.now) (g.M.TableMem.room c.loop-index.memory) (g.M.TableMem.room t.edit_chunk.new.memory) (f i) (3 + table_operations h.runs.now c.args.edit.now.access v chunk) (3 + operations_in_table (record { p = c.args.edit.now.p; row = c.args.edit.now.row; second = c.args.second }) h pool) (sum_below f i) (sum_below f (i + 1))
-                (cost chunk runs h.runs.now c.args.edit.now.access first v is touched
-                (λ x small. still-answers c.args.edit.now.layout.now c.args.edit.now.row c.args.gigabyte c.args.second c.args.runs.now c.args.edit.now.access old c.requires.partition c.chunk_span-span.ensures.in_range
-                i (omega (arith, c.loop-index-test.true, c.chunk_span-span.ensures.most)) mid c.loop-index.invariant.underway (512 * chunk + x) (omega (arith, small, c.loop-index-test.true, c.chunk_span-span.ensures.most, c.chunk_span-span.ensures.in_range)) (omega (arith, small))))
-                (ap (λ n. 3 + n) (room-made (record { p = c.args.edit.now.p; row = c.args.edit.now.row; second = c.args.second }) h c.args.edit.now.layout.now chunk c.args.edit.now.access so.0 at so.3 pool pool)) more c.loop-index.invariant.room t.edit_chunk.ensures.room;
+            room = less (g.M.TableMem.room c.args.memory.now) (g.M.TableMem.room c.loop-index.memory) (g.M.TableMem.room t.edit_chunk.new.memory) (f i) (3 + operations_in_table (record { p = c.args.edit.now.p; row = c.args.edit.now.row; second = c.args.second }) h pool) (sum_below f i) (sum_below f (i + 1)) cost more c.loop-index.invariant.room t.edit_chunk.ensures.room;
           })
       | in_default t ↦
           let none : touches_chunk chunk runs ≡ false =
@@ -252,25 +227,20 @@ loop-index-preserved g c =
           })
     ]
   where
-    less : (r0 r r2 one cost made before next : ℕ) → one ≡ cost → made ≡ cost → next ≡ one + before → r0 ≤ r + before → r ≤ r2 + made → r0 ≤ r2 + next
-    less r0 r r2 one cost made before next e m a b c = omega arith
+    less : (r0 r r2 one cost before next : ℕ) → one ≡ cost → next ≡ one + before → r0 ≤ r + before → r ≤ r2 + cost → r0 ≤ r2 + next
+    less r0 r r2 one cost before next e a b c = omega arith
 
 pub loop-index-init : goal.loop-index-init
 loop-index-init g c =
-    let old = pages_of (g.M.TableMem.state c.args.memory.now).memory in
     let state = g.M.TableMem.state c.args.memory.now in
     let first = c.chunk_span-span.result.first in
-    let v : ℕ → View = answers c.args.edit.now.layout.now (linked c.args.edit.now.layout.now c.args.edit.now.row c.args.gigabyte c.args.second old).words c.args.edit.now.row in
+    let v : ℕ → View = answers c.args.edit.now.layout.now (linked c.args.edit.now.layout.now c.args.edit.now.row c.args.gigabyte c.args.second (pages_of state.memory)).words c.args.edit.now.row in
     let w : ℕ → View = edited c.args.runs.now c.args.edit.now.access v in
     let most = c.chunk_span-span.ensures.most in
     let ordered = c.chunk_span-span.ensures.ordered in
-    let none : AreUntouched c.args.edit.now.layout.now c.args.edit.now.row c.args.gigabyte c.args.second c.args.runs.now c.args.edit.now.access old old c.requires.partition c.chunk_span-span.ensures.in_range 0 first =
-    λ x from to. outside-chunks c.args.runs.now c.args.gigabyte first c.chunk_span-span.result.end x c.chunk_span-span.ensures.within (omega (arith, to, most, ordered)) (inl (omega (arith, to))) in
-    let start = underway-start c.args.edit.now.layout.now c.args.edit.now.row c.args.gigabyte c.args.second c.args.runs.now c.args.edit.now.access old c.requires.partition c.chunk_span-span.ensures.in_range c.requires.orderly c.requires.second in
-    let e : 0 + first ≡ first = omega arith in
-    let le : 0 + first ≤ 512 = omega (arith, most, ordered) in
     record {
-      underway = subst (UnderwayAt c.args.edit.now.layout.now c.args.edit.now.row c.args.gigabyte c.args.second c.args.runs.now c.args.edit.now.access old old c.requires.partition c.chunk_span-span.ensures.in_range) e (underway-gap c.args.edit.now.layout.now c.args.edit.now.row c.args.gigabyte c.args.second c.args.runs.now c.args.edit.now.access old old c.requires.partition c.chunk_span-span.ensures.in_range first 0 le none start);
+      underway = from-start c.args.edit.now c.args.second c.args.gigabyte c.args.runs.now state c.requires.partition c.chunk_span-span.ensures.in_range c.requires.orderly c.requires.second first (omega (arith, most, ordered))
+          (λ x before. outside-chunks c.args.runs.now c.args.gigabyte first c.chunk_span-span.result.end x c.chunk_span-span.ensures.within (omega (arith, before, most, ordered)) (inl before));
       in_step = λ seated free. stays-none c.args.edit.now.layout.now c.args.edit.now.row (disturbed_below c.args.gigabyte first c.args.runs.now v w) (λ n. walked n (w n)) state;
       left = left-all (512 * c.args.gigabyte + first) c.args.runs.now;
       normal = c.requires.normal;
@@ -280,33 +250,19 @@ loop-index-init g c =
 
 pub returns-clause-underway : goal.returns-clause-underway
 returns-clause-underway g c =
-    let old = pages_of (g.M.TableMem.state c.args.memory.now).memory in
-    let new = pages_of (g.M.TableMem.state c.loop-index.memory).memory in
-    let i = c.loop-index.index in
     let most = c.chunk_span-span.ensures.most in
     let end = c.loop-index-test.false in
-    let last : i ≤ c.chunk_span-span.result.end = c.loop-index.invariant.last in
-    let none : AreUntouched c.args.edit.now.layout.now c.args.edit.now.row c.args.gigabyte c.args.second c.args.runs.now c.args.edit.now.access old new c.requires.partition c.chunk_span-span.ensures.in_range i (512 - i) =
-    λ x from to. outside-chunks c.args.runs.now c.args.gigabyte c.chunk_span-span.result.first c.chunk_span-span.result.end x c.chunk_span-span.ensures.within (omega (arith, to, most, last)) (inr (omega (arith, from, end))) in
-    let e : i + (512 - i) ≡ 512 = omega (arith, most, last) in
-    subst (UnderwayAt c.args.edit.now.layout.now c.args.edit.now.row c.args.gigabyte c.args.second c.args.runs.now c.args.edit.now.access old new c.requires.partition c.chunk_span-span.ensures.in_range) e
-    (underway-gap c.args.edit.now.layout.now c.args.edit.now.row c.args.gigabyte c.args.second c.args.runs.now c.args.edit.now.access old new c.requires.partition c.chunk_span-span.ensures.in_range (512 - i) i (omega (arith, most, last)) none c.loop-index.invariant.underway)
+    let last : c.loop-index.index ≤ c.chunk_span-span.result.end = c.loop-index.invariant.last in
+    to-end c.args.edit.now c.args.second c.args.gigabyte c.args.runs.now (g.M.TableMem.state c.args.memory.now) c.requires.partition c.chunk_span-span.ensures.in_range (g.M.TableMem.state c.loop-index.memory) c.loop-index.index (omega (arith, most, last))
+    (λ x from small. outside-chunks c.args.runs.now c.args.gigabyte c.chunk_span-span.result.first c.chunk_span-span.result.end x c.chunk_span-span.ensures.within small (inr (omega (arith, from, end)))) c.loop-index.invariant.underway
 
 pub returns-clause-in_step : goal.returns-clause-in_step
 returns-clause-in_step g c = λ seated free.
-    let old = pages_of (g.M.TableMem.state c.args.memory.now).memory in
-    let new = pages_of (g.M.TableMem.state c.loop-index.memory).memory in
-    let a = g.M.TableMem.state c.args.memory.now in
-    let b = g.M.TableMem.state c.loop-index.memory in
-    let i = c.loop-index.index in
     let most = c.chunk_span-span.ensures.most in
     let end = c.loop-index-test.false in
-    let last : i ≤ c.chunk_span-span.result.end = c.loop-index.invariant.last in
-    let none : AreUntouched c.args.edit.now.layout.now c.args.edit.now.row c.args.gigabyte c.args.second c.args.runs.now c.args.edit.now.access old new c.requires.partition c.chunk_span-span.ensures.in_range i (512 - i) =
-    λ x from to. outside-chunks c.args.runs.now c.args.gigabyte c.chunk_span-span.result.first c.chunk_span-span.result.end x c.chunk_span-span.ensures.within (omega (arith, to, most, last)) (inr (omega (arith, from, end))) in
-    let e : i + (512 - i) ≡ 512 = omega (arith, most, last) in
-    subst (StaysAt c.args.edit.now.layout.now c.args.edit.now.row c.args.gigabyte c.args.second c.args.runs.now c.args.edit.now.access old new c.requires.partition c.chunk_span-span.ensures.in_range a b) e
-    (stays-gap c.args.edit.now.layout.now c.args.edit.now.row c.args.gigabyte c.args.second c.args.runs.now c.args.edit.now.access old new c.requires.partition c.chunk_span-span.ensures.in_range a b (512 - i) i (omega (arith, most, last)) none c.loop-index.invariant.underway (c.loop-index.invariant.in_step seated free))
+    let last : c.loop-index.index ≤ c.chunk_span-span.result.end = c.loop-index.invariant.last in
+    stays-to-end c.args.edit.now c.args.second c.args.gigabyte c.args.runs.now (g.M.TableMem.state c.args.memory.now) c.requires.partition c.chunk_span-span.ensures.in_range (g.M.TableMem.state c.loop-index.memory) c.loop-index.index (omega (arith, most, last))
+    (λ x from small. outside-chunks c.args.runs.now c.args.gigabyte c.chunk_span-span.result.first c.chunk_span-span.result.end x c.chunk_span-span.ensures.within small (inr (omega (arith, from, end)))) c.loop-index.invariant.underway (c.loop-index.invariant.in_step seated free)
 
 pub returns-clause-room : goal.returns-clause-room
 returns-clause-room g c =
