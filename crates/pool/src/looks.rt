@@ -14,9 +14,6 @@ use base::Run;
 /// How many words a page has.
 pub(crate) const WORDS: u32 = 512;
 
-/// How many words are looked at one by one, at most.
-const FEW: u32 = 16;
-
 /// Whether the words of a page from one index up to another are all 0.
 #[inline(always)]
 pub(crate) fn are_zeros<S: WordStore>(store: &S, page: u32, first: u32, end: u32) -> bool
@@ -33,28 +30,9 @@ pub(crate) fn are_zeros<S: WordStore>(store: &S, page: u32, first: u32, end: u32
     are
 }
 
-/// Whether none of a few words is 0: a loop that ends at the first that is 0 takes the least for them.
+/// Whether none of them is 0.
 #[inline(always)]
-fn are_few_others<S: WordStore>(store: &S, page: u32, first: u32, end: u32) -> bool
-    requires index_in { end ≤ 512 }
-    requires inside { 512 * page + 512 ≤ length (S.words store.now) }
-    requires standing { S.stands store.now page ≡ true }
-    ensures yes { result ≡ true → (x : ℕ) → x < end - first
-        → words_of (S.words store.now) page (first + x) ≢ 0 }
-    ensures no { result ≡ false → (x : ℕ) × (x < end - first)
-        × (words_of (S.words store.now) page (first + x) ≡ 0) }
-{
-    for index in first..end {
-        if store.standing_word(page, index) == 0 {
-            return false;
-        }
-    }
-    true
-}
-
-/// The same of many words.
-#[inline(always)]
-fn are_many_others<S: WordStore>(store: &S, page: u32, first: u32, end: u32) -> bool
+pub(crate) fn are_others<S: WordStore>(store: &S, page: u32, first: u32, end: u32) -> bool
     requires index_in { end ≤ 512 }
     requires inside { 512 * page + 512 ≤ length (S.words store.now) }
     requires standing { S.stands store.now page ≡ true }
@@ -68,23 +46,6 @@ fn are_many_others<S: WordStore>(store: &S, page: u32, first: u32, end: u32) -> 
         are &= store.standing_word(page, index) != 0;
     }
     are
-}
-
-/// Whether none of the words from one index up to another is 0.
-#[inline(always)]
-pub(crate) fn are_others<S: WordStore>(store: &S, page: u32, first: u32, end: u32) -> bool
-    requires index_in { end ≤ 512 }
-    requires inside { 512 * page + 512 ≤ length (S.words store.now) }
-    requires standing { S.stands store.now page ≡ true }
-    ensures yes { result ≡ true → (x : ℕ) → x < end - first
-        → words_of (S.words store.now) page (first + x) ≢ 0 }
-    ensures no { result ≡ false → (x : ℕ) × (x < end - first)
-        × (words_of (S.words store.now) page (first + x) ≡ 0) }
-{
-    if end.saturating_sub(first) <= FEW {
-        return are_few_others(store, page, first, end);
-    }
-    are_many_others(store, page, first, end)
 }
 
 /// Whether the words of a range are there.

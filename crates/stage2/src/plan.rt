@@ -449,6 +449,7 @@ pub(crate) fn most_operations(runs: &[Run]) -> usize
 /// invalidation for each run.
 pub(crate) fn likely_operations(runs: &[Run]) -> usize
     requires normal { are_normal runs.now ≡ true }
+    ensures { length runs.now ≤ result }
 {
     let pages = bounds(runs);
     runs.len()

@@ -1,9 +1,9 @@
-use Rattle.std.proofs.Common.{◌≡◌, ◌≢◌, ◌+◌, ◌-◌, Bool, true, false, ◌&&◌, arith, sym, ap, ◌∙◌, inl, inr}
+use Rattle.std.proofs.Common.{◌≡◌, ◌≢◌, ◌+◌, ◌-◌, ◌<◌, ◌≤◌, Bool, true, false, ◌&&◌, arith, sym, ap, ◌∙◌, inl, inr}
 use Rattle.std.proofs.lemmas.Bool.{and_parts, cases_Bool, cases_eq}
 use Rattle.std.proofs.lemmas.Bool.Decides.{nat_tests}
 use Rattle.pool.specs.Pool.{words_of}
 use Rattle.pool.proofs.Nonzero.{word-read}
-use Rattle.pool.proofs.looks.are_many_others.Goals as goal
+use Rattle.pool.proofs.looks.are_others.Goals as goal
 
 pub loop-index-init : goal.loop-index-init
 loop-index-init g c = record { before = λ are i from lt. absurd (omega (arith, from, lt)); zero = λ are. absurd (cc) }

@@ -1,6 +1,6 @@
 use Rattle.std.proofs.Common.{◌≡◌, ◌≢◌, ℕ, ◌<◌, ◌≤◌, true, false}
 use Rattle.pool.specs.Pool.{words_of}
-use Rattle.pool.proofs.looks.are_many_others.Given as goal
+use Rattle.pool.proofs.looks.are_others.Given as goal
 
 -- the words before this one are so, if it is so yet, and else one of them is 0
 abbrev pub invariant-loop-index : goal.invariant-loop-index
