@@ -5,7 +5,7 @@ use Rattle.std.proofs.lemmas.Bool.Decides.{nat_tests}
 use Rattle.base.specs.Pages.{PageRun, in_run, covers, rise, rise_above, are_normal}
 use Rattle.std.proofs.lemmas.List.{at_drop_more, at_drop_all}
 use Rattle.pool.specs.Pool.{Pool, after_sets, index_from, words_in, after_run, after_runs, gap, gaps_from, gaps_of}
-use Rattle.pool.proofs.RunWords.{after_runs-none, after_runs-next, words_in-append}
+use Rattle.pool.proofs.RunWords.{after_runs-none, after_runs-next, words_in-append, sets-none}
 
 -- ---- one gap
 
@@ -37,15 +37,21 @@ gap-words start first end most = elim (cases_lt first end) [
   | inr ge ↦ rw (gap-none start first end ge) (omega (arith, ge))
 ]
 
-pub gap-one : (page start word step first end : ℕ) (pool : Pool) → first < end → end ≤ 512
+pub gap-one : (page start word step first end : ℕ) (pool : Pool) → end ≤ 512
     → after_runs page start word step (gap start first end) pool ≡ after_sets page first (end - first) (word + step * first) step pool
-gap-one page start word step first end pool lt most =
-    let run : PageRun = record { first = start + first; count = end - first } in
-    let at : index_from start (start + first) ≡ first = omega (arith, lt, most) in
-    let to : index_from start (start + first + (end - first)) ≡ end = omega (arith, lt, most) in
-    ap (λ rs. after_runs page start word step rs pool) (gap-some start first end lt)
-    ∙ after_runs-next page start word step run [] pool ∙ after_runs-none page start word step (after_run page start word step run pool)
-    ∙ ap₂ (λ a b. after_sets page a (b - a) (word + step * a) step pool) at to
+gap-one page start word step first end pool most = elim (cases_lt first end) [
+  | inl lt ↦
+      let run : PageRun = record { first = start + first; count = end - first } in
+      let at : index_from start (start + first) ≡ first = omega (arith, lt, most) in
+      let to : index_from start (start + first + (end - first)) ≡ end = omega (arith, lt, most) in
+      ap (λ rs. after_runs page start word step rs pool) (gap-some start first end lt)
+      ∙ after_runs-next page start word step run [] pool ∙ after_runs-none page start word step (after_run page start word step run pool)
+      ∙ ap₂ (λ a b. after_sets page a (b - a) (word + step * a) step pool) at to
+  | inr ge ↦
+      let none : end - first ≡ 0 = omega (arith, ge) in
+      ap (λ rs. after_runs page start word step rs pool) (gap-none start first end ge) ∙ after_runs-none page start word step pool
+      ∙ sym (ap (λ n. after_sets page first n (word + step * first) step pool) none ∙ sets-none page first (word + step * first) step pool)
+]
 
 -- ---- gaps that are left
 
@@ -59,13 +65,13 @@ gaps-done start first i runs all = at_drop_all (gaps_from start first) runs i al
 
 -- ---- runs that stand upward
 
-above : (run : PageRun) (runs : List PageRun) (e : ℕ) → rise e (run ∷ runs) ≡ true → (e ≤ run.first) × (rise (run.first + run.count) runs ≡ true)
+pub above : (run : PageRun) (runs : List PageRun) (e : ℕ) → rise e (run ∷ runs) ≡ true → (e ≤ run.first) × (rise (run.first + run.count) runs ≡ true)
 above run runs e up =
     let both = and_parts (nat_le e run.first) (rise (run.first + run.count) runs) up in
     let test = both.0 in
     (grind (arith, nat_tests, test), both.1)
 
-rise-lower : (runs : List PageRun) (a b : ℕ) → b ≤ a → rise a runs ≡ true → rise b runs ≡ true
+pub rise-lower : (runs : List PageRun) (a b : ℕ) → b ≤ a → rise a runs ≡ true → rise b runs ≡ true
 rise-lower [] a b le up = refl
 rise-lower (run ∷ runs) a b le up =
     let both = above run runs a up in

@@ -4,6 +4,7 @@ pub mod Shares
 mod Kept
 pub mod Nonzero
 pub mod Stretches
+mod Turned
 pub mod Replaced
 pub mod RunWords
 pub mod FirstRuns

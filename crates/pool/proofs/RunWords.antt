@@ -21,7 +21,7 @@ pub after_runs-next : (page start word step : ℕ) (run : PageRun) (runs : List 
 unfolding after_runs
 after_runs-next page start word step run runs pool = refl
 
-sets-none : (page first word step : ℕ) (pool : Pool) → after_sets page first 0 word step pool ≡ pool
+pub sets-none : (page first word step : ℕ) (pool : Pool) → after_sets page first 0 word step pool ≡ pool
 unfolding words_set sets_of
 sets-none page first word step pool = refl
 

@@ -2,7 +2,7 @@
 use Rattle.std.specs.Prelude.{◌≡◌, ◌≢◌, ℕ, ◌+◌, ◌-◌, ◌*◌, ◌<◌, ◌≤◌, ◌^◌, ◌++◌, ◌==◌, not, Bool, true, List, length, reverse, Vec, vec_len, vec_capacity}
 use Rattle.std.specs.declared.alloc.Global.{Global}
 use Rattle.base.specs.Pages.{PageRun, covers}
-use Rattle.pool.specs.Pool.{Pool, words_of, words_set, sets_of, index_from, gaps_of, after_replaces}
+use Rattle.pool.specs.Pool.{Pool, words_of, words_set, sets_of, after_sets, index_from, gaps_of, after_replaces}
 use Rattle.pool.specs.Shown.{IsShown, AllDiffer}
 use Rattle.pool.specs.declared.operation.Op.{Op}
 use Rattle.pool.specs.declared.replace.Replacement.{Replacement}
@@ -103,11 +103,19 @@ pub record HasZero (words : List ℕ) (page start : ℕ) (runs : List PageRun) :
 abbrev pub IsTurned : List ℕ → TableWords → ℕ → Type 0
 IsTurned words with i = (words_of words with.page i == 0) ≡ not (with.word == 0)
 
--- all are turned that stand for pages in none of the runs: none is there, and it is known which are 0
-pub record TurnGaps (words : List ℕ) (with : TableWords) (runs : List PageRun) : Type 0 where
+-- all are turned that stand for pages of runs: none is there, and it is known which are 0
+pub record TurnRuns (words : List ℕ) (with : TableWords) (runs : List PageRun) : Type 0 where
   pub zeros : with.word ≡ 0 → with.step ≡ 0
-  pub each : (i : ℕ) → i < 512 → covers (gaps_of with.start runs) (with.start + i) ≡ true
-      → IsTurned words with i
+  pub each : (i : ℕ) → i < 512 → covers runs (with.start + i) ≡ true → IsTurned words with i
+
+-- all that stand for pages in none of them
+abbrev pub TurnGaps : List ℕ → TableWords → List PageRun → Type 0
+TurnGaps words with runs = TurnRuns words with (gaps_of with.start runs)
+
+-- those from one index up to another are written
+abbrev pub sets_from : TableWords → ℕ → ℕ → Pool → Pool
+sets_from with first end pool =
+    after_sets with.page first (end - first) (with.word + with.step * first) with.step pool
 
 -- how many of them stand for pages of a run
 abbrev pub words_for : ℕ → PageRun → ℕ

@@ -1,8 +1,9 @@
 //! Words of a page that stand for the pages of runs.
 
-ghost use Rattle.std.specs.Prelude.{◌≡◌, ℕ, ◌+◌, ◌*◌, ◌^◌, ◌<◌, ◌≤◌, length};
-ghost use Rattle.pool.specs.Pool.{words_of, nonzero_in, index_from, words_in, after_run, after_runs, gap, gaps_of};
-ghost use Rattle.pool.specs.Writing.{MayWriteRuns, IsTurned, TurnGaps, Shows, HasRoom, Grows, words_for, page_alone};
+ghost use Rattle.std.specs.Prelude.{◌≡◌, ℕ, ◌+◌, ◌-◌, ◌*◌, ◌^◌, ◌<◌, ◌≤◌, ◌∷◌, [], length, true};
+ghost use Rattle.base.specs.Pages.{are_normal};
+ghost use Rattle.pool.specs.Pool.{words_of, nonzero_in, index_from, words_in, after_run, after_runs, gaps_of};
+ghost use Rattle.pool.specs.Writing.{MayWriteRuns, IsTurned, TurnRuns, TurnGaps, Shows, HasRoom, Grows, words_for, page_alone, sets_from};
 
 use crate::looks::WORDS;
 use crate::operation::Op;
@@ -209,9 +210,9 @@ fn recounted_all(count: u32, written: u32, word: u64) -> u32
 }
 
 /// Writes the words of some indexes, none of which is there, and records each write behind these operations. It answers
-/// these, and how many words of the page are not 0. It is no part of the loop over gaps: so the compiler makes two words
-/// at once.
-fn write_gap<S: WordStore>(
+/// these, and how many words of the page are not 0. It is no part of the loops over runs and gaps: so the compiler makes
+/// two words at once.
+fn turn_words<S: WordStore>(
     store: &mut S,
     operations: Vec<Op>,
     count: u32,
@@ -223,16 +224,15 @@ fn write_gap<S: WordStore>(
     requires zeros { with.word ≡ 0 → with.step ≡ 0 }
     requires turned { (i : ℕ) → indexes.first ≤ i → i < indexes.end → IsTurned (S.words store.old) with i }
     requires counted { count ≡ nonzero_in (words_of (S.words store.old)) with.page }
-    requires ready { HasRoom operations (words_in with.start (gap with.start indexes.first indexes.end)) }
-    ensures shown { let gap = gap with.start indexes.first indexes.end in
-        Shows (after_runs with.page with.start with.word with.step gap)
+    requires ready { HasRoom operations (indexes.end - indexes.first) }
+    ensures shown { Shows (sets_from with indexes.first indexes.end)
         (S.words store.old) (S.words store.new) operations.items result.0.items }
     ensures beside { (i : ℕ) → indexes.end ≤ i
         → words_of (S.words store.new) with.page i ≡ words_of (S.words store.old) with.page i }
     ensures standing { S.stands store.new ≡ S.stands store.old }
     ensures whole { length (S.words store.new) ≡ length (S.words store.old) }
     ensures counted { result.1 ≡ nonzero_in (words_of (S.words store.new)) with.page }
-    ensures grows { Grows (words_in with.start (gap with.start indexes.first indexes.end)) operations result.0 }
+    ensures grows { Grows (indexes.end - indexes.first) operations result.0 }
 {
     let Indexes { first, end } = indexes;
     if first >= end {
@@ -240,6 +240,131 @@ fn write_gap<S: WordStore>(
     }
     let operations = write_all(store, operations, with.range(first, end));
     (operations, recounted_all(count, end - first, with.word))
+}
+
+/// Writes the word for a page, if it is among them, which is not there, and records the write behind these operations.
+/// It answers how many words of the page of words are not 0.
+#[inline(always)]
+fn turn_one<S: WordStore>(
+    store: &mut S,
+    operations: &mut Vec<Op>,
+    count: u32,
+    page: Page,
+    with: TableWords,
+) -> u32
+    requires may { MayWriteRuns (S.words store.old) (S.stands store.old) with }
+    requires turned { TurnRuns (S.words store.old) with (page_alone page ∷ []) }
+    requires counted { count ≡ nonzero_in (words_of (S.words store.old)) with.page }
+    requires ready { HasRoom operations.old (words_for with.start (page_alone page)) }
+    ensures shown { Shows (after_run with.page with.start with.word with.step (page_alone page))
+        (S.words store.old) (S.words store.new) operations.old.items operations.new.items }
+    ensures beside { (i : ℕ) → index_from with.start (page + 1) ≤ i
+        → words_of (S.words store.new) with.page i ≡ words_of (S.words store.old) with.page i }
+    ensures standing { S.stands store.new ≡ S.stands store.old }
+    ensures whole { length (S.words store.new) ≡ length (S.words store.old) }
+    ensures counted { result ≡ nonzero_in (words_of (S.words store.new)) with.page }
+    ensures grows { Grows (words_for with.start (page_alone page)) operations.old operations.new }
+{
+    let index = page.number().wrapping_sub(with.start);
+    if index >= WORDS {
+        return count;
+    }
+    let word = with.word + with.step * u64::from(index);
+    store.set_word(with.page, index, word);
+    operations.push_reserved(Op::Set {
+        page: with.page,
+        index,
+        word,
+    });
+    recounted_all(count, 1, with.word)
+}
+
+/// Writes the words for the pages of a run, none of which is there, and records each write behind these operations. It
+/// answers these, and how many words of the page are not 0.
+#[inline(always)]
+fn turn_run<S: WordStore>(
+    store: &mut S,
+    mut operations: Vec<Op>,
+    count: u32,
+    run: Run,
+    with: TableWords,
+) -> (Vec<Op>, u32)
+    requires may { MayWriteRuns (S.words store.old) (S.stands store.old) with }
+    requires turned { TurnRuns (S.words store.old) with (run ∷ []) }
+    requires counted { count ≡ nonzero_in (words_of (S.words store.old)) with.page }
+    requires ready { HasRoom operations (words_for with.start run) }
+    ensures shown { Shows (after_run with.page with.start with.word with.step run)
+        (S.words store.old) (S.words store.new) operations.items result.0.items }
+    ensures beside { (i : ℕ) → index_from with.start (run.first + run.count) ≤ i
+        → words_of (S.words store.new) with.page i ≡ words_of (S.words store.old) with.page i }
+    ensures standing { S.stands store.new ≡ S.stands store.old }
+    ensures whole { length (S.words store.new) ≡ length (S.words store.old) }
+    ensures counted { result.1 ≡ nonzero_in (words_of (S.words store.new)) with.page }
+    ensures grows { Grows (words_for with.start run) operations result.0 }
+{
+    if run.count() == 1 {
+        let count = turn_one(store, &mut operations, count, run.first(), with);
+        return (operations, count);
+    }
+    let first = index_from(with.start, run.first().number());
+    let end = index_from(with.start, run.end());
+    turn_words(store, operations, count, Indexes { first, end }, with)
+}
+
+/// Writes the words for the pages of runs, none of which is there, run by run, and records each write behind these
+/// operations. It answers these, and how many words of the page are not 0.
+#[inline(always)]
+fn turn_each<S: WordStore>(
+    store: &mut S,
+    mut operations: Vec<Op>,
+    mut count: u32,
+    runs: &[Run],
+    with: TableWords,
+) -> (Vec<Op>, u32)
+    requires may { MayWriteRuns (S.words store.old) (S.stands store.old) with }
+    requires normal { are_normal runs.now ≡ true }
+    requires turned { TurnRuns (S.words store.old) with runs.now }
+    requires counted { count ≡ nonzero_in (words_of (S.words store.old)) with.page }
+    requires ready { HasRoom operations (words_in with.start runs.now) }
+    ensures shown { Shows (after_runs with.page with.start with.word with.step runs.now)
+        (S.words store.old) (S.words store.new) operations.items result.0.items }
+    ensures standing { S.stands store.new ≡ S.stands store.old }
+    ensures whole { length (S.words store.new) ≡ length (S.words store.old) }
+    ensures counted { result.1 ≡ nonzero_in (words_of (S.words store.new)) with.page }
+    ensures grows { Grows (words_in with.start runs.now) operations result.0 }
+{
+    for run in runs {
+        (operations, count) = turn_run(store, operations, count, *run, with);
+    }
+    (operations, count)
+}
+
+/// Writes the words for the pages of runs, none of which is there, and records each write behind these operations.
+/// It answers how many words of the page are not 0.
+pub(crate) fn turn_runs<S: WordStore>(
+    store: &mut S,
+    operations: &mut Vec<Op>,
+    count: u32,
+    runs: &[Run],
+    with: TableWords,
+) -> u32
+    requires may { MayWriteRuns (S.words store.old) (S.stands store.old) with }
+    requires normal { are_normal runs.now ≡ true }
+    requires turned { TurnRuns (S.words store.old) with runs.now }
+    requires counted { count ≡ nonzero_in (words_of (S.words store.old)) with.page }
+    requires ready { HasRoom operations.old (words_in with.start runs.now) }
+    ensures shown { Shows (after_runs with.page with.start with.word with.step runs.now)
+        (S.words store.old) (S.words store.new) operations.old.items operations.new.items }
+    ensures standing { S.stands store.new ≡ S.stands store.old }
+    ensures whole { length (S.words store.new) ≡ length (S.words store.old) }
+    ensures counted { result ≡ nonzero_in (words_of (S.words store.new)) with.page }
+    ensures grows { Grows (words_in with.start runs.now) operations.old operations.new }
+{
+    let alloc = *operations.allocator();
+    let list = replace(operations, Vec::new(alloc));
+    let (list, count) = turn_each(store, list, count, runs, with);
+    *operations = list;
+    count
 }
 
 /// Writes the words for pages in none of the runs, gap by gap, and records each write behind these operations. It
@@ -267,10 +392,10 @@ fn write_gaps<S: WordStore>(
     let mut first = 0;
     for run in runs {
         let end = index_from(with.start, run.first().number());
-        (operations, count) = write_gap(store, operations, count, Indexes { first, end }, with);
+        (operations, count) = turn_words(store, operations, count, Indexes { first, end }, with);
         first = first.max(index_from(with.start, run.end()));
     }
-    write_gap(
+    turn_words(
         store,
         operations,
         count,

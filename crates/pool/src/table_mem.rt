@@ -2,7 +2,7 @@ ghost use Rattle.std.specs.Prelude.{◌≡◌, ◌≢◌, ℕ, ◌+◌, ◌-◌,
 ghost use Rattle.base.specs.Manifest.{page_count};
 ghost use Rattle.base.specs.Pages.{are_normal, covers};
 ghost use Rattle.pool.specs.Pool.{Pool, IsWhole, HasRow, all_lie_in, InShareOf, IsLowestFreeOf, pages_of, words_of, taken_of, nonzero_in, words_in, new_pool, after_set, after_sets, after_runs, gaps_of, after_replaces, after_invalidate, after_clear, after_take, after_give, emptied, free_of, image_of};
-ghost use Rattle.pool.specs.Writing.{AreGapsThere, IsGapMissing, TurnGaps, HasZero};
+ghost use Rattle.pool.specs.Writing.{AreGapsThere, IsGapMissing, TurnRuns, TurnGaps, HasZero};
 
 use crate::image::Image;
 use crate::operation::Op;
@@ -17,8 +17,8 @@ use std::alloc::Global;
 /// shares in the same order, each as many pages as its partition's quota.
 ///
 /// A page of a share is free or taken, and a free page holds zeros alone. `set_word`, `set_words`,
-/// `set_runs`, `set_gaps`, `clear_words` and `replace_words` change words, and nothing else changes any. Each word that
-/// is written, each invalidation and each clear is recorded as an `Op`.
+/// `set_runs`, `set_gaps`, `turn_runs`, `clear_words` and `replace_words` change words, and nothing else changes any. Each
+/// word that is written, each invalidation and each clear is recorded as an `Op`.
 pub trait TableMem {
     /// What the pages hold, which are taken, and what was done.
     ghost state: { Self → Pool };
@@ -110,6 +110,20 @@ pub trait TableMem {
             (gaps_of words.start runs.now) (state self.old) }
         ensures room { room self.old
             ≤ room self.new + words_in words.start (gaps_of words.start runs.now) };
+
+    /// Writes the words of a root, or of a page that is taken, that stand for the pages of runs. None of them is there:
+    /// they are 0 exactly where the first of these words is not.
+    fn turn_runs(&mut self, words: TableWords, runs: &[Run])
+        requires page_in { words.page < page_count (state self.old).memory.quotas }
+        requires taken { taken_of (state self.old).memory.taken words.page ≡ true }
+        requires normal { are_normal runs.now ≡ true }
+        requires start_in { words.start < 2 ^ 27 }
+        requires in_range { words.word + words.step * 512 < 2 ^ 64 }
+        requires turned { TurnRuns (state self.old).memory.words words runs.now }
+        requires ready { words_in words.start runs.now ≤ room self.old }
+        ensures state { state self.new ≡ after_runs words.page words.start words.word words.step
+            runs.now (state self.old) }
+        ensures room { room self.old ≤ room self.new + words_in words.start runs.now };
 
     /// Writes 0 into each word of a root, or of a page that is taken, that is not 0, upward.
     fn clear_words(&mut self, page: u32)

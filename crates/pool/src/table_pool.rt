@@ -10,7 +10,7 @@ use crate::looks::{are_filled, are_gaps_there};
 use crate::operation::Op;
 use crate::places::{row_of, share_start, total};
 use crate::replace::{Replacement, replace_words};
-use crate::runs::{TableWords, set_gaps, set_runs};
+use crate::runs::{TableWords, set_gaps, set_runs, turn_runs};
 use crate::stretch::{clear_page, recounted, write_words};
 use crate::table_mem::TableMem;
 use crate::word_range::WordRange;
@@ -176,6 +176,12 @@ impl<S: WordStore> TableMem for TablePool<S> {
     fn set_gaps(&mut self, words: TableWords, runs: &[Run]) {
         let count = self.nonzero[words.page as usize];
         let count = set_gaps(&mut self.store, &mut self.operations, count, runs, words);
+        self.nonzero[words.page as usize] = count;
+    }
+
+    fn turn_runs(&mut self, words: TableWords, runs: &[Run]) {
+        let count = self.nonzero[words.page as usize];
+        let count = turn_runs(&mut self.store, &mut self.operations, count, runs, words);
         self.nonzero[words.page as usize] = count;
     }
 
