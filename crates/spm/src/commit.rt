@@ -1,7 +1,7 @@
 //! Makes the change of a call: the one place where tables and state change.
 
 ghost use Rattle.std.specs.Prelude.{◌≡◌, ◌+◌, ◌≤◌, length, true, Some, None, IfOk, OnOk, OnErr};
-ghost use Rattle.base.specs.Manifest.{is_partition};
+ghost use Rattle.base.specs.Manifest.{ManifestRows, is_partition};
 ghost use Rattle.base.specs.Pages.{are_normal};
 ghost use Rattle.stage2.specs.Slot.{layout_of};
 ghost use Rattle.stage2.specs.Tables.{Fits, ReachSo, edit_operations, has_root};
@@ -14,47 +14,24 @@ use crate::calls::{buffers, reclaim, relinquish, retrieve, send, version};
 use crate::change::{Change, Edit, Update};
 use crate::state::State;
 use base::{OutOfMemory, PartitionId, Run};
-use manifest::Manifest;
 use pool::TableMem;
-use stage2::{Tables, most_growth};
+use stage2::Tables;
 use wire::Reply;
 
 /// Whether the tables of an edit by partition `p` fit its quota: the tables that it has, and those that
 /// the edit takes.
 pub(crate) fn fits<M: TableMem + Drop>(
-    manifest: &Manifest,
     tables: &Tables<M>,
     p: PartitionId,
     edit: &Option<Edit>,
 ) -> bool
-    requires layout { tables.now.layout ≡ layout_of manifest.now }
     requires orderly { AreOrderly p edit.now }
-    ensures { result ≡ fits_in manifest.now tables.now edit.now }
+    ensures { (m : ManifestRows) → tables.now.layout ≡ layout_of m → result ≡ fits_in m tables.now edit.now }
 {
     match edit {
-        Some(edit) => edit_fits(manifest, tables, p, edit),
+        Some(edit) => tables.fits(p, &edit.runs, edit.to),
         None => true,
     }
-}
-
-/// Whether one edit fits. Mostly a bound of what it takes tells that, for which no table is read, and no
-/// quota.
-fn edit_fits<M: TableMem + Drop>(
-    manifest: &Manifest,
-    tables: &Tables<M>,
-    p: PartitionId,
-    edit: &Edit,
-) -> bool
-    requires layout { tables.now.layout ≡ layout_of manifest.now }
-    requires orderly { IsOrderly p edit.now }
-    ensures { result ≡ fits_in manifest.now tables.now (Some edit.now) }
-{
-    if most_growth(&edit.runs) <= tables.free(p) {
-        return true;
-    }
-    let used = u64::from(tables.used(p));
-    let quota = u64::from(manifest.quota(p));
-    used + u64::from(tables.grow(p, &edit.runs, edit.to)) <= quota
 }
 
 /// Makes the change of a call of partition `p`, whose edit fits. It first takes the memory that is still

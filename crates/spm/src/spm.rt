@@ -272,7 +272,7 @@ impl<M: TableMem + Drop> Spm<M> {
         ensures reached { rules.IsReached self.new.state }
     {
         let p = call.partition();
-        if fits(self.state.manifest(), &self.tables, p, &change.edit) {
+        if fits(&self.tables, p, &change.edit) {
             commit(
                 &mut self.state,
                 &mut self.tables,

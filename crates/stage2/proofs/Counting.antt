@@ -5,3 +5,4 @@ pub mod Pieces
 pub mod Operations
 pub mod Outcomes
 pub mod NeedGrows
+pub mod Untabled

@@ -11,7 +11,7 @@ ghost use Rattle.stage2.specs.Room.{reached_in};
 ghost use Rattle.stage2.specs.Slot.{Layout, slot};
 ghost use Rattle.stage2.specs.Walk.{next_page};
 ghost use Rattle.stage2.specs.declared.walked.Slot.TheVariants.{Next};
-ghost use Rattle.std.specs.Prelude.{◌≡◌, ℕ, ◌+◌, ◌*◌, ◌%◌, ◌<◌, ◌≤◌, ◌||◌, true, false, Some, None, is_some, length};
+ghost use Rattle.std.specs.Prelude.{◌≡◌, ℕ, ◌+◌, ◌*◌, ◌%◌, ◌<◌, ◌≤◌, ◌||◌, ◌==◌, true, false, Some, None, is_some, length};
 
 use crate::layout::Layout;
 use crate::level3::{empty_table, fill_table, invalidate_parts, write_runs};
@@ -215,7 +215,8 @@ fn hang_table<M: TableMem>(memory: &mut M, site: &Site, edit: &ChunkEdit, before
 
 /// Whether a level 2 word is a table descriptor, or wrong.
 pub(crate) fn points_at_table(word: u64) -> bool
-    ensures { result ≡ false → (layout : Layout) → next_page (slot layout 2 word) ≡ None }
+    ensures same { result ≡ (word % 4 == 3) }
+    ensures no { result ≡ false → (layout : Layout) → next_page (slot layout 2 word) ≡ None }
 {
     word % 4 == 3
 }

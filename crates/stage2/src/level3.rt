@@ -6,7 +6,7 @@ ghost use Rattle.pool.specs.Pool.{words_of, taken_of, after_sets, after_runs, wo
 ghost use Rattle.stage2.specs.inner.Change.{entry_for, step_for};
 ghost use Rattle.stage2.specs.inner.Chunks.{planned, filling, IsWordFor};
 ghost use Rattle.stage2.specs.Edits.{edited};
-ghost use Rattle.stage2.specs.inner.Clauses.{AreWordsOf, AreTurned, WritesPlan, some_pages, IsEmpty, word_in, words_left, IsStray, OthersAnswer, gaps, covers_in};
+ghost use Rattle.stage2.specs.inner.Clauses.{AreWordsOf, AreTurned, AreRunsTurned, LeavesNone, WritesPlan, some_pages, IsEmpty, word_in, words_left, IsStray, OthersAnswer, gaps, covers_in};
 ghost use Rattle.stage2.specs.inner.History.{Filled};
 ghost use Rattle.stage2.specs.Moments.{Settles};
 ghost use Rattle.stage2.specs.Parts.{part_count};
@@ -136,6 +136,44 @@ pub(crate) fn write_runs<M: TableMem>(memory: &mut M, third: TablePage, edit: &C
     memory.set_runs(words, edit.runs);
 }
 
+/// Writes the words for the pages of the runs in a chunk into a table. None of them is there: they are valid exactly
+/// where these are not.
+fn turn_runs<M: TableMem>(memory: &mut M, third: TablePage, edit: &ChunkEdit)
+    requires page_in { third < page_count (M.state memory.old).memory.quotas }
+    requires taken { taken_of (M.state memory.old).memory.taken third ≡ true }
+    requires turned { AreRunsTurned third edit.now (M.state memory.old) }
+    requires room { pages_in edit.now.runs.now edit.now.chunk ≤ M.room memory.old }
+    ensures writes { WritesPlan third edit.now.chunk (planned edit.now.runs.now edit.now.access None)
+        (M.state memory.old) (M.state memory.new) }
+    ensures filled { Filled third edit.now.chunk 512 (planned edit.now.runs.now edit.now.access None)
+        (M.state memory.old) (M.state memory.new) }
+    ensures room { M.room memory.old ≤ M.room memory.new + pages_in edit.now.runs.now edit.now.chunk }
+{
+    let words = chunk_words(third, edit.chunk, &edit.access);
+    memory.turn_runs(words, edit.runs);
+}
+
+/// Writes 0 into the words of the runs' pages in a chunk, all others of which are 0. Where as many are not 0 as the runs have
+/// pages, each of theirs is not.
+fn zero_runs<M: TableMem>(memory: &mut M, third: TablePage, edit: &ChunkEdit)
+    requires page_in { third < page_count (M.state memory.old).memory.quotas }
+    requires taken { taken_of (M.state memory.old).memory.taken third ≡ true }
+    requires none { edit.now.access ≡ None }
+    requires left { LeavesNone third edit.now (M.state memory.old) }
+    requires room { pages_in edit.now.runs.now edit.now.chunk ≤ M.room memory.old }
+    ensures writes { WritesPlan third edit.now.chunk (planned edit.now.runs.now edit.now.access None)
+        (M.state memory.old) (M.state memory.new) }
+    ensures filled { Filled third edit.now.chunk 512 (planned edit.now.runs.now edit.now.access None)
+        (M.state memory.old) (M.state memory.new) }
+    ensures room { M.room memory.old ≤ M.room memory.new + pages_in edit.now.runs.now edit.now.chunk }
+{
+    if memory.nonzero(third.number()) == edit.pieces.pages {
+        turn_runs(memory, third, edit);
+    } else {
+        write_runs(memory, third, edit);
+    }
+}
+
 /// What pages answer that the runs have, or that they have not.
 fn answer_of(is_covered: bool, access: &Option<Access>, other: &Option<Access>) -> Option<Access>
     ensures { result ≡ (if is_covered then access.now else other.now) }
@@ -196,7 +234,7 @@ pub(crate) fn fill_table<M: TableMem>(
         + reached_in (edited edit.now.runs.now edit.now.access (λ n. before.now)) edit.now.chunk }
 {
     match (before, edit.access) {
-        (None, _) => write_runs(memory, third, edit),
+        (None, _) => turn_runs(memory, third, edit),
         (Some(_), None) => fill_gaps(memory, third, edit, before),
         (Some(_), Some(_)) => write_all(memory, third, edit, before),
     }
@@ -218,7 +256,7 @@ pub(crate) fn empty_table<M: TableMem>(memory: &mut M, third: TablePage, edit: &
         + words_left third edit.now (M.state memory.old) }
 {
     if edit.access.is_none() {
-        write_runs(memory, third, edit);
+        zero_runs(memory, third, edit);
     } else if memory.nonzero(third.number()) + edit.pieces.pages == 512 {
         write_gaps(memory, third, edit, &None);
     } else {

@@ -22,7 +22,7 @@ use crate::layout::Layout;
 use crate::level1::{find_table, touches};
 use crate::level2::{block_of, plain_until, table_of};
 use crate::outcome::{is_alike_in_block, is_alike_in_table, is_told_mixed};
-use crate::parts::{bounds, chunk_span, first_unfilled, gigabyte_runs, gigabyte_span, runs_past};
+use crate::parts::{chunk_span, first_unfilled, gigabyte_runs, gigabyte_span, runs_past};
 use crate::place::{Chunk, Gigabyte, Span};
 use crate::read::read_chunk;
 use crate::site::{ChunkEdit, RowPlan};
@@ -53,7 +53,7 @@ impl Plan {
 }
 
 /// The level 2 table of a gigabyte of a row, if there are both.
-fn second_at<M: TableMem>(
+pub(crate) fn second_at<M: TableMem>(
     memory: &M,
     layout: &Layout,
     row: &Option<Row>,
@@ -412,46 +412,4 @@ pub(crate) fn plan_row<M: TableMem>(memory: &M, edit: &RowPlan, runs: &[Run]) ->
         }
     }
     plan
-}
-
-/// How many chunks there are from the first that the runs touch to the last.
-fn chunks_between(pages: Span) -> u32
-    requires { pages.end ≤ 2 ^ 27 }
-    ensures { result ≡ (pages.end + 511) / 512 - pages.first / 512 }
-{
-    ((pages.end + 511) / 512).saturating_sub(pages.first / 512)
-}
-
-/// How many table pages an edit of the pages of these runs takes at most: one for each chunk and each
-/// gigabyte from the first that they touch to the last. It reads no table.
-pub fn most_growth(runs: &[Run]) -> u32
-    requires normal { are_normal runs.now ≡ true }
-    ensures { (before : ℕ → View) (access : View)
-        → grow before (edited runs.now access before) ≤ result }
-{
-    let pages = bounds(runs);
-    let gigabytes = (pages.end + 262_143) / 512 / 512 - pages.first / 512 / 512;
-    gigabytes + chunks_between(pages)
-}
-
-/// How many operations an edit of the runs makes at most, whatever the tables are: 518 for each chunk from the first
-/// that they touch to the last. It looks at no run between.
-pub(crate) fn most_operations(runs: &[Run]) -> usize
-    requires normal { are_normal runs.now ≡ true }
-    ensures bound { (before : ℕ → View) (access : View)
-        → row_operations runs.now access before ≤ result }
-    ensures most { result ≤ 518 * 2 ^ 18 }
-{
-    518 * chunks_between(bounds(runs)) as usize
-}
-
-/// How many operations an edit of the runs mostly makes, at most: a write for each page between the first and the last, and an
-/// invalidation for each run.
-pub(crate) fn likely_operations(runs: &[Run]) -> usize
-    requires normal { are_normal runs.now ≡ true }
-    ensures { length runs.now ≤ result }
-{
-    let pages = bounds(runs);
-    runs.len()
-        .saturating_add((pages.end - pages.first) as usize)
 }

@@ -130,7 +130,7 @@ module _ (layout : Layout) (m : Pages) (canonical : IsCanonical layout m) (g : �
       let r : (512 * g + i) % 512 ≡ i = omega (arith, lt) in
       third-taken layout row (512 * g + i) j m (site-at row (inside row refl) j i lt e) k (ap (λ x. slot layout 2 (m.words j x)) r ∙ next)
 
-  reached-second : (row : Option ℕ) → ((r : ℕ) → row ≡ Some r → r < length layout.ids) → is_some (second_of layout m.words row g) ≡ is_reached (answers_of layout m.words row) g
+  pub reached-second : (row : Option ℕ) → ((r : ℕ) → row ≡ Some r → r < length layout.ids) → is_some (second_of layout m.words row g) ≡ is_reached (answers_of layout m.words row) g
   reached-second None inside = let nothing : ℕ → View = answers_of layout m.words None in sym (reached-none nothing g (λ i small. refl))
   reached-second (Some row) inside = tabled-reached layout row g m canonical (inside row refl) below
 

@@ -161,7 +161,7 @@ not-or true x e = absurd (cc)
 not-or false true e = absurd (cc)
 not-or false false e = (refl, refl)
 
-count_below-fewer : (a b : ℕ → Bool) (n : ℕ) → ((k : ℕ) → k < n → a k ≡ true → b k ≡ true) → count_below a n ≤ count_below b n
+pub count_below-fewer : (a b : ℕ → Bool) (n : ℕ) → ((k : ℕ) → k < n → a k ≡ true → b k ≡ true) → count_below a n ≤ count_below b n
 unfolding count_below
 count_below-fewer a b zero is = omega arith
 count_below-fewer a b (suc n) is =
@@ -237,6 +237,27 @@ none-among words k which left all i lt in_it =
     was-not : (b : Bool) → not b ≡ true → b ≡ false
     was-not true e = absurd (cc)
     was-not false e = refl
+
+-- and where as many are not 0 as there are of some, beside which all are 0, none of their words is 0
+pub all-among : (words : Words) (k : ℕ) (which : ℕ → Bool) → nonzero_in words k ≡ pages_among which → ((i : ℕ) → i < 512 → which i ≡ false → words k i ≡ 0) → (i : ℕ) → i < 512 → which i ≡ true → words k i ≢ 0
+unfolding pages_among nonzero_in
+all-among words k which counted none i lt in_it is_zero =
+    let other : ℕ → Bool = λ j. not (words k j == 0) in
+    let missing : ℕ → Bool = λ j. which j && (words k j == 0) in
+    let all = count_below-same which (λ j. other j || missing j) 512 (λ j small. both (which j) (words k j) (none j small)) in
+    let parts = count_below-either other missing 512 (λ j small. apart (which j) (words k j == 0)) in
+    let here : missing i ≡ true = grind (arith, nat_tests, in_it, is_zero) in
+    let some = count_below-some missing 512 i lt here in
+    omega (arith, counted, all, parts, some)
+  where
+    apart : (a b : Bool) → (not b && (a && b)) ≡ false
+    apart a true = refl
+    apart true false = refl
+    apart false false = refl
+
+    both : (a : Bool) (w : ℕ) → (a ≡ false → w ≡ 0) → (not (w == 0) || (a && (w == 0))) ≡ a
+    both true w e = elim (cases_Bool (w == 0)) [ inl t ↦ rw t refl | inr f ↦ rw f refl ]
+    both false w e = let z = e refl in rw z refl
 
 -- ---- the part of a run in a chunk
 

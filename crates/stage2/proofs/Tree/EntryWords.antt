@@ -1,11 +1,11 @@
 -- The words of tables that hang are those of their entries.
-use Rattle.std.proofs.Common.{◌≡◌, ℕ, ◌+◌, ◌*◌, ◌/◌, ◌%◌, ◌^◌, ◌<◌, IsTrue, Bool, true, false, Some, length, refl, arith, ap, ap₂, subst, sym, ◌∙◌, ◌-◌, ◌&&◌, leb, ltb, inl, inr}
+use Rattle.std.proofs.Common.{◌≡◌, ℕ, ◌+◌, ◌*◌, ◌/◌, ◌%◌, ◌^◌, ◌<◌, IsTrue, Bool, true, false, is_some, Some, length, refl, arith, ap, ap₂, subst, sym, ◌∙◌, ◌-◌, ◌&&◌, leb, ltb, inl, inr}
 use Rattle.std.proofs.lemmas.Bool.{cases_Bool}
 use Rattle.base.specs.Access.{Access}
 use Rattle.words.specs.declared.word.Entry.{Entry}
 use Rattle.words.specs.declared.word.Entry.TheVariants.{Invalid, Table, Leaf, Wrong as WrongWord}
 use Rattle.words.specs.Words.{entry_of, leaf_word_of, leaf_level}
-use Rattle.words.proofs.RoundTrip.{word-leaf}
+use Rattle.words.proofs.RoundTrip.{word-leaf, type-leaf}
 use Rattle.pool.specs.Pool.{Pages}
 use Rattle.stage2.specs.declared.walked.Walked.TheVariants.{Leaf as Mapped, Wrong}
 use Rattle.stage2.specs.Slot.{Layout, Slot, Empty, Next, Maps, Bad, slot, slot_from}
@@ -38,6 +38,16 @@ unfolding slot
 block-word layout n word a is =
     let w = word-leaf 2 word n a (leaf-entry layout n a (entry_of 2 word) is) in
     w.spelled ∙ ap (λ b. leaf_word_of b n a) (level-block w.block w.at_level)
+
+-- which is none of a table
+block-points : (layout : Layout) (n word : ℕ) (a : Access) → slot layout 2 word ≡ Maps n a → word % 4 ≡ 3 → ⊥
+unfolding slot
+block-points layout n word a is points =
+    let w = word-leaf 2 word n a (leaf-entry layout n a (entry_of 2 word) is) in
+    let block = level-block w.block w.at_level in
+    let kind = type-leaf true n a w.legal in
+    let same : word ≡ leaf_word_of true n a = w.spelled ∙ ap (λ b. leaf_word_of b n a) block in
+    omega (arith, points, kind, same)
 
 -- a block begins at a multiple of 512
 pub block-page : (layout : Layout) (n word : ℕ) (a : Access) → slot layout 2 word ≡ Maps n a → (x : ℕ) → n + x % 512 < 2 ^ 27
@@ -97,6 +107,18 @@ module _ (layout : Layout) (m : Pages) (h : IsOrderly layout m) where
   gigabyte-by row g i q inside below small table Bad is =
       let walk-is : walk layout m.words row (512 * (512 * g + i)) ≡ Wrong = chunk-walk row g i q inside small table ∙ ap (at_2 layout m.words (512 * (512 * g + i))) is in
       absurd (rw walk-is at (h.tidy row (512 * (512 * g + i)) inside (omega (arith, below, small))))
+
+  -- a word of a table's kind is that of a table
+  pub points-table : (row g i q : ℕ) → row < length layout.ids → g < 512 → i < 512 → table_at layout m.words (Gigabyte row g) ≡ Some q → m.words q i % 4 ≡ 3 → is_some (next_page (slot layout 2 (m.words q i))) ≡ true
+  points-table row g i q inside below small table points = by-slot (slot layout 2 (m.words q i)) refl
+    where
+      by-slot : (s : Slot) → slot layout 2 (m.words q i) ≡ s → is_some (next_page (slot layout 2 (m.words q i))) ≡ true
+      by-slot Empty is = let zero = h.clean (Gigabyte row g) q i (inside, below) table small is in absurd (omega (arith, zero, points))
+      by-slot (Next k) is = rw is refl
+      by-slot (Maps p a) is = absurd (block-points layout p (m.words q i) a is points)
+      by-slot Bad is =
+          let walk-is : walk layout m.words row (512 * (512 * g + i)) ≡ Wrong = chunk-walk row g i q inside small table ∙ ap (at_2 layout m.words (512 * (512 * g + i))) is in
+          absurd (rw walk-is at (h.tidy row (512 * (512 * g + i)) inside (omega (arith, below, small))))
 
   -- ---- a level 3 table
 

@@ -50,6 +50,12 @@ AreTurned k e answer pool =
     (i : ℕ) → i < 512 → covers e.runs.now (512 * e.chunk + i) ≡ false
     → (words_of pool.memory.words k i == 0) ≡ is_some answer
 
+-- those for the runs' pages are valid exactly where the words that are written are not
+abbrev pub AreRunsTurned : ℕ → ChunkEdit → Pool → Type 0
+AreRunsTurned k e pool =
+    (i : ℕ) → i < 512 → covers e.runs.now (512 * e.chunk + i) ≡ true
+    → (words_of pool.memory.words k i == 0) ≡ is_some e.access
+
 -- the words of a chunk's pages from one up to another, counted from its first
 abbrev pub some_pages : ℕ → ℕ → ℕ → View → ℕ → Option View
 some_pages c first end answer n =
@@ -263,6 +269,11 @@ is_between first end i = nat_le first i && nat_lt i end
 
 abbrev pub word_in : Pool → ℕ → ℕ → ℕ
 word_in pool page index = words_of pool.memory.words page index
+
+-- a level 2 word of this table is that of a table, or wrong, if there is this table
+abbrev pub points_at : Option ℕ → ℕ → Pool → Bool
+points_at None i pool = false
+points_at (Some j) i pool = words_of pool.memory.words j i % 4 == 3
 
 -- all words of a page are 0
 abbrev pub IsEmpty : ℕ → Pool → Type 0

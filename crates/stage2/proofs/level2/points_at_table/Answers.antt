@@ -3,5 +3,5 @@ use Rattle.std.proofs.lemmas.Bool.Decides.{nat_tests}
 use Rattle.stage2.proofs.Editing.FilledChunks.{plain-slot}
 use Rattle.stage2.proofs.level2.points_at_table.Goals as goal
 
-pub returns : goal.returns
-returns c = λ isnt layout. plain-slot layout c.args.word (grind (arith, nat_tests, isnt))
+pub returns-clause-no : goal.returns-clause-no
+returns-clause-no c = λ isnt layout. plain-slot layout c.args.word (grind (arith, nat_tests, isnt))

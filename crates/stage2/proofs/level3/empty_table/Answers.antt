@@ -30,19 +30,25 @@ gone : (a : View) (b : Bool) → is_some a ≡ not b → b ≡ true → a ≡ No
 gone None b e f = refl
 gone (Some a) b e f = let bad : true ≡ false = e ∙ ap not f in absurd (cc)
 
+pub zero_runs-requires-clause-none : goal.zero_runs-requires-clause-none
+zero_runs-requires-clause-none g c = gone c.args.edit.now.access c.is_none.result c.is_none.ensures c.if-is_none.true
+
+pub zero_runs-requires-clause-left : goal.zero_runs-requires-clause-left
+zero_runs-requires-clause-left g c = λ i small out. (c.requires.left i small out).zero (gone c.args.edit.now.access c.is_none.result c.is_none.ensures c.if-is_none.true)
+
 pub returns-then-is_none-clause-writes : goal.returns-then-is_none-clause-writes
 returns-then-is_none-clause-writes g c =
     let none = gone c.args.edit.now.access c.is_none.result c.is_none.ensures c.if-is_none.true in
     let old = pages_of (g.M.TableMem.state c.args.memory.now).memory in
-    let new = pages_of (g.M.TableMem.state c.write_runs.new.memory).memory in
+    let new = pages_of (g.M.TableMem.state c.zero_runs.new.memory).memory in
     writes-zero c.args.third c.args.edit.now.chunk c.args.edit.now.runs.now old new (writes-rest c.args.third c.args.edit.now.chunk c.args.edit.now.runs.now None old new (λ i small out. (c.requires.left i small out).zero none)
-    (subst (λ (a : View). Writes c.args.third c.args.edit.now.chunk (planned c.args.edit.now.runs.now a None) old new) none c.write_runs.ensures.writes))
+    (subst (λ (a : View). Writes c.args.third c.args.edit.now.chunk (planned c.args.edit.now.runs.now a None) old new) none c.zero_runs.ensures.writes))
 
 pub returns-then-is_none-clause-filled : goal.returns-then-is_none-clause-filled
 returns-then-is_none-clause-filled g c =
     let none = gone c.args.edit.now.access c.is_none.result c.is_none.ensures c.if-is_none.true in
-    filled-more c.args.third c.args.edit.now.chunk 512 (planned c.args.edit.now.runs.now None None) (planned [] None (Some None)) (g.M.TableMem.state c.args.memory.now) (g.M.TableMem.state c.write_runs.new.memory)
-    (all-none c.args.edit.now.runs.now) (subst (λ (a : View). Filled c.args.third c.args.edit.now.chunk 512 (planned c.args.edit.now.runs.now a None) (g.M.TableMem.state c.args.memory.now) (g.M.TableMem.state c.write_runs.new.memory)) none c.write_runs.ensures.filled)
+    filled-more c.args.third c.args.edit.now.chunk 512 (planned c.args.edit.now.runs.now None None) (planned [] None (Some None)) (g.M.TableMem.state c.args.memory.now) (g.M.TableMem.state c.zero_runs.new.memory)
+    (all-none c.args.edit.now.runs.now) (subst (λ (a : View). Filled c.args.third c.args.edit.now.chunk 512 (planned c.args.edit.now.runs.now a None) (g.M.TableMem.state c.args.memory.now) (g.M.TableMem.state c.zero_runs.new.memory)) none c.zero_runs.ensures.filled)
 
 -- ---- the words beside the runs, of which there are as many as words that are not 0
 

@@ -1,6 +1,10 @@
-use Rattle.std.proofs.Common.{is_some, ap, arith}
+use Rattle.std.proofs.Common.{◌≡◌, ◌==◌, ◌||◌, is_some, sym, ap, ◌∙◌, arith}
 use Rattle.stage2.proofs.Counting.Operations.{new-unmapped, new-all}
 use Rattle.stage2.proofs.level3.fill_table.Goals as goal
+
+pub turn_runs-requires-clause-turned : goal.turn_runs-requires-clause-turned
+turn_runs-requires-clause-turned g c = λ i small covered.
+    ap (λ w. w == 0) (c.requires.empty i small) ∙ sym (ap (λ b. is_some b || is_some c.args.edit.now.access) (sym c.in-None-default.is-0) ∙ c.requires.some)
 
 pub fill_gaps-requires-clause-room : goal.fill_gaps-requires-clause-room
 fill_gaps-requires-clause-room g c =

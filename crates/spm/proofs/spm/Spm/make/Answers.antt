@@ -1,10 +1,8 @@
 use Rattle.std.proofs.Common.{◌≡◌, refl, sym, ap, subst, ◌∙◌}
 use Rattle.base.specs.declared.status.Status.TheVariants.{NoMemory}
-use Rattle.base.specs.Manifest.{ManifestRows}
 use Rattle.rules.specs.Run.{step}
 use Rattle.spm.specs.Granted.{updated}
-use Rattle.stage2.specs.Slot.{layout_of}
-use Rattle.spm.specs.Machine.{Machine, WalksAgree, ShowsCall, fits_in}
+use Rattle.spm.specs.Machine.{Machine, WalksAgree, ShowsCall}
 use Rattle.spm.proofs.ConsistencyLemmas.{commit_kept}
 use Rattle.spm.proofs.MadeLemmas.{IsMade, IsUnfit, made, unfit}
 use Rattle.spm.proofs.ShownLemmas.{commit-shown, commit-cleared, same-shown}
@@ -13,13 +11,10 @@ use Rattle.spm.proofs.ClearedLemmas.{refused_clears, clears_on_ok}
 use Rattle.spm.proofs.spm.Spm.make.Given.{Over}
 use Rattle.spm.proofs.spm.Spm.make.Goals as goal
 
-pub fits-requires-clause-layout : goal.fits-requires-clause-layout
-fits-requires-clause-layout g c = c.self.invariant.layout_of_manifest ∙ ap layout_of (sym c.manifest.ensures)
-
 change_made : (g : Over) (c : goal.After-commit g) → IsMade c.args.self.now c.self.inside.state c.args.call.now c.args.change
 change_made g c =
     made c.args.self.now c.self.inside.state c.self.inside.tables c.args.call.now c.args.change c.self.view_is c.requires.granted c.self.invariant
-    (ap (λ (m : ManifestRows). fits_in m c.self.inside.tables c.args.change.edit) (sym c.manifest.ensures) ∙ sym c.fits.ensures ∙ c.if-fits.true)
+    (sym (c.fits.ensures c.self.inside.state.manifest c.self.invariant.layout_of_manifest) ∙ c.if-fits.true)
 
 next_made : (g : Over) (c : goal.After-commit g) → updated c.self.inside.state c.partition-p.result c.args.change.update ≡ updated c.self.inside.state c.args.call.now.caller c.args.change.update
 next_made g c = ap (λ p. updated c.self.inside.state p c.args.change.update) c.partition-p.ensures.same
@@ -61,7 +56,7 @@ returns-then-fits-clause-moments g c =
 change_unfit : (g : Over) (c : goal.Joined-change-3 g) → IsUnfit c.args.self.now c.self.inside.state c.args.call.now
 change_unfit g c =
     unfit c.args.self.now c.self.inside.state c.self.inside.tables c.args.call.now c.args.change c.self.view_is c.requires.granted c.self.invariant
-    (ap (λ (m : ManifestRows). fits_in m c.self.inside.tables c.args.change.edit) (sym c.manifest.ensures) ∙ sym c.fits.ensures ∙ c.if-fits.false)
+    (sym (c.fits.ensures c.self.inside.state.manifest c.self.invariant.layout_of_manifest) ∙ c.if-fits.false)
 
 pub commit-requires-clause-rows : goal.commit-requires-clause-rows
 commit-requires-clause-rows g c = rows_of_partitions c.self.inside.state.manifest c.self.inside.tables.layout c.self.invariant.layout_of_manifest c.self.invariant.reached.valid

@@ -1,5 +1,5 @@
 use Rattle.stage2.proofs.Counting.Bounds.{grow-most}
-use Rattle.stage2.proofs.plan.most_growth.Goals as goal
+use Rattle.stage2.proofs.bound.most_growth.Goals as goal
 
 pub returns : goal.returns
 returns c = λ before access.

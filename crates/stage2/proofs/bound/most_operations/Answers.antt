@@ -1,6 +1,6 @@
 use Rattle.std.proofs.Common.{arith}
 use Rattle.stage2.proofs.Runs.ChunkCounts.{row-operations}
-use Rattle.stage2.proofs.plan.most_operations.Goals as goal
+use Rattle.stage2.proofs.bound.most_operations.Goals as goal
 
 pub returns-clause-bound : goal.returns-clause-bound
 returns-clause-bound c = λ before access.

@@ -1,0 +1,76 @@
+-- An edit takes a level 3 table in chunks alone that have none, and a level 2 table in gigabytes that have none.
+use Rattle.std.proofs.Common.{◌≡◌, ℕ, zero, suc, ◌+◌, ◌*◌, ◌%◌, ◌<◌, ◌≤◌, ◌&&◌, Bool, true, false, not, cond, leb, ltb, eqb, is_some, is_none, List, Option, Some, None, length, refl, sym, ap, ◌∙◌, true≢false, arith, inl, inr}
+use Rattle.std.proofs.lemmas.Bool.{cases_Bool, eqb-true}
+use Rattle.std.proofs.lemmas.Bool.Decides.{nat_tests}
+use Rattle.base.specs.Access.{View}
+use Rattle.base.specs.Counts.{count_below}
+use Rattle.base.specs.Need.{is_mixed, is_reached}
+use Rattle.base.specs.Pages.{PageRun}
+use Rattle.pool.specs.Pool.{Pool, Pages, pages_of}
+use Rattle.stage2.specs.Edits.{edited, touches_chunk}
+use Rattle.stage2.specs.Orderly.{IsCanonical}
+use Rattle.stage2.specs.Slot.{Layout}
+use Rattle.stage2.specs.Walk.{next_page}
+use Rattle.stage2.specs.inner.Chunks.{answers_at, answers_of, second_of, entry_in}
+use Rattle.stage2.specs.inner.Clauses.{is_between, points_at, view_in, second_in}
+use Rattle.stage2.specs.inner.Gigabytes.{grows_at, gigabyte_growth}
+use Rattle.stage2.proofs.Counting.Growth.{grows-nothing, reached-second, view-mixed, entry-view}
+use Rattle.stage2.proofs.Counting.Needs.{mixed-same}
+use Rattle.stage2.proofs.Counting.Pieces.{count_below-fewer}
+use Rattle.stage2.proofs.Editing.ChunkByChunk.{untouched}
+use Rattle.stage2.proofs.Runs.Spans.{Between}
+use Rattle.stage2.proofs.Tree.EntryWords.{points-table}
+
+-- a chunk whose word points at a table has one
+table-there : (layout : Layout) (pool : Pool) (canonical : IsCanonical layout (pages_of pool.memory)) (g : ℕ) → g < 512 → (row : Option ℕ) → ((r : ℕ) → row ≡ Some r → r < length layout.ids) → (second : Option ℕ) (x : ℕ) → x < 512
+    → second_of layout (pages_of pool.memory).words row g ≡ second → points_at second x pool ≡ true → is_some (next_page (entry_in layout (pages_of pool.memory).words second x)) ≡ true
+table-there layout pool canonical g below row inside None x small is points = absurd (cc)
+table-there layout pool canonical g below None inside (Some j) x small is points = absurd (cc)
+table-there layout pool canonical g below (Some r) inside (Some j) x small is points =
+    points-table layout (pages_of pool.memory) canonical.orderly r g x j (inside r refl) below small is (eqb-true _ _ points)
+
+module _ (layout : Layout) (pool : Pool) (canonical : IsCanonical layout (pages_of pool.memory)) (row : Option ℕ) (inside : (r : ℕ) → row ≡ Some r → r < length layout.ids) (g : ℕ) (below : g < 512) (second : Option ℕ) (is : second_in layout row g pool ≡ second) where
+  abbrev before : ℕ → View
+  before = view_in layout row pool
+
+  points-mixed : (x : ℕ) → x < 512 → points_at second x pool ≡ true → is_mixed before (512 * g + x) ≡ true
+  points-mixed x small points =
+      let m = pages_of pool.memory in
+      let entry = entry_in layout m.words second x in
+      let same : is_mixed (answers_at layout m.words entry) (512 * g + x) ≡ is_mixed before (512 * g + x) =
+      mixed-same before (answers_at layout m.words entry) (512 * g + x) (λ i lt. entry-view layout m canonical g below row inside second x (512 * (512 * g + x) + i) small is (omega (arith, lt))) in
+      sym same ∙ view-mixed layout m canonical g below row inside second x small is ∙ table-there layout pool canonical g below row inside second x small is points
+
+  module _ (runs : List PageRun) (access : View) (first end : ℕ) (within : (x : ℕ) → x < 512 → touches_chunk (512 * g + x) runs ≡ true → Between first end x) where
+    -- a chunk that takes one is among these, and points at none
+    taken-among : (x : ℕ) → x < 512 → grows_at before (edited runs access before) (512 * g + x) ≡ true → (is_between first end x && not (points_at second x pool)) ≡ true
+    taken-among x small grows = elim (cases_Bool (touches_chunk (512 * g + x) runs)) [
+      | inr f ↦ absurd (true≢false (sym grows ∙ grows-nothing runs access before (512 * g + x) (λ n at. untouched (512 * g + x) runs n f at)))
+      | inl t ↦ elim (cases_Bool (points_at second x pool)) [
+        | inl p ↦ absurd (true≢false (sym grows ∙ none (is_mixed (edited runs access before) (512 * g + x)) (is_mixed before (512 * g + x)) (points-mixed x small p)))
+        | inr p ↦ let b = within x small t in let low = b.0 in let high = b.1 in let so : is_between first end x ≡ true = grind (arith, nat_tests, low, high) in rw (so, p) refl
+      ]
+    ]
+      where
+        none : (new old : Bool) → old ≡ true → (new && not old) ≡ false
+        none true true e = refl
+        none false true e = refl
+        none new false e = absurd (cc)
+
+    pub growth-untabled : (chunks : ℕ) → count_below (λ x. is_between first end x && not (points_at second x pool)) 512 ≤ chunks → gigabyte_growth before (edited runs access before) g ≤ chunks + cond (is_none second) 1 0
+    growth-untabled chunks most =
+        let count = count_below-fewer (λ x. grows_at before (edited runs access before) (512 * g + x)) (λ x. is_between first end x && not (points_at second x pool)) 512 taken-among in
+        let one = gigabyte-one second is (reached-second layout (pages_of pool.memory) canonical g below row inside) (is_reached (edited runs access before) g) in
+        omega (arith, count, most, one)
+      where
+        at_most : (b : Bool) → cond b 1 0 ≤ 1
+        at_most true = omega arith
+        at_most false = omega arith
+
+        and_false : (b : Bool) → ◌≡◌ {A = ℕ} (cond (b && false) 1 0) 0
+        and_false true = refl
+        and_false false = refl
+
+        gigabyte-one : (o : Option ℕ) → second_in layout row g pool ≡ o → is_some (second_in layout row g pool) ≡ is_reached before g → (new : Bool) → cond (new && not (is_reached before g)) 1 0 ≤ cond (is_none o) 1 0
+        gigabyte-one None e same new = at_most (new && not (is_reached before g))
+        gigabyte-one (Some j) e same new = let was : is_reached before g ≡ true = sym same ∙ ap (λ o. is_some o) e in let off = and_false new in rw was (omega (arith, off))

@@ -1,0 +1,38 @@
+use Rattle.std.proofs.Common.{◌≡◌, ℕ, ◌+◌, ◌<◌, ◌≤◌, Bool, true, false, not, cond, is_some, is_none, Option, Some, None, sym, ap, ◌∙◌, refl, arith, inl, inr}
+use Rattle.std.proofs.lemmas.Bool.{cases_Bool}
+use Rattle.pool.specs.Pool.{pages_of}
+use Rattle.stage2.proofs.Counting.Growth.{second-inside}
+use Rattle.stage2.proofs.Counting.Untabled.{growth-untabled}
+use Rattle.stage2.proofs.bound.most_in_gigabyte.Goals as goal
+
+pub count_untabled-chunks-requires-clause-page_in : goal.count_untabled-chunks-requires-clause-page_in
+count_untabled-chunks-requires-clause-page_in g c = λ j e.
+    let pool = g.M.TableMem.state c.args.memory.now in
+    let inside = second-inside c.args.edit.now.layout.now (pages_of pool.memory) c.requires.canonical c.args.gigabyte c.chunk_span.ensures.in_range c.args.edit.now.row c.requires.partition j (sym c.second_at-second.ensures ∙ e) in
+    rw c.requires.canonical.orderly.pages at inside
+
+pub returns : goal.returns
+returns g c =
+    let pool = g.M.TableMem.state c.args.memory.now in
+    let most = growth-untabled c.args.edit.now.layout.now pool c.requires.canonical c.args.edit.now.row c.requires.partition c.args.gigabyte c.chunk_span.ensures.in_range c.second_at-second.result (sym c.second_at-second.ensures)
+    c.args.runs.now c.args.edit.now.access c.chunk_span.result.first c.chunk_span.result.end c.chunk_span.ensures.within c.count_untabled-chunks.result c.count_untabled-chunks.ensures.counts in
+    let few = c.count_untabled-chunks.ensures.few in
+    elim (cases_Bool c.is_none.result) [
+      | inl t ↦
+          let one : c.from.result ≡ 1 = rw t at c.from.ensures in
+          let bit = at_most_one (is_none c.second_at-second.result) in
+          record { most = omega (arith, most, one, bit); few = omega (arith, few, one) }
+      | inr f ↦
+          let zero : c.from.result ≡ 0 = rw f at c.from.ensures in
+          let some : is_some c.second_at-second.result ≡ true = rw f at c.is_none.ensures in
+          let none = no_one c.second_at-second.result some in
+          record { most = omega (arith, most, zero, none); few = omega (arith, few, zero) }
+    ]
+  where
+    at_most_one : (b : Bool) → cond b 1 0 ≤ 1
+    at_most_one true = omega arith
+    at_most_one false = omega arith
+
+    no_one : (o : Option ℕ) → is_some o ≡ true → ◌≡◌ {A = ℕ} (cond (is_none o) 1 0) 0
+    no_one None e = absurd (cc)
+    no_one (Some x) e = refl

@@ -1,0 +1,52 @@
+use Rattle.std.proofs.Common.{◌≡◌, ℕ, ◌+◌, ◌-◌, ◌*◌, ◌/◌, ◌<◌, ◌≤◌, inl, inr, sym, ap, ◌∙◌, arith}
+use Rattle.base.specs.Access.{View}
+use Rattle.stage2.specs.Edits.{edited}
+use Rattle.stage2.specs.Room.{sum_below}
+use Rattle.stage2.specs.inner.Clauses.{view_in}
+use Rattle.stage2.specs.inner.Gigabytes.{gigabyte_growth}
+use Rattle.stage2.proofs.Counting.Growth.{growth-nothing}
+use Rattle.stage2.proofs.Editing.ChunkByChunk.{sum_below-more}
+use Rattle.stage2.proofs.Editing.GigabyteByGigabyte.{grow-sum}
+use Rattle.stage2.proofs.Runs.Spans.{sum_below-none, sum_below-tail, outside-gigabytes}
+use Rattle.stage2.proofs.bound.most_tables.Goals as goal
+
+pub loop-number-init : goal.loop-number-init
+loop-number-init g c =
+    let before : ℕ → View = view_in c.args.edit.now.layout.now c.args.edit.now.row (g.M.TableMem.state c.args.memory.now) in
+    let runs = c.args.runs.now in
+    let access = c.args.edit.now.access in
+    let span = c.gigabyte_span-span.result in
+    let none = sum_below-none (gigabyte_growth before (edited runs access before)) span.first
+    (λ x lt. growth-nothing runs access before x (λ n at. outside-gigabytes runs span.first span.end n c.gigabyte_span-span.ensures.within (inl (omega (arith, at, lt))))) in
+    record { most = omega (arith, none); few = omega arith }
+
+pub loop-number-preserved : goal.loop-number-preserved
+loop-number-preserved g c =
+    let before : ℕ → View = view_in c.args.edit.now.layout.now c.args.edit.now.row (g.M.TableMem.state c.args.memory.now) in
+    let grows : ℕ → ℕ = gigabyte_growth before (edited c.args.runs.now c.args.edit.now.access before) in
+    let i = c.loop-number.number in
+    let more = sum_below-more grows i in
+    let so = c.loop-number.invariant in
+    let most = so.most in
+    let few = so.few in
+    let here : grows i ≤ c.most_in_gigabyte-most.result = rw c.new.ensures at c.most_in_gigabyte-most.ensures.most in
+    let one = c.most_in_gigabyte-most.ensures.few in
+    record { most = omega (arith, more, most, here); few = omega (arith, few, one) }
+
+pub returns : goal.returns
+returns g c =
+    let before : ℕ → View = view_in c.args.edit.now.layout.now c.args.edit.now.row (g.M.TableMem.state c.args.memory.now) in
+    let runs = c.args.runs.now in
+    let access = c.args.edit.now.access in
+    let grows : ℕ → ℕ = gigabyte_growth before (edited runs access before) in
+    let span = c.gigabyte_span-span.result in
+    let i = c.loop-number.number in
+    let most = c.gigabyte_span-span.ensures.most in
+    let end = c.loop-number-test.false in
+    let last : i ≤ span.end = c.loop-number.auto.number-end c.gigabyte_span-span.ensures.ordered in
+    let all : i + (512 - i) ≡ 512 = omega (arith, most, last) in
+    let tail = sum_below-tail grows (512 - i) i (λ x from to. growth-nothing runs access before x (λ n at. outside-gigabytes runs span.first span.end n c.gigabyte_span-span.ensures.within (inr (omega (arith, from, at, end))))) in
+    let whole = ap (sum_below grows) all in
+    let sum = grow-sum before (edited runs access before) in
+    let so = c.loop-number.invariant.most in
+    omega (arith, so, tail, whole, sum)

@@ -1,0 +1,43 @@
+use Rattle.std.proofs.Common.{◌+◌, ◌*◌, ◌==◌, sym, ap, ◌∙◌, arith}
+use Rattle.pool.proofs.Gaps.{rise-normal}
+use Rattle.stage2.specs.inner.Clauses.{word_in}
+use Rattle.stage2.proofs.Editing.RunWords.{runs-written}
+use Rattle.stage2.proofs.Counting.Pieces.{words-pages}
+use Rattle.stage2.proofs.level3.turn_runs.Goals as goal
+
+pub turn_runs-requires-clause-ready : goal.turn_runs-requires-clause-ready
+turn_runs-requires-clause-ready g c =
+    let words = words-pages c.args.edit.now.chunk c.args.edit.now.runs.now c.args.edit.now.normal in
+    let room = c.requires.room in
+    rw c.chunk_words-words.ensures.start (omega (arith, words, room))
+
+pub turn_runs-requires-clause-turned : goal.turn_runs-requires-clause-turned
+turn_runs-requires-clause-turned g c =
+    let w = c.chunk_words-words.ensures in
+    let word = word_in (g.M.TableMem.state c.args.memory.now) in
+    record {
+      zeros = w.zeros;
+      each = λ i small covered. ap (λ k. word k i == 0) w.page ∙ c.requires.turned i small (rw w.start at covered) ∙ sym w.valid;
+    }
+
+pub returns-clause-writes : goal.returns-clause-writes
+returns-clause-writes g c =
+    let e = c.args.edit.now in
+    let w = c.chunk_words-words.ensures in
+    let words = c.chunk_words-words.result in
+    rw (c.turn_runs.ensures.state, w.page, w.start)
+    (runs-written c.args.third e.chunk words.word words.step e.access w.each e.runs.now (g.M.TableMem.state c.args.memory.now) (g.met.M.TableMem.whole c.args.memory.now) c.requires.page_in (rise-normal e.runs.now e.normal)).0
+
+pub returns-clause-filled : goal.returns-clause-filled
+returns-clause-filled g c =
+    let e = c.args.edit.now in
+    let w = c.chunk_words-words.ensures in
+    let words = c.chunk_words-words.result in
+    rw (c.turn_runs.ensures.state, w.page, w.start)
+    (runs-written c.args.third e.chunk words.word words.step e.access w.each e.runs.now (g.M.TableMem.state c.args.memory.now) (g.met.M.TableMem.whole c.args.memory.now) c.requires.page_in (rise-normal e.runs.now e.normal)).1
+
+pub returns-clause-room : goal.returns-clause-room
+returns-clause-room g c =
+    let words = words-pages c.args.edit.now.chunk c.args.edit.now.runs.now c.args.edit.now.normal in
+    let room = rw c.chunk_words-words.ensures.start at c.turn_runs.ensures.room in
+    omega (arith, words, room)

@@ -1,0 +1,17 @@
+use Rattle.std.proofs.Common.{sym, ap, ◌∙◌, arith}
+use Rattle.base.specs.Need.{grow}
+use Rattle.stage2.specs.Edits.{edited}
+use Rattle.stage2.specs.Sound.{TablesView}
+use Rattle.stage2.specs.Tables.{view_of}
+use Rattle.stage2.proofs.Tree.Rows.{row-found}
+use Rattle.stage2.proofs.Editing.WholeTables.{view, grow-found}
+use Rattle.stage2.proofs.tables.Tables.most_growth.Goals as goal
+
+pub most_tables-requires-clause-partition : goal.most_tables-requires-clause-partition
+most_tables-requires-clause-partition g c = λ row is. (row-found c.self.inside.layout.ids c.args.p row (sym c.row.ensures.row ∙ is)).inside
+
+pub returns : goal.returns
+returns g c =
+    let same = grow-found (view c.self.inside.layout (g.M.TableMem.state c.self.inside.memory) (g.M.TableMem.room c.self.inside.memory)) c.args.p c.args.runs.now c.args.access.now c.row.result c.row.ensures.row in
+    let there = ap (λ (t : TablesView). grow (view_of t c.args.p) (edited c.args.runs.now c.args.access.now (view_of t c.args.p))) c.self.view_is in
+    omega (arith, c.most_tables.ensures, same, there)

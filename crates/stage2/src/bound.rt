@@ -1,0 +1,133 @@
+//! Bounds of what an edit needs, which cost less than its plan.
+
+ghost use Rattle.base.specs.Access.{View};
+ghost use Rattle.base.specs.Counts.{count_below};
+ghost use Rattle.base.specs.Manifest.{page_count};
+ghost use Rattle.base.specs.Need.{grow};
+ghost use Rattle.base.specs.Pages.{are_normal};
+ghost use Rattle.pool.specs.Pool.{pages_of};
+ghost use Rattle.stage2.specs.Edits.{edited};
+ghost use Rattle.stage2.specs.inner.Clauses.{is_between, points_at, view_in, second_in};
+ghost use Rattle.stage2.specs.inner.Gigabytes.{gigabyte_growth};
+ghost use Rattle.stage2.specs.Orderly.{IsCanonical};
+ghost use Rattle.stage2.specs.Room.{row_operations};
+ghost use Rattle.std.specs.Prelude.{◌≡◌, ℕ, ◌+◌, ◌-◌, ◌*◌, ◌/◌, ◌^◌, ◌<◌, ◌≤◌, ◌&&◌, true, Some, not, length};
+
+use crate::level2::points_at_table;
+use crate::parts::{bounds, chunk_span, gigabyte_span};
+use crate::place::{Gigabyte, Span};
+use crate::plan::second_at;
+use crate::read::read_word;
+use crate::site::RowPlan;
+use crate::table_page::TablePage;
+use base::Run;
+use pool::TableMem;
+
+/// How many chunks of a gigabyte, from one up to another, counted from its first, have no table.
+fn count_plain<M: TableMem>(memory: &M, second: TablePage, chunks: Span) -> u32
+    requires page_in { second < page_count (M.state memory.now).memory.quotas }
+    requires ordered { chunks.first ≤ chunks.end }
+    requires most { chunks.end ≤ 512 }
+    ensures counts { count_below (λ x. is_between chunks.first chunks.end x
+        && not (points_at (Some second) x (M.state memory.now))) 512 ≤ result }
+    ensures few { result ≤ 512 }
+{
+    let mut count = 0;
+    for index in chunks.first..chunks.end {
+        count += u32::from(!points_at_table(read_word(memory, second, index)));
+    }
+    count
+}
+
+/// The same of a gigabyte that may have no level 2 table.
+fn count_untabled<M: TableMem>(memory: &M, second: &Option<TablePage>, chunks: Span) -> u32
+    requires page_in { (j : ℕ) → second.now ≡ Some j → j < page_count (M.state memory.now).memory.quotas }
+    requires ordered { chunks.first ≤ chunks.end }
+    requires most { chunks.end ≤ 512 }
+    ensures counts { count_below (λ x. is_between chunks.first chunks.end x
+        && not (points_at second.now x (M.state memory.now))) 512 ≤ result }
+    ensures few { result ≤ 512 }
+{
+    match second {
+        Some(second) => count_plain(memory, *second, chunks),
+        None => chunks.end - chunks.first,
+    }
+}
+
+/// How many tables an edit takes at most in a gigabyte.
+fn most_in_gigabyte<M: TableMem>(
+    memory: &M,
+    edit: &RowPlan,
+    gigabyte: Gigabyte,
+    runs: &[Run],
+) -> u32
+    requires canonical { IsCanonical edit.now.layout.now (pages_of (M.state memory.now).memory) }
+    requires partition { (r : ℕ) → edit.now.row ≡ Some r → r < length edit.now.layout.now.ids }
+    requires normal { are_normal runs.now ≡ true }
+    ensures most { let before = view_in edit.now.layout.now edit.now.row (M.state memory.now) in
+        gigabyte_growth before (edited runs.now edit.now.access before) gigabyte ≤ result }
+    ensures few { result ≤ 513 }
+{
+    let second = second_at(memory, edit.layout, &edit.row, gigabyte);
+    let chunks = count_untabled(memory, &second, chunk_span(runs, gigabyte));
+    chunks + u32::from(second.is_none())
+}
+
+/// How many tables an edit takes at most: one for each chunk and each gigabyte without a table, from the first that the runs
+/// touch to the last. It looks at no run between, and at words of level 1 and 2 alone.
+pub(crate) fn most_tables<M: TableMem>(memory: &M, edit: &RowPlan, runs: &[Run]) -> u32
+    requires canonical { IsCanonical edit.now.layout.now (pages_of (M.state memory.now).memory) }
+    requires partition { (r : ℕ) → edit.now.row ≡ Some r → r < length edit.now.layout.now.ids }
+    requires normal { are_normal runs.now ≡ true }
+    ensures { let before = view_in edit.now.layout.now edit.now.row (M.state memory.now) in
+        grow before (edited runs.now edit.now.access before) ≤ result }
+{
+    let span = gigabyte_span(runs);
+    let mut most = 0;
+    for number in span.first..span.end {
+        most += most_in_gigabyte(memory, edit, Gigabyte::new(number), runs);
+    }
+    most
+}
+
+/// How many chunks there are from the first that the runs touch to the last.
+fn chunks_between(pages: Span) -> u32
+    requires { pages.end ≤ 2 ^ 27 }
+    ensures { result ≡ (pages.end + 511) / 512 - pages.first / 512 }
+{
+    ((pages.end + 511) / 512).saturating_sub(pages.first / 512)
+}
+
+/// How many table pages an edit of the pages of these runs takes at most: one for each chunk and each
+/// gigabyte from the first that they touch to the last. It reads no table.
+pub(crate) fn most_growth(runs: &[Run]) -> u32
+    requires normal { are_normal runs.now ≡ true }
+    ensures { (before : ℕ → View) (access : View)
+        → grow before (edited runs.now access before) ≤ result }
+{
+    let pages = bounds(runs);
+    let gigabytes = (pages.end + 262_143) / 512 / 512 - pages.first / 512 / 512;
+    gigabytes + chunks_between(pages)
+}
+
+/// How many operations an edit of the runs makes at most, whatever the tables are: 518 for each chunk from the first
+/// that they touch to the last. It looks at no run between.
+pub(crate) fn most_operations(runs: &[Run]) -> usize
+    requires normal { are_normal runs.now ≡ true }
+    ensures bound { (before : ℕ → View) (access : View)
+        → row_operations runs.now access before ≤ result }
+    ensures most { result ≤ 518 * 2 ^ 18 }
+{
+    518 * chunks_between(bounds(runs)) as usize
+}
+
+/// How many operations an edit of the runs mostly makes, at most: a write for each page between the first and the last, and an
+/// invalidation for each run.
+pub(crate) fn likely_operations(runs: &[Run]) -> usize
+    requires normal { are_normal runs.now ≡ true }
+    ensures { length runs.now ≤ result }
+{
+    let pages = bounds(runs);
+    runs.len()
+        .saturating_add((pages.end - pages.first) as usize)
+}
