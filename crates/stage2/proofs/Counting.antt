@@ -6,3 +6,4 @@ pub mod Operations
 pub mod Outcomes
 pub mod NeedGrows
 pub mod Untabled
+pub mod UpToPiece

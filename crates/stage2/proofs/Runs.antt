@@ -5,3 +5,4 @@ pub mod Normal
 pub mod OwnRuns
 pub mod Left
 pub mod Between
+pub mod Pieces

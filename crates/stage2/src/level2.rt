@@ -17,7 +17,7 @@ use crate::layout::Layout;
 use crate::level3::{empty_table, fill_table, invalidate_parts, write_runs};
 use crate::memory::{give_page, is_empty, put_word, take_page};
 use crate::outcome::becomes_alike;
-use crate::parts::{chunk_span, first_unfilled, runs_past};
+use crate::parts::next_piece;
 use crate::place::{Chunk, Gigabyte, Span};
 use crate::read::{AT_ONCE, read_chunk, read_word};
 use crate::site::{ChunkEdit, RowEdit, Site};
@@ -357,26 +357,24 @@ fn edit_each_chunk<M: TableMem>(
         row: edit.row,
         second,
     };
-    let span = chunk_span(runs, gigabyte);
     let mut rest = runs;
-    let mut index = span.first;
-    while index < span.end {
-        let chunk = gigabyte.chunk(index);
-        rest = runs_past(rest, chunk.first().number());
-        let unfilled = first_unfilled(rest, gigabyte, index, span.end);
-        let plain = plain_until(memory, second, index, unfilled.min(span.end));
-        if index < plain {
+    let mut index = 0;
+    while let Some(piece) = next_piece(rest, gigabyte, index) {
+        rest = piece.runs;
+        let plain = plain_until(memory, second, piece.first, piece.filled);
+        if piece.first < plain {
             let chunks = Span {
-                first: index,
+                first: piece.first,
                 end: plain,
             };
             set_blocks(memory, &site, gigabyte, chunks, &edit.access);
             index = plain;
         } else {
+            let chunk = gigabyte.chunk(piece.first);
             if let Some(here) = ChunkEdit::new(edit.layout, rest, chunk, &edit.access) {
                 edit_chunk(memory, &site, &here);
             }
-            index += 1;
+            index = piece.first + 1;
         }
     }
 }

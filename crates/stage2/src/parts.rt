@@ -5,10 +5,11 @@ ghost use Rattle.stage2.specs.inner.Chunks.{covers_chunk};
 ghost use Rattle.stage2.specs.Edits.{touches_chunk};
 ghost use Rattle.stage2.specs.Parts as parts;
 ghost use Rattle.stage2.specs.Parts.{part_in, part_count, end_from, lie_within};
+ghost use Rattle.stage2.specs.inner.Pieces.{IsNextPiece};
 ghost use Rattle.stage2.specs.Room.{pages_among, pages_in};
-ghost use Rattle.std.specs.Prelude.{◌≡◌, [], ◌∷◌, ℕ, ◌+◌, ◌*◌, ◌<◌, ◌≤◌, true, take, drop, length, ◌/◌, ◌^◌};
+ghost use Rattle.std.specs.Prelude.{◌≡◌, [], ◌∷◌, ℕ, ◌+◌, ◌*◌, ◌<◌, ◌≤◌, true, false, None, take, drop, length, ◌/◌, ◌^◌, IfSome};
 
-use crate::place::{Chunk, Gigabyte, Span, whole_chunks};
+use crate::place::{Chunk, Gigabyte, Span, WORDS, whole_chunks};
 use base::{Page, Run};
 
 /// How many runs are looked at one by one before they are halved: from chunk to chunk mostly one ends, or none.
@@ -323,4 +324,46 @@ pub(crate) fn first_unfilled(runs: &[Run], gigabyte: Gigabyte, index: u32, end: 
         }
         _ => index,
     }
+}
+
+/// What comes next of a gigabyte, upward: a chunk that runs may have pages of, and chunks from it on that one run fills.
+#[derive(Clone, Copy)]
+pub(crate) struct Piece<'a> {
+    /// The chunk, counted from the gigabyte's first.
+    pub(crate) first: u32,
+    /// The chunk after the last of those that are filled; none is, where it is not behind the first.
+    pub(crate) filled: u32,
+    /// The runs that end behind its first page.
+    pub(crate) runs: &'a [Run],
+}
+
+/// The first piece of a gigabyte from one of its chunks on. Chunks of which no run has a page are passed over without a look
+/// at each.
+pub(crate) fn next_piece(runs: &[Run], gigabyte: Gigabyte, index: u32) -> Option<Piece<'_>>
+    requires normal { are_normal runs.now ≡ true }
+    ensures some { IfSome result (IsNextPiece gigabyte index runs.now) }
+    ensures none { result ≡ None → (x : ℕ) → index ≤ x → x < 512
+        → touches_chunk (512 * gigabyte + x) runs.now ≡ false }
+    ensures in_range { gigabyte < 512 }
+{
+    if index >= WORDS {
+        return None;
+    }
+    let start = gigabyte.chunk(index).first().number();
+    let rest = runs_past(runs, start);
+    let pages = bounds(rest);
+    if pages.first >= pages.end {
+        return None;
+    }
+    let chunk = Chunk::of(Page::new(pages.first.max(start)));
+    if !gigabyte.has(chunk) {
+        return None;
+    }
+    let first = chunk.index();
+    let rest = runs_past(rest, chunk.first().number());
+    Some(Piece {
+        first,
+        filled: first_unfilled(rest, gigabyte, first, WORDS),
+        runs: rest,
+    })
 }

@@ -22,8 +22,8 @@ use crate::layout::Layout;
 use crate::level1::{find_table, touches};
 use crate::level2::{block_of, plain_until, table_of};
 use crate::outcome::{is_alike_in_block, is_alike_in_table, is_told_mixed};
-use crate::parts::{chunk_span, first_unfilled, gigabyte_runs, gigabyte_span, runs_past};
-use crate::place::{Chunk, Gigabyte, Span};
+use crate::parts::{gigabyte_runs, gigabyte_span, next_piece};
+use crate::place::{Chunk, Gigabyte};
 use crate::read::read_chunk;
 use crate::site::{ChunkEdit, RowPlan};
 use crate::table_page::{Row, TablePage};
@@ -263,31 +263,18 @@ fn plan_at<M: TableMem>(
     }
 }
 
-/// Up to where chunks of a gigabyte, counted from its first, have no table and are filled by a run: as far as it is
-/// told without a look at each.
-fn plain_filled<M: TableMem>(
-    memory: &M,
-    second: &Option<TablePage>,
-    gigabyte: Gigabyte,
-    runs: &[Run],
-    chunks: Span,
-) -> u32
+/// Up to where chunks of a gigabyte, counted from its first, have no table.
+#[inline(always)]
+fn plain_from<M: TableMem>(memory: &M, second: &Option<TablePage>, first: u32, end: u32) -> u32
     requires page_in { (j : ℕ) → second.now ≡ Some j → j < page_count (M.state memory.now).memory.quotas }
-    requires normal { are_normal runs.now ≡ true }
-    requires ordered { chunks.first ≤ chunks.end }
-    requires most { chunks.end ≤ 512 }
-    ensures from { chunks.first ≤ result }
-    ensures most { chunks.first < result → result ≤ chunks.end }
-    ensures filled { (x : ℕ) → chunks.first ≤ x → x < result
-        → covers_chunk (512 * gigabyte + x) runs.now ≡ true }
-    ensures plain { (layout : Layout) (x : ℕ) → chunks.first ≤ x → x < result
+    requires most { end ≤ 512 }
+    ensures most { first < result → result ≤ end }
+    ensures plain { (layout : Layout) (x : ℕ) → first ≤ x → x < result
         → next_page (entry_read layout second.now x (M.state memory.now)) ≡ None }
 {
-    let Span { first, end } = chunks;
-    let filled = first_unfilled(runs, gigabyte, first, end).min(end);
     match second {
-        Some(second) => plain_until(memory, *second, first, filled),
-        None => filled,
+        Some(second) => plain_until(memory, *second, first, end),
+        None => end,
     }
 }
 
@@ -312,23 +299,20 @@ fn plan_each_chunk<M: TableMem>(
     ensures few { result.tables ≤ 512 }
     ensures most { result.operations ≤ 1027 * 512 }
 {
-    let span = chunk_span(runs, gigabyte);
-    let end = span.end;
     let mut plan = Plan::new(0, 0);
     let mut rest = runs;
-    let mut first = span.first;
-    while first < end {
-        let chunk = gigabyte.chunk(first);
-        rest = runs_past(rest, chunk.first().number());
-        let plain = plain_filled(memory, second, gigabyte, rest, Span { first, end });
-        if first < plain {
-            plan.operations += 3 * (plain - first);
-            first = plain;
+    let mut index = 0;
+    while let Some(piece) = next_piece(rest, gigabyte, index) {
+        rest = piece.runs;
+        let plain = plain_from(memory, second, piece.first, piece.filled);
+        if piece.first < plain {
+            plan.operations += 3 * (plain - piece.first);
+            index = plain;
         } else {
-            let more = plan_at(memory, edit, second, chunk, rest);
+            let more = plan_at(memory, edit, second, gigabyte.chunk(piece.first), rest);
             plan.tables += more.tables;
             plan.operations += more.operations;
-            first += 1;
+            index = piece.first + 1;
         }
     }
     plan

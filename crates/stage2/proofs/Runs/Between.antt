@@ -95,6 +95,19 @@ past-past page first rest past at is = rw (is, ← at) (again rest)
       | inr f ↦ rw f (again runs)
     ]
 
+-- those that end behind a later page are told of them
+pub past-later : (page later : ℕ) (runs : List PageRun) → page ≤ later → runs_past later (runs_past page runs) ≡ runs_past later runs
+past-later page later [] le = refl
+past-later page later (r ∷ runs) le = elim (cases_Bool (ltb page (end_of r))) [
+  | inl past ↦ elim (cases_Bool (ltb later (end_of r))) [
+    | inl t ↦ rw (past, t) (ap (λ rest. r ∷ rest) (past-later page later runs le))
+    | inr f ↦ rw (past, f) (past-later page later runs le)
+  ]
+  | inr over ↦
+      let out : ltb later (end_of r) ≡ false = grind (arith, nat_tests, over) in
+      rw (over, out) (past-later page later runs le)
+]
+
 -- a page is in one of the runs exactly where one of them has a page from it up to the next
 pub covered-between : (runs : List PageRun) (n : ℕ) → covers runs n ≡ not (eqb (length (runs_between n (n + 1) runs)) 0)
 covered-between [] n = refl

@@ -29,16 +29,6 @@ either false b e = inr e
 abbrev pub Between : ℕ → ℕ → ℕ → Type 0
 Between first end x = (first ≤ x) × (x < end)
 
--- a chunk outside the span is not touched
-pub outside-chunks : (runs : List PageRun) (g first end x : ℕ) → ((y : ℕ) → y < 512 → touches_chunk (512 * g + y) runs ≡ true → Between first end y) → x < 512 → (x < first) ⊎ (end ≤ x) → touches_chunk (512 * g + x) runs ≡ false
-outside-chunks runs g first end x within small out = elim (cases_Bool (touches_chunk (512 * g + x) runs)) [
-  | inr f ↦ f
-  | inl t ↦ let b = within x small t in let b0 = b.0 in let b1 = b.1 in elim out [
-    | inl before ↦ absurd (omega (arith, b0, before))
-    | inr after ↦ absurd (omega (arith, b1, after))
-  ]
-]
-
 -- a page of a gigabyte outside the span is not covered
 pub outside-gigabytes : (runs : List PageRun) (first end n : ℕ) → ((y : ℕ) → covers runs y ≡ true → Between first end (y / 512 / 512)) → (n / 512 / 512 < first) ⊎ (end ≤ n / 512 / 512) → covers runs n ≡ false
 outside-gigabytes runs first end n within out = elim (cases_Bool (covers runs n)) [

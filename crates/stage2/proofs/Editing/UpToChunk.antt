@@ -1,0 +1,207 @@
+-- The chunks of a gigabyte before one are edited, and these runs are left for the others: one piece after another.
+use Rattle.std.proofs.Common.{◌≡◌, ℕ, zero, suc, ◌+◌, ◌-◌, ◌*◌, ◌/◌, ◌<◌, ◌≤◌, eqb, true, false, None, length, List, sym, ap, subst, ◌∙◌, arith}
+use Rattle.base.specs.Access.{View}
+use Rattle.base.specs.Manifest.{page_count, row_of}
+use Rattle.base.specs.Pages.{PageRun, covers, are_normal}
+use Rattle.pool.specs.Pool.{Pool, IsWhole, HasRow, pages_of, words_of, taken_of, after_replaces}
+use Rattle.stage2.specs.Edits.{edited, touches_chunk, AreFree}
+use Rattle.stage2.specs.Moments.{StaysInStep}
+use Rattle.stage2.specs.Parts.{part_count, chunk_runs, runs_past}
+use Rattle.stage2.specs.Room.{sum_below, chunk_operations}
+use Rattle.stage2.specs.Slot.{slot}
+use Rattle.stage2.specs.Walk.{walked, next_page}
+use Rattle.stage2.specs.declared.parts.Piece.{Piece}
+use Rattle.stage2.specs.declared.site.ChunkEdit.{ChunkEdit}
+use Rattle.stage2.specs.declared.site.RowEdit.{RowEdit}
+use Rattle.stage2.specs.declared.site.Site.{Site}
+use Rattle.stage2.specs.inner.Change.{block_step}
+use Rattle.stage2.specs.inner.Chunks.{covers_chunk}
+use Rattle.stage2.specs.inner.Clauses.{IsAt, IsLinkedOrderly, IsSecond, GrowsChunk, HasFree, FitsChunks, EditsChunk, EditsChunks, ChunkInStep, ChunksInStep, ReplacesBlocks, linked_view, operations_in_table, operations_in_chunks}
+use Rattle.stage2.specs.inner.Gigabytes.{IsUnderway}
+use Rattle.stage2.specs.inner.Pieces.{IsNextPiece}
+use Rattle.stage2.specs.inner.Steps.{IsSeated, disturbed_below}
+use Rattle.stage2.proofs.Counting.Needs.{filled-touches}
+use Rattle.stage2.proofs.Editing.ChunkByChunk.{underway-start, sum_below-more, sum_below-up, site}
+use Rattle.stage2.proofs.Editing.EachChunk.{each-site, each-free, each-cost, each-edits, each-steps}
+use Rattle.stage2.proofs.Editing.FilledChunks.{edited-many, stays-many}
+use Rattle.stage2.proofs.Editing.FourChunkEdits.{second-inside, second-taken}
+use Rattle.stage2.proofs.Runs.Between.{AreLeft, left-all, left-later, left-past}
+use Rattle.stage2.proofs.Runs.Left.{left-touches}
+use Rattle.stage2.proofs.Runs.OwnRuns.{chunk-covers, chunk-touches, chunk-count}
+use Rattle.stage2.proofs.Runs.Spans.{underway-gap, stays-gap}
+use Rattle.stage2.proofs.Walkers.ZeroedTables.{stays-none}
+
+-- the answers after the edit
+abbrev pub after : RowEdit → ℕ → ℕ → List PageRun → Pool → ℕ → View
+after e j g runs first = edited runs e.access (linked_view e g j first)
+
+-- the operations of a chunk at most
+abbrev pub cost : RowEdit → ℕ → ℕ → List PageRun → Pool → ℕ → ℕ
+cost e j g runs first x = chunk_operations runs e.access (linked_view e g j first) (512 * g + x)
+
+-- the chunks before the i-th are edited, with so much room left of that at first
+pub record IsUpTo (e : RowEdit) (j g : ℕ) (runs : List PageRun) (first : Pool) (room_first i : ℕ) (rest : List PageRun) (now : Pool) (room_now : ℕ) : Type 0 where
+  pub underway : IsUnderway e.layout.now e.row g j i (after e j g runs first) (pages_of first.memory) (pages_of now.memory)
+  pub in_step : IsSeated e.layout.now e.row g j (pages_of first.memory) → AreFree (λ n. eqb (n / 512 / 512) g) runs e.access (linked_view e g j first)
+      → StaysInStep e.layout.now e.row (disturbed_below g i runs (linked_view e g j first) (after e j g runs first)) (λ n. walked n (after e j g runs first n)) first now
+  pub left : AreLeft (512 * g + i) rest runs
+  pub normal : are_normal rest ≡ true
+  pub last : i ≤ 512
+  pub room : room_first ≤ room_now + sum_below (cost e j g runs first) i
+
+module _ (e : RowEdit) (j g : ℕ) (runs : List PageRun) (first : Pool) (r0 : ℕ) (inside : e.row < length e.layout.now.ids) (below : g < 512) where
+  pub at-start : IsLinkedOrderly e g j first → IsSecond e g j first → are_normal runs ≡ true → IsUpTo e j g runs first r0 0 runs first r0
+  at-start orderly second normal = record {
+    underway = underway-start e.layout.now e.row g j runs e.access (pages_of first.memory) inside below orderly second;
+    in_step = λ seated free. stays-none e.layout.now e.row (disturbed_below g 0 runs (linked_view e g j first) (after e j g runs first)) (λ n. walked n (after e j g runs first n)) first;
+    left = left-all (512 * g + 0) runs;
+    normal = normal;
+    last = omega arith;
+    room = omega arith;
+  }
+
+  module _ (i : ℕ) (rest : List PageRun) (now : Pool) (r : ℕ) (so : IsUpTo e j g runs first r0 i rest now r) where
+    -- a chunk that these runs leave alone all leave alone
+    alone : (x : ℕ) → i ≤ x → touches_chunk (512 * g + x) rest ≡ false → touches_chunk (512 * g + x) runs ≡ false
+    alone x from none = sym (left-touches (512 * g + x) rest runs (left-later (512 * g + i) (512 * g + x) rest runs (omega (arith, from)) so.left)) ∙ none
+
+    -- chunks are passed over that they leave alone
+    gap : (k : ℕ) → i ≤ k → k ≤ 512 → ((x : ℕ) → i ≤ x → x < k → touches_chunk (512 * g + x) rest ≡ false) → (later : List PageRun) → AreLeft (512 * g + k) later runs → are_normal later ≡ true → IsUpTo e j g runs first r0 k later now r
+    gap k from most apart later left normal =
+        let all : i + (k - i) ≡ k = omega (arith, from) in
+        let none : (x : ℕ) → i ≤ x → x < i + (k - i) → touches_chunk (512 * g + x) runs ≡ false = λ x low lt. alone x low (apart x low (omega (arith, lt, from))) in
+        let up = sum_below-up (cost e j g runs first) i k from in
+        let room = so.room in
+        record {
+          underway = subst (λ n. IsUnderway e.layout.now e.row g j n (after e j g runs first) (pages_of first.memory) (pages_of now.memory)) all
+              (underway-gap e.layout.now e.row g j runs e.access (pages_of first.memory) (pages_of now.memory) inside below (k - i) i (omega (arith, from, most)) none so.underway);
+          in_step = λ seated free. subst (λ n. StaysInStep e.layout.now e.row (disturbed_below g n runs (linked_view e g j first) (after e j g runs first)) (λ n. walked n (after e j g runs first n)) first now) all
+              (stays-gap e.layout.now e.row g j runs e.access (pages_of first.memory) (pages_of now.memory) inside below first now (k - i) i (omega (arith, from, most)) none so.underway (so.in_step seated free));
+          left = left;
+          normal = normal;
+          last = most;
+          room = omega (arith, up, room);
+        }
+
+    pub at-piece : (piece : Piece) → IsNextPiece g i rest piece → IsUpTo e j g runs first r0 piece.first piece.runs.now now r
+    at-piece piece next =
+        gap piece.first next.from (omega (arith, next.small)) next.apart piece.runs.now
+        (left-past (512 * g + piece.first) (512 * (512 * g + piece.first)) rest piece.runs.now runs (λ _. 512 * (512 * g + piece.first)) next.past (left-later (512 * g + i) (512 * g + piece.first) rest runs (omega (arith, next.from)) so.left))
+        next.normal
+
+    pub at-untouched : i < 512 → touches_chunk (512 * g + i) rest ≡ false → IsUpTo e j g runs first r0 (i + 1) rest now r
+    at-untouched lt none =
+        gap (i + 1) (omega arith) (omega (arith, lt)) (λ x low high. let same : x ≡ i = omega (arith, low, high) in subst (λ y. touches_chunk (512 * g + y) rest ≡ false) (sym same) none) rest
+        (left-later (512 * g + i) (512 * g + (i + 1)) rest runs (omega arith) so.left) so.normal
+
+    -- no chunk is left
+    module _ (none : (x : ℕ) → i ≤ x → x < 512 → touches_chunk (512 * g + x) rest ≡ false) where
+      done : IsUpTo e j g runs first r0 512 rest now r
+      done = gap 512 so.last (omega arith) none rest (left-later (512 * g + i) (512 * g + 512) rest runs (omega (arith, so.last)) so.left) so.normal
+
+      pub end-edits : EditsChunks e g j runs first now
+      end-edits = done.underway
+
+      pub end-steps : ChunksInStep e g j runs first now
+      end-steps = done.in_step
+
+      pub end-room : r0 ≤ r + operations_in_chunks e g j runs first
+      end-room = done.room
+
+    -- the next chunk, by those of these runs that have pages there
+    module _ (lt : i < 512) (h : ChunkEdit) (layout : h.layout.now ≡ e.layout.now) (at : h.chunk ≡ 512 * g + i) (own : h.runs.now ≡ chunk_runs (512 * g + i) rest) (access : h.access ≡ e.access) where
+      is : h.runs.now ≡ chunk_runs (512 * g + i) runs
+      is = own ∙ so.left.parts (512 * g + i) (omega arith)
+
+      abbrev place : Site
+      place = record { p = e.p; row = e.row; second = j }
+
+      pub here-site : IsAt (record { p = e.p; row = e.row; second = j }) h now
+      here-site = each-site e j g runs first inside below i lt now so.underway h layout at access (chunk-covers (512 * g + i) runs h.runs.now is) (chunk-count (512 * g + i) runs h.runs.now is) (chunk-touches (512 * g + i) runs h.runs.now is)
+
+      pub here-free : FitsChunks e g j runs first → GrowsChunk (record { p = e.p; row = e.row; second = j }) h now → HasFree e.row now
+      here-free = each-free e j g runs first inside below i lt now so.underway h layout at access (chunk-covers (512 * g + i) runs h.runs.now is) (chunk-count (512 * g + i) runs h.runs.now is) (chunk-touches (512 * g + i) runs h.runs.now is)
+
+      here-cost : cost e j g runs first i ≡ 3 + operations_in_table place h now
+      here-cost = each-cost e j g runs first inside below i lt now so.underway h layout at access (chunk-covers (512 * g + i) runs h.runs.now is) (chunk-count (512 * g + i) runs h.runs.now is) (chunk-touches (512 * g + i) runs h.runs.now is)
+
+      pub here-room : operations_in_chunks e g j runs first ≤ r0 → 3 + operations_in_table (record { p = e.p; row = e.row; second = j }) h now ≤ r
+      here-room enough =
+          let more = sum_below-more (cost e j g runs first) i in
+          let up = sum_below-up (cost e j g runs first) (i + 1) 512 (omega (arith, lt)) in
+          let room = so.room in
+          let one = here-cost in
+          numbers r0 r (cost e j g runs first i) (3 + operations_in_table place h now) (sum_below (cost e j g runs first) i) (sum_below (cost e j g runs first) (i + 1)) (sum_below (cost e j g runs first) 512) one more up room enough
+        where
+          numbers : (r0 r one cost before next all : ℕ) → one ≡ cost → next ≡ one + before → next ≤ all → r0 ≤ r + before → all ≤ r0 → cost ≤ r
+          numbers r0 r one cost before next all e a b c d = omega arith
+
+      pub here-next : (new : Pool) (r2 : ℕ) → EditsChunk (record { p = e.p; row = e.row; second = j }) h now new → ChunkInStep (record { p = e.p; row = e.row; second = j }) h now new → r ≤ r2 + (3 + operations_in_table (record { p = e.p; row = e.row; second = j }) h now)
+          → IsUpTo e j g runs first r0 (i + 1) rest new r2
+      here-next new r2 edits steps spent =
+          let more = sum_below-more (cost e j g runs first) i in
+          let room = so.room in
+          let one = here-cost in
+          record {
+            underway = each-edits e j g runs first inside below i lt now so.underway h layout at access (chunk-covers (512 * g + i) runs h.runs.now is) (chunk-count (512 * g + i) runs h.runs.now is) (chunk-touches (512 * g + i) runs h.runs.now is) new edits;
+            in_step = λ seated free. each-steps e j g runs first inside below i lt now so.underway h layout at access (chunk-covers (512 * g + i) runs h.runs.now is) (chunk-count (512 * g + i) runs h.runs.now is) (chunk-touches (512 * g + i) runs h.runs.now is) new steps seated free (so.in_step seated free);
+            left = left-later (512 * g + i) (512 * g + (i + 1)) rest runs (omega arith) so.left;
+            normal = so.normal;
+            last = omega (arith, lt);
+            room = less r0 r r2 (cost e j g runs first i) (3 + operations_in_table place h now) (sum_below (cost e j g runs first) i) (sum_below (cost e j g runs first) (i + 1)) one more room spent;
+          }
+        where
+          less : (r0 r r2 one cost before next : ℕ) → one ≡ cost → next ≡ one + before → r0 ≤ r + before → r ≤ r2 + cost → r0 ≤ r2 + next
+          less r0 r r2 one cost before next e a b c = omega arith
+
+    -- its level 2 table
+    module _ (lt : i < 512) where
+      pub table-inside : j < page_count now.memory.quotas
+      table-inside = second-inside e.layout.now e.row (512 * g + i) j (pages_of now.memory) (site e.layout.now e.row g j runs e.access (pages_of first.memory) inside below i lt (pages_of now.memory) so.underway)
+
+      pub table-taken : taken_of now.memory.taken j ≡ true
+      table-taken = second-taken e.layout.now e.row (512 * g + i) j (pages_of now.memory) (site e.layout.now e.row g j runs e.access (pages_of first.memory) inside below i lt (pages_of now.memory) so.underway)
+
+    -- chunks up to one that a run fills
+    module _ (end : ℕ) (ahead : i < end) (most : end ≤ 512) (filled : (x : ℕ) → i ≤ x → x < end → covers_chunk (512 * g + x) rest ≡ true) where
+      fills : (x : ℕ) → i ≤ x → x < end → covers_chunk (512 * g + x) runs ≡ true
+      fills x from to = sym (so.left.fills (512 * g + x) (omega (arith, from))) ∙ filled x from to
+
+      three : (k : ℕ) → i + k ≤ end → sum_below (cost e j g runs first) i + 3 * k ≤ sum_below (cost e j g runs first) (i + k)
+      three zero le = let start : i + 0 ≡ i = omega arith in rw start (omega arith)
+      three (suc k) le =
+          let rest = three k (omega (arith, le)) in
+          let more = sum_below-more (cost e j g runs first) (i + k) in
+          let touched = filled-touches runs (512 * g + (i + k)) (fills (i + k) (omega arith) (omega (arith, le))) in
+          let here : 3 ≤ cost e j g runs first (i + k) = rw touched (omega arith) in
+          let next : i + suc k ≡ i + k + 1 = omega arith in
+          rw next (omega (arith, rest, more, here))
+
+      spent : sum_below (cost e j g runs first) i + 3 * (end - i) ≤ sum_below (cost e j g runs first) end
+      spent = let all : i + (end - i) ≡ end = omega (arith, ahead) in let so_many = three (end - i) (omega (arith, ahead)) in subst (λ n. sum_below (cost e j g runs first) i + 3 * (end - i) ≤ sum_below (cost e j g runs first) n) all so_many
+
+      pub blocks-room : operations_in_chunks e g j runs first ≤ r0 → 3 * end ≤ r + 3 * i
+      blocks-room enough =
+          let up = sum_below-up (cost e j g runs first) end 512 most in
+          let room = so.room in
+          let costs = spent in
+          omega (arith, up, room, costs, enough, ahead)
+
+      pub blocks-next : row_of e.layout.now.ids e.p ≡ e.row → IsWhole now.memory → ((x : ℕ) → i ≤ x → x < end → next_page (slot e.layout.now 2 (words_of now.memory.words j x)) ≡ None) → (new : Pool) (r2 : ℕ)
+          → ReplacesBlocks e.p j g i end e.access now new → r + 3 * i ≤ r2 + 3 * end → IsUpTo e j g runs first r0 end rest new r2
+      blocks-next is_row whole none new r2 blocks less =
+          let all : i + (end - i) ≡ end = omega (arith, ahead) in
+          let room = so.room in
+          let costs = spent in
+          record {
+            underway = subst (λ (t : Pool). IsUnderway e.layout.now e.row g j end (after e j g runs first) (pages_of first.memory) (pages_of t.memory)) (sym blocks.state)
+                (subst (λ n. IsUnderway e.layout.now e.row g j n (after e j g runs first) (pages_of first.memory) (pages_of (after_replaces e.p j i (end - i) blocks.word (block_step e.access) (512 * (512 * g + i)) now).memory)) all
+                (edited-many e.layout.now e.row g j runs e.access (pages_of first.memory) inside below e.p is_row first i blocks.word now whole (table-inside (omega (arith, ahead, most))) blocks.block end most fills none so.underway (end - i) (omega (arith, all))));
+            in_step = λ seated free. subst (λ (t : Pool). StaysInStep e.layout.now e.row (disturbed_below g end runs (linked_view e g j first) (after e j g runs first)) (λ n. walked n (after e j g runs first n)) first t) (sym blocks.state)
+                (subst (λ n. StaysInStep e.layout.now e.row (disturbed_below g n runs (linked_view e g j first) (after e j g runs first)) (λ n. walked n (after e j g runs first n)) first (after_replaces e.p j i (end - i) blocks.word (block_step e.access) (512 * (512 * g + i)) now)) all
+                (stays-many e.layout.now e.row g j runs e.access (pages_of first.memory) inside below e.p is_row first i blocks.word now whole (table-inside (omega (arith, ahead, most))) blocks.block end most fills none so.underway (end - i) (omega (arith, all)) seated (so.in_step seated free)));
+            left = left-later (512 * g + i) (512 * g + end) rest runs (omega (arith, ahead)) so.left;
+            normal = so.normal;
+            last = most;
+            room = omega (arith, room, costs, less, ahead);
+          }
