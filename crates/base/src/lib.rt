@@ -13,6 +13,7 @@ mod page;
 mod partition;
 mod permissions;
 mod runs;
+mod segment;
 mod status;
 mod transaction;
 
@@ -25,5 +26,6 @@ pub use page::{Page, Run};
 pub use partition::{PartitionId, Version};
 pub use permissions::{DataAccess, InstructionAccess, Permissions};
 pub use runs::normal;
+pub use segment::Segment;
 pub use status::{OutOfMemory, Status};
 pub use transaction::Kind;

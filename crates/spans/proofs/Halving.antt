@@ -6,7 +6,7 @@ use Rattle.std.proofs.lemmas.Nat.{pow-add, pow_below}
 use Rattle.std.proofs.lemmas.Bool.{eqb-true, ltb-true, ltb-false}
 use Rattle.std.proofs.lemmas.Bool.Decides.{nat_tests}
 use Rattle.base.specs.Pages.{in_run}
-use Rattle.spans.specs.declared.find.Segment.{Segment}
+use Rattle.base.specs.declared.segment.Segment.{Segment}
 use Rattle.spans.specs.Spans.{Span, end_of, ascend, end_from, is_border}
 use Rattle.spans.specs.Search.{IsSegment, begins_at}
 use Rattle.spans.specs.Blocks.{all_spans, AreStacked}
@@ -56,7 +56,7 @@ both-looked q p i k blocks in_block most le on first second short fewer =
 -- ---- what is said of a page
 
 -- the interval that ends behind it, before others
-pub segment-more : (e page : ℕ) (s : Span) (ss : List Span) (segment : Segment) → ascend e (s ∷ ss) ≡ true → IsSegment (s ∷ []) page segment → segment.end ≤ end_of s.run → IsSegment (s ∷ ss) page segment
+pub segment-more : (e page : ℕ) (s : Span) (ss : List Span) (segment : Segment (Option ℕ)) → ascend e (s ∷ ss) ≡ true → IsSegment (s ∷ []) page segment → segment.end ≤ end_of s.run → IsSegment (s ∷ ss) page segment
 segment-more e page s ss segment h is inside = record {
   behind = is.behind;
   in_range = is.in_range;
@@ -68,7 +68,7 @@ segment-more e page s ss segment h is inside = record {
 }
 
 -- behind others that end at the page or before it
-pub segment-behind : (page : ℕ) (xs ys : List Span) (segment : Segment) → ascend 0 (xs ++ ys) ≡ true → end_from 0 xs ≤ page → IsSegment ys page segment → IsSegment (xs ++ ys) page segment
+pub segment-behind : (page : ℕ) (xs ys : List Span) (segment : Segment (Option ℕ)) → ascend 0 (xs ++ ys) ≡ true → end_from 0 xs ≤ page → IsSegment ys page segment → IsSegment (xs ++ ys) page segment
 segment-behind page xs ys segment h below is = record {
   behind = is.behind;
   in_range = is.in_range;
@@ -103,7 +103,7 @@ border_of_two a b ss h k = elim (leb a b) as (λ q. leb a b ≡ q → is_border 
 ] refl
 
 -- the block of a page
-pub segment-block : (bs : List (List Span)) (i page next : ℕ) (d : List Span) (segment : Segment) → AreStacked bs → i < length bs → begins_at (get_or bs i d) ≤ page → next ≡ begins_at (get_or bs (i + 1) []) → page < next → IsSegment (get_or bs i d) page segment
+pub segment-block : (bs : List (List Span)) (i page next : ℕ) (d : List Span) (segment : Segment (Option ℕ)) → AreStacked bs → i < length bs → begins_at (get_or bs i d) ≤ page → next ≡ begins_at (get_or bs (i + 1) []) → page < next → IsSegment (get_or bs i d) page segment
     → IsSegment (all_spans bs) page (record { value = segment.value; end = min segment.end next })
 segment-block bs i page next d segment stacked lt from is before here = record {
   behind = omega (arith, before, here.behind);

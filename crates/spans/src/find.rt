@@ -7,20 +7,11 @@ ghost use Rattle.spans.specs.Search.{IsSegment};
 
 use crate::probes::Probes;
 use crate::span::Span;
-use base::Page;
+use base::{Page, Segment};
 use std::sync::ledger::Ledger;
 
-/// The number of a page, if it has one, and the first page behind it from which the answer may differ.
-#[derive(Clone, Copy, Debug, PartialEq, Eq)]
-pub struct Segment {
-    /// The number that the pages have.
-    pub value: Option<u64>,
-    /// The number of the page after the last of them.
-    pub end: u32,
-}
-
 /// What an interval says of a page before its end.
-fn segment_of(span: Span, page: u32) -> Segment
+fn segment_of(span: Span, page: u32) -> Segment<Option<u64>>
     requires { page < spec.end_of span.run }
     ensures segment { IsSegment (span ∷ []) page result }
     ensures inside { result.end ≤ spec.end_of span.run }
@@ -40,7 +31,11 @@ fn segment_of(span: Span, page: u32) -> Segment
 
 /// The number of a page, and how far the pages behind it have the same. It looks at no more intervals than their count has
 /// binary digits.
-pub(crate) fn segment_in<L: Ledger>(spans: &[Span], page: Page, probes: &mut Probes<L>) -> Segment
+pub(crate) fn segment_in<L: Ledger>(
+    spans: &[Span],
+    page: Page,
+    probes: &mut Probes<L>,
+) -> Segment<Option<u64>>
     requires { spec.ascend 0 spans.now ≡ true }
     ensures segment { IsSegment spans.now page result }
     ensures cost { 2 ^ (probes.new - probes.old) ≤ 2 * length spans.now + 1 }

@@ -12,6 +12,5 @@ mod probes;
 mod span;
 mod taking;
 
-pub use find::Segment;
 pub use page_map::PageMap;
 pub use probes::Probes;

@@ -8,12 +8,12 @@ ghost use Rattle.spans.specs.Taking.{has_number};
 use crate::block::LIMIT;
 use crate::blocks::Blocks;
 use crate::edit::put_sorted;
-use crate::find::{Segment, end_of};
+use crate::find::end_of;
 use crate::place::{more_needed, segment};
 use crate::probes::Probes;
 use crate::span::Span;
 use crate::taking::take_runs;
-use base::{OutOfMemory, Page, Run, gather};
+use base::{OutOfMemory, Page, Run, Segment, gather};
 use std::alloc::Global;
 use std::marker::{Brand, Model};
 use std::sync::ledger::{Blank, Ledger};
@@ -130,7 +130,7 @@ impl PageMap {
 
     /// The number of a page, and how far the pages behind it have the same: up to where an interval begins or ends, or to
     /// the last page of all. Behind the end of an interval the pages have another number, or none.
-    pub fn segment_at(&self, page: Page) -> Segment
+    pub fn segment_at(&self, page: Page) -> Segment<Option<u64>>
         ensures joined { spec.are_joined self.now.spans ≡ true }
         ensures behind { page < result.end }
         ensures in_range { result.end ≤ 2 ^ 27 }
@@ -141,7 +141,7 @@ impl PageMap {
         self.segment_from::<Brand>(page, Blank::new(1))
     }
 
-    fn segment_from<L: Ledger>(&self, page: Page, blank: Blank) -> Segment
+    fn segment_from<L: Ledger>(&self, page: Page, blank: Blank) -> Segment<Option<u64>>
         requires name { blank.name ≡ L.name }
         requires parts { blank.parts ≡ L.parts }
         requires some { 0 < L.parts }
@@ -152,7 +152,7 @@ impl PageMap {
     }
 
     /// The same with a count of the looks at blocks and intervals: no more than the intervals have binary digits, and eight.
-    pub fn segment<L: Ledger>(&self, page: Page, probes: &mut Probes<L>) -> Segment
+    pub fn segment<L: Ledger>(&self, page: Page, probes: &mut Probes<L>) -> Segment<Option<u64>>
         ensures joined { spec.are_joined self.now.spans ≡ true }
         ensures segment { IsSegment self.now.spans page result }
         ensures cost { 2 ^ (probes.new - probes.old) ≤ 2 ^ 8 * (2 * length self.now.spans + 1) }

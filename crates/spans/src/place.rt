@@ -8,9 +8,9 @@ ghost use Rattle.std.specs.List.Sorted.{IsNonDecreasingBy};
 
 use crate::block::LIMIT;
 use crate::blocks::Blocks;
-use crate::find::{Segment, segment_in};
+use crate::find::segment_in;
 use crate::probes::Probes;
-use base::{Page, Run};
+use base::{Page, Run, Segment};
 use std::sync::ledger::Ledger;
 
 /// How many blocks begin before a page, and where the next begins; without one, the number of pages.
@@ -46,7 +46,11 @@ pub(crate) fn find_before<L: Ledger>(blocks: &Blocks, page: u32, probes: &mut Pr
 }
 
 /// The number of a page, and how far the pages behind it have the same.
-pub(crate) fn segment<L: Ledger>(blocks: &Blocks, page: Page, probes: &mut Probes<L>) -> Segment
+pub(crate) fn segment<L: Ledger>(
+    blocks: &Blocks,
+    page: Page,
+    probes: &mut Probes<L>,
+) -> Segment<Option<u64>>
     requires { AreStacked blocks.now.list }
     ensures segment { IsSegment (all_spans blocks.now.list) page result }
     ensures cost { 2 ^ (probes.new - probes.old) ≤ 2 ^ 8 * (2 * length (all_spans blocks.now.list) + 1) }
