@@ -8,7 +8,7 @@ ghost use Rattle.base.specs.Transactions as transactions;
 ghost use Rattle.ledger.specs.Gifts as spec;
 
 use crate::gift::{Gift, is_granted_in};
-use base::{Access, OutOfMemory, Page, PartitionId, Run};
+use base::{Access, OutOfMemory, Page, PartitionId, Run, Segment};
 use manifest::Manifest;
 use spans::PageMap;
 use std::alloc::Global;
@@ -54,14 +54,6 @@ impl Donation {
     }
 }
 
-/// What is left of pages that follow one another.
-#[derive(Clone, Copy)]
-struct Left {
-    gift: Option<Gift>,
-    /// The number of the page after the last of them.
-    end: u32,
-}
-
 /// What donations have left, by the numbers that spell owners and what pages are to them.
 pub(crate) fn donations_in(
     alloc: Global,
@@ -75,7 +67,7 @@ pub(crate) fn donations_in(
     let mut number = 0;
     while number < last {
         let page = Page::new(number);
-        let Left { gift, end } = left_from(manifest, given, page);
+        let Segment { value: gift, end } = left_from(manifest, given, page);
         push_left(&mut found, page, end, gift)?;
         number = end;
     }
@@ -83,23 +75,23 @@ pub(crate) fn donations_in(
 }
 
 /// What is left of a page and those behind it, up to where the number or the region is another.
-fn left_from(manifest: &Manifest, given: &PageMap, page: Page) -> Left
+fn left_from(manifest: &Manifest, given: &PageMap, page: Page) -> Segment<Option<Gift>>
     ensures behind { page < result.end }
     ensures in_range { result.end ≤ 2 ^ 27 }
     ensures alike { (n : ℕ) → page ≤ n → n < result.end
-        → spec.left_at manifest.now given.now.spans n ≡ result.gift }
+        → spec.left_at manifest.now given.now.spans n ≡ result.value }
 {
     let segment = given.segment_at(page);
     let Some(number) = segment.value else {
-        return Left {
-            gift: None,
+        return Segment {
+            value: None,
             end: segment.end,
         };
     };
     let gift = Gift::from_number(number);
     let region = manifest.region_at(page);
-    Left {
-        gift: if is_granted_in(region, gift) {
+    Segment {
+        value: if is_granted_in(region, gift) {
             None
         } else {
             Some(gift)

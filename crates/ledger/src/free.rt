@@ -7,23 +7,21 @@ ghost use Rattle.base.specs.Manifest as rows;
 ghost use Rattle.ledger.specs.Free as spec;
 
 use crate::ledger::{Ledger, home_by, owner_by};
-use base::{Access, MemoryKind, Page, PartitionId};
+use base::{Access, MemoryKind, Page, PartitionId, Segment};
 use manifest::Region;
 
-/// Who owns pages that follow one another, and where they end.
+/// Who owns pages, and what they are to it.
 #[derive(Clone, Copy, Debug, PartialEq, Eq)]
 pub struct Owned {
     /// The partition that owns them; None where they have no owner.
     pub owner: Option<PartitionId>,
     /// What they are to their owner; None where they have none.
     pub home: Option<Access>,
-    /// The number of the page after the last of them.
-    pub end: u32,
 }
 
-/// What pages that follow one another have in common, and where they end.
+/// What decides for whom pages are free, buffers apart.
 #[derive(Clone, Copy, Debug, PartialEq, Eq)]
-pub struct Segment {
+pub struct Standing {
     /// The partition that owns them; None outside all regions.
     pub owner: Option<PartitionId>,
     /// What they are to their owner; None outside all regions.
@@ -32,11 +30,9 @@ pub struct Segment {
     pub is_live: bool,
     /// Whether they are normal memory with exactly one grant in the manifest.
     pub is_sharable: bool,
-    /// The number of the page after the last of them.
-    pub end: u32,
 }
 
-impl Segment {
+impl Standing {
     /// The home of the pages, where they are free for a partition, buffers apart: it owns them, they are
     /// normal memory with exactly one grant, and no live transaction covers them.
     pub fn idle_home(&self, p: PartitionId) -> Option<Access>
@@ -56,39 +52,44 @@ impl Segment {
 
 impl Ledger {
     /// Who owns a page and those behind it, whether or not they are live. It is found by halving.
-    pub fn owned(&self, page: Page) -> Owned
+    pub fn owned(&self, page: Page) -> Segment<Owned>
         ensures behind { page < result.end }
         ensures in_range { result.end ≤ 2 ^ 27 }
         ensures owner { (n : ℕ) → page ≤ n → n < result.end
-            → rules.owner self.now.manifest self.now.donations n ≡ result.owner }
+            → rules.owner self.now.manifest self.now.donations n ≡ result.value.owner }
         ensures home { (n : ℕ) → page ≤ n → n < result.end
-            → rules.home self.now.manifest self.now.donations n ≡ result.home }
+            → rules.home self.now.manifest self.now.donations n ≡ result.value.home }
     {
         let manifest = self.manifest();
         let given = self.given(page);
         let region = manifest.region_at(page);
-        Owned {
-            owner: owner_by(given.gift, region),
-            home: home_by(given.gift, region),
+        Segment {
+            value: Owned {
+                owner: owner_by(given.value, region),
+                home: home_by(given.value, region),
+            },
             end: given.end.min(manifest.region_until(region, page)),
         }
     }
 
     /// What a page and those behind it have in common. It is found by halving.
-    pub fn segment(&self, page: Page) -> Segment
+    pub fn segment(&self, page: Page) -> Segment<Standing>
         ensures behind { page < result.end }
         ensures in_range { result.end ≤ 2 ^ 27 }
         ensures alike { (n : ℕ) → page ≤ n → n < result.end
-            → spec.IsAlike self.now.manifest self.now.donations self.now.live result n }
+            → spec.IsAlike self.now.manifest self.now.donations self.now.live result.value n }
     {
         let manifest = self.manifest();
         let lists = self.listed(page);
+        let listed = lists.value;
         let region = manifest.region_at(page);
         Segment {
-            owner: owner_by(lists.gift, region),
-            home: home_by(lists.gift, region),
-            is_live: lists.is_live,
-            is_sharable: is_sharable(region),
+            value: Standing {
+                owner: owner_by(listed.gift, region),
+                home: home_by(listed.gift, region),
+                is_live: listed.is_live,
+                is_sharable: is_sharable(region),
+            },
             end: lists.end.min(manifest.region_until(region, page)),
         }
     }

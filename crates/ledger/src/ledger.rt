@@ -15,30 +15,19 @@ ghost use Rattle.ledger.specs.Gifts.{Says};
 use crate::donation::{Donation, donations_in};
 use crate::gift::{Gift, map_of_grants};
 use crate::live::{self, Live, place_of, put_in, set_retrieved};
-use base::{Access, Handle, Kind, OutOfMemory, Page, PartitionId};
+use base::{Access, Handle, Kind, OutOfMemory, Page, PartitionId, Segment};
 use manifest::{Manifest, Region};
 use spans::PageMap;
 use std::alloc::Global;
 use std::marker::Model;
 
-/// What the map of owners says of pages that follow one another.
-#[derive(Clone, Copy)]
-pub(crate) struct Given {
-    /// What their number spells, if they have one.
-    pub(crate) gift: Option<Gift>,
-    /// The number of the page after the last of them.
-    pub(crate) end: u32,
-}
-
-/// What the map of owners and the live transactions say of pages that follow one another.
+/// What the map of owners and the live transactions say of pages.
 #[derive(Clone, Copy)]
 pub(crate) struct Listed {
     /// What their number spells, if they have one.
     pub(crate) gift: Option<Gift>,
     /// Whether a live transaction covers them.
     pub(crate) is_live: bool,
-    /// The number of the page after the last of them.
-    pub(crate) end: u32,
 }
 
 /// The manifest, who owns the pages that may be given away, and the live transactions, in ascending order of
@@ -130,35 +119,37 @@ impl Ledger {
         home_by(self.gift_at(page), self.manifest.region_at(page))
     }
 
-    /// What the map of owners says of a page, and up to which page it says the same of those behind it.
-    pub(crate) fn given(&self, page: Page) -> Given
+    /// What the number of a page spells, if it has one, and up to which page it is the same of those behind it.
+    pub(crate) fn given(&self, page: Page) -> Segment<Option<Gift>>
         ensures behind { page < result.end }
         ensures in_range { result.end ≤ 2 ^ 27 }
         ensures gift { (n : ℕ) → page ≤ n → n < result.end
-            → Says self.now.manifest self.now.donations n result.gift }
+            → Says self.now.manifest self.now.donations n result.value }
     {
         let given = self.given.segment_at(page);
-        Given {
-            gift: given.value.map(Gift::from_number),
+        Segment {
+            value: given.value.map(Gift::from_number),
             end: given.end,
         }
     }
 
     /// What the map of owners and the live transactions say of a page, and up to which page they say the same
     /// of those behind it.
-    pub(crate) fn listed(&self, page: Page) -> Listed
+    pub(crate) fn listed(&self, page: Page) -> Segment<Listed>
         ensures behind { page < result.end }
         ensures in_range { result.end ≤ 2 ^ 27 }
         ensures gift { (n : ℕ) → page ≤ n → n < result.end
-            → Says self.now.manifest self.now.donations n result.gift }
+            → Says self.now.manifest self.now.donations n result.value.gift }
         ensures live { (n : ℕ) → page ≤ n → n < result.end
-            → is_some (rules.live_at self.now.live n) ≡ result.is_live }
+            → is_some (rules.live_at self.now.live n) ≡ result.value.is_live }
     {
         let given = self.given(page);
         let shared = self.shared.segment_at(page);
-        Listed {
-            gift: given.gift,
-            is_live: shared.value.is_some(),
+        Segment {
+            value: Listed {
+                gift: given.value,
+                is_live: shared.value.is_some(),
+            },
             end: given.end.min(shared.end),
         }
     }

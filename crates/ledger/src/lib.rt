@@ -9,7 +9,7 @@ mod ledger;
 mod live;
 
 pub use donation::Donation;
-pub use free::{Owned, Segment};
+pub use free::{Owned, Standing};
 pub use ledger::Ledger;
 pub use live::{Live, Receiver, Terms};
 

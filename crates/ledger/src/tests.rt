@@ -97,7 +97,7 @@ fn is_apart(ledger: &Ledger, run: Run) -> bool
     ensures { result ≡ true → (n : ℕ) → covers (run ∷ []) n ≡ true → live_at ledger.now.live n ≡ None }
 {
     let segment = ledger.segment(run.first());
-    !segment.is_live && run.end() <= segment.end
+    !segment.value.is_live && run.end() <= segment.end
 }
 
 /// What the first receiver has retrieved.
@@ -274,8 +274,8 @@ fn settled(rt: &impl Abort, ledger: &Ledger, pages: &[(u32, u16, Access)]) {
         assert_eq!(rt; ledger.owner(page), Some(owner), "{number:x}");
         assert_eq!(rt; ledger.home(page), Some(*home), "{number:x}");
         let segment = ledger.segment(page);
-        assert!(rt; !segment.is_live, "{number:x}");
-        assert_eq!(rt; segment.idle_home(owner), Some(*home), "{number:x}");
+        assert!(rt; !segment.value.is_live, "{number:x}");
+        assert_eq!(rt; segment.value.idle_home(owner), Some(*home), "{number:x}");
     }
 }
 
@@ -284,7 +284,7 @@ fn segments(rt: &impl Abort, ledger: &Ledger, pages: &[(u32, bool, u32)]) {
     for (number, is_live, end) in pages {
         let page = run(rt, *number, 1).first();
         let segment = ledger.segment(page);
-        assert_eq!(rt; segment.is_live, *is_live, "{number:x}");
+        assert_eq!(rt; segment.value.is_live, *is_live, "{number:x}");
         assert_eq!(rt; segment.end, *end, "{number:x}");
     }
 }

@@ -14,7 +14,7 @@ loop-number-preserved c =
     let left = c.left_from-gift.result in
     let is = c.left_from-gift.ensures in
     record {
-      runs = left-more c.args.manifest.now c.args.given.now.spans l.number page left.end l.found.items c.push_left.new.found.items left.gift c.new-page.ensures is.behind is.alike l.invariant.runs c.in_ok-push_left.ensures;
+      runs = left-more c.args.manifest.now c.args.given.now.spans l.number page left.end l.found.items c.push_left.new.found.items left.value c.new-page.ensures is.behind is.alike l.invariant.runs c.in_ok-push_left.ensures;
       inside = is.in_range;
     }
 
