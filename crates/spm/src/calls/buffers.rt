@@ -62,7 +62,7 @@ fn may_be_buffers(state: &State, p: PartitionId, run: Run) -> bool
     let mut number = run.first().number();
     while number < run.end() {
         let segment = state.free_segment(p, &pair, Page::new(number), run.end());
-        if !is_read_write(segment.home) {
+        if !is_read_write(segment.value) {
             return false;
         }
         number = segment.end;
