@@ -8,18 +8,11 @@ ghost use Rattle.rules.specs.Laws.OneOwner.{AreAllApart};
 ghost use Rattle.spans.specs.Spans.{value_at};
 ghost use Rattle.audit.specs.Alike as spec;
 
-use base::{Access, OutOfMemory, Page, PartitionId};
+use base::{Access, OutOfMemory, Page, PartitionId, Segment};
 use ledger::{Donation, Live};
 use manifest::{Manifest, Region};
 use spans::PageMap;
 use std::alloc::Global;
-
-/// What a partition reaches of pages that follow one another.
-pub(crate) struct Stretch {
-    pub(crate) view: Option<Access>,
-    /// The number of the page after the last of them.
-    pub(crate) end: u32,
-}
 
 /// The lists of a state, and maps from a page to the place of the donation that has it, and of the live transaction
 /// that covers it.
@@ -90,8 +83,8 @@ impl<'a> Lists<'a> {
 
     /// What a partition reaches of a page, and the number of a page up to which all pages from it on have its
     /// region, donation and live transaction. One look in each map, by halving, gives both.
-    pub(crate) fn view_from(&self, p: PartitionId, page: Page) -> Stretch
-        ensures view { result.view
+    pub(crate) fn view_from(&self, p: PartitionId, page: Page) -> Segment<Option<Access>>
+        ensures view { result.value
             ≡ rules.view self.now.manifest.now self.now.donations.now self.now.live.now p page }
         ensures segment { spec.IsSegment self.now.manifest.now self.now.donations.now
             self.now.live.now page result.end }
@@ -102,8 +95,8 @@ impl<'a> Lists<'a> {
         let donation = self.donation(given.value);
         let transaction = self.transaction(shared.value);
         let end = self.manifest.region_until(region, page);
-        Stretch {
-            view: view_by(p, region, donation, transaction),
+        Segment {
+            value: view_by(p, region, donation, transaction),
             end: end.min(given.end).min(shared.end),
         }
     }

@@ -105,7 +105,7 @@ fn append_lines(text: &mut Vec<u8>, ledger: &Ledger) -> Result<usize, OutOfMemor
     while number < Page::COUNT {
         let page = Page::new(number);
         let owned = ledger.owned(page);
-        if let Some(value) = with_home(owned.owner, owned.home) {
+        if let Some(value) = with_home(owned.value.owner, owned.value.home) {
             let run = Run::new(page, owned.end - number);
             lines.push(text, Valued { run, value })?;
         }

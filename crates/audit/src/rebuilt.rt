@@ -13,8 +13,8 @@ ghost use Rattle.stage2.specs.declared.walked.Walked.TheVariants.{None as Unmapp
 ghost use Rattle.audit.specs.Filling as spec;
 ghost use Rattle.audit.specs.Laws.{AreOfReached};
 
-use crate::lists::{Lists, Stretch};
-use base::{Access, OutOfMemory, Page, PartitionId, Run};
+use crate::lists::Lists;
+use base::{Access, OutOfMemory, Page, PartitionId, Run, Segment};
 use ledger::{Donation, Live};
 use manifest::Manifest;
 use pool::TableMem;
@@ -64,7 +64,7 @@ fn map_views<M: TableMem + Drop>(
     let mut number = 0;
     while number < Page::COUNT {
         let page = Page::new(number);
-        let Stretch { view: next, end } = lists.view_from(p, page);
+        let Segment { value: next, end } = lists.view_from(p, page);
         if access != next {
             map_pending(tables, p, first, number, access)?;
             first = number;

@@ -13,9 +13,9 @@ map_pending-requires-clause-fits g c = λ a is.
     let m = c.args.lists.now.manifest.now in
     let seen = views m c.args.lists.now.donations.now c.args.lists.now.live.now c.args.p in
     let l = c.loop-number in
-    let here : seen l.number ≡ c.view_from-next.result.view = below-in (view m c.args.lists.now.donations.now c.args.lists.now.live.now c.args.p) (2 ^ 27) l.number c.loop-number-test.true
+    let here : seen l.number ≡ c.view_from-next.result.value = below-in (view m c.args.lists.now.donations.now c.args.lists.now.live.now c.args.p) (2 ^ 27) l.number c.loop-number-test.true
     ∙ ap (view m c.args.lists.now.donations.now c.args.lists.now.live.now c.args.p) (sym c.new-page.ensures) ∙ sym c.view_from-next.ensures.view in
-    let unlike : (l.access ≡ c.view_from-next.result.view) → ⊥ = search rules in
+    let unlike : (l.access ≡ c.view_from-next.result.value) → ⊥ = search rules in
     can-map m seen c.args.p l.first l.number l.access l.tables l.invariant.filling a is
     (edge-between m seen c.args.p l.first l.number l.access l.tables l.invariant.filling (λ same. unlike (same ∙ here))) (views-fit m c.args.lists.now.donations.now c.args.lists.now.live.now c.requires.reached c.args.p)
 
@@ -37,7 +37,7 @@ loop-number-preserved-in_ok-map_pending g c =
     let seen = views m ds live p in
     let l = c.loop-number in
     let end = c.view_from-next.result.end in
-    let next = c.view_from-next.result.view in
+    let next = c.view_from-next.result.value in
     let h = l.invariant.filling in
     let here : seen l.number ≡ next = below-in (view m ds live p) (2 ^ 27) l.number c.loop-number-test.true
     ∙ ap (view m ds live p) (sym c.new-page.ensures) ∙ sym c.view_from-next.ensures.view in
@@ -63,7 +63,7 @@ loop-number-preserved g c =
     let seen = views m ds live p in
     let l = c.loop-number in
     let end = c.view_from-next.result.end in
-    let next = c.view_from-next.result.view in
+    let next = c.view_from-next.result.value in
     let h = l.invariant.filling in
     let here : seen l.number ≡ next = below-in (view m ds live p) (2 ^ 27) l.number c.loop-number-test.true
     ∙ ap (view m ds live p) (sym c.new-page.ensures) ∙ sym c.view_from-next.ensures.view in
