@@ -205,7 +205,7 @@ fn write_all<M: TableMem>(
         rest = runs_from(rest, chunk.page(first));
         let part = stretch_at(rest, chunk, first, 512);
         let end = part.end;
-        let answer = answer_of(part.is_covered, &edit.access, other);
+        let answer = answer_of(part.value, &edit.access, other);
         write_pages(memory, third, chunk, Span { first, end }, answer);
         first = end;
     }

@@ -10,19 +10,10 @@ ghost use Rattle.stage2.specs.Room.{pages_among, pages_in};
 ghost use Rattle.std.specs.Prelude.{◌≡◌, [], ◌∷◌, ℕ, ◌+◌, ◌*◌, ◌<◌, ◌≤◌, true, false, None, take, drop, length, ◌/◌, ◌^◌, IfSome};
 
 use crate::place::{Chunk, Gigabyte, Span, WORDS, whole_chunks};
-use base::{Page, Run};
+use base::{Page, Run, Segment};
 
 /// How many runs are looked at one by one before they are halved: from chunk to chunk mostly one ends, or none.
 const LOOKS: usize = 2;
-
-/// Pages of a chunk that follow one another, all of which the runs have, or none.
-#[derive(Clone, Copy)]
-pub(crate) struct Stretch {
-    /// Whether the runs have them.
-    pub(crate) is_covered: bool,
-    /// The page after the last of them, counted from the chunk's first.
-    pub(crate) end: u32,
-}
 
 /// How many of the runs end at or before a page: for whoever goes upward none, or few, which a look tells.
 fn ended(runs: &[Run], first: u32) -> usize
@@ -124,16 +115,16 @@ pub(crate) fn runs_from(runs: &[Run], page: Page) -> &[Run]
     }
 }
 
-/// The pages of a chunk from one on that the runs have as they have that one, up to a limit, counted
-/// from the chunk's first.
-pub(crate) fn stretch_at(runs: &[Run], chunk: Chunk, index: u32, limit: u32) -> Stretch
+/// Whether the runs have a page of a chunk, and up to which page they have those behind it alike, up to a limit. Pages are
+/// counted from the chunk's first.
+pub(crate) fn stretch_at(runs: &[Run], chunk: Chunk, index: u32, limit: u32) -> Segment<bool>
     requires normal { are_normal runs.now ≡ true }
     requires index { index < limit }
     requires limit { limit ≤ 512 }
     ensures behind { index < result.end }
     ensures most { result.end ≤ limit }
     ensures alike { (x : ℕ) → index ≤ x → x < result.end
-        → covers runs.now (512 * chunk + x) ≡ result.is_covered }
+        → covers runs.now (512 * chunk + x) ≡ result.value }
 {
     let start = chunk.first().number();
     let page = chunk.page(index);
@@ -141,24 +132,24 @@ pub(crate) fn stretch_at(runs: &[Run], chunk: Chunk, index: u32, limit: u32) -> 
     match runs.first() {
         Some(run) => {
             if n < run.first().number() {
-                Stretch {
-                    is_covered: false,
+                Segment {
+                    value: false,
                     end: limit.min(run.first().number() - start),
                 }
             } else if n < run.end() {
-                Stretch {
-                    is_covered: true,
+                Segment {
+                    value: true,
                     end: limit.min(run.end() - start),
                 }
             } else {
-                Stretch {
-                    is_covered: is_covered(runs, page),
+                Segment {
+                    value: is_covered(runs, page),
                     end: index + 1,
                 }
             }
         }
-        None => Stretch {
-            is_covered: false,
+        None => Segment {
+            value: false,
             end: limit,
         },
     }

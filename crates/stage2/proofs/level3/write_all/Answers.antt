@@ -44,7 +44,7 @@ loop-first-preserved g c =
     let ahead : (m : ℕ) → 512 * chunk + i ≤ m → covers c.runs_from-rest.result.now m ≡ covers runs m =
     λ m from. c.runs_from-rest.ensures.same m (omega (arith, from, c.page.ensures.same)) ∙ c.loop-first.invariant.ahead m from in
     let there : (x : ℕ) → i ≤ x → x < end → p (512 * chunk + x) ≡ Some answer =
-    λ x least lt. plan-there runs c.args.edit.now.access c.args.other.now answer (512 * chunk + x) c.stretch_at-part.result.is_covered (sym (ahead (512 * chunk + x) (omega (arith, least))) ∙ c.stretch_at-part.ensures.alike x least lt) c.answer_of-answer.ensures in
+    λ x least lt. plan-there runs c.args.edit.now.access c.args.other.now answer (512 * chunk + x) c.stretch_at-part.result.value (sym (ahead (512 * chunk + x) (omega (arith, least))) ∙ c.stretch_at-part.ensures.alike x least lt) c.answer_of-answer.ensures in
     record {
       writes = writes-join c.args.third chunk i end p answer (pages_of start.memory) (pages_of (g.M.TableMem.state c.loop-first.memory).memory) (pages_of (g.M.TableMem.state c.write_pages.new.memory).memory) (omega (arith, behind)) there c.loop-first.invariant.writes c.write_pages.ensures.writes;
       filled = filled-join c.args.third chunk i end p answer start (g.M.TableMem.state c.loop-first.memory) (g.M.TableMem.state c.write_pages.new.memory) (omega (arith, behind)) there c.loop-first.invariant.filled c.write_pages.ensures.filled;
