@@ -15,7 +15,6 @@ pub mod OneChunk
 pub mod MadeEdit
 pub mod RootLinks
 pub mod ChunkByChunk
-pub mod EachChunk
 pub mod FilledChunks
 pub mod UpToChunk
 pub mod Gigabyte

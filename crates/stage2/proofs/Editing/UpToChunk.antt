@@ -1,34 +1,35 @@
 -- The chunks of a gigabyte before one are edited, and these runs are left for the others: one piece after another.
-use Rattle.std.proofs.Common.{◌≡◌, ℕ, zero, suc, ◌+◌, ◌-◌, ◌*◌, ◌/◌, ◌<◌, ◌≤◌, eqb, true, false, None, length, List, sym, ap, subst, ◌∙◌, arith}
+use Rattle.std.proofs.Common.{◌≡◌, ◌≢◌, ℕ, zero, suc, ◌+◌, ◌-◌, ◌*◌, ◌/◌, ◌%◌, ◌<◌, ◌≤◌, eqb, true, false, cond, None, length, List, sym, ap, subst, ◌∙◌, arith}
 use Rattle.base.specs.Access.{View}
 use Rattle.base.specs.Manifest.{page_count, row_of}
-use Rattle.base.specs.Pages.{PageRun, covers, are_normal}
-use Rattle.pool.specs.Pool.{Pool, IsWhole, HasRow, pages_of, words_of, taken_of, after_replaces}
+use Rattle.base.specs.Pages.{PageRun, are_normal}
+use Rattle.pool.specs.Pool.{Pool, IsWhole, pages_of, words_of, taken_of, after_replaces}
 use Rattle.stage2.specs.Edits.{edited, touches_chunk, AreFree}
 use Rattle.stage2.specs.Moments.{StaysInStep}
-use Rattle.stage2.specs.Parts.{part_count, chunk_runs, runs_past}
-use Rattle.stage2.specs.Room.{sum_below, chunk_operations}
+use Rattle.stage2.specs.Parts.{chunk_runs}
+use Rattle.stage2.specs.Room.{sum_below, table_operations, chunk_operations}
 use Rattle.stage2.specs.Slot.{slot}
 use Rattle.stage2.specs.Walk.{walked, next_page}
 use Rattle.stage2.specs.declared.parts.Piece.{Piece}
 use Rattle.stage2.specs.declared.site.ChunkEdit.{ChunkEdit}
 use Rattle.stage2.specs.declared.site.RowEdit.{RowEdit}
-use Rattle.stage2.specs.declared.site.Site.{Site}
 use Rattle.stage2.specs.inner.Change.{block_step}
-use Rattle.stage2.specs.inner.Chunks.{covers_chunk}
+use Rattle.stage2.specs.inner.Chunks.{answers_in, covers_chunk}
 use Rattle.stage2.specs.inner.Clauses.{IsAt, IsLinkedOrderly, IsSecond, GrowsChunk, HasFree, FitsChunks, EditsChunk, EditsChunks, ChunkInStep, ChunksInStep, ReplacesBlocks, linked_view, operations_in_table, operations_in_chunks}
 use Rattle.stage2.specs.inner.Gigabytes.{IsUnderway}
 use Rattle.stage2.specs.inner.Pieces.{IsNextPiece}
 use Rattle.stage2.specs.inner.Steps.{IsSeated, disturbed_below}
 use Rattle.stage2.proofs.Counting.Needs.{filled-touches}
-use Rattle.stage2.proofs.Editing.ChunkByChunk.{underway-start, sum_below-more, sum_below-up, site}
-use Rattle.stage2.proofs.Editing.EachChunk.{each-site, each-free, each-cost, each-edits, each-steps}
+use Rattle.stage2.proofs.Counting.Operations.{chunk-same}
+use Rattle.stage2.proofs.Editing.ChunkByChunk.{underway-start, underway-edit, still-answers, has-free, sum_below-more, sum_below-up, site}
 use Rattle.stage2.proofs.Editing.FilledChunks.{edited-many, stays-many}
 use Rattle.stage2.proofs.Editing.FourChunkEdits.{second-inside, second-taken}
+use Rattle.stage2.proofs.Editing.MadeEdit.{touches-made, site-made, grows-made, room-made, edits-made, step-made}
 use Rattle.stage2.proofs.Runs.Between.{AreLeft, left-all, left-later, left-past}
 use Rattle.stage2.proofs.Runs.Left.{left-touches}
-use Rattle.stage2.proofs.Runs.OwnRuns.{chunk-covers, chunk-touches, chunk-count}
+use Rattle.stage2.proofs.Runs.OwnRuns.{AreOwn, own-chunk, own-all, chunk-growing, chunk-redoes, chunk-free, chunk-stays}
 use Rattle.stage2.proofs.Runs.Spans.{underway-gap, stays-gap}
+use Rattle.stage2.proofs.Walkers.ChunkSteps.{march-edit, march-seated, march-free}
 use Rattle.stage2.proofs.Walkers.ZeroedTables.{stays-none}
 
 -- the answers after the edit
@@ -108,22 +109,32 @@ module _ (e : RowEdit) (j g : ℕ) (runs : List PageRun) (first : Pool) (r0 : �
       pub end-room : r0 ≤ r + operations_in_chunks e g j runs first
       end-room = done.room
 
-    -- the next chunk, by those of these runs that have pages there
-    module _ (lt : i < 512) (h : ChunkEdit) (layout : h.layout.now ≡ e.layout.now) (at : h.chunk ≡ 512 * g + i) (own : h.runs.now ≡ chunk_runs (512 * g + i) rest) (access : h.access ≡ e.access) where
-      is : h.runs.now ≡ chunk_runs (512 * g + i) runs
-      is = own ∙ so.left.parts (512 * g + i) (omega arith)
+    -- a chunk's own runs among those that are left
+    pub own-here : (part : List PageRun) → part ≡ chunk_runs (512 * g + i) rest → AreOwn (512 * g + i) part runs
+    own-here part own = own-chunk (512 * g + i) runs part (own ∙ so.left.parts (512 * g + i) (omega arith))
 
-      abbrev place : Site
-      place = record { p = e.p; row = e.row; second = j }
+    -- the next chunk
+    module _ (lt : i < 512) (h : ChunkEdit) (layout : h.layout.now ≡ e.layout.now) (at : h.chunk ≡ 512 * g + i) (own : AreOwn (512 * g + i) h.runs.now runs) (access : h.access ≡ e.access) where
+      abbrev v : ℕ → View
+      v = answers_in e.layout.now e.row (512 * g + i) j (pages_of now.memory)
 
       pub here-site : IsAt (record { p = e.p; row = e.row; second = j }) h now
-      here-site = each-site e j g runs first inside below i lt now so.underway h layout at access (chunk-covers (512 * g + i) runs h.runs.now is) (chunk-count (512 * g + i) runs h.runs.now is) (chunk-touches (512 * g + i) runs h.runs.now is)
+      here-site = site-made (record { p = e.p; row = e.row; second = j }) h e.layout.now (512 * g + i) e.access layout at access now now (site e.layout.now e.row g j runs e.access (pages_of first.memory) inside below i lt (pages_of now.memory) so.underway)
 
       pub here-free : FitsChunks e g j runs first → GrowsChunk (record { p = e.p; row = e.row; second = j }) h now → HasFree e.row now
-      here-free = each-free e j g runs first inside below i lt now so.underway h layout at access (chunk-covers (512 * g + i) runs h.runs.now is) (chunk-count (512 * g + i) runs h.runs.now is) (chunk-touches (512 * g + i) runs h.runs.now is)
+      here-free fits grows =
+          has-free e.layout.now e.row g j runs e.access (pages_of first.memory) inside below i lt (pages_of now.memory) so.underway fits.fits
+          (chunk-growing (512 * g + i) runs h.runs.now e.access own.covered v (grows-made (record { p = e.p; row = e.row; second = j }) h e.layout.now (512 * g + i) e.access layout at access now now grows))
 
-      here-cost : cost e j g runs first i ≡ 3 + operations_in_table place h now
-      here-cost = each-cost e j g runs first inside below i lt now so.underway h layout at access (chunk-covers (512 * g + i) runs h.runs.now is) (chunk-count (512 * g + i) runs h.runs.now is) (chunk-touches (512 * g + i) runs h.runs.now is)
+      touched : touches_chunk (512 * g + i) h.runs.now ≡ true
+      touched = subst (λ x. touches_chunk x h.runs.now ≡ true) at (touches-made h)
+
+      here-cost : cost e j g runs first i ≡ 3 + operations_in_table (record { p = e.p; row = e.row; second = j }) h now
+      here-cost =
+          let same = chunk-same runs h.runs.now e.access (linked_view e g j first) v (512 * g + i) own.covered own.count
+          (λ x small. still-answers e.layout.now e.row g j runs e.access (pages_of first.memory) inside below i lt (pages_of now.memory) so.underway (512 * (512 * g + i) + x) (omega (arith, small, lt, below)) (omega (arith, small))) own.touches in
+          sym (ap (λ t. cond t (3 + table_operations h.runs.now e.access v (512 * g + i)) 0) (sym touched) ∙ same)
+          ∙ ap (λ n. 3 + n) (sym (room-made (record { p = e.p; row = e.row; second = j }) h e.layout.now (512 * g + i) e.access layout at access now now))
 
       pub here-room : operations_in_chunks e g j runs first ≤ r0 → 3 + operations_in_table (record { p = e.p; row = e.row; second = j }) h now ≤ r
       here-room enough =
@@ -131,10 +142,7 @@ module _ (e : RowEdit) (j g : ℕ) (runs : List PageRun) (first : Pool) (r0 : �
           let up = sum_below-up (cost e j g runs first) (i + 1) 512 (omega (arith, lt)) in
           let room = so.room in
           let one = here-cost in
-          numbers r0 r (cost e j g runs first i) (3 + operations_in_table place h now) (sum_below (cost e j g runs first) i) (sum_below (cost e j g runs first) (i + 1)) (sum_below (cost e j g runs first) 512) one more up room enough
-        where
-          numbers : (r0 r one cost before next all : ℕ) → one ≡ cost → next ≡ one + before → next ≤ all → r0 ≤ r + before → all ≤ r0 → cost ≤ r
-          numbers r0 r one cost before next all e a b c d = omega arith
+          omega (arith, more, up, room, one, enough)
 
       pub here-next : (new : Pool) (r2 : ℕ) → EditsChunk (record { p = e.p; row = e.row; second = j }) h now new → ChunkInStep (record { p = e.p; row = e.row; second = j }) h now new → r ≤ r2 + (3 + operations_in_table (record { p = e.p; row = e.row; second = j }) h now)
           → IsUpTo e j g runs first r0 (i + 1) rest new r2
@@ -143,16 +151,21 @@ module _ (e : RowEdit) (j g : ℕ) (runs : List PageRun) (first : Pool) (r0 : �
           let room = so.room in
           let one = here-cost in
           record {
-            underway = each-edits e j g runs first inside below i lt now so.underway h layout at access (chunk-covers (512 * g + i) runs h.runs.now is) (chunk-count (512 * g + i) runs h.runs.now is) (chunk-touches (512 * g + i) runs h.runs.now is) new edits;
-            in_step = λ seated free. each-steps e j g runs first inside below i lt now so.underway h layout at access (chunk-covers (512 * g + i) runs h.runs.now is) (chunk-count (512 * g + i) runs h.runs.now is) (chunk-touches (512 * g + i) runs h.runs.now is) new steps seated free (so.in_step seated free);
+            underway = underway-edit e.layout.now e.row g j runs e.access (pages_of first.memory) inside below i lt (pages_of now.memory) so.underway (pages_of new.memory)
+                (chunk-redoes e.layout.now e.row (512 * g + i) runs h.runs.now e.access own.covered j v (pages_of now.memory) (pages_of new.memory)
+                (edits-made (record { p = e.p; row = e.row; second = j }) h e.layout.now (512 * g + i) e.access layout at access now new edits));
+            in_step = λ seated free.
+                march-edit e.layout.now e.row g j runs e.access (pages_of first.memory) inside below i lt (pages_of now.memory) so.underway first now new (sym own.touches ∙ touched) (so.in_step seated free)
+                (chunk-stays e.layout.now e.row (512 * g + i) runs h.runs.now e.access own.covered v now new
+                (step-made (record { p = e.p; row = e.row; second = j }) h e.layout.now (512 * g + i) e.access layout at access now new steps
+                (march-seated e.layout.now e.row g j runs e.access (pages_of first.memory) inside below i lt (pages_of now.memory) so.underway seated)
+                (chunk-free (512 * g + i) runs h.runs.now e.access own.covered v
+                (march-free e.layout.now e.row g j runs e.access (pages_of first.memory) inside below i lt (pages_of now.memory) so.underway free))));
             left = left-later (512 * g + i) (512 * g + (i + 1)) rest runs (omega arith) so.left;
             normal = so.normal;
             last = omega (arith, lt);
-            room = less r0 r r2 (cost e j g runs first i) (3 + operations_in_table place h now) (sum_below (cost e j g runs first) i) (sum_below (cost e j g runs first) (i + 1)) one more room spent;
+            room = omega (arith, more, room, one, spent);
           }
-        where
-          less : (r0 r r2 one cost before next : ℕ) → one ≡ cost → next ≡ one + before → r0 ≤ r + before → r ≤ r2 + cost → r0 ≤ r2 + next
-          less r0 r r2 one cost before next e a b c = omega arith
 
     -- its level 2 table
     module _ (lt : i < 512) where
@@ -205,3 +218,32 @@ module _ (e : RowEdit) (j g : ℕ) (runs : List PageRun) (first : Pool) (r0 : �
             last = most;
             room = omega (arith, room, costs, less, ahead);
           }
+
+  -- ---- a chunk that is the only one that runs touch
+
+  module _ (orderly : IsLinkedOrderly e g j first) (second : IsSecond e g j first) (normal : are_normal runs ≡ true) (h : ChunkEdit) (layout : h.layout.now ≡ e.layout.now)
+      (here : h.chunk / 512 ≡ g) (own : h.runs.now ≡ runs) (access : h.access ≡ e.access) (others : (k : ℕ) → k ≢ h.chunk → touches_chunk k runs ≡ false) where
+    at : h.chunk ≡ 512 * g + h.chunk % 512
+    at = omega (arith, here)
+
+    apart : (x : ℕ) → x ≢ h.chunk % 512 → touches_chunk (512 * g + x) runs ≡ false
+    apart x differs = others (512 * g + x) (λ same. differs (omega (arith, same, at)))
+
+    under : IsUpTo e j g runs first r0 (h.chunk % 512) runs first r0
+    under = gap 0 runs first r0 (at-start orderly second normal) (h.chunk % 512) (omega arith) (omega arith) (λ x from to. apart x (λ same. omega (arith, same, to))) runs (left-all (512 * g + h.chunk % 512) runs) normal
+
+    pub alone-site : IsAt (record { p = e.p; row = e.row; second = j }) h first
+    alone-site = here-site (h.chunk % 512) runs first r0 under (omega arith) h layout at (own-all (512 * g + h.chunk % 512) runs h.runs.now own) access
+
+    pub alone-free : FitsChunks e g j runs first → GrowsChunk (record { p = e.p; row = e.row; second = j }) h first → HasFree e.row first
+    alone-free = here-free (h.chunk % 512) runs first r0 under (omega arith) h layout at (own-all (512 * g + h.chunk % 512) runs h.runs.now own) access
+
+    pub alone-room : operations_in_chunks e g j runs first ≤ r0 → 3 + operations_in_table (record { p = e.p; row = e.row; second = j }) h first ≤ r0
+    alone-room = here-room (h.chunk % 512) runs first r0 under (omega arith) h layout at (own-all (512 * g + h.chunk % 512) runs h.runs.now own) access
+
+    -- with it all are edited
+    pub alone-all : (new : Pool) (r : ℕ) → EditsChunk (record { p = e.p; row = e.row; second = j }) h first new → ChunkInStep (record { p = e.p; row = e.row; second = j }) h first new → r0 ≤ r + (3 + operations_in_table (record { p = e.p; row = e.row; second = j }) h first)
+        → IsUpTo e j g runs first r0 512 runs new r
+    alone-all new r edits steps spent =
+        let next = here-next (h.chunk % 512) runs first r0 under (omega arith) h layout at (own-all (512 * g + h.chunk % 512) runs h.runs.now own) access new r edits steps spent in
+        gap (h.chunk % 512 + 1) runs new r next 512 (omega arith) (omega arith) (λ x from to. apart x (λ same. omega (arith, same, from))) runs (left-all (512 * g + 512) runs) normal

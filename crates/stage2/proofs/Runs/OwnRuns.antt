@@ -120,6 +120,18 @@ module _ (c : ℕ) (runs part : List PageRun) (is : part ≡ chunk_runs c runs) 
   pub chunk-count : part_count c part ≡ part_count c runs
   chunk-count = ap (part_count c) is ∙ count-between (512 * c) (512 * c + 512) runs c (omega arith) (omega arith)
 
+-- of a chunk it is all one whether these runs are asked or those
+pub record AreOwn (c : ℕ) (part runs : List PageRun) : Type 0 where
+  pub covered : (n : ℕ) → n / 512 ≡ c → covers part n ≡ covers runs n
+  pub count : part_count c part ≡ part_count c runs
+  pub touches : touches_chunk c part ≡ touches_chunk c runs
+
+pub own-chunk : (c : ℕ) (runs part : List PageRun) → part ≡ chunk_runs c runs → AreOwn c part runs
+own-chunk c runs part is = record { covered = chunk-covers c runs part is; count = chunk-count c runs part is; touches = chunk-touches c runs part is }
+
+pub own-all : (c : ℕ) (runs part : List PageRun) → part ≡ runs → AreOwn c part runs
+own-all c runs part is = record { covered = λ n at. ap (λ rs. covers rs n) is; count = ap (part_count c) is; touches = ap (touches_chunk c) is }
+
 -- ---- a gigabyte
 
 module _ (g : ℕ) (runs part : List PageRun) (is : part ≡ gigabyte_runs g runs) where

@@ -1,7 +1,7 @@
 use Rattle.std.proofs.Common.{◌≡◌, ℕ, ◌+◌, ◌*◌, ◌<◌, ◌≤◌, false, refl, sym, ap, subst, ◌∙◌, arith}
 use Rattle.stage2.specs.Edits.{touches_chunk}
 use Rattle.stage2.specs.Parts.{chunk_runs}
-use Rattle.stage2.proofs.Editing.UpToChunk.{at-start, at-piece, at-untouched, end-edits, end-steps, end-room, here-site, here-free, here-room, here-next, table-inside, table-taken, blocks-room, blocks-next}
+use Rattle.stage2.proofs.Editing.UpToChunk.{at-start, at-piece, at-untouched, end-edits, end-steps, end-room, own-here, here-site, here-free, here-room, here-next, table-inside, table-taken, blocks-room, blocks-next}
 use Rattle.stage2.proofs.Runs.Between.{past-past}
 use Rattle.stage2.proofs.Tree.Rows.{has-row}
 use Rattle.stage2.proofs.level2.edit_each_chunk.Goals as goal
@@ -53,24 +53,24 @@ new-requires-clause-past g c =
 pub edit_chunk-requires-clause-site : goal.edit_chunk-requires-clause-site
 edit_chunk-requires-clause-site g c =
     let so = at-piece c.args.edit.now c.args.second c.args.gigabyte c.args.runs.now (g.M.TableMem.state c.args.memory.now) (g.M.TableMem.room c.args.memory.now) c.requires.partition c.in-Some.ensures.in_range c.loop-piece.index c.loop-piece.rest.now (g.M.TableMem.state c.loop-piece.memory) (g.M.TableMem.room c.loop-piece.memory) (c.loop-piece.invariant.up_to c.in-Some.ensures.in_range) c.in-Some.piece c.in-Some.ensures.some in
-    here-site c.args.edit.now c.args.second c.args.gigabyte c.args.runs.now (g.M.TableMem.state c.args.memory.now) (g.M.TableMem.room c.args.memory.now) c.requires.partition c.in-Some.ensures.in_range c.in-Some.piece.first c.in-Some.piece.runs.now (g.M.TableMem.state c.loop-piece.memory) (g.M.TableMem.room c.loop-piece.memory) so c.in-Some.ensures.some.small c.in-Some-new.here c.in-Some-new.ensures.some.0 (c.in-Some-new.ensures.some.1 ∙ c.chunk-chunk.ensures.same) (c.in-Some-new.ensures.some.2 ∙ ap (λ k. chunk_runs k c.in-Some.piece.runs.now) c.chunk-chunk.ensures.same) c.in-Some-new.ensures.some.3
+    here-site c.args.edit.now c.args.second c.args.gigabyte c.args.runs.now (g.M.TableMem.state c.args.memory.now) (g.M.TableMem.room c.args.memory.now) c.requires.partition c.in-Some.ensures.in_range c.in-Some.piece.first c.in-Some.piece.runs.now (g.M.TableMem.state c.loop-piece.memory) (g.M.TableMem.room c.loop-piece.memory) so c.in-Some.ensures.some.small c.in-Some-new.here c.in-Some-new.ensures.some.0 (c.in-Some-new.ensures.some.1 ∙ c.chunk-chunk.ensures.same) (own-here c.args.edit.now c.args.second c.args.gigabyte c.args.runs.now (g.M.TableMem.state c.args.memory.now) (g.M.TableMem.room c.args.memory.now) c.requires.partition c.in-Some.ensures.in_range c.in-Some.piece.first c.in-Some.piece.runs.now (g.M.TableMem.state c.loop-piece.memory) (g.M.TableMem.room c.loop-piece.memory) so c.in-Some-new.here.runs.now (c.in-Some-new.ensures.some.2 ∙ ap (λ k. chunk_runs k c.in-Some.piece.runs.now) c.chunk-chunk.ensures.same)) c.in-Some-new.ensures.some.3
 
 pub edit_chunk-requires-clause-free : goal.edit_chunk-requires-clause-free
 edit_chunk-requires-clause-free g c =
     let so = at-piece c.args.edit.now c.args.second c.args.gigabyte c.args.runs.now (g.M.TableMem.state c.args.memory.now) (g.M.TableMem.room c.args.memory.now) c.requires.partition c.in-Some.ensures.in_range c.loop-piece.index c.loop-piece.rest.now (g.M.TableMem.state c.loop-piece.memory) (g.M.TableMem.room c.loop-piece.memory) (c.loop-piece.invariant.up_to c.in-Some.ensures.in_range) c.in-Some.piece c.in-Some.ensures.some in
-    here-free c.args.edit.now c.args.second c.args.gigabyte c.args.runs.now (g.M.TableMem.state c.args.memory.now) (g.M.TableMem.room c.args.memory.now) c.requires.partition c.in-Some.ensures.in_range c.in-Some.piece.first c.in-Some.piece.runs.now (g.M.TableMem.state c.loop-piece.memory) (g.M.TableMem.room c.loop-piece.memory) so c.in-Some.ensures.some.small c.in-Some-new.here c.in-Some-new.ensures.some.0 (c.in-Some-new.ensures.some.1 ∙ c.chunk-chunk.ensures.same) (c.in-Some-new.ensures.some.2 ∙ ap (λ k. chunk_runs k c.in-Some.piece.runs.now) c.chunk-chunk.ensures.same) c.in-Some-new.ensures.some.3 c.requires.free
+    here-free c.args.edit.now c.args.second c.args.gigabyte c.args.runs.now (g.M.TableMem.state c.args.memory.now) (g.M.TableMem.room c.args.memory.now) c.requires.partition c.in-Some.ensures.in_range c.in-Some.piece.first c.in-Some.piece.runs.now (g.M.TableMem.state c.loop-piece.memory) (g.M.TableMem.room c.loop-piece.memory) so c.in-Some.ensures.some.small c.in-Some-new.here c.in-Some-new.ensures.some.0 (c.in-Some-new.ensures.some.1 ∙ c.chunk-chunk.ensures.same) (own-here c.args.edit.now c.args.second c.args.gigabyte c.args.runs.now (g.M.TableMem.state c.args.memory.now) (g.M.TableMem.room c.args.memory.now) c.requires.partition c.in-Some.ensures.in_range c.in-Some.piece.first c.in-Some.piece.runs.now (g.M.TableMem.state c.loop-piece.memory) (g.M.TableMem.room c.loop-piece.memory) so c.in-Some-new.here.runs.now (c.in-Some-new.ensures.some.2 ∙ ap (λ k. chunk_runs k c.in-Some.piece.runs.now) c.chunk-chunk.ensures.same)) c.in-Some-new.ensures.some.3 c.requires.free
 
 pub edit_chunk-requires-clause-room : goal.edit_chunk-requires-clause-room
 edit_chunk-requires-clause-room g c =
     let so = at-piece c.args.edit.now c.args.second c.args.gigabyte c.args.runs.now (g.M.TableMem.state c.args.memory.now) (g.M.TableMem.room c.args.memory.now) c.requires.partition c.in-Some.ensures.in_range c.loop-piece.index c.loop-piece.rest.now (g.M.TableMem.state c.loop-piece.memory) (g.M.TableMem.room c.loop-piece.memory) (c.loop-piece.invariant.up_to c.in-Some.ensures.in_range) c.in-Some.piece c.in-Some.ensures.some in
-    here-room c.args.edit.now c.args.second c.args.gigabyte c.args.runs.now (g.M.TableMem.state c.args.memory.now) (g.M.TableMem.room c.args.memory.now) c.requires.partition c.in-Some.ensures.in_range c.in-Some.piece.first c.in-Some.piece.runs.now (g.M.TableMem.state c.loop-piece.memory) (g.M.TableMem.room c.loop-piece.memory) so c.in-Some.ensures.some.small c.in-Some-new.here c.in-Some-new.ensures.some.0 (c.in-Some-new.ensures.some.1 ∙ c.chunk-chunk.ensures.same) (c.in-Some-new.ensures.some.2 ∙ ap (λ k. chunk_runs k c.in-Some.piece.runs.now) c.chunk-chunk.ensures.same) c.in-Some-new.ensures.some.3 c.requires.room
+    here-room c.args.edit.now c.args.second c.args.gigabyte c.args.runs.now (g.M.TableMem.state c.args.memory.now) (g.M.TableMem.room c.args.memory.now) c.requires.partition c.in-Some.ensures.in_range c.in-Some.piece.first c.in-Some.piece.runs.now (g.M.TableMem.state c.loop-piece.memory) (g.M.TableMem.room c.loop-piece.memory) so c.in-Some.ensures.some.small c.in-Some-new.here c.in-Some-new.ensures.some.0 (c.in-Some-new.ensures.some.1 ∙ c.chunk-chunk.ensures.same) (own-here c.args.edit.now c.args.second c.args.gigabyte c.args.runs.now (g.M.TableMem.state c.args.memory.now) (g.M.TableMem.room c.args.memory.now) c.requires.partition c.in-Some.ensures.in_range c.in-Some.piece.first c.in-Some.piece.runs.now (g.M.TableMem.state c.loop-piece.memory) (g.M.TableMem.room c.loop-piece.memory) so c.in-Some-new.here.runs.now (c.in-Some-new.ensures.some.2 ∙ ap (λ k. chunk_runs k c.in-Some.piece.runs.now) c.chunk-chunk.ensures.same)) c.in-Some-new.ensures.some.3 c.requires.room
 
 pub loop-piece-preserved : goal.loop-piece-preserved
 loop-piece-preserved g c =
     let so = at-piece c.args.edit.now c.args.second c.args.gigabyte c.args.runs.now (g.M.TableMem.state c.args.memory.now) (g.M.TableMem.room c.args.memory.now) c.requires.partition c.in-Some.ensures.in_range c.loop-piece.index c.loop-piece.rest.now (g.M.TableMem.state c.loop-piece.memory) (g.M.TableMem.room c.loop-piece.memory) (c.loop-piece.invariant.up_to c.in-Some.ensures.in_range) c.in-Some.piece c.in-Some.ensures.some in
     elim c.match-new.branch [
       | in-Some-new w ↦ rw w.memory-is (record {
-        up_to = λ below. here-next c.args.edit.now c.args.second c.args.gigabyte c.args.runs.now (g.M.TableMem.state c.args.memory.now) (g.M.TableMem.room c.args.memory.now) c.requires.partition c.in-Some.ensures.in_range c.in-Some.piece.first c.in-Some.piece.runs.now (g.M.TableMem.state c.loop-piece.memory) (g.M.TableMem.room c.loop-piece.memory) so c.in-Some.ensures.some.small w.in-Some-new.here w.in-Some-new.ensures.some.0 (w.in-Some-new.ensures.some.1 ∙ c.chunk-chunk.ensures.same) (w.in-Some-new.ensures.some.2 ∙ ap (λ k. chunk_runs k c.in-Some.piece.runs.now) c.chunk-chunk.ensures.same) w.in-Some-new.ensures.some.3 (g.M.TableMem.state w.edit_chunk.new.memory) (g.M.TableMem.room w.edit_chunk.new.memory) w.edit_chunk.ensures.redoes w.edit_chunk.ensures.in_step w.edit_chunk.ensures.room;
+        up_to = λ below. here-next c.args.edit.now c.args.second c.args.gigabyte c.args.runs.now (g.M.TableMem.state c.args.memory.now) (g.M.TableMem.room c.args.memory.now) c.requires.partition c.in-Some.ensures.in_range c.in-Some.piece.first c.in-Some.piece.runs.now (g.M.TableMem.state c.loop-piece.memory) (g.M.TableMem.room c.loop-piece.memory) so c.in-Some.ensures.some.small w.in-Some-new.here w.in-Some-new.ensures.some.0 (w.in-Some-new.ensures.some.1 ∙ c.chunk-chunk.ensures.same) (own-here c.args.edit.now c.args.second c.args.gigabyte c.args.runs.now (g.M.TableMem.state c.args.memory.now) (g.M.TableMem.room c.args.memory.now) c.requires.partition c.in-Some.ensures.in_range c.in-Some.piece.first c.in-Some.piece.runs.now (g.M.TableMem.state c.loop-piece.memory) (g.M.TableMem.room c.loop-piece.memory) so w.in-Some-new.here.runs.now (w.in-Some-new.ensures.some.2 ∙ ap (λ k. chunk_runs k c.in-Some.piece.runs.now) c.chunk-chunk.ensures.same)) w.in-Some-new.ensures.some.3 (g.M.TableMem.state w.edit_chunk.new.memory) (g.M.TableMem.room w.edit_chunk.new.memory) w.edit_chunk.ensures.redoes w.edit_chunk.ensures.in_step w.edit_chunk.ensures.room;
       })
       | in_default-new w ↦ rw w.memory-is (record {
         up_to = λ below. at-untouched c.args.edit.now c.args.second c.args.gigabyte c.args.runs.now (g.M.TableMem.state c.args.memory.now) (g.M.TableMem.room c.args.memory.now) c.requires.partition c.in-Some.ensures.in_range c.in-Some.piece.first c.in-Some.piece.runs.now (g.M.TableMem.state c.loop-piece.memory) (g.M.TableMem.room c.loop-piece.memory) so c.in-Some.ensures.some.small (subst (λ x. touches_chunk x c.in-Some.piece.runs.now ≡ false) c.chunk-chunk.ensures.same (c.new.ensures.none w.in_default-new.is));
