@@ -340,7 +340,7 @@ fn turn_each<S: WordStore>(
 }
 
 /// Writes the words for the pages of runs, none of which is there, and records each write behind these operations.
-/// It answers how many words of the page are not 0.
+/// It answers how many words of the page are not 0. For one page alone the list stays where it is.
 pub(crate) fn turn_runs<S: WordStore>(
     store: &mut S,
     operations: &mut Vec<Op>,
@@ -360,6 +360,12 @@ pub(crate) fn turn_runs<S: WordStore>(
     ensures counted { result ≡ nonzero_in (words_of (S.words store.new)) with.page }
     ensures grows { Grows (words_in with.start runs.now) operations.old operations.new }
 {
+    if runs.len() == 1 {
+        let run = runs[0];
+        if run.count() == 1 {
+            return turn_one(store, operations, count, run.first(), with);
+        }
+    }
     let alloc = *operations.allocator();
     let list = replace(operations, Vec::new(alloc));
     let (list, count) = turn_each(store, list, count, runs, with);

@@ -17,6 +17,7 @@ pub mod RootLinks
 pub mod ChunkByChunk
 pub mod FilledChunks
 pub mod UpToChunk
+pub mod UpToGigabyte
 pub mod Gigabyte
 pub mod GigabyteByGigabyte
 pub mod RowOfPartition

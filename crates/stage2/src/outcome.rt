@@ -70,6 +70,7 @@ fn is_emptied<M: TableMem>(memory: &M, edit: &ChunkEdit, third: TablePage) -> bo
 
 /// Whether the pages of a chunk that has a table are all reached alike after an edit. Where the number of words that are not 0 leaves
 /// it open, words are looked at: those of the runs, or those beside them.
+#[inline(always)]
 pub(crate) fn is_alike_in_table<M: TableMem>(memory: &M, edit: &ChunkEdit, third: TablePage) -> bool
     requires table { third < page_count (M.state memory.now).memory.quotas }
     requires taken { taken_of (M.state memory.now).memory.taken third ≡ true }

@@ -330,6 +330,7 @@ pub(crate) struct Piece<'a> {
 
 /// The first piece of a gigabyte from one of its chunks on. Chunks of which no run has a page are passed over without a look
 /// at each.
+#[inline(always)]
 pub(crate) fn next_piece(runs: &[Run], gigabyte: Gigabyte, index: u32) -> Option<Piece<'_>>
     requires normal { are_normal runs.now ≡ true }
     ensures some { IfSome result (IsNextPiece gigabyte index runs.now) }
