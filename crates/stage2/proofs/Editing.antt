@@ -20,6 +20,8 @@ pub mod UpToChunk
 pub mod UpToGigabyte
 pub mod Gigabyte
 pub mod GigabyteByGigabyte
+pub mod TabledGigabyte
+pub mod UntabledGigabyte
 pub mod RowOfPartition
 pub mod BootRegions
 pub mod WholeTables
