@@ -52,6 +52,19 @@ pub(crate) fn runs_past(runs: &[Run], first: u32) -> &[Run]
     &runs[ended(runs, first)..]
 }
 
+/// The same, where mostly the first of the runs ends behind the page.
+#[inline(always)]
+fn runs_on(runs: &[Run], first: u32) -> &[Run]
+    requires { are_normal runs.now ≡ true }
+    ensures same { result.now ≡ parts.runs_past first runs.now }
+    ensures normal { are_normal result.now ≡ true }
+{
+    match runs.first() {
+        Some(run) if first < run.end() => runs,
+        _ => runs_past(runs, first),
+    }
+}
+
 /// Those of the runs that have a page from one up to another, of whatever runs.
 fn runs_among(runs: &[Run], first: u32, end: u32) -> &[Run]
     requires { are_normal runs.now ≡ true }
@@ -352,7 +365,7 @@ pub(crate) fn next_piece(runs: &[Run], gigabyte: Gigabyte, index: u32) -> Option
         return None;
     }
     let first = chunk.index();
-    let rest = runs_past(rest, chunk.first().number());
+    let rest = runs_on(rest, chunk.first().number());
     Some(Piece {
         first,
         filled: first_unfilled(rest, gigabyte, first, WORDS),

@@ -151,6 +151,7 @@ fn operations_gone<M: TableMem>(memory: &M, edit: &ChunkEdit, third: TablePage) 
 
 /// What the edit of a chunk with a table needs. Words are looked at, if at all, only where it makes a difference of more than a few
 /// operations whether the table stays.
+#[inline(always)]
 fn plan_table<M: TableMem>(memory: &M, edit: &ChunkEdit, third: TablePage, looks: bool) -> Plan
     requires table { third < page_count (M.state memory.now).memory.quotas }
     requires taken { taken_of (M.state memory.now).memory.taken third ≡ true }

@@ -34,8 +34,8 @@ returns-clause-some c =
       most = c.first_unfilled.ensures.most;
       apart = λ x low lt. apart-before c.args.gigabyte c.args.index c.number-start.result c.bounds-pages.result.first c.bounds-pages.result.end c.args.runs.now c.runs_past-rest.result.now start c.runs_past-rest.ensures.same c.bounds-pages.ensures.within x low
           (inl (omega (arith, start, chunk, c.max.ensures, at, low, lt)));
-      past = c.runs_past-rest-2.ensures.same ∙ ap (λ rs. runs_past c.number.result rs) c.runs_past-rest.ensures.same
+      past = c.runs_on-rest.ensures.same ∙ ap (λ rs. runs_past c.number.result rs) c.runs_past-rest.ensures.same
           ∙ past-later c.number-start.result c.number.result c.args.runs.now (omega (arith, start, page, from)) ∙ ap (λ n. runs_past n c.args.runs.now) page;
-      normal = c.runs_past-rest-2.ensures.normal;
+      normal = c.runs_on-rest.ensures.normal;
       filled = c.first_unfilled.ensures.filled;
     }
