@@ -19,14 +19,6 @@ use Rattle.pool.proofs.Count.{count_below-all}
 
 -- ---- free pages hold zeros
 
--- a word of a page that is taken may be written
-pub free_zero-set : (words : List ℕ) (taken : List Bool) (count page index word : ℕ) → length words ≡ 512 * count → page < count → index < 512 → taken_of taken page ≡ true
-    → ((q i : ℕ) → taken_of taken q ≡ false → words_of words q i ≡ 0)
-    → (q i : ℕ) → taken_of taken q ≡ false → words_of (slice_set words (512 * page + index) word) q i ≡ 0
-unfolding put
-free_zero-set words taken count page index word whole inside below held old q i free =
-    rw (words_of-set words count page index word whole inside below) (grind (arith, nat_tests, old q i free, held, free))
-
 -- a page of zeros may be taken or given back
 pub free_zero-mark : (words : List ℕ) (taken : List Bool) (page : ℕ) (is : Bool) → page < length taken → ((i : ℕ) → words_of words page i ≡ 0)
     → ((q i : ℕ) → taken_of taken q ≡ false → words_of words q i ≡ 0)

@@ -5,6 +5,9 @@ mod Kept
 pub mod Nonzero
 pub mod Stretches
 mod Turned
+mod Wrote
+mod Alone
+mod Written
 pub mod Replaced
 pub mod RunWords
 pub mod FirstRuns

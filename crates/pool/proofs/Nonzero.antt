@@ -54,10 +54,6 @@ unfolding nonzero_in
 nonzero-same words others page same =
     count_below-same (λ i. not (words page i == 0)) (λ i. not (others page i == 0)) 512 (λ k below. ap (λ w. not (w == 0)) (same k))
 
--- another page
-pub nonzero-other : (words : Words) (page index word q : ℕ) → q ≢ page → nonzero_in (put page index word words) q ≡ nonzero_in words q
-nonzero-other words page index word q other = nonzero-same words (put page index word words) q (λ i. put-other_page words page index word q i other)
-
 pub nonzero-le : (words : Words) (page : ℕ) → nonzero_in words page ≤ 512
 unfolding nonzero_in
 nonzero-le words page = count_below-le (λ i. not (words page i == 0)) 512
@@ -97,23 +93,28 @@ pub word-read : (words : List ℕ) (page index word : ℕ) → index < 512 → w
 unfolding words_of
 word-read words page index word below is = grind (arith, nat_tests, is)
 
--- a word that is not 0 is one of those that are counted
-pub recount-some : (words : List ℕ) (page index count before : ℕ) → index < 512 → count ≡ nonzero_in (words_of words) page → before ≡ slice_index words (512 * page + index) → (1 ≤ count) ⊎ (before ≡ 0)
-recount-some words page index count before below counted is = elim (cases_eq before 0) [
+-- where it is known whether the word is 0, in whose place one comes: one that is not is counted
+pub recount-some : (words : List ℕ) (page index count before : ℕ) → index < 512 → count ≡ nonzero_in (words_of words) page → (before == 0) ≡ (words_of words page index == 0) → (1 ≤ count) ⊎ (before ≡ 0)
+recount-some words page index count before below counted same = elim (cases_eq before 0) [
   | inl zero ↦ inr zero
   | inr some ↦
-      let least = nonzero-some (words_of words) page index below (λ zero. some (word-read words page index before below is ∙ zero)) in
+      let is : words_of words page index ≢ 0 = grind (arith, nat_tests, some, same) in
+      let least = nonzero-some (words_of words) page index below is in
       inl (omega (arith, counted, least))
 ]
 
--- how many are counted once it is written
-pub recount : (words new : List ℕ) (page index word count before after : ℕ) → index < 512 → 512 * page + 512 ≤ length words → count ≡ nonzero_in (words_of words) page → before ≡ slice_index words (512 * page + index)
+-- and how many are counted then
+pub recount : (words new : List ℕ) (page index word count before after : ℕ) → index < 512 → 512 * page + 512 ≤ length words → count ≡ nonzero_in (words_of words) page → (before == 0) ≡ (words_of words page index == 0)
     → new ≡ slice_set words (512 * page + index) word → after + cond (before == 0) 0 1 ≡ count + cond (word == 0) 0 1 → after ≡ nonzero_in (words_of new) page
-recount words new page index word count before after below room counted is written sum =
+recount words new page index word count before after below room counted same written sum =
     let now = nonzero-put (words_of words) page index word below in
-    let there = rw (word-read words page index before below is) at sum in
+    let there = rw same at sum in
     let right : after ≡ nonzero_in (put page index word (words_of words)) page = omega (arith, now, there, counted) in
     right ∙ ap (λ w. nonzero_in w page) (sym (ap words_of written ∙ words_of-set_at words page index word below (omega (arith, below, room))))
+
+-- a word that is read is known
+pub read-test : (words : List ℕ) (page index word : ℕ) → index < 512 → word ≡ slice_index words (512 * page + index) → (word == 0) ≡ (words_of words page index == 0)
+read-test words page index word below is = ap (λ (w : ℕ). w == 0) (word-read words page index word below is)
 
 -- a page whose words are all 0 has none
 pub nonzero-none : (words : Words) (page : ℕ) → ((i : ℕ) → i < 512 → words page i ≡ 0) → nonzero_in words page ≡ 0
@@ -131,30 +132,6 @@ counts_nonzero-new quotas = record {
       let zero : slice_index (replicate (page_count quotas) 0) page ≡ 0 = grind (arith, common_steps) in
       zero ∙ sym none;
 }
-
--- a word is written, and its page has another count, which is right
-pub counts_nonzero-set : (quotas words nonzero : List ℕ) (page index word n : ℕ) → CountsNonzero quotas words nonzero → length words ≡ 512 * page_count quotas
-    → page < page_count quotas → index < 512
-    → n + cond (words_of words page index == 0) 0 1 ≡ slice_index nonzero page + cond (word == 0) 0 1
-    → CountsNonzero quotas (slice_set words (512 * page + index) word) (slice_set nonzero page n)
-counts_nonzero-set quotas words nonzero page index word n counts whole inside below right = record {
-  pages = length-set nonzero page n ∙ counts.pages;
-  each = λ q small. elim (cases_eq q page) [
-    | inl same ↦
-        let was = counts.each page inside in
-        let now = nonzero-put (words_of words) page index word below in
-        let here = get_or-set_same nonzero page n 0 (let pages = counts.pages in omega (arith, pages, inside)) in
-        let count : n ≡ nonzero_in (put page index word (words_of words)) page = omega (arith, right, was, now) in
-        rw same (here ∙ count ∙ sym (ap (λ w. nonzero_in w page) written))
-    | inr differs ↦
-        let was = counts.each q small in
-        let now = nonzero-other (words_of words) page index word q differs in
-        get_or-set_other nonzero page q n 0 differs ∙ was ∙ sym now ∙ sym (ap (λ w. nonzero_in w q) written)
-  ];
-}
-  where
-    written : words_of (slice_set words (512 * page + index) word) ≡ put page index word (words_of words)
-    written = words_of-set words (page_count quotas) page index word whole inside below
 
 -- words of one page are written, and the count that it has then is right
 pub counts_nonzero-page : (quotas words new nonzero : List ℕ) (page count : ℕ) → CountsNonzero quotas words nonzero → page < page_count quotas

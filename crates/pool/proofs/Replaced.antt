@@ -12,25 +12,28 @@ use Rattle.pool.proofs.Words.{words_of-set_at, put-other_index, put-other_page}
 use Rattle.pool.proofs.Nonzero.{word-read, nonzero-zeros}
 use Rattle.pool.proofs.Stretches.{words_set-beside}
 
--- ---- what is shown
+-- ---- one word
 
--- a word that is 0 is not broken
-pub shown-whole : (store : List ℕ) (list : List Op) (p page index : ℕ) (run : PageRun) (pool : Pool) → words_of store page index ≡ 0 → IsShown store list pool → IsShown store list (after_break p page index run pool)
-shown-whole store list p page index run pool is shown =
-    let here : words_of pool.memory.words page index ≡ 0 = ap (λ w. words_of w page index) (sym shown.words) ∙ is in
-    let test : (words_of pool.memory.words page index == 0) ≡ true = grind (arith, nat_tests, here) in
-    rw test shown
+-- that is 0 is not broken
+pub break-none : (p page index : ℕ) (run : PageRun) (pool : Pool) → words_of pool.memory.words page index ≡ 0 → after_break p page index run pool ≡ pool
+break-none p page index run pool is =
+    let test : (words_of pool.memory.words page index == 0) ≡ true = grind (arith, nat_tests, is) in
+    rw test refl
 
 -- another one is
-pub shown-broken : (store new : List ℕ) (list more : List Op) (p page index : ℕ) (run : PageRun) (pool : Pool) → words_of store page index ≢ 0 → new ≡ slice_set store (512 * page + index) 0
-    → more ≡ (list ++ Set page index 0 ∷ []) ++ Invalidate p run ∷ [] → IsShown store list pool → IsShown new more (after_break p page index run pool)
-shown-broken store new list more p page index run pool isnt written pushed shown =
-    let here : words_of pool.memory.words page index ≢ 0 = λ is. isnt (ap (λ w. words_of w page index) shown.words ∙ is) in
-    let test : (words_of pool.memory.words page index == 0) ≡ false = grind (arith, nat_tests, here) in
-    rw test record {
-      words = written ∙ ap (λ w. slice_set w (512 * page + index) 0) shown.words;
-      operations = ap reverse pushed ∙ reverse-append (list ++ Set page index 0 ∷ []) (Invalidate p run ∷ []) ∙ ap (λ l. Invalidate p run ∷ l) (reverse-append list (Set page index 0 ∷ []) ∙ ap (λ l. Set page index 0 ∷ l) shown.operations);
-    }
+pub break-some : (p page index : ℕ) (run : PageRun) (pool : Pool) → words_of pool.memory.words page index ≢ 0 → after_break p page index run pool ≡ after_invalidate p run (after_set page index 0 pool)
+break-some p page index run pool isnt =
+    let test : (words_of pool.memory.words page index == 0) ≡ false = grind (arith, nat_tests, isnt) in
+    rw test refl
+
+-- one that is to be 0 is not made
+pub make-none : (page index word : ℕ) (pool : Pool) → word ≡ 0 → after_make page index word pool ≡ pool
+make-none page index word pool is = rw is refl
+
+pub make-some : (page index word : ℕ) (pool : Pool) → word ≢ 0 → after_make page index word pool ≡ after_set page index word pool
+make-some page index word pool isnt =
+    let test : (word == 0) ≡ false = grind (arith, nat_tests, isnt) in
+    rw test refl
 
 -- ---- what is kept
 
@@ -59,7 +62,7 @@ keeps-more page a b c so here = record {
 one-more : (n made count : ℕ) → made ≡ (n + count) % 2 ^ 64 → (made + 1) % 2 ^ 64 ≡ (n + suc count) % 2 ^ 64
 one-more n made count is = omega (arith, is)
 
-keeps-set : (page index word : ℕ) (a : Pool) → index < 512 → 512 * page + 512 ≤ length a.memory.words → Keeps page a (after_set page index word a)
+pub keeps-set : (page index word : ℕ) (a : Pool) → index < 512 → 512 * page + 512 ≤ length a.memory.words → Keeps page a (after_set page index word a)
 keeps-set page index word a below room = record {
   ids = refl;
   quotas = refl;
@@ -121,6 +124,18 @@ pub replaces-more : (p page first n word step start index next from : ℕ) (a : 
     → after_replaces p page first (n + 1) word step start a ≡ after_make page index next (after_break p page index (record { first = from; count = 512 }) (after_replaces p page first n word step start a))
 unfolding after_replaces
 replaces-more p page first n word step start index next from a is there at = rw (add-one, is, there, at) refl
+
+-- one alone
+pub replaces-one : (p page index next step from : ℕ) (a : Pool) → after_replaces p page index 1 next step from a ≡ after_make page index next (after_break p page index (record { first = from; count = 512 }) a)
+replaces-one p page index next step from a =
+    replaces-more p page index 0 next step from index next from a (omega arith) (omega arith) (omega arith)
+    ∙ ap (λ (q : Pool). after_make page index next (after_break p page index (record { first = from; count = 512 }) q)) (replaces-none p page index next step from a)
+
+-- behind others
+pub replaces-then : (p page first n word step start index next from : ℕ) (a : Pool) → first + n ≡ index → word + step * n ≡ next → start + 512 * n ≡ from
+    → after_replaces p page index 1 next step from (after_replaces p page first n word step start a) ≡ after_replaces p page first (n + 1) word step start a
+replaces-then p page first n word step start index next from a is there at =
+    replaces-one p page index next step from (after_replaces p page first n word step start a) ∙ sym (replaces-more p page first n word step start index next from a is there at)
 
 -- the words of the page that are not yet replaced stay
 break-beside : (p page index i : ℕ) (run : PageRun) (a : Pool) → index < 512 → 512 * page + 512 ≤ length a.memory.words → i ≢ index → words_of (after_break p page index run a).memory.words page i ≡ words_of a.memory.words page i

@@ -57,14 +57,6 @@ pub counted-length : (ops : List Op) (n : ℕ) → counted ops (n % 2 ^ 64) ≡ 
 counted-length [] n = omega arith
 counted-length (op ∷ ops) n = let rest = counted-length ops n in rw rest (omega arith)
 
-pub counted-made : (sets old new : List Op) (n : ℕ) → reverse new ≡ sets ++ reverse old → (n + length new) % 2 ^ 64 ≡ counted sets ((n + length old) % 2 ^ 64)
-counted-made sets old new n made =
-    let long : length new ≡ length sets + length old =
-    sym (length-reverse new) ∙ ap length made ∙ length-append sets (reverse old) ∙ ap (λ x. length sets + x) (length-reverse old) in
-    let all = counted-length sets (n + length old) in
-    let sum : n + length new ≡ n + length old + length sets = omega (arith, long) in
-    rw sum (sym all)
-
 -- a word that is written where it stands
 pub set-same : (items : List ℕ) (place word : ℕ) → place < length items → slice_index items place ≡ word → slice_set items place word ≡ items
 set-same [] place word inside is = refl
@@ -108,20 +100,6 @@ words_set-at words page first (suc n) word step x whole small lt =
           put-other_index (words_of (words_set words page first n word step)) page (first + n) (word + step * n) page (first + x) (λ is. other (omega (arith, is)))
           ∙ words_set-at words page first n word step x whole (omega (arith, small)) (omega (arith, lt, other))
     ])
-
--- a free page holds zeros still
-pub free_zero-stretch : (words : List ℕ) (taken : List Bool) (page first n word step : ℕ) → 512 * page + 512 ≤ length words → first + n ≤ 512 → taken_of taken page ≡ true
-    → ((q i : ℕ) → taken_of taken q ≡ false → words_of words q i ≡ 0)
-    → (q i : ℕ) → taken_of taken q ≡ false → words_of (words_set words page first n word step) q i ≡ 0
-free_zero-stretch words taken page first n word step whole small held old q i free =
-    words_set-other words page first n word step q i whole small (λ is. true≢false (sym held ∙ ap (taken_of taken) (sym is) ∙ free)) ∙ old q i free
-
--- what is counted of them
-pub counts_nonzero-stretch : (quotas words nonzero : List ℕ) (page first n word step count : ℕ) → CountsNonzero quotas words nonzero → length words ≡ 512 * page_count quotas
-    → page < page_count quotas → first + n ≤ 512 → count ≡ nonzero_in (words_of (words_set words page first n word step)) page
-    → CountsNonzero quotas (words_set words page first n word step) (slice_set nonzero page count)
-counts_nonzero-stretch quotas words nonzero page first n word step count counts whole inside small right =
-    counts_nonzero-page quotas words (words_set words page first n word step) nonzero page count counts inside (λ q i differs. words_set-other words page first n word step q i (omega (arith, whole, inside)) small differs) right
 
 -- words that go on where others end
 pub words_set-join : (words : List ℕ) (page first a b n word step index next : ℕ) → first + a ≡ index → word + step * a ≡ next → a + b ≡ n

@@ -1,64 +1,111 @@
 -- Words that are turned: none is there, and the old ones are 0 exactly where the new ones are not.
-use Rattle.std.proofs.Common.{◌≡◌, ◌≢◌, ℕ, ◌+◌, ◌-◌, ◌*◌, ◌%◌, ◌^◌, ◌<◌, ◌≤◌, ◌==◌, not, Bool, true, false, ◌||◌, arith, List, [], ◌∷◌, length, drop, get_or, slice_set, refl, sym, ap, ap₂, ◌∙◌, inl, inr}
-use Rattle.std.proofs.lemmas.Bool.{cases_eq, cases_lt}
+use Rattle.std.proofs.Common.{◌≡◌, ◌≢◌, ℕ, ◌+◌, ◌-◌, ◌*◌, ◌<◌, ◌≤◌, ◌==◌, not, Bool, true, false, arith, List, [], ◌∷◌, length, drop, get_or, slice_set, refl, sym, ap, ap₂, ◌∙◌, inl, inr}
+use Rattle.std.proofs.lemmas.Bool.{cases_eq}
 use Rattle.std.proofs.lemmas.Bool.Decides.{nat_tests}
-use Rattle.std.proofs.lemmas.List.{at_drop_more}
-use Rattle.base.specs.Pages.{PageRun, in_run, covers, rise}
+use Rattle.std.proofs.lemmas.List.{at_drop_more, at_drop_all}
+use Rattle.base.specs.Pages.{PageRun, in_run}
 use Rattle.pool.specs.Pool.{words_of, words_set, nonzero_in, index_from}
 use Rattle.pool.specs.Shown.{AllDiffer}
-use Rattle.pool.specs.Writing.{IsTurned, TurnRuns, page_alone}
+use Rattle.pool.specs.Writing.{IsTurned, Turns, TurnRuns, page_alone}
 use Rattle.pool.specs.declared.runs.TableWords.{TableWords}
+use Rattle.pool.specs.declared.word_range.WordRange.{WordRange}
+use Rattle.pool.proofs.Nonzero.{nonzero-zeros, nonzero-full}
 use Rattle.pool.proofs.Stretches.{words_set-none, words_set-next, nonzero-filled, nonzero-cleared}
-use Rattle.pool.proofs.Gaps.{before-rise, or-right}
-
--- where the new words are 0, the old ones are not
-was-other : (was word : ℕ) → word ≡ 0 → (was == 0) ≡ not (word == 0) → was ≢ 0
-was-other was word zero turned = grind (arith, nat_tests, zero, turned)
-
--- and where they are not, these are
-was-zero : (was word : ℕ) → 0 < word → (was == 0) ≡ not (word == 0) → was ≡ 0
-was-zero was word some turned = grind (arith, nat_tests, some, turned)
 
 -- ---- words from an index on, so many of them
 
-module _ (old : List ℕ) (with : TableWords) (first n : ℕ) (zeros : with.word ≡ 0 → with.step ≡ 0) (turned : (x : ℕ) → x < n → IsTurned old with (first + x)) where
+module _ (old : List ℕ) (page first n word step : ℕ) (zeros : word ≡ 0 → step ≡ 0) (turned : (x : ℕ) → x < n → (words_of old page (first + x) == 0) ≡ not (word == 0)) where
+  -- where the new words are 0, the old ones are not
+  pub was-other : word ≡ 0 → (x : ℕ) → x < n → words_of old page (first + x) ≢ 0
+  was-other zero x lt = let is = turned x lt in grind (arith, nat_tests, zero, is)
+
+  -- and where they are not, these are
+  was-zero : 0 < word → (x : ℕ) → x < n → words_of old page (first + x) ≡ 0
+  was-zero some x lt = let is = turned x lt in grind (arith, nat_tests, some, is)
+
   -- none is there
-  pub turned-differ : AllDiffer old with.page first n (with.word + with.step * first) with.step
-  turned-differ x lt same = elim (cases_eq with.word 0) [
+  pub turned-differ : AllDiffer old page first n word step
+  turned-differ x lt same = elim (cases_eq word 0) [
     | inl zero ↦
-        let next : with.word + with.step * first + with.step * x ≡ 0 = rw (zero, zeros zero) (omega arith) in
-        was-other (words_of old with.page (first + x)) with.word zero (turned x lt) (same ∙ next)
-    | inr some ↦
-        let is = was-zero (words_of old with.page (first + x)) with.word (omega (arith, some)) (turned x lt) in
-        omega (arith, is, same, some)
+        let next : word + step * x ≡ 0 = rw (zero, zeros zero) (omega arith) in
+        was-other zero x lt (same ∙ next)
+    | inr some ↦ let is = was-zero (omega (arith, some)) x lt in omega (arith, is, same, some)
   ]
 
-  module _ (room : 512 * with.page + 512 ≤ length old) (small : first + n ≤ 512) where
-    -- so many are not 0 fewer, where they become 0
-    turned-fewer : with.word ≡ 0 → nonzero_in (words_of (words_set old with.page first n 0 0)) with.page + n ≡ nonzero_in (words_of old) with.page
-    turned-fewer zero = nonzero-cleared old with.page first n room small (λ x lt. was-other (words_of old with.page (first + x)) with.word zero (turned x lt))
-
-    pub turned-least : with.word ≡ 0 → n ≤ nonzero_in (words_of old) with.page
-    turned-least zero = let fewer = turned-fewer zero in omega (arith, fewer)
+  module _ (room : 512 * page + 512 ≤ length old) (small : first + n ≤ 512) where
+    pub turned-least : word ≡ 0 → n ≤ nonzero_in (words_of old) page
+    turned-least zero = let fewer = nonzero-cleared old page first n room small (was-other zero) in omega (arith, fewer)
 
     -- how many are not 0 then
-    pub turned-counted : (new : List ℕ) (count after : ℕ) → new ≡ words_set old with.page first n (with.word + with.step * first) with.step → count ≡ nonzero_in (words_of old) with.page
-        → (with.word ≡ 0 → after + n ≡ count) → (0 < with.word → after ≡ count + n) → after ≡ nonzero_in (words_of new) with.page
+    pub turned-counted : (new : List ℕ) (count after : ℕ) → new ≡ words_set old page first n word step → count ≡ nonzero_in (words_of old) page
+        → (word ≡ 0 → after + n ≡ count) → (0 < word → after ≡ count + n) → after ≡ nonzero_in (words_of new) page
     turned-counted new count after written counted less more =
-        let there = ap (λ l. nonzero_in (words_of l) with.page) written in
-        elim (cases_eq with.word 0) [
+        let there = ap (λ l. nonzero_in (words_of l) page) written in
+        elim (cases_eq word 0) [
           | inl zero ↦
-              let fewer = turned-fewer zero in
-              let next : with.word + with.step * first ≡ 0 = rw (zero, zeros zero) (omega arith) in
-              let same = ap₂ (λ a b. nonzero_in (words_of (words_set old with.page first n a b)) with.page) next (zeros zero) in
+              let fewer = nonzero-cleared old page first n room small (was-other zero) in
+              let same = ap₂ (λ a b. nonzero_in (words_of (words_set old page first n a b)) page) zero (zeros zero) in
               let is = less zero in
               omega (arith, fewer, there, same, is, counted)
           | inr some ↦
-              let above : 0 < with.word = omega (arith, some) in
-              let filled = nonzero-filled old with.page first n (with.word + with.step * first) with.step room small (λ x lt. was-zero (words_of old with.page (first + x)) with.word above (turned x lt)) (omega (arith, above)) in
+              let above : 0 < word = omega (arith, some) in
+              let filled = nonzero-filled old page first n word step room small (was-zero above) above in
               let is = more above in
               omega (arith, filled, there, is, counted)
         ]
+
+-- a page all of whose words are 0, and one that has no 0
+pub none-counted : (words : List ℕ) (page i : ℕ) → nonzero_in (words_of words) page ≡ 0 → i < 512 → (words_of words page i == 0) ≡ true
+none-counted words page i none small = let is = nonzero-zeros (words_of words) page i none small in grind (arith, nat_tests, is)
+
+pub all-counted : (words : List ℕ) (page i : ℕ) → nonzero_in (words_of words) page ≡ 512 → i < 512 → (words_of words page i == 0) ≡ false
+all-counted words page i all small = let is = nonzero-full (words_of words) page i all small in grind (arith, nat_tests, is)
+
+-- words come in the place of zeros
+pub turns-zeros : (words : List ℕ) (range : WordRange) → 0 < range.word → ((x : ℕ) → x < range.end - range.first → (words_of words range.page (range.first + x) == 0) ≡ true) → Turns words range
+turns-zeros words range some zeros = record {
+  zeros = λ zero. absurd (omega (arith, some, zero));
+  each = λ x lt. let test : not (range.word == 0) ≡ true = grind (arith, nat_tests, some) in zeros x lt ∙ sym test;
+}
+
+-- and zeros in the place of others
+pub turns-others : (words : List ℕ) (range : WordRange) → range.word ≡ 0 → range.step ≡ 0 → ((x : ℕ) → x < range.end - range.first → (words_of words range.page (range.first + x) == 0) ≡ false) → Turns words range
+turns-others words range zero same others = record {
+  zeros = λ _. same;
+  each = λ x lt. let test : not (range.word == 0) ≡ false = grind (arith, nat_tests, zero) in others x lt ∙ sym test;
+}
+
+-- ---- words that stand for pages
+
+-- their first tells whether they are 0
+pub first-zero : (with : TableWords) (i : ℕ) → (with.word ≡ 0 → with.step ≡ 0) → with.word + with.step * i ≡ 0 → with.word ≡ 0
+first-zero with i zeros zero = omega (arith, zero)
+
+pub zero-first : (with : TableWords) (i : ℕ) → (with.word ≡ 0 → with.step ≡ 0) → with.word ≡ 0 → with.word + with.step * i ≡ 0
+zero-first with i zeros zero = rw (zero, zeros zero) (omega arith)
+
+pub some-first : (with : TableWords) (i : ℕ) → (with.word ≡ 0 → with.step ≡ 0) → 0 < with.word + with.step * i → 0 < with.word
+some-first with i zeros above = elim (cases_eq with.word 0) [
+  | inl zero ↦ let all = zero-first with i zeros zero in absurd (omega (arith, above, all))
+  | inr some ↦ omega (arith, some)
+]
+
+same-test : (with : TableWords) (i : ℕ) → (with.word ≡ 0 → with.step ≡ 0) → (with.word + with.step * i == 0) ≡ (with.word == 0)
+same-test with i zeros = elim (cases_eq with.word 0) [
+  | inl zero ↦ let all = zero-first with i zeros zero in grind (arith, nat_tests, zero, all)
+  | inr some ↦ let all : with.word + with.step * i ≢ 0 = λ none. some (first-zero with i zeros none) in grind (arith, nat_tests, some, all)
+]
+
+pub turned-word : (old : List ℕ) (with : TableWords) (first i : ℕ) → (with.word ≡ 0 → with.step ≡ 0) → IsTurned old with i → (words_of old with.page i == 0) ≡ not (with.word + with.step * first == 0)
+turned-word old with first i zeros turned = turned ∙ ap not (sym (same-test with first zeros))
+
+-- those from one index up to another are turned as a range
+pub turned-range : (old : List ℕ) (with : TableWords) (first end : ℕ) → (with.word ≡ 0 → with.step ≡ 0) → ((i : ℕ) → first ≤ i → i < end → IsTurned old with i)
+    → Turns old (record { page = with.page; first = first; end = end; word = with.word + with.step * first; step = with.step })
+turned-range old with first end zeros turned = record {
+  zeros = λ zero. zeros (first-zero with first zeros zero);
+  each = λ x lt. turned-word old with first (first + x) zeros (turned (first + x) (omega arith) (omega (arith, lt)));
+}
 
 -- one word
 pub set-one : (words : List ℕ) (page index next step : ℕ) → slice_set words (512 * page + index) next ≡ words_set words page index 1 next step
@@ -71,37 +118,19 @@ set-one words page index next step =
 
 -- the words from one index up to another stand for pages of the run
 pub run-at : (start i : ℕ) (run : PageRun) → index_from start run.first ≤ i → i < index_from start (run.first + run.count) → in_run run (start + i) ≡ true
-run-at start i run from below = let low : run.first ≤ start + i = omega (arith, from, below) in let high : start + i < run.first + run.count = omega (arith, below) in grind (arith, nat_tests, low, high)
+run-at start i run from below =
+    let low : run.first ≤ start + i = omega (arith, from, below) in
+    let high : start + i < run.first + run.count = omega (arith, below) in
+    grind (arith, nat_tests, low, high)
 
 pub runs-left : (runs : List PageRun) (i : ℕ) (run : PageRun) → i < length runs → run ≡ get_or runs i run → drop i runs ≡ run ∷ drop (i + 1) runs
 runs-left runs i run lt is = at_drop_more (λ l. l) runs i run lt ∙ ap (λ r. r ∷ drop (i + 1) runs) (sym is)
 
-pub turned-first : (old : List ℕ) (with : TableWords) (run : PageRun) (runs : List PageRun) → TurnRuns old with (run ∷ runs) → TurnRuns old with (run ∷ [])
-turned-first old with run runs all = record {
-  zeros = all.zeros;
-  each = λ i small within. all.each i small (first (in_run run (with.start + i)) (covers runs (with.start + i)) within);
-}
-  where
-    first : (a b : Bool) → (a || false) ≡ true → (a || b) ≡ true
-    first true b is = refl
-    first false b is = absurd (cc)
-
--- the others are turned still, once its words are written
-pub turned-rest : (old new : List ℕ) (with : TableWords) (run : PageRun) (runs : List PageRun) → TurnRuns old with (run ∷ runs) → rise (run.first + run.count) runs ≡ true
-    → ((i : ℕ) → index_from with.start (run.first + run.count) ≤ i → words_of new with.page i ≡ words_of old with.page i) → TurnRuns new with runs
-turned-rest old new with run runs all up beside = record {
-  zeros = all.zeros;
-  each = λ i small within. elim (cases_lt (with.start + i) (run.first + run.count)) [
-    | inl lt ↦ let none = before-rise runs (run.first + run.count) (with.start + i) up lt in absurd (cc)
-    | inr past ↦
-        let behind : index_from with.start (run.first + run.count) ≤ i = omega (arith, past) in
-        ap (λ (n : ℕ). n == 0) (beside i behind) ∙ all.each i small (rw within (or-right with.start (in_run run (with.start + i))))
-  ];
-}
+pub runs-done : (runs : List PageRun) (i : ℕ) → length runs ≤ i → drop i runs ≡ []
+runs-done runs i all = at_drop_all (λ l. l) runs i all
 
 -- a page alone, whose word stands at an index
-pub turned-alone : (old : List ℕ) (with : TableWords) (page number index : ℕ) → with.start < 2 ^ 27 → number ≡ page → page < 2 ^ 27 → index ≡ (number + (2 ^ 32 - with.start)) % 2 ^ 32 → index < 512
-    → TurnRuns old with (page_alone page ∷ []) → (x : ℕ) → x < 1 → IsTurned old with (index + x)
-turned-alone old with page number index start_in same inside is small all x one =
-    let here : in_run (page_alone page) (with.start + (index + x)) ≡ true = (let at : with.start + (index + x) ≡ page = omega (arith, start_in, same, inside, is, small, one) in grind (arith, nat_tests, at)) in
-    all.each (index + x) (omega (arith, small, one)) (rw here refl)
+pub turned-alone : (old : List ℕ) (with : TableWords) (page index : ℕ) → index < 512 → with.start + index ≡ page → TurnRuns old with (page_alone page ∷ []) → IsTurned old with index
+turned-alone old with page index small is all =
+    let here : in_run (page_alone page) (with.start + index) ≡ true = grind (arith, nat_tests, is) in
+    all.each index small (rw here refl)

@@ -12,10 +12,6 @@ use Rattle.pool.specs.Pool.{Pool, words_of, lies_in, words_set, sets_of, index_f
 use Rattle.pool.specs.declared.operation.Op.{Op}
 use Rattle.pool.specs.declared.operation.Op.TheVariants.{Set, Invalidate}
 
--- one operation more
-pub within-push : (ids quotas : List ℕ) (ops : List Op) (op : Op) → lies_in ids quotas op ≡ true → list_all (lies_in ids quotas) (reverse ops) ≡ true → list_all (lies_in ids quotas) (reverse (ops ++ op ∷ [])) ≡ true
-within-push ids quotas ops op here all = rw (reverse-append ops (op ∷ []), here) all
-
 pub set-within : (ids quotas : List ℕ) (page index word : ℕ) → page < page_count quotas → index < 512 → lies_in ids quotas (Set page index word) ≡ true
 set-within ids quotas page index word inside small = grind (arith, nat_tests, inside, small)
 

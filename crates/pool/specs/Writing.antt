@@ -2,11 +2,13 @@
 use Rattle.std.specs.Prelude.{◌≡◌, ◌≢◌, ℕ, ◌+◌, ◌-◌, ◌*◌, ◌<◌, ◌≤◌, ◌^◌, ◌++◌, ◌==◌, not, Bool, true, List, length, reverse, Vec, vec_len, vec_capacity}
 use Rattle.std.specs.declared.alloc.Global.{Global}
 use Rattle.base.specs.Pages.{PageRun, covers}
-use Rattle.pool.specs.Pool.{Pool, words_of, words_set, sets_of, after_sets, index_from, gaps_of, after_replaces}
+use Rattle.pool.specs.Pool.{Pool, words_of, nonzero_in, words_set, sets_of, after_sets, after_runs, gaps_of, after_replaces}
 use Rattle.pool.specs.Shown.{IsShown, AllDiffer}
+use Rattle.pool.specs.declared.log.Log.{Log}
 use Rattle.pool.specs.declared.operation.Op.{Op}
 use Rattle.pool.specs.declared.replace.Replacement.{Replacement}
 use Rattle.pool.specs.declared.runs.TableWords.{TableWords}
+use Rattle.pool.specs.declared.stretch.WordAt.{WordAt}
 use Rattle.pool.specs.declared.word_range.WordRange.{WordRange}
 
 -- ---- the list of operations
@@ -20,10 +22,27 @@ pub record Grows (most : ℕ) (old new : Vec Op Global) : Type 0 where
   pub len : vec_len new ≤ vec_len old + most
   pub capacity : vec_capacity new ≡ vec_capacity old
 
--- where a store's words and a list show a pool, those after show what a step makes of it
-abbrev pub Shows : (Pool → Pool) → List ℕ → List ℕ → List Op → List Op → Type 0
-Shows step words now old new =
-    (pool : Pool) → IsShown words old pool → IsShown now new (step pool)
+abbrev pub log_of : Vec Op Global → ℕ → Log
+log_of operations nonzero = record { operations = operations; nonzero = nonzero }
+
+-- a log counts the words of a page that are not 0, and has room for so many more operations
+pub record IsReady (words : List ℕ) (page more : ℕ) (log : Log) : Type 0 where
+  pub counted : log.nonzero ≡ nonzero_in (words_of words) page
+  pub room : HasRoom log.operations more
+
+-- What is written of a page is a step, of so many operations at most: where a store's words and a log show a pool, those after show what the step makes of it.
+pub record Wrote (step : Pool → Pool) (page most : ℕ) (old new : List ℕ) (before after : Log) : Type 0 where
+  pub shown : (pool : Pool) → IsShown old before.operations.items pool → IsShown new after.operations.items (step pool)
+  pub whole : length new ≡ length old
+  pub counted : after.nonzero ≡ nonzero_in (words_of new) page
+  pub grows : Grows most before.operations after.operations
+
+-- ---- the words of a page
+
+-- its words may be looked at and written: it stands in memory
+pub record IsHeld (words : List ℕ) (stands : ℕ → Bool) (page : ℕ) : Type 0 where
+  pub inside : 512 * page + 512 ≤ length words
+  pub standing : stands page ≡ true
 
 -- ---- the words of a range
 
@@ -36,6 +55,10 @@ with_range words range =
 abbrev pub writes_of : List ℕ → WordRange → List Op
 writes_of words range =
     sets_of words range.page range.first (range.end - range.first) range.word range.step
+
+-- and what both make of a pool
+abbrev pub range_set : WordRange → Pool → Pool
+range_set range = after_sets range.page range.first (range.end - range.first) range.word range.step
 
 -- none of them is there
 abbrev pub NoneThere : List ℕ → WordRange → Type 0
@@ -54,6 +77,12 @@ pub record IsMissing (words : List ℕ) (range : WordRange) : Type 0 where
   pub small : index < range.end - range.first
   pub other : words_of words range.page (range.first + index) ≢ range.word + range.step * index
 
+-- none is there, and it is known which are 0: exactly those in whose place others come
+pub record Turns (words : List ℕ) (range : WordRange) : Type 0 where
+  pub zeros : range.word ≡ 0 → range.step ≡ 0
+  pub each : (x : ℕ) → x < range.end - range.first
+      → (words_of words range.page (range.first + x) == 0) ≡ not (range.word == 0)
+
 -- all words of a page are 0
 abbrev pub zeros_of : ℕ → WordRange
 zeros_of page = record { page = page; first = 0; end = 512; word = 0; step = 0 }
@@ -63,12 +92,19 @@ pub record MayWrite (words : List ℕ) (stands : ℕ → Bool) (range : WordRang
   pub ordered : range.first ≤ range.end
   pub index_in : range.end ≤ 512
   pub in_range : range.word + range.step * (range.end - range.first) < 2 ^ 64
-  pub inside : 512 * range.page + 512 ≤ length words
-  pub standing : stands range.page ≡ true
+  pub page_in : IsHeld words stands range.page
 
 -- the writes of those that are not there are recorded behind operations
 abbrev pub Records : List ℕ → WordRange → List Op → List Op → Type 0
 Records words range old new = reverse new ≡ writes_of words range ++ reverse old
+
+-- ---- one word
+
+-- it may be written, and whether the word in its place is 0 is known
+pub record MayWriteAt (words : List ℕ) (stands : ℕ → Bool) (at : WordAt) (before : ℕ) : Type 0 where
+  pub index_in : at.index < 512
+  pub page_in : IsHeld words stands at.page
+  pub turned : (before == 0) ≡ (words_of words at.page at.index == 0)
 
 -- ---- words that stand for pages of runs
 
@@ -76,8 +112,7 @@ Records words range old new = reverse new ≡ writes_of words range ++ reverse o
 pub record MayWriteRuns (words : List ℕ) (stands : ℕ → Bool) (with : TableWords) : Type 0 where
   pub start_in : with.start < 2 ^ 27
   pub in_range : with.word + with.step * 512 < 2 ^ 64
-  pub inside : 512 * with.page + 512 ≤ length words
-  pub standing : stands with.page ≡ true
+  pub page_in : IsHeld words stands with.page
 
 -- each of them that stands for a page in none of the runs is there
 abbrev pub AreGapsThere : List ℕ → TableWords → List PageRun → Type 0
@@ -112,14 +147,13 @@ pub record TurnRuns (words : List ℕ) (with : TableWords) (runs : List PageRun)
 abbrev pub TurnGaps : List ℕ → TableWords → List PageRun → Type 0
 TurnGaps words with runs = TurnRuns words with (gaps_of with.start runs)
 
--- those from one index up to another are written
-abbrev pub sets_from : TableWords → ℕ → ℕ → Pool → Pool
-sets_from with first end pool =
-    after_sets with.page first (end - first) (with.word + with.step * first) with.step pool
+-- what they make of a pool, for the pages of runs
+abbrev pub runs_set : TableWords → List PageRun → Pool → Pool
+runs_set with runs = after_runs with.page with.start with.word with.step runs
 
--- how many of them stand for pages of a run
-abbrev pub words_for : ℕ → PageRun → ℕ
-words_for start run = index_from start (run.first + run.count) - index_from start run.first
+-- and from one index up to another
+abbrev pub indexes_set : TableWords → ℕ → ℕ → Pool → Pool
+indexes_set with first end = after_sets with.page first (end - first) (with.word + with.step * first) with.step
 
 -- the run of one page
 abbrev pub page_alone : ℕ → PageRun

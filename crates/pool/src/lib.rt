@@ -5,6 +5,7 @@ mod block;
 mod cells;
 mod image;
 mod list_pool;
+mod log;
 mod looks;
 mod operation;
 mod places;

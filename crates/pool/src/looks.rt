@@ -1,12 +1,12 @@
 //! Looks at words of a page that stands in memory. A loop over many of them has no end at the first that decides: so it
 //! becomes vector instructions.
 
-ghost use Rattle.std.specs.Prelude.{◌≡◌, ◌≢◌, ℕ, ◌+◌, ◌-◌, ◌*◌, ◌^◌, ◌<◌, ◌≤◌, true, false, length};
+ghost use Rattle.std.specs.Prelude.{◌≡◌, ◌≢◌, ℕ, ◌+◌, ◌-◌, ◌*◌, ◌^◌, ◌<◌, ◌≤◌, ◌==◌, not, true, false};
 ghost use Rattle.base.specs.Pages.{covers, in_run};
 ghost use Rattle.pool.specs.Pool.{words_of};
-ghost use Rattle.pool.specs.Writing.{MayWrite, AreThere, IsMissing, MayWriteRuns, AreGapsThere, IsGapMissing, HasZero};
+ghost use Rattle.pool.specs.Writing.{IsHeld, MayWrite, AreThere, IsMissing, MayWriteRuns, AreGapsThere, IsGapMissing, HasZero};
 
-use crate::runs::{TableWords, index_from};
+use crate::runs::{TableWords, index_at, index_from};
 use crate::word_range::WordRange;
 use crate::word_store::WordStore;
 use base::Run;
@@ -14,36 +14,19 @@ use base::Run;
 /// How many words a page has.
 pub(crate) const WORDS: u32 = 512;
 
-/// Whether the words of a page from one index up to another are all 0.
+/// Whether the words of a page from one index up to another are all 0, or whether none is.
 #[inline(always)]
-pub(crate) fn are_zeros<S: WordStore>(store: &S, page: u32, first: u32, end: u32) -> bool
+pub(crate) fn are_all<S: WordStore>(store: &S, page: u32, first: u32, end: u32, zero: bool) -> bool
     requires index_in { end ≤ 512 }
-    requires inside { 512 * page + 512 ≤ length (S.words store.now) }
-    requires standing { S.stands store.now page ≡ true }
-    ensures { result ≡ true → (x : ℕ) → x < end - first
-        → words_of (S.words store.now) page (first + x) ≡ 0 }
-{
-    let mut are = true;
-    for index in first..end {
-        are &= store.standing_word(page, index) == 0;
-    }
-    are
-}
-
-/// Whether none of them is 0.
-#[inline(always)]
-pub(crate) fn are_others<S: WordStore>(store: &S, page: u32, first: u32, end: u32) -> bool
-    requires index_in { end ≤ 512 }
-    requires inside { 512 * page + 512 ≤ length (S.words store.now) }
-    requires standing { S.stands store.now page ≡ true }
+    requires page_in { IsHeld (S.words store.now) (S.stands store.now) page }
     ensures yes { result ≡ true → (x : ℕ) → x < end - first
-        → words_of (S.words store.now) page (first + x) ≢ 0 }
+        → (words_of (S.words store.now) page (first + x) == 0) ≡ zero }
     ensures no { result ≡ false → (x : ℕ) × (x < end - first)
-        × (words_of (S.words store.now) page (first + x) ≡ 0) }
+        × ((words_of (S.words store.now) page (first + x) == 0) ≡ not zero) }
 {
     let mut are = true;
     for index in first..end {
-        are &= store.standing_word(page, index) != 0;
+        are &= (store.standing_word(page, index) == 0) == zero;
     }
     are
 }
@@ -67,8 +50,7 @@ pub(crate) fn are_there<S: WordStore>(store: &S, range: WordRange) -> bool
 /// Whether none of the words is 0 that stand for pages of a run, where the first of the page stands for `start`.
 #[inline(always)]
 fn is_filled<S: WordStore>(store: &S, page: u32, start: u32, run: Run) -> bool
-    requires inside { 512 * page + 512 ≤ length (S.words store.now) }
-    requires standing { S.stands store.now page ≡ true }
+    requires page_in { IsHeld (S.words store.now) (S.stands store.now) page }
     requires start_in { start < 2 ^ 27 }
     ensures yes { result ≡ true → (i : ℕ) → i < 512 → in_run run (start + i) ≡ true
         → words_of (S.words store.now) page i ≢ 0 }
@@ -76,7 +58,7 @@ fn is_filled<S: WordStore>(store: &S, page: u32, start: u32, run: Run) -> bool
         × (words_of (S.words store.now) page i ≡ 0) }
 {
     if run.count() == 1 {
-        let index = run.first().number().wrapping_sub(start);
+        let index = index_at(start, run.first());
         if index >= WORDS {
             return true;
         }
@@ -84,13 +66,12 @@ fn is_filled<S: WordStore>(store: &S, page: u32, start: u32, run: Run) -> bool
     }
     let first = index_from(start, run.first().number());
     let end = index_from(start, run.end());
-    are_others(store, page, first, end)
+    are_all(store, page, first, end, false)
 }
 
 /// Whether none of the words is 0 that stand for pages of runs.
 pub(crate) fn are_filled<S: WordStore>(store: &S, page: u32, start: u32, runs: &[Run]) -> bool
-    requires inside { 512 * page + 512 ≤ length (S.words store.now) }
-    requires standing { S.stands store.now page ≡ true }
+    requires page_in { IsHeld (S.words store.now) (S.stands store.now) page }
     requires start_in { start < 2 ^ 27 }
     ensures yes { result ≡ true → (i : ℕ) → i < 512 → covers runs.now (start + i) ≡ true
         → words_of (S.words store.now) page i ≢ 0 }

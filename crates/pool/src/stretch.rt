@@ -1,10 +1,12 @@
 //! Words of a page that follow one another, and are written at once.
 
-ghost use Rattle.std.specs.Prelude.{◌≡◌, ℕ, List, true, ◌+◌, ◌-◌, ◌*◌, ◌^◌, ◌<◌, ◌≤◌, ◌⊎◌, length, if◌then◌else◌, ◌==◌};
-ghost use Rattle.pool.specs.Pool.{words_of, nonzero_in};
-ghost use Rattle.pool.specs.Writing.{with_range, writes_of, zeros_of, NoneThere, MayWrite, Records, HasRoom, Grows};
+ghost use Rattle.std.specs.Prelude.{◌≡◌, ℕ, List, ◌+◌, ◌-◌, ◌*◌, ◌^◌, ◌<◌, ◌≤◌, ◌++◌, ◌∷◌, [], ◌⊎◌, length, slice_set, if◌then◌else◌, ◌==◌};
+ghost use Rattle.pool.specs.Pool.{after_set};
+ghost use Rattle.pool.specs.declared.operation.Op.TheVariants.{Set};
+ghost use Rattle.pool.specs.Writing.{range_set, writes_of, zeros_of, log_of, NoneThere, Turns, IsHeld, MayWrite, MayWriteAt, Records, HasRoom, Grows, IsReady, Wrote};
 
-use crate::looks::{WORDS, are_others, are_zeros};
+use crate::log::Log;
+use crate::looks::{WORDS, are_all};
 use crate::operation::Op;
 use crate::word_range::WordRange;
 use crate::word_store::WordStore;
@@ -15,14 +17,74 @@ const MOST: u32 = 64;
 /// Fewer words than these are written one by one: to look at them all before takes longer.
 const FEW: u32 = 4;
 
+/// A word that is to stand in a page.
+#[derive(Clone, Copy)]
+pub(crate) struct WordAt {
+    pub(crate) page: u32,
+    pub(crate) index: u32,
+    pub(crate) word: u64,
+}
+
 /// How many words of a page are not 0, once one that was this is that.
 #[inline(always)]
-pub(crate) fn recounted(count: u32, before: u64, after: u64) -> u32
+fn recounted(count: u32, before: u64, after: u64) -> u32
     requires counted { 1 ≤ count ⊎ (before ≡ 0) }
     requires most { count ≤ 512 }
     ensures { result + (if before == 0 then 0 else 1) ≡ count + (if after == 0 then 0 else 1) }
 {
     count + u32::from(after != 0) - u32::from(before != 0)
+}
+
+/// How many words of a page are not 0, once so many were turned: they were 0, or they are, where the new word is 0.
+#[inline(always)]
+pub(crate) fn recounted_all(count: u32, written: u32, word: u64) -> u32
+    requires least { word ≡ 0 → written ≤ count }
+    requires most { count ≤ 512 }
+    requires few { written ≤ 512 }
+    ensures zeros { word ≡ 0 → result + written ≡ count }
+    ensures others { 0 < word → result ≡ count + written }
+{
+    if word == 0 {
+        count - written
+    } else {
+        count + written
+    }
+}
+
+/// Writes a word, and records the write behind these operations.
+#[inline(always)]
+pub(crate) fn put_word<S: WordStore>(store: &mut S, operations: &mut Vec<Op>, at: WordAt)
+    requires index_in { at.index < 512 }
+    requires page_in { IsHeld (S.words store.old) (S.stands store.old) at.page }
+    requires ready { HasRoom operations.old 1 }
+    ensures words { S.words store.new ≡ slice_set (S.words store.old) (512 * at.page + at.index) at.word }
+    ensures standing { S.stands store.new ≡ S.stands store.old }
+    ensures items { operations.new.items ≡ operations.old.items ++ Set at.page at.index at.word ∷ [] }
+    ensures grows { Grows 1 operations.old operations.new }
+{
+    let WordAt { page, index, word } = at;
+    store.set_word(page, index, word);
+    operations.push_reserved(Op::Set { page, index, word });
+}
+
+/// The same. It answers how many words of the page are not 0: the word in whose place this one comes is 0 exactly where
+/// `before` is.
+#[inline(always)]
+pub(crate) fn write_word<S: WordStore>(
+    store: &mut S,
+    operations: &mut Vec<Op>,
+    nonzero: u32,
+    before: u64,
+    at: WordAt,
+) -> u32
+    requires may { MayWriteAt (S.words store.old) (S.stands store.old) at before }
+    requires ready { IsReady (S.words store.old) at.page 1 (log_of operations.old nonzero) }
+    ensures wrote { Wrote (after_set at.page at.index at.word) at.page 1 (S.words store.old) (S.words store.new)
+        (log_of operations.old nonzero) (log_of operations.new result) }
+    ensures standing { S.stands store.new ≡ S.stands store.old }
+{
+    put_word(store, operations, at);
+    recounted(nonzero, before, at.word)
 }
 
 /// Records the writes of all words of a range behind these operations.
@@ -48,82 +110,68 @@ fn record_all(mut operations: Vec<Op>, range: WordRange) -> Vec<Op>
     operations
 }
 
-/// Writes all of these words, none of which is there, and records each write behind these operations.
+/// Writes words of which it is known that none is there, and which of those in whose place they come are 0.
 #[inline(always)]
-pub(crate) fn write_all<S: WordStore>(
-    store: &mut S,
-    operations: Vec<Op>,
-    range: WordRange,
-) -> Vec<Op>
+pub(crate) fn turn_all<S: WordStore>(store: &mut S, log: Log, range: WordRange) -> Log
     requires may { MayWrite (S.words store.old) (S.stands store.old) range }
-    requires differ { NoneThere (S.words store.old) range }
-    requires ready { HasRoom operations (range.end - range.first) }
-    ensures words { S.words store.new ≡ with_range (S.words store.old) range }
+    requires turned { Turns (S.words store.old) range }
+    requires ready { IsReady (S.words store.old) range.page (range.end - range.first) log }
+    ensures wrote { Wrote (range_set range) range.page (range.end - range.first)
+        (S.words store.old) (S.words store.new) log result }
     ensures standing { S.stands store.new ≡ S.stands store.old }
-    ensures records { Records (S.words store.old) range operations.items result.items }
-    ensures grows { Grows (range.end - range.first) operations result }
 {
+    let Log {
+        operations,
+        nonzero,
+    } = log;
     let operations = record_all(operations, range);
     store.set_words(range);
-    operations
-}
-
-/// Writes words that are not there, and records each write behind these operations. It answers these,
-/// and how many words of the page are not 0.
-#[inline(always)]
-pub(crate) fn write_others<S: WordStore>(
-    store: &mut S,
-    mut operations: Vec<Op>,
-    mut count: u32,
-    range: WordRange,
-) -> (Vec<Op>, u32)
-    requires may { MayWrite (S.words store.old) (S.stands store.old) range }
-    requires counted { count ≡ nonzero_in (words_of (S.words store.old)) range.page }
-    requires ready { HasRoom operations (length (writes_of (S.words store.old) range)) }
-    ensures words { S.words store.new ≡ with_range (S.words store.old) range }
-    ensures standing { S.stands store.new ≡ S.stands store.old }
-    ensures records { Records (S.words store.old) range operations.items result.0.items }
-    ensures counted { result.1 ≡ nonzero_in (words_of (S.words store.new)) range.page }
-    ensures grows { Grows (range.end - range.first) operations result.0 }
-{
-    let mut word = range.word;
-    for index in range.first..range.end {
-        let before = store.standing_word(range.page, index);
-        if before != word {
-            store.set_word(range.page, index, word);
-            count = recounted(count, before, word);
-            operations.push_reserved(Op::Set {
-                page: range.page,
-                index,
-                word,
-            });
-        }
-        word += range.step;
+    let nonzero = recounted_all(nonzero, range.end - range.first, range.word);
+    Log {
+        operations,
+        nonzero,
     }
-    (operations, count)
 }
 
-/// Writes 0 where another word is there, and records each write behind these operations. It answers these, and how
-/// many words of the page are not 0. A part of a table that is emptied has mostly zeros alone, or none: its first word
-/// tells which it is looked at for. It is inlined where it is known that the word and the step are 0.
+/// Writes the words that are not there, one by one.
 #[inline(always)]
-fn clear_part<S: WordStore>(
-    store: &mut S,
-    operations: Vec<Op>,
-    count: u32,
-    range: WordRange,
-) -> (Vec<Op>, u32)
+pub(crate) fn write_others<S: WordStore>(store: &mut S, mut log: Log, range: WordRange) -> Log
+    requires may { MayWrite (S.words store.old) (S.stands store.old) range }
+    requires ready { IsReady (S.words store.old) range.page (length (writes_of (S.words store.old) range)) log }
+    ensures wrote { Wrote (range_set range) range.page (range.end - range.first)
+        (S.words store.old) (S.words store.new) log result }
+    ensures standing { S.stands store.new ≡ S.stands store.old }
+{
+    let WordRange {
+        page,
+        first,
+        end,
+        mut word,
+        step,
+    } = range;
+    for index in first..end {
+        let before = store.standing_word(page, index);
+        if before != word {
+            let at = WordAt { page, index, word };
+            log.nonzero = write_word(store, &mut log.operations, log.nonzero, before, at);
+        }
+        word += step;
+    }
+    log
+}
+
+/// Writes 0 where another word is there. A part of a table that is emptied has mostly zeros alone, or none: its first
+/// word tells which it is looked at for. It is inlined where it is known that the word and the step are 0.
+#[inline(always)]
+fn clear_part<S: WordStore>(store: &mut S, log: Log, range: WordRange) -> Log
     requires may { MayWrite (S.words store.old) (S.stands store.old) range }
     requires some { range.first < range.end }
     requires zero { range.word ≡ 0 }
     requires same { range.step ≡ 0 }
-    requires counted { count ≡ nonzero_in (words_of (S.words store.old)) range.page }
-    requires ready { HasRoom operations (length (writes_of (S.words store.old) range)) }
-    ensures words { S.words store.new ≡ with_range (S.words store.old) range }
+    requires ready { IsReady (S.words store.old) range.page (length (writes_of (S.words store.old) range)) log }
+    ensures wrote { Wrote (range_set range) range.page (range.end - range.first)
+        (S.words store.old) (S.words store.new) log result }
     ensures standing { S.stands store.new ≡ S.stands store.old }
-    ensures records { Records (S.words store.old) range operations.items result.0.items }
-    ensures counted { result.1 ≡ nonzero_in (words_of (S.words store.new)) range.page }
-    ensures grows { Grows (range.end - range.first) operations result.0 }
 {
     let WordRange {
         page,
@@ -131,36 +179,26 @@ fn clear_part<S: WordStore>(
         end,
         ..
     } = range;
-    let written = end - first;
     if store.standing_word(page, first) == 0 {
-        if are_zeros(store, page, first, end) {
-            return (operations, count);
+        if are_all(store, page, first, end, true) {
+            return log;
         }
-    } else if written <= count && are_others(store, page, first, end) {
-        return (write_all(store, operations, range), count - written);
+    } else if end - first <= log.nonzero && are_all(store, page, first, end, false) {
+        return turn_all(store, log, range);
     }
-    write_others(store, operations, count, range)
+    write_others(store, log, range)
 }
 
-/// Writes the words of a part that are not there, and records each write behind these operations. It answers these,
-/// and how many words of the page are not 0. Where the count of the page lets all words of the part be 0, they are
+/// Writes the words of a part that are not there. Where the count of the page lets all words of the part be 0, they are
 /// looked at together first: if they are, none is there.
 #[inline(always)]
-fn write_part<S: WordStore>(
-    store: &mut S,
-    operations: Vec<Op>,
-    count: u32,
-    range: WordRange,
-) -> (Vec<Op>, u32)
+fn write_part<S: WordStore>(store: &mut S, log: Log, range: WordRange) -> Log
     requires may { MayWrite (S.words store.old) (S.stands store.old) range }
     requires some { range.first < range.end }
-    requires counted { count ≡ nonzero_in (words_of (S.words store.old)) range.page }
-    requires ready { HasRoom operations (range.end - range.first) }
-    ensures words { S.words store.new ≡ with_range (S.words store.old) range }
+    requires ready { IsReady (S.words store.old) range.page (range.end - range.first) log }
+    ensures wrote { Wrote (range_set range) range.page (range.end - range.first)
+        (S.words store.old) (S.words store.new) log result }
     ensures standing { S.stands store.new ≡ S.stands store.old }
-    ensures records { Records (S.words store.old) range operations.items result.0.items }
-    ensures counted { result.1 ≡ nonzero_in (words_of (S.words store.new)) range.page }
-    ensures grows { Grows (range.end - range.first) operations result.0 }
 {
     let WordRange {
         page,
@@ -168,131 +206,93 @@ fn write_part<S: WordStore>(
         end,
         ..
     } = range;
-    let written = end - first;
-    if range.word > 0 && count <= WORDS - written && are_zeros(store, page, first, end) {
-        return (write_all(store, operations, range), count + written);
+    let most = WORDS - (end - first);
+    if range.word > 0 && log.nonzero <= most && are_all(store, page, first, end, true) {
+        return turn_all(store, log, range);
     }
     if range.word == 0 && range.step == 0 {
-        return clear_part(store, operations, count, range);
+        return clear_part(store, log, range);
     }
-    write_others(store, operations, count, range)
+    write_others(store, log, range)
 }
 
 /// Writes many words, part by part.
-fn write_parts<S: WordStore>(
-    store: &mut S,
-    mut operations: Vec<Op>,
-    mut count: u32,
-    range: WordRange,
-) -> (Vec<Op>, u32)
+fn write_parts<S: WordStore>(store: &mut S, mut log: Log, range: WordRange) -> Log
     requires may { MayWrite (S.words store.old) (S.stands store.old) range }
-    requires counted { count ≡ nonzero_in (words_of (S.words store.old)) range.page }
-    requires ready { HasRoom operations (range.end - range.first) }
-    ensures words { S.words store.new ≡ with_range (S.words store.old) range }
+    requires ready { IsReady (S.words store.old) range.page (range.end - range.first) log }
+    ensures wrote { Wrote (range_set range) range.page (range.end - range.first)
+        (S.words store.old) (S.words store.new) log result }
     ensures standing { S.stands store.new ≡ S.stands store.old }
-    ensures records { Records (S.words store.old) range operations.items result.0.items }
-    ensures counted { result.1 ≡ nonzero_in (words_of (S.words store.new)) range.page }
-    ensures grows { Grows (range.end - range.first) operations result.0 }
 {
     let WordRange {
-        page,
+        mut first,
         end,
+        mut word,
         step,
         ..
     } = range;
-    let mut first = range.first;
-    let mut word = range.word;
     while first < end {
         let written = (end - first).min(MOST);
         let part = WordRange {
-            page,
             first,
             end: first + written,
             word,
-            step,
+            ..range
         };
-        (operations, count) = write_part(store, operations, count, part);
+        log = write_part(store, log, part);
         first += written;
         word += step * u64::from(written);
     }
-    (operations, count)
+    log
 }
 
 /// Writes many words. Where all words of the page are 0, or none is, their count tells which are not there, and none is
 /// looked at.
-fn write_many<S: WordStore>(
-    store: &mut S,
-    operations: Vec<Op>,
-    count: u32,
-    range: WordRange,
-) -> (Vec<Op>, u32)
+fn write_many<S: WordStore>(store: &mut S, log: Log, range: WordRange) -> Log
     requires may { MayWrite (S.words store.old) (S.stands store.old) range }
-    requires counted { count ≡ nonzero_in (words_of (S.words store.old)) range.page }
-    requires ready { HasRoom operations (range.end - range.first) }
-    ensures words { S.words store.new ≡ with_range (S.words store.old) range }
+    requires ready { IsReady (S.words store.old) range.page (range.end - range.first) log }
+    ensures wrote { Wrote (range_set range) range.page (range.end - range.first)
+        (S.words store.old) (S.words store.new) log result }
     ensures standing { S.stands store.new ≡ S.stands store.old }
-    ensures records { Records (S.words store.old) range operations.items result.0.items }
-    ensures counted { result.1 ≡ nonzero_in (words_of (S.words store.new)) range.page }
-    ensures grows { Grows (range.end - range.first) operations result.0 }
 {
-    let written = range.end - range.first;
-    if count == 0 && range.word > 0 {
-        return (write_all(store, operations, range), written);
+    if log.nonzero == 0 && range.word > 0 {
+        return turn_all(store, log, range);
     }
-    if count == WORDS && range.word == 0 && range.step == 0 {
-        return (write_all(store, operations, range), WORDS - written);
+    if log.nonzero == WORDS && range.word == 0 && range.step == 0 {
+        return turn_all(store, log, range);
     }
-    write_parts(store, operations, count, range)
+    write_parts(store, log, range)
 }
 
-/// Writes words that are not there, and records each write behind these operations. It answers these,
-/// and how many words of the page are not 0. The list is owned meanwhile, so that its length can stay
-/// in a register. Few words are written here, without a call.
+/// Writes words that are not there. Few are written here, without a call.
 #[inline(always)]
-pub(crate) fn write_words<S: WordStore>(
-    store: &mut S,
-    operations: Vec<Op>,
-    count: u32,
-    range: WordRange,
-) -> (Vec<Op>, u32)
+pub(crate) fn write_words<S: WordStore>(store: &mut S, log: Log, range: WordRange) -> Log
     requires may { MayWrite (S.words store.old) (S.stands store.old) range }
-    requires counted { count ≡ nonzero_in (words_of (S.words store.old)) range.page }
-    requires ready { HasRoom operations (range.end - range.first) }
-    ensures words { S.words store.new ≡ with_range (S.words store.old) range }
+    requires ready { IsReady (S.words store.old) range.page (range.end - range.first) log }
+    ensures wrote { Wrote (range_set range) range.page (range.end - range.first)
+        (S.words store.old) (S.words store.new) log result }
     ensures standing { S.stands store.new ≡ S.stands store.old }
-    ensures records { Records (S.words store.old) range operations.items result.0.items }
-    ensures counted { result.1 ≡ nonzero_in (words_of (S.words store.new)) range.page }
-    ensures grows { Grows (range.end - range.first) operations result.0 }
 {
     let written = range.end - range.first;
     if written < FEW {
-        return write_others(store, operations, count, range);
+        return write_others(store, log, range);
     }
     if written <= MOST {
-        return write_part(store, operations, count, range);
+        return write_part(store, log, range);
     }
-    write_many(store, operations, count, range)
+    write_many(store, log, range)
 }
 
-/// Writes 0 into each word of a page that is not 0, part by part until none is left, and records each write behind
-/// these operations.
-fn clear_parts<S: WordStore>(
-    store: &mut S,
-    mut operations: Vec<Op>,
-    mut count: u32,
-    page: u32,
-) -> Vec<Op>
-    requires inside { 512 * page + 512 ≤ length (S.words store.old) }
-    requires standing { S.stands store.old page ≡ true }
-    requires counted { count ≡ nonzero_in (words_of (S.words store.old)) page }
-    requires ready { HasRoom operations count }
-    ensures words { S.words store.new ≡ with_range (S.words store.old) (zeros_of page) }
+/// Writes 0 into each word of a page that is not 0, part by part until none is left.
+fn clear_parts<S: WordStore>(store: &mut S, mut log: Log, page: u32) -> Log
+    requires page_in { IsHeld (S.words store.old) (S.stands store.old) page }
+    requires ready { IsReady (S.words store.old) page log.nonzero log }
+    ensures wrote { Wrote (range_set (zeros_of page)) page log.nonzero
+        (S.words store.old) (S.words store.new) log result }
     ensures standing { S.stands store.new ≡ S.stands store.old }
-    ensures records { Records (S.words store.old) (zeros_of page) operations.items result.items }
-    ensures grows { Grows count operations result }
 {
     let mut first = 0;
-    while count > 0 {
+    while log.nonzero > 0 {
         let part = WordRange {
             page,
             first,
@@ -300,30 +300,21 @@ fn clear_parts<S: WordStore>(
             word: 0,
             step: 0,
         };
-        (operations, count) = clear_part(store, operations, count, part);
+        log = clear_part(store, log, part);
         first += MOST;
     }
-    operations
+    log
 }
 
-/// Writes 0 into each word of a page that is not 0, and records each write behind these operations. Where none is 0,
-/// none is looked at. The list is owned meanwhile, so that its length can stay in a register.
-pub(crate) fn clear_page<S: WordStore>(
-    store: &mut S,
-    operations: Vec<Op>,
-    count: u32,
-    page: u32,
-) -> Vec<Op>
-    requires inside { 512 * page + 512 ≤ length (S.words store.old) }
-    requires standing { S.stands store.old page ≡ true }
-    requires counted { count ≡ nonzero_in (words_of (S.words store.old)) page }
-    requires ready { HasRoom operations count }
-    ensures words { S.words store.new ≡ with_range (S.words store.old) (zeros_of page) }
+/// Writes 0 into each word of a page that is not 0. Where none is 0, none is looked at.
+pub(crate) fn clear_page<S: WordStore>(store: &mut S, log: Log, page: u32) -> Log
+    requires page_in { IsHeld (S.words store.old) (S.stands store.old) page }
+    requires ready { IsReady (S.words store.old) page log.nonzero log }
+    ensures wrote { Wrote (range_set (zeros_of page)) page log.nonzero
+        (S.words store.old) (S.words store.new) log result }
     ensures standing { S.stands store.new ≡ S.stands store.old }
-    ensures records { Records (S.words store.old) (zeros_of page) operations.items result.items }
-    ensures grows { Grows count operations result }
 {
-    if count == WORDS {
+    if log.nonzero == WORDS {
         let all = WordRange {
             page,
             first: 0,
@@ -331,7 +322,7 @@ pub(crate) fn clear_page<S: WordStore>(
             word: 0,
             step: 0,
         };
-        return write_all(store, operations, all);
+        return turn_all(store, log, all);
     }
-    clear_parts(store, operations, count, page)
+    clear_parts(store, log, page)
 }

@@ -6,12 +6,13 @@ ghost use Rattle.std.specs.List.{list_all};
 ghost use Rattle.pool.specs.Pool as shares;
 
 use crate::image::Image;
+use crate::log::Log;
 use crate::looks::{are_filled, are_gaps_there};
 use crate::operation::Op;
 use crate::places::{row_of, share_start, total};
 use crate::replace::{Replacement, replace_words};
-use crate::runs::{TableWords, set_gaps, set_runs, turn_runs};
-use crate::stretch::{clear_page, recounted, write_words};
+use crate::runs::{TableWords, set_runs, turn_gaps, turn_runs};
+use crate::stretch::{WordAt, clear_page, write_word, write_words};
 use crate::table_mem::TableMem;
 use crate::word_range::WordRange;
 use crate::word_store::WordStore;
@@ -19,7 +20,6 @@ use base::{OutOfMemory, Page, PartitionId, Run};
 use manifest::{Manifest, Partition};
 use marks::Marks;
 use std::alloc::Global;
-use std::mem::replace;
 
 #[cfg(test)]
 mod tests;
@@ -151,20 +151,22 @@ impl<S: WordStore> TableMem for TablePool<S> {
     }
 
     fn set_word(&mut self, page: u32, index: u32, word: u64) {
+        let at = WordAt { page, index, word };
         let before = self.store.standing_word(page, index);
-        self.store.set_word(page, index, word);
         let count = self.nonzero[page as usize];
-        self.nonzero[page as usize] = recounted(count, before, word);
-        self.operations.push_reserved(Op::Set { page, index, word });
+        let count = write_word(&mut self.store, &mut self.operations, count, before, at);
+        self.nonzero[page as usize] = count;
     }
 
     fn set_words(&mut self, range: WordRange) {
-        let alloc = *self.operations.allocator();
-        let operations = replace(&mut self.operations, Vec::new(alloc));
         let count = self.nonzero[range.page as usize];
-        let (operations, count) = write_words(&mut self.store, operations, count, range);
+        let log = Log::take(&mut self.operations, count);
+        let Log {
+            operations,
+            nonzero,
+        } = write_words(&mut self.store, log, range);
         self.operations = operations;
-        self.nonzero[range.page as usize] = count;
+        self.nonzero[range.page as usize] = nonzero;
     }
 
     fn set_runs(&mut self, words: TableWords, runs: &[Run]) {
@@ -175,31 +177,44 @@ impl<S: WordStore> TableMem for TablePool<S> {
 
     fn set_gaps(&mut self, words: TableWords, runs: &[Run]) {
         let count = self.nonzero[words.page as usize];
-        let count = set_gaps(&mut self.store, &mut self.operations, count, runs, words);
-        self.nonzero[words.page as usize] = count;
+        let log = Log::take(&mut self.operations, count);
+        let Log {
+            operations,
+            nonzero,
+        } = turn_gaps(&mut self.store, log, runs, words);
+        self.operations = operations;
+        self.nonzero[words.page as usize] = nonzero;
     }
 
     fn turn_runs(&mut self, words: TableWords, runs: &[Run]) {
         let count = self.nonzero[words.page as usize];
-        let count = turn_runs(&mut self.store, &mut self.operations, count, runs, words);
-        self.nonzero[words.page as usize] = count;
+        let log = Log::take(&mut self.operations, count);
+        let Log {
+            operations,
+            nonzero,
+        } = turn_runs(&mut self.store, log, runs, words);
+        self.operations = operations;
+        self.nonzero[words.page as usize] = nonzero;
     }
 
     fn clear_words(&mut self, page: u32) {
-        let alloc = *self.operations.allocator();
-        let operations = replace(&mut self.operations, Vec::new(alloc));
         let count = self.nonzero[page as usize];
-        self.operations = clear_page(&mut self.store, operations, count, page);
-        self.nonzero[page as usize] = 0;
+        let log = Log::take(&mut self.operations, count);
+        let Log {
+            operations,
+            nonzero,
+        } = clear_page(&mut self.store, log, page);
+        self.operations = operations;
+        self.nonzero[page as usize] = nonzero;
     }
 
     fn replace_words(&mut self, p: PartitionId, range: WordRange, start: Page) {
-        let count = self.nonzero[range.page as usize];
         let with = Replacement {
             who: p,
             range,
             start,
         };
+        let count = self.nonzero[range.page as usize];
         let count = replace_words(&mut self.store, &mut self.operations, count, with);
         self.nonzero[range.page as usize] = count;
     }

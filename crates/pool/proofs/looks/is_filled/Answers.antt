@@ -1,4 +1,4 @@
-use Rattle.std.proofs.Common.{◌≡◌, ◌≢◌, ℕ, ◌+◌, ◌-◌, ◌%◌, ◌^◌, ◌<◌, ◌≤◌, true, arith, sym, ap, subst, ◌∙◌}
+use Rattle.std.proofs.Common.{◌≡◌, ◌≢◌, ℕ, ◌+◌, ◌-◌, ◌<◌, ◌≤◌, true, arith, sym, ap, subst, ◌∙◌, inl, inr}
 use Rattle.std.proofs.lemmas.Bool.Decides.{nat_tests}
 use Rattle.base.specs.Pages.{PageRun, in_run}
 use Rattle.pool.specs.Pool.{words_of}
@@ -13,25 +13,27 @@ pub returns-then-index-ge-WORDS-clause-yes : goal.returns-then-index-ge-WORDS-cl
 returns-then-index-ge-WORDS-clause-yes g c = λ _ i small within.
     let at = there c.args.run (c.args.start + i) within in
     let one : c.args.run.count ≡ 1 = sym c.count.ensures.same ∙ c.if-count-eq1.true in
-    absurd (omega (arith, at.0, at.1, one, small, c.number.ensures.same, c.number.ensures.in_range, c.first.ensures.same, c.requires.start_in, c.if-index-ge-WORDS.true))
+    elim (c.index_at-index.ensures.beside c.if-index-ge-WORDS.true) [ inl before ↦ absurd (omega (arith, at.0, at.1, one, before, c.first.ensures.same)) | inr behind ↦ absurd (omega (arith, at.0, at.1, one, small, behind, c.first.ensures.same)) ]
 
 pub returns-then-count-eq1-clause-yes : goal.returns-then-count-eq1-clause-yes
 returns-then-count-eq1-clause-yes g c = λ some i small within.
     let at = there c.args.run (c.args.start + i) within in
     let one : c.args.run.count ≡ 1 = sym c.count.ensures.same ∙ c.if-count-eq1.true in
     let words = g.S.WordStore.words c.args.store.now in
-    let index = (c.number.result + (2 ^ 32 - c.args.start)) % 2 ^ 32 in
-    let is : i ≡ index = omega (arith, at.0, at.1, one, small, c.number.ensures.same, c.number.ensures.in_range, c.first.ensures.same, c.requires.start_in) in
+    let index = c.index_at-index.result in
+    let stands = c.index_at-index.ensures.within c.if-index-ge-WORDS.false in
+    let is : i ≡ index = omega (arith, at.0, at.1, one, stands, c.first.ensures.same) in
     let read = word-read words c.args.page index c.standing_word.result (omega (arith, c.if-index-ge-WORDS.false)) c.standing_word.ensures in
     λ zero. let none : c.standing_word.result ≡ 0 = read ∙ ap (words_of words c.args.page) (sym is) ∙ zero in absurd (grind (arith, nat_tests, some, none))
 
 pub returns-clause-yes : goal.returns-clause-yes
 returns-clause-yes g c = λ some i small within.
     let at = there c.args.run (c.args.start + i) within in
-    let first : c.index_from-first.result ≤ i = omega (arith, at.0, c.index_from-first.ensures, c.number-2.ensures.same, c.first-2.ensures.same) in
+    let first : c.index_from-first.result ≤ i = omega (arith, at.0, c.index_from-first.ensures, c.number.ensures.same, c.first-2.ensures.same) in
     let end : i < c.index_from-end.result = omega (arith, at.1, small, c.index_from-end.ensures, c.end.ensures.same) in
     let same : c.index_from-first.result + (i - c.index_from-first.result) ≡ i = omega (arith, first) in
-    subst (λ k. words_of (g.S.WordStore.words c.args.store.now) c.args.page k ≢ 0) same (c.are_others.ensures.yes some (i - c.index_from-first.result) (omega (arith, first, end)))
+    let test = c.are_all.ensures.yes some (i - c.index_from-first.result) (omega (arith, first, end)) in
+    subst (λ k. words_of (g.S.WordStore.words c.args.store.now) c.args.page k ≢ 0) same (grind (arith, nat_tests, test))
 
 -- ---- one of them is 0
 
@@ -42,20 +44,21 @@ pub returns-then-count-eq1-clause-no : goal.returns-then-count-eq1-clause-no
 returns-then-count-eq1-clause-no g c = λ none.
     let one : c.args.run.count ≡ 1 = sym c.count.ensures.same ∙ c.if-count-eq1.true in
     let words = g.S.WordStore.words c.args.store.now in
-    let index = (c.number.result + (2 ^ 32 - c.args.start)) % 2 ^ 32 in
+    let index = c.index_at-index.result in
+    let stands = c.index_at-index.ensures.within c.if-index-ge-WORDS.false in
     let small = c.if-index-ge-WORDS.false in
-    let is : c.args.start + index ≡ c.args.run.first = omega (arith, small, c.number.ensures.same, c.number.ensures.in_range, c.first.ensures.same, c.requires.start_in) in
+    let is : c.args.start + index ≡ c.args.run.first = omega (arith, stands, c.first.ensures.same) in
     let read = word-read words c.args.page index c.standing_word.result small c.standing_word.ensures in
     let zero : c.standing_word.result ≡ 0 = grind (arith, nat_tests, none) in
     (index, small, here c.args.run (c.args.start + index) (omega (arith, is)) (omega (arith, is, one)), sym read ∙ zero)
 
 pub returns-clause-no : goal.returns-clause-no
 returns-clause-no g c = λ none.
-    let so = c.are_others.ensures.no none in
+    let so = c.are_all.ensures.no none in
     let lt = so.1 in
     let i = c.index_from-first.result + so.0 in
     let first = c.index_from-first.ensures in
     let end = c.index_from-end.ensures in
-    let low : c.args.run.first ≤ c.args.start + i = omega (arith, first, end, lt, c.number-2.ensures.same, c.first-2.ensures.same, c.end.ensures.same) in
-    let high : c.args.start + i < c.args.run.first + c.args.run.count = omega (arith, first, end, lt, c.number-2.ensures.same, c.first-2.ensures.same, c.end.ensures.same) in
-    (i, omega (arith, end, lt), here c.args.run (c.args.start + i) low high, so.2)
+    let low : c.args.run.first ≤ c.args.start + i = omega (arith, first, end, lt, c.number.ensures.same, c.first-2.ensures.same, c.end.ensures.same) in
+    let high : c.args.start + i < c.args.run.first + c.args.run.count = omega (arith, first, end, lt, c.number.ensures.same, c.first-2.ensures.same, c.end.ensures.same) in
+    (i, omega (arith, end, lt), here c.args.run (c.args.start + i) low high, (let test = so.2 in grind (arith, nat_tests, test)))

@@ -1,4 +1,4 @@
-use Rattle.std.proofs.Common.{◌≡◌, ◌+◌, ◌-◌, ◌*◌, subst, ◌∙◌, arith, rules}
+use Rattle.std.proofs.Common.{◌≡◌, ◌+◌, ◌-◌, ◌*◌, subst, ◌∙◌, arith}
 use Rattle.pool.specs.Pool.{words_of}
 use Rattle.pool.specs.Writing.{AreThere, IsMissing}
 use Rattle.pool.specs.declared.word_range.WordRange.{WordRange}
@@ -13,8 +13,7 @@ are_there-requires g c =
       ordered = omega (arith, lt);
       index_in = most;
       in_range = words-in_range c.args.with.word c.args.with.step c.args.first c.args.end c.requires.may.in_range (omega (arith, lt, most)) most;
-      inside = search rules;
-      standing = search rules;
+      page_in = c.requires.may.page_in;
     }
 
 pub returns-clause-yes : goal.returns-clause-yes

@@ -1,22 +1,19 @@
-use Rattle.std.proofs.Common.{◌≡◌, ap, sym, ◌∙◌, arith}
-use Rattle.pool.specs.Pool.{words_of, nonzero_in, put}
-use Rattle.pool.proofs.Nonzero.{nonzero-le, nonzero-put}
-use Rattle.pool.proofs.Words.{words_of-set_at}
+use Rattle.std.proofs.Common.{ℕ, ◌==◌, sym, ap, arith}
+use Rattle.pool.specs.Pool.{after_make}
+use Rattle.pool.specs.Writing.{log_of}
+use Rattle.pool.proofs.Replaced.{make-none, make-some}
+use Rattle.pool.proofs.Wrote.{wrote-none, wrote-as}
 use Rattle.pool.proofs.replace.make_word.Goals as goal
 
-pub recounted-requires-clause-most : goal.recounted-requires-clause-most
-recounted-requires-clause-most g c =
-    let most = nonzero-le (words_of (g.S.WordStore.words c.args.store.now)) c.args.range.page in
-    let counted = c.requires.counted in
-    omega (arith, most, counted)
+pub returns-then-range-eq0-clause-wrote : goal.returns-then-range-eq0-clause-wrote
+returns-then-range-eq0-clause-wrote g c =
+    let r = c.args.range in
+    wrote-none (after_make r.page r.first r.word) r.page 1 (g.S.WordStore.words c.args.store.now) (log_of c.args.operations.now c.args.nonzero) c.requires.ready.counted (λ pool _. make-none r.page r.first r.word pool c.if-range-eq0.true)
 
-pub returns-clause-counted : goal.returns-clause-counted
-returns-clause-counted g c =
-    let words = g.S.WordStore.words c.args.store.now in
-    let written = ap words_of c.set_word.ensures.words ∙ words_of-set_at words c.args.range.page c.args.range.first c.args.range.word c.requires.index_in (let below = c.requires.index_in in omega (arith, below, c.requires.inside)) in
-    let now = nonzero-put (words_of words) c.args.range.page c.args.range.first c.args.range.word c.requires.index_in in
-    let there = rw c.requires.zero at now in
-    let recounted = c.recounted.ensures in
-    let counted = c.requires.counted in
-    let right : c.recounted.result ≡ nonzero_in (put c.args.range.page c.args.range.first c.args.range.word (words_of words)) c.args.range.page = omega (arith, there, recounted, counted) in
-    right ∙ ap (λ w. nonzero_in w c.args.range.page) (sym written)
+pub write_word-requires-clause-may : goal.write_word-requires-clause-may
+write_word-requires-clause-may g c = record { index_in = c.requires.index_in; page_in = c.requires.page_in; turned = ap (λ (w : ℕ). w == 0) (sym c.requires.zero) }
+
+pub returns-clause-wrote : goal.returns-clause-wrote
+returns-clause-wrote g c =
+    let r = c.args.range in
+    wrote-as c.write_word.ensures.wrote (omega arith) (λ pool _. sym (make-some r.page r.first r.word pool c.if-range-eq0.false))

@@ -1,11 +1,13 @@
-use Rattle.std.proofs.Common.{◌≡◌, ◌-◌, arith}
-use Rattle.pool.proofs.Replaced.{replaces-none, replaces-more}
+use Rattle.std.proofs.Common.{◌≡◌, ◌-◌, ◌∙◌, sym, ap, arith}
+use Rattle.pool.specs.Pool.{after_replaces}
+use Rattle.pool.proofs.Replaced.{replaces-one}
+use Rattle.pool.proofs.Wrote.{wrote-then, wrote-as}
 use Rattle.pool.proofs.replace.replace_one.Goals as goal
 
-pub returns-clause-shown : goal.returns-clause-shown
-returns-clause-shown g c = λ pool shown.
+pub returns-clause-wrote : goal.returns-clause-wrote
+returns-clause-wrote g c =
     let w = c.args.with in
-    let one : w.range.end - w.range.first ≡ 1 = omega (arith, c.requires.one) in
-    let none = replaces-none w.who w.range.page w.range.first w.range.word w.range.step w.start pool in
-    let more = replaces-more w.who w.range.page w.range.first 0 w.range.word w.range.step w.start w.range.first w.range.word w.start pool (omega arith) (omega arith) (omega arith) in
-    rw (one, more, none) (c.make_word.ensures.shown _ (c.break_word-count.ensures.shown pool shown))
+    let r = w.range in
+    let one : 1 ≡ r.end - r.first = omega (arith, c.requires.one) in
+    wrote-as (wrote-then c.break_word-nonzero.ensures.wrote c.make_word.ensures.wrote) (omega arith) (λ pool _.
+    sym (replaces-one w.who r.page r.first r.word r.step w.start pool) ∙ ap (λ n. after_replaces w.who r.page r.first n r.word r.step w.start pool) one)

@@ -1,49 +1,63 @@
-use Rattle.std.proofs.Common.{◌≡◌, ◌+◌, ◌-◌, ◌*◌, length, vec_capacity, subst, sym, ◌∙◌, arith}
-use Rattle.pool.specs.Pool.{after_replaces}
-use Rattle.pool.specs.Shown.{IsShown}
-use Rattle.pool.proofs.Replaced.{replaces-none, replaces-more}
+use Rattle.std.proofs.Common.{◌≡◌, ◌+◌, ◌-◌, ◌*◌, ◌<◌, ◌^◌, ◌≤◌, refl, sym, ◌∙◌, arith, rules}
+use Rattle.pool.specs.Writing.{replaces}
+use Rattle.pool.proofs.Replaced.{replaces-none, replaces-then}
+use Rattle.pool.proofs.Stretches.{part-in_range}
+use Rattle.pool.proofs.Wrote.{wrote-none, wrote-then, wrote-as}
 use Rattle.pool.proofs.replace.replace_others.Goals as goal
 
 pub loop-index-init : goal.loop-index-init
 loop-index-init g c =
     let w = c.args.with in
-    let none : w.range.first - w.range.first ≡ 0 = omega arith in
+    let r = w.range in
+    let none : r.first - r.first ≡ 0 = omega arith in
     record {
-      shown = λ pool shown. rw (none, replaces-none w.who w.range.page w.range.first w.range.word w.range.step w.start pool) shown;
-      whole = λ i. length (g.S.WordStore.words c.args.store.now);
+      wrote = wrote-none (replaces (record w { range = record r { end = r.first } })) r.page _ (g.S.WordStore.words c.args.store.now) c.args.log c.requires.ready.counted (λ pool _. rw none (replaces-none w.who r.page r.first r.word r.step w.start pool));
       word = rw none (omega arith);
       start = rw none (omega arith);
-      counted = c.requires.counted;
-      standing = λ i. g.S.WordStore.stands c.args.store.now;
-      capacity = λ i. vec_capacity c.args.operations;
-      len = omega arith;
+      standing = refl;
+    }
+
+pub replace_one-requires : goal.replace_one-requires
+replace_one-requires g c =
+    let w = c.args.with in
+    let r = w.range in
+    let i = c.loop-index.index in
+    let before = c.loop-index.invariant in
+    let from = c.loop-index.auto.index in
+    let one : (i + 1) - i ≡ 1 = omega arith in
+    record {
+      one = refl;
+      may = record {
+        ordered = omega arith;
+        index_in = omega (arith, c.requires.may.index_in, c.loop-index-test.true);
+        in_range = rw one (part-in_range r.first r.end r.word r.step i 1 c.loop-index.word _ c.requires.may.in_range from (omega (arith, c.loop-index-test.true)) before.word);
+        page_in = record { inside = omega (arith, before.wrote.whole, c.requires.may.page_in.inside); standing = search rules };
+      };
+      pages_in = omega (arith, c.new.ensures, before.start, from, c.loop-index-test.true, c.requires.pages_in);
+      ready = record { counted = before.wrote.counted; room = omega (arith, from, c.loop-index-test.true, before.wrote.grows.len, before.wrote.grows.capacity, c.requires.ready.room) };
     }
 
 pub loop-index-preserved : goal.loop-index-preserved
 loop-index-preserved g c =
     let w = c.args.with in
+    let r = w.range in
     let i = c.loop-index.index in
-    let n = i - w.range.first in
+    let n = i - r.first in
     let before = c.loop-index.invariant in
     let from = c.loop-index.auto.index in
-    let index : w.range.first + n ≡ i = omega (arith, from) in
-    let next : w.range.word + w.range.step * n ≡ c.loop-index.word = sym before.word in
+    let index : r.first + n ≡ i = omega (arith, from) in
+    let next : r.word + r.step * n ≡ c.loop-index.word = sym before.word in
     let at : w.start + 512 * n ≡ c.new.result = sym (c.new.ensures ∙ before.start) in
-    let more : (i + 1) - w.range.first ≡ n + 1 = omega (arith, from) in
+    let more : (i + 1) - r.first ≡ n + 1 = omega (arith, from) in
+    let one : (i + 1) - i ≡ 1 = omega arith in
     rw more record {
-      shown = λ pool shown. rw (replaces-more w.who w.range.page w.range.first n w.range.word w.range.step w.start i c.loop-index.word c.new.result pool index next at)
-          (c.make_word-count.ensures.shown _ (c.break_word-count.ensures.shown _ (before.shown pool shown)));
-      whole = c.make_word-count.ensures.whole ∙ c.break_word-count.ensures.whole ∙ before.whole;
+      wrote = wrote-as (wrote-then before.wrote (rw one at c.replace_one.ensures.wrote)) (omega arith) (λ pool _. replaces-then w.who r.page r.first n r.word r.step w.start i c.loop-index.word c.new.result pool index next at);
       word = omega (arith, next);
       start = omega (arith, before.start);
-      counted = c.make_word-count.ensures.counted;
-      standing = c.make_word-count.ensures.standing ∙ c.break_word-count.ensures.standing ∙ before.standing;
-      capacity = c.make_word-count.ensures.grows.capacity ∙ c.break_word-count.ensures.grows.capacity ∙ before.capacity;
-      len = omega (arith, before.len, c.make_word-count.ensures.grows.len, c.break_word-count.ensures.grows.len);
+      standing = c.replace_one.ensures.standing ∙ before.standing;
     }
 
-pub returns-clause-shown : goal.returns-clause-shown
-returns-clause-shown g c = λ pool shown.
-    let w = c.args.with in
-    let end : c.loop-index.index ≡ w.range.end = omega (arith, c.loop-index-test.false, c.loop-index.auto.index-end, c.requires.may.ordered) in
-    subst (λ e. IsShown (g.S.WordStore.words c.loop-index.store) c.loop-index.operations.items (after_replaces w.who w.range.page w.range.first (e - w.range.first) w.range.word w.range.step w.start pool)) end (c.loop-index.invariant.shown pool shown)
+pub returns-clause-wrote : goal.returns-clause-wrote
+returns-clause-wrote g c =
+    let end : c.loop-index.index ≡ c.args.with.range.end = omega (arith, c.loop-index-test.false, c.loop-index.auto.index-end, c.requires.may.ordered) in
+    rw (← end) c.loop-index.invariant.wrote

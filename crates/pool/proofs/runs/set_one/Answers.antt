@@ -1,55 +1,52 @@
-use Rattle.std.proofs.Common.{◌≡◌, ◌≢◌, ◌+◌, ◌-◌, ◌*◌, ◌%◌, ◌^◌, ◌<◌, length, slice_index, ap, sym, subst, ◌∙◌, refl, arith}
-use Rattle.pool.specs.Pool.{Pool, words_of, index_from}
-use Rattle.pool.specs.Shown.{IsShown}
-use Rattle.pool.proofs.Nonzero.{nonzero-le, recount-some, recount}
-use Rattle.pool.proofs.RunWords.{page-index, page-outside, page-written, page-there, after_run-outside}
+use Rattle.std.proofs.Common.{◌≡◌, ◌≢◌, ◌+◌, ◌-◌, ◌*◌, ◌<◌, [], ◌∷◌, length, slice_index, ap, sym, ◌∙◌, refl, arith}
+use Rattle.pool.specs.Writing.{log_of, page_alone, runs_set}
+use Rattle.pool.proofs.Alone.{alone-outside, alone-words, alone-set, alone-stays}
+use Rattle.pool.proofs.Nonzero.{read-test}
+use Rattle.pool.proofs.Wrote.{wrote-none, wrote-as}
 use Rattle.pool.proofs.runs.set_one.Goals as goal
 
-pub returns-then-index-ge-WORDS-clause-shown : goal.returns-then-index-ge-WORDS-clause-shown
-returns-then-index-ge-WORDS-clause-shown g c = λ pool shown.
+pub returns-then-index-ge-WORDS-clause-wrote : goal.returns-then-index-ge-WORDS-clause-wrote
+returns-then-index-ge-WORDS-clause-wrote g c =
     let w = c.args.with in
-    let inside : c.number.result < 2 ^ 27 = omega (arith, c.number.ensures.same, c.number.ensures.in_range) in
-    let none : index_from w.start (c.args.page + 1) ≡ index_from w.start c.args.page =
-    rw (← c.number.ensures.same) (page-outside w.start c.number.result _ c.requires.may.start_in inside refl c.if-index-ge-WORDS.true) in
-    subst (λ (p : Pool). IsShown (g.S.WordStore.words c.args.store.now) c.args.operations.now.items p)
-    (sym (after_run-outside w.page w.start w.word w.step (record { first = c.args.page; count = 1 }) pool none)) shown
+    let page = c.args.page in
+    wrote-none (runs_set w (page_alone page ∷ [])) w.page _ (g.S.WordStore.words c.args.store.now) (log_of c.args.operations.now c.args.nonzero) c.requires.ready.counted (λ pool _.
+    alone-outside w page (c.index_at-index.ensures.beside c.if-index-ge-WORDS.true) pool)
 
-pub returns-then-before-word-clause-shown : goal.returns-then-before-word-clause-shown
-returns-then-before-word-clause-shown g c = λ pool shown.
+pub returns-then-before-word-clause-wrote : goal.returns-then-before-word-clause-wrote
+returns-then-before-word-clause-wrote g c =
     let w = c.args.with in
-    let i = (c.number.result + (2 ^ 32 - w.start)) % 2 ^ 32 in
-    let inside : c.number.result < 2 ^ 27 = omega (arith, c.number.ensures.same, c.number.ensures.in_range) in
-    let at = page-index w.start c.number.result i c.requires.may.start_in inside refl c.if-index-ge-WORDS.false in
-    let is : w.word + w.step * i ≡ c.standing_word-before.result = sym (c.if-before-word.true ∙ ap (λ k. w.word + w.step * k) c.from.ensures) in
-    let stands : 512 * w.page + i < length (g.S.WordStore.words c.args.store.now) = omega (arith, c.requires.may.inside, c.if-index-ge-WORDS.false) in
-    page-there w.page w.start w.word w.step c.args.page i c.standing_word-before.result (g.S.WordStore.words c.args.store.now) c.args.operations.now.items pool
-    (at.0 ∙ ap (λ n. index_from w.start n) c.number.ensures.same) (at.1 ∙ ap (λ n. index_from w.start (n + 1)) c.number.ensures.same) is stands (sym c.standing_word-before.ensures) shown
-
-pub recounted-requires-clause-counted : goal.recounted-requires-clause-counted
-recounted-requires-clause-counted g c =
-    recount-some (g.S.WordStore.words c.args.store.now) c.args.with.page ((c.number.result + (2 ^ 32 - c.args.with.start)) % 2 ^ 32) c.args.count c.standing_word-before.result c.if-index-ge-WORDS.false c.requires.counted c.standing_word-before.ensures
-
-pub recounted-requires-clause-most : goal.recounted-requires-clause-most
-recounted-requires-clause-most g c =
-    let most = nonzero-le (words_of (g.S.WordStore.words c.args.store.now)) c.args.with.page in
-    let counted = c.requires.counted in
-    omega (arith, most, counted)
-
-pub returns-clause-shown : goal.returns-clause-shown
-returns-clause-shown g c = λ pool shown.
-    let w = c.args.with in
+    let page = c.args.page in
+    let i = c.index_at-index.result in
+    let at = c.index_at-index.ensures.within c.if-index-ge-WORDS.false in
     let words = g.S.WordStore.words c.args.store.now in
-    let i = (c.number.result + (2 ^ 32 - w.start)) % 2 ^ 32 in
-    let next = w.word + w.step * c.from.result in
-    let inside : c.number.result < 2 ^ 27 = omega (arith, c.number.ensures.same, c.number.ensures.in_range) in
-    let at = page-index w.start c.number.result i c.requires.may.start_in inside refl c.if-index-ge-WORDS.false in
-    let is : w.word + w.step * i ≡ next = ap (λ k. w.word + w.step * k) (sym c.from.ensures) in
-    let differs : slice_index words (512 * w.page + i) ≢ next = λ same. c.if-before-word.false (c.standing_word-before.ensures ∙ same) in
-    rw (c.set_word.ensures.words, c.push_reserved.ensures.items) (page-written w.page w.start w.word w.step c.args.page i next words c.args.operations.now.items pool
-    (at.0 ∙ ap (λ n. index_from w.start n) c.number.ensures.same) (at.1 ∙ ap (λ n. index_from w.start (n + 1)) c.number.ensures.same) is differs shown)
+    let there : slice_index words (512 * w.page + i) ≡ w.word + w.step * i = sym c.standing_word-before.ensures ∙ c.if-before-word.true ∙ ap (λ k. w.word + w.step * k) c.from.ensures in
+    wrote-none (runs_set w (page_alone page ∷ [])) w.page _ words (log_of c.args.operations.now c.args.nonzero) c.requires.ready.counted (λ pool same.
+    let inside : 512 * w.page + i < length pool.memory.words = (let long = ap length same in omega (arith, long, c.requires.may.page_in.inside, c.if-index-ge-WORDS.false)) in
+    alone-stays w page i c.if-index-ge-WORDS.false at pool inside (ap (λ l. slice_index l (512 * w.page + i)) same ∙ there))
 
-pub returns-clause-counted : goal.returns-clause-counted
-returns-clause-counted g c =
+pub write_word-requires : goal.write_word-requires
+write_word-requires g c =
     let w = c.args.with in
-    recount (g.S.WordStore.words c.args.store.now) (g.S.WordStore.words c.set_word.new.self) w.page ((c.number.result + (2 ^ 32 - w.start)) % 2 ^ 32) (w.word + w.step * c.from.result) c.args.count c.standing_word-before.result c.recounted.result
-    c.if-index-ge-WORDS.false c.requires.may.inside c.requires.counted c.standing_word-before.ensures c.set_word.ensures.words c.recounted.ensures
+    let i = c.index_at-index.result in
+    let at = c.index_at-index.ensures.within c.if-index-ge-WORDS.false in
+    let one = alone-words w c.args.page i c.if-index-ge-WORDS.false at in
+    record {
+      may = record {
+        index_in = c.if-index-ge-WORDS.false;
+        page_in = c.requires.may.page_in;
+        turned = read-test (g.S.WordStore.words c.args.store.now) w.page i c.standing_word-before.result c.if-index-ge-WORDS.false c.standing_word-before.ensures;
+      };
+      ready = record { counted = c.requires.ready.counted; room = omega (arith, one, c.requires.ready.room) };
+    }
+
+pub returns-clause-wrote : goal.returns-clause-wrote
+returns-clause-wrote g c =
+    let w = c.args.with in
+    let page = c.args.page in
+    let i = c.index_at-index.result in
+    let at = c.index_at-index.ensures.within c.if-index-ge-WORDS.false in
+    let words = g.S.WordStore.words c.args.store.now in
+    let one = alone-words w page i c.if-index-ge-WORDS.false at in
+    let differs : slice_index words (512 * w.page + i) ≢ w.word + w.step * i = λ is. c.if-before-word.false (c.standing_word-before.ensures ∙ is ∙ ap (λ k. w.word + w.step * k) (sym c.from.ensures)) in
+    wrote-as (rw c.from.ensures at c.write_word.ensures.wrote) (omega (arith, one)) (λ pool same.
+    sym (alone-set w page i c.if-index-ge-WORDS.false at pool (λ is. differs (ap (λ l. slice_index l (512 * w.page + i)) (sym same) ∙ is))))

@@ -1,71 +1,65 @@
-use Rattle.std.proofs.Common.{◌≡◌, ◌≢◌, ◌+◌, ◌-◌, ◌*◌, ◌%◌, ◌^◌, ◌<◌, ◌≤◌, slice_index, ap, sym, subst, ◌∙◌, refl, arith, inr}
-use Rattle.pool.specs.Pool.{Pool, words_of, words_set, index_from}
-use Rattle.pool.specs.Shown.{IsShown}
+use Rattle.std.proofs.Common.{◌≡◌, ◌≢◌, ◌+◌, ◌-◌, ◌*◌, ◌<◌, ◌≤◌, ◌==◌, not, ℕ, [], ◌∷◌, slice_index, ap, sym, ◌∙◌, refl, arith}
+use Rattle.pool.specs.Pool.{words_of}
+use Rattle.pool.specs.Writing.{log_of, page_alone, runs_set}
+use Rattle.pool.proofs.Alone.{alone-outside, alone-words, alone-set}
 use Rattle.pool.proofs.Nonzero.{nonzero-le, word-read}
-use Rattle.pool.proofs.RunWords.{page-index, page-outside, page-written, after_run-outside}
-use Rattle.pool.proofs.Stretches.{words_set-beside}
-use Rattle.pool.proofs.Turned.{set-one, turned-alone, turned-differ, turned-least, turned-counted}
+use Rattle.pool.proofs.Turned.{turned-alone, turned-word, turned-differ, turned-least, turned-counted, set-one, first-zero, zero-first, some-first}
+use Rattle.pool.proofs.Wrote.{wrote-none, wrote-as, wrote-set}
 use Rattle.pool.proofs.runs.turn_one.Goals as goal
 
-pub returns-then-index-ge-WORDS-clause-shown : goal.returns-then-index-ge-WORDS-clause-shown
-returns-then-index-ge-WORDS-clause-shown g c = λ pool shown.
+pub returns-then-index-ge-WORDS-clause-wrote : goal.returns-then-index-ge-WORDS-clause-wrote
+returns-then-index-ge-WORDS-clause-wrote g c =
     let w = c.args.with in
-    let inside : c.number.result < 2 ^ 27 = omega (arith, c.number.ensures.same, c.number.ensures.in_range) in
-    let none : index_from w.start (c.args.page + 1) ≡ index_from w.start c.args.page =
-    rw (← c.number.ensures.same) (page-outside w.start c.number.result _ c.requires.may.start_in inside refl c.if-index-ge-WORDS.true) in
-    subst (λ (p : Pool). IsShown (g.S.WordStore.words c.args.store.now) c.args.operations.now.items p)
-    (sym (after_run-outside w.page w.start w.word w.step (record { first = c.args.page; count = 1 }) pool none)) shown
+    let page = c.args.page in
+    wrote-none (runs_set w (page_alone page ∷ [])) w.page _ (g.S.WordStore.words c.args.store.now) c.args.log c.requires.ready.counted (λ pool _.
+    alone-outside w page (c.index_at-index.ensures.beside c.if-index-ge-WORDS.true) pool)
 
-pub recounted_all-requires-clause-least : goal.recounted_all-requires-clause-least
-recounted_all-requires-clause-least g c = λ zero.
+pub put_word-requires : goal.put_word-requires
+put_word-requires g c =
     let w = c.args.with in
-    let words = g.S.WordStore.words c.args.store.now in
-    let i = (c.number.result + (2 ^ 32 - w.start)) % 2 ^ 32 in
-    let turned = turned-alone words w c.args.page c.number.result i c.requires.may.start_in c.number.ensures.same c.number.ensures.in_range refl c.if-index-ge-WORDS.false c.requires.turned in
-    let least = turned-least words w i 1 c.requires.turned.zeros turned c.requires.may.inside (omega (arith, c.if-index-ge-WORDS.false)) zero in
-    omega (arith, least, c.requires.counted)
+    let one = alone-words w c.args.page c.index_at-index.result c.if-index-ge-WORDS.false (c.index_at-index.ensures.within c.if-index-ge-WORDS.false) in
+    record { index_in = c.if-index-ge-WORDS.false; page_in = c.requires.may.page_in; ready = omega (arith, one, c.requires.ready.room) }
 
-pub recounted_all-requires-clause-most : goal.recounted_all-requires-clause-most
-recounted_all-requires-clause-most g c =
-    let most = nonzero-le (words_of (g.S.WordStore.words c.args.store.now)) c.args.with.page in
-    omega (arith, most, c.requires.counted)
-
-pub returns-clause-shown : goal.returns-clause-shown
-returns-clause-shown g c = λ pool shown.
+pub recounted_all-requires : goal.recounted_all-requires
+recounted_all-requires g c =
     let w = c.args.with in
     let words = g.S.WordStore.words c.args.store.now in
-    let i = (c.number.result + (2 ^ 32 - w.start)) % 2 ^ 32 in
-    let next = w.word + w.step * c.from.result in
-    let inside : c.number.result < 2 ^ 27 = omega (arith, c.number.ensures.same, c.number.ensures.in_range) in
-    let at = page-index w.start c.number.result i c.requires.may.start_in inside refl c.if-index-ge-WORDS.false in
-    let is : w.word + w.step * i ≡ next = ap (λ k. w.word + w.step * k) (sym c.from.ensures) in
-    let turned = turned-alone words w c.args.page c.number.result i c.requires.may.start_in c.number.ensures.same c.number.ensures.in_range refl c.if-index-ge-WORDS.false c.requires.turned in
-    let read = word-read words w.page i (slice_index words (512 * w.page + i)) c.if-index-ge-WORDS.false refl in
+    let i = c.index_at-index.result in
+    let at = c.index_at-index.ensures.within c.if-index-ge-WORDS.false in
+    let zeros = c.requires.turned.zeros in
+    let turned = turned-alone words w c.args.page i c.if-index-ge-WORDS.false at c.requires.turned in
+    let most = nonzero-le (words_of words) w.page in
+    record {
+      least = λ zero.
+          let all = zero-first w i zeros zero in
+          let least = turned-least words w.page i 1 (w.word + w.step * i) w.step (λ z. zeros (first-zero w i zeros z)) (λ x lt. let here : i + x ≡ i = omega (arith, lt) in rw here (turned-word words w i i zeros turned)) c.requires.may.page_in.inside (omega (arith, c.if-index-ge-WORDS.false)) all in
+          omega (arith, least, c.requires.ready.counted);
+      most = omega (arith, most, c.requires.ready.counted);
+      few = omega arith;
+    }
+
+pub returns-clause-wrote : goal.returns-clause-wrote
+returns-clause-wrote g c =
+    let w = c.args.with in
+    let page = c.args.page in
+    let words = g.S.WordStore.words c.args.store.now in
+    let new = g.S.WordStore.words c.put_word.new.store in
+    let i = c.index_at-index.result in
+    let at = c.index_at-index.ensures.within c.if-index-ge-WORDS.false in
+    let next = w.word + w.step * i in
+    let zeros = c.requires.turned.zeros in
+    let small = c.if-index-ge-WORDS.false in
+    let turned = turned-alone words w page i small at c.requires.turned in
+    let each : (x : ℕ) → x < 1 → (words_of words w.page (i + x) == 0) ≡ not (next == 0) = λ x lt. let here : i + x ≡ i = omega (arith, lt) in rw here (turned-word words w i i zeros turned) in
+    let ends = λ (z : next ≡ 0). zeros (first-zero w i zeros z) in
+    let one = alone-words w page i small at in
+    let written = rw c.from.ensures at c.put_word.ensures.words in
+    let pushed = rw c.from.ensures at c.put_word.ensures.items in
+    let counted = turned-counted words w.page i 1 next w.step ends each c.requires.may.page_in.inside (omega (arith, small)) new c.args.log.nonzero c.recounted_all.result (written ∙ set-one words w.page i next w.step) c.requires.ready.counted
+    (λ z. c.recounted_all.ensures.zeros (first-zero w i zeros z)) (λ above. c.recounted_all.ensures.others (some-first w i zeros above)) in
+    let read = word-read words w.page i (slice_index words (512 * w.page + i)) small refl in
     let here : i + 0 ≡ i = omega arith in
-    let first : w.word + w.step * i ≡ w.word + w.step * i + w.step * 0 = omega arith in
-    let differs : slice_index words (512 * w.page + i) ≢ next = λ same. turned-differ words w i 1 c.requires.turned.zeros turned 0 (omega arith) (ap (words_of words w.page) here ∙ sym read ∙ same ∙ sym is ∙ first) in
-    rw (c.set_word.ensures.words, c.push_reserved.ensures.items) (page-written w.page w.start w.word w.step c.args.page i next words c.args.operations.now.items pool
-    (at.0 ∙ ap (λ n. index_from w.start n) c.number.ensures.same) (at.1 ∙ ap (λ n. index_from w.start (n + 1)) c.number.ensures.same) is differs shown)
-
-pub returns-clause-beside : goal.returns-clause-beside
-returns-clause-beside g c = λ k behind.
-    let w = c.args.with in
-    let words = g.S.WordStore.words c.args.store.now in
-    let i = (c.number.result + (2 ^ 32 - w.start)) % 2 ^ 32 in
-    let next = w.word + w.step * c.from.result in
-    let inside : c.number.result < 2 ^ 27 = omega (arith, c.number.ensures.same, c.number.ensures.in_range) in
-    let at = (page-index w.start c.number.result i c.requires.may.start_in inside refl c.if-index-ge-WORDS.false).1 ∙ ap (λ n. index_from w.start (n + 1)) c.number.ensures.same in
-    let past : i + 1 ≤ k = omega (arith, at, behind) in
-    ap (λ l. words_of l w.page k) (c.set_word.ensures.words ∙ set-one words w.page i next w.step)
-    ∙ words_set-beside words w.page i 1 next w.step k c.requires.may.inside (omega (arith, c.if-index-ge-WORDS.false)) (inr past)
-
-pub returns-clause-counted : goal.returns-clause-counted
-returns-clause-counted g c =
-    let w = c.args.with in
-    let words = g.S.WordStore.words c.args.store.now in
-    let i = (c.number.result + (2 ^ 32 - w.start)) % 2 ^ 32 in
-    let is : w.word + w.step * c.from.result ≡ w.word + w.step * i = ap (λ k. w.word + w.step * k) c.from.ensures in
-    let turned = turned-alone words w c.args.page c.number.result i c.requires.may.start_in c.number.ensures.same c.number.ensures.in_range refl c.if-index-ge-WORDS.false c.requires.turned in
-    let written = c.set_word.ensures.words ∙ set-one words w.page i (w.word + w.step * c.from.result) w.step ∙ ap (λ next. words_set words w.page i 1 next w.step) is in
-    turned-counted words w i 1 c.requires.turned.zeros turned c.requires.may.inside (omega (arith, c.if-index-ge-WORDS.false)) (g.S.WordStore.words c.set_word.new.self) c.args.count c.recounted_all.result
-    written c.requires.counted c.recounted_all.ensures.zeros c.recounted_all.ensures.others
+    let first : next ≡ next + w.step * 0 = omega arith in
+    let differs : slice_index words (512 * w.page + i) ≢ next = λ is. turned-differ words w.page i 1 next w.step ends each 0 (omega arith) (ap (words_of words w.page) here ∙ sym read ∙ is ∙ first) in
+    wrote-as (wrote-set w.page i next words new c.args.log (log_of c.put_word.new.operations c.recounted_all.result) written pushed c.put_word.ensures.grows counted) (omega (arith, one)) (λ pool same.
+    sym (alone-set w page i small at pool (λ is. differs (ap (λ l. slice_index l (512 * w.page + i)) (sym same) ∙ is))))

@@ -1,34 +1,42 @@
-use Rattle.std.proofs.Common.{◌≤◌, length, ap, sym, subst, ◌∙◌, arith, rules}
+use Rattle.std.proofs.Common.{◌≡◌, ◌≤◌, [], ◌∷◌, ap, sym, subst, ◌∙◌, arith}
 use Rattle.base.specs.Pages.{PageRun}
-use Rattle.pool.specs.Pool.{after_run}
-use Rattle.pool.specs.Shown.{IsShown}
-use Rattle.pool.specs.Writing.{Grows, words_for}
-use Rattle.pool.proofs.Stretches.{length-words_set}
+use Rattle.pool.specs.Pool.{index_from, words_in}
+use Rattle.pool.specs.Writing.{IsReady, Wrote, log_of, runs_set, page_alone}
 use Rattle.pool.proofs.RunWords.{words-in_range, run-alone}
+use Rattle.pool.proofs.Wrote.{wrote-run}
 use Rattle.pool.proofs.runs.write_run.Goals as goal
 
-pub returns-then-count-eq1-clause-shown : goal.returns-then-count-eq1-clause-shown
-returns-then-count-eq1-clause-shown g c = λ pool shown.
+pub set_one-requires-clause-ready : goal.set_one-requires-clause-ready
+set_one-requires-clause-ready g c =
     let w = c.args.with in
-    subst (λ (r : PageRun). IsShown (g.S.WordStore.words c.set_one-count.new.store) c.set_one-count.new.operations.items (after_run w.page w.start w.word w.step r pool))
-    (run-alone c.args.run c.first.result c.first.ensures.same (sym c.count.ensures.same ∙ c.if-count-eq1.true)) (c.set_one-count.ensures.shown pool shown)
+    let alone = run-alone c.args.run c.first.result c.first.ensures.same (sym c.count.ensures.same ∙ c.if-count-eq1.true) in
+    subst (λ (r : PageRun). IsReady (g.S.WordStore.words c.args.store.now) w.page (words_in w.start (r ∷ [])) c.args.log) (sym alone) c.requires.ready
 
-pub returns-then-count-eq1-clause-grows : goal.returns-then-count-eq1-clause-grows
-returns-then-count-eq1-clause-grows g c =
-    subst (λ (r : PageRun). Grows (words_for c.args.with.start r) c.args.operations c.set_one-count.new.operations)
-    (run-alone c.args.run c.first.result c.first.ensures.same (sym c.count.ensures.same ∙ c.if-count-eq1.true)) c.set_one-count.ensures.grows
+pub returns-then-count-eq1-clause-wrote : goal.returns-then-count-eq1-clause-wrote
+returns-then-count-eq1-clause-wrote g c =
+    let w = c.args.with in
+    let alone = run-alone c.args.run c.first.result c.first.ensures.same (sym c.count.ensures.same ∙ c.if-count-eq1.true) in
+    subst (λ (r : PageRun). Wrote (runs_set w (r ∷ [])) w.page (words_in w.start (r ∷ [])) (g.S.WordStore.words c.args.store.now) (g.S.WordStore.words c.set_one.new.store) c.args.log (log_of c.set_one.new.operations c.set_one.result)) alone c.set_one.ensures.wrote
 
-pub write_words-requires-clause-may : goal.write_words-requires-clause-may
-write_words-requires-clause-may g c =
+pub write_words-requires : goal.write_words-requires
+write_words-requires g c =
+    let w = c.args.with in
     let first : c.index_from-first.result ≤ 512 = omega (arith, c.index_from-first.ensures) in
     let end : c.index_from-end.result ≤ 512 = omega (arith, c.index_from-end.ensures) in
+    let from = c.index_from-first.ensures in
+    let to = c.index_from-end.ensures in
     rw c.range.ensures record {
-      ordered = search rules;
-      index_in = search rules;
-      in_range = words-in_range c.args.with.word c.args.with.step c.index_from-first.result c.index_from-end.result c.requires.may.in_range first end;
-      inside = search rules;
-      standing = search rules;
+      may = record {
+        ordered = omega (arith, from, to, c.number.ensures.same, c.first-2.ensures.same, c.end.ensures.same);
+        index_in = end;
+        in_range = words-in_range w.word w.step c.index_from-first.result c.index_from-end.result c.requires.may.in_range first end;
+        page_in = c.requires.may.page_in;
+      };
+      ready = record { counted = c.requires.ready.counted; room = omega (arith, from, to, c.number.ensures.same, c.first-2.ensures.same, c.end.ensures.same, c.requires.ready.room) };
     }
 
-pub returns-clause-whole : goal.returns-clause-whole
-returns-clause-whole g c = ap length c.write_words.ensures.words ∙ length-words_set _ _ _ _ _ _
+pub returns-clause-wrote : goal.returns-clause-wrote
+returns-clause-wrote g c =
+    let start = c.args.with.start in
+    wrote-run c.args.with c.args.run c.index_from-first.result c.index_from-end.result (g.S.WordStore.words c.args.store.now) (g.S.WordStore.words c.write_words.new.store) c.args.log c.write_words.result
+    (c.index_from-first.ensures ∙ ap (index_from start) (c.number.ensures.same ∙ c.first-2.ensures.same)) (c.index_from-end.ensures ∙ ap (index_from start) c.end.ensures.same) (rw c.range.ensures at c.write_words.ensures.wrote)

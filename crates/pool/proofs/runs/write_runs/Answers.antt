@@ -1,45 +1,32 @@
-use Rattle.std.proofs.Common.{length, vec_capacity, refl, sym, subst, ◌∙◌, arith}
-use Rattle.pool.specs.Pool.{Pool, after_run}
-use Rattle.pool.specs.Shown.{IsShown}
-use Rattle.pool.proofs.RunWords.{words_in-left, after_runs-left, after_runs-done}
+use Rattle.std.proofs.Common.{◌+◌, [], ◌∷◌, drop, refl, ◌∙◌, arith, rules}
+use Rattle.pool.proofs.Turned.{runs-left, runs-done}
+use Rattle.pool.proofs.Wrote.{left-all, left-ready, left-less, left-none}
 use Rattle.pool.proofs.runs.write_runs.Goals as goal
 
 pub loop-run-init : goal.loop-run-init
-loop-run-init g c =
+loop-run-init g c = record { left = left-all c.args.with c.args.runs.now (g.S.WordStore.words c.args.store.now) c.args.log c.requires.ready.counted; standing = refl }
+
+pub write_run-log-requires : goal.write_run-log-requires
+write_run-log-requires g c =
+    let run = c.run-item.result in
+    let before = c.loop-run.invariant in
     record {
-      shown = λ pool shown. (pool, shown, refl);
-      whole = λ i. length (g.S.WordStore.words c.args.store.now);
-      counted = c.requires.counted;
-      standing = λ i. g.S.WordStore.stands c.args.store.now;
-      capacity = λ i. vec_capacity c.args.operations;
-      len = omega arith;
+      may = record {
+        start_in = c.requires.may.start_in;
+        in_range = c.requires.may.in_range;
+        page_in = record { inside = omega (arith, before.left.whole, c.requires.may.page_in.inside); standing = search rules };
+      };
+      ready = left-ready before.left (run ∷ []) (drop (c.loop-run.run-index + 1) c.args.runs.now) _ (runs-left c.args.runs.now c.loop-run.run-index run c.loop-run-test.true c.run-item.is) (omega arith) c.requires.ready.room;
     }
 
 pub loop-run-preserved : goal.loop-run-preserved
 loop-run-preserved g c =
-    let w = c.args.with in
-    let runs = c.args.runs.now in
     let run = c.run-item.result in
-    let i = c.loop-run.run-index in
     let before = c.loop-run.invariant in
-    let left = words_in-left w.start i runs run c.loop-run-test.true c.run-item.is in
     record {
-      shown = λ pool shown.
-          let was = before.shown pool shown in (
-            after_run w.page w.start w.word w.step run was.0,
-            c.write_run.ensures.shown was.0 was.1,
-            sym (after_runs-left w.page w.start w.word w.step i runs run was.0 c.loop-run-test.true c.run-item.is) ∙ was.2,
-          );
-      whole = c.write_run.ensures.whole ∙ before.whole;
-      counted = c.write_run.ensures.counted;
-      standing = c.write_run.ensures.standing ∙ before.standing;
-      capacity = c.write_run.ensures.grows.capacity ∙ before.capacity;
-      len = omega (arith, before.len, c.write_run.ensures.grows.len, left);
+      left = left-less before.left (run ∷ []) (drop (c.loop-run.run-index + 1) c.args.runs.now) (runs-left c.args.runs.now c.loop-run.run-index run c.loop-run-test.true c.run-item.is) c.write_run-log.ensures.wrote;
+      standing = c.write_run-log.ensures.standing ∙ before.standing;
     }
 
-pub returns-clause-shown : goal.returns-clause-shown
-returns-clause-shown g c = λ pool shown.
-    let w = c.args.with in
-    let was = c.loop-run.invariant.shown pool shown in
-    subst (λ (p : Pool). IsShown (g.S.WordStore.words c.loop-run.store) c.loop-run.operations.items p)
-    (sym (after_runs-done w.page w.start w.word w.step c.loop-run.run-index c.args.runs.now was.0 c.loop-run-test.false) ∙ was.2) was.1
+pub returns-clause-wrote : goal.returns-clause-wrote
+returns-clause-wrote g c = left-none c.loop-run.invariant.left (runs-done c.args.runs.now c.loop-run.run-index c.loop-run-test.false)

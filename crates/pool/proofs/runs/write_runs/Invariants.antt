@@ -1,17 +1,10 @@
-use Rattle.std.proofs.Common.{◌≡◌, ◌+◌, ◌≤◌, length, drop, vec_len, vec_capacity}
-use Rattle.pool.specs.Pool.{Pool, words_of, nonzero_in, words_in, after_runs}
-use Rattle.pool.specs.Shown.{IsShown}
+use Rattle.std.proofs.Common.{◌≡◌, drop}
+use Rattle.pool.proofs.Wrote.{Left}
 use Rattle.pool.proofs.runs.write_runs.Given as goal
 
 -- with the words of the runs that are left it is done
 abbrev pub invariant-loop-run : goal.invariant-loop-run
 invariant-loop-run g l = record {
-  shown : (pool : Pool) → IsShown (g.S.WordStore.words l.fn.store) l.fn.operations.items pool
-      → (now : Pool) × IsShown (g.S.WordStore.words l.store) l.operations.items now
-      × (after_runs l.with.page l.with.start l.with.word l.with.step (drop l.run-index l.runs) now ≡ after_runs l.with.page l.with.start l.with.word l.with.step l.runs pool);
-  whole : length (g.S.WordStore.words l.store) ≡ length (g.S.WordStore.words l.fn.store);
-  counted : l.count ≡ nonzero_in (words_of (g.S.WordStore.words l.store)) l.with.page;
+  left : Left l.with l.runs (drop l.run-index l.runs) (g.S.WordStore.words l.fn.store) (g.S.WordStore.words l.store) l.fn.log l.log;
   standing : g.S.WordStore.stands l.store ≡ g.S.WordStore.stands l.fn.store;
-  capacity : vec_capacity l.operations ≡ vec_capacity l.fn.operations;
-  len : vec_len l.operations + words_in l.with.start (drop l.run-index l.runs) ≤ vec_len l.fn.operations + words_in l.with.start l.runs;
 }

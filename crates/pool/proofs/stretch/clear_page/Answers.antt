@@ -1,8 +1,9 @@
-use Rattle.std.proofs.Common.{◌+◌, sym, ◌∙◌, arith}
-use Rattle.pool.specs.Pool.{words_of}
-use Rattle.pool.proofs.Nonzero.{nonzero-full}
+use Rattle.std.proofs.Common.{◌+◌, ◌∙◌, sym, refl, arith}
+use Rattle.pool.specs.Writing.{zeros_of}
+use Rattle.pool.proofs.Turned.{all-counted, turns-others}
 use Rattle.pool.proofs.stretch.clear_page.Goals as goal
 
-pub write_all-requires-clause-differ : goal.write_all-requires-clause-differ
-write_all-requires-clause-differ g c = λ x lt is.
-    nonzero-full (words_of (g.S.WordStore.words c.args.store.now)) c.args.page (0 + x) (sym c.requires.counted ∙ c.if-count-eq-WORDS.true) (omega (arith, lt)) (is ∙ omega arith)
+pub turn_all-requires-clause-turned : goal.turn_all-requires-clause-turned
+turn_all-requires-clause-turned g c =
+    let words = g.S.WordStore.words c.args.store.now in
+    turns-others words (zeros_of c.args.page) refl refl (λ x lt. all-counted words c.args.page (0 + x) (sym c.requires.ready.counted ∙ c.if-log-eq-WORDS.true) (omega (arith, lt)))

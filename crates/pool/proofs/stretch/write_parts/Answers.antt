@@ -1,40 +1,39 @@
-use Rattle.std.proofs.Common.{◌≡◌, ◌+◌, ◌-◌, ◌*◌, ◌≤◌, ◌++◌, reverse, length, vec_capacity, sym, ap, ap₂, ◌∙◌, refl, arith, rules}
-use Rattle.pool.specs.Pool.{words_set, sets_of}
-use Rattle.pool.proofs.Stretches.{length-words_set, words_set-none, sets_of-none, words_set-join, sets_of-over, part-in_range}
+use Rattle.std.proofs.Common.{◌≡◌, ◌+◌, ◌-◌, ◌*◌, ◌≤◌, refl, sym, ◌∙◌, arith, rules}
+use Rattle.pool.specs.Writing.{range_set}
+use Rattle.pool.proofs.RunWords.{sets-none}
+use Rattle.pool.proofs.Stretches.{part-in_range}
+use Rattle.pool.proofs.Wrote.{wrote-none, wrote-then, wrote-as, sets-join}
 use Rattle.pool.proofs.stretch.write_parts.Goals as goal
 
 pub loop-first-init : goal.loop-first-init
 loop-first-init g c =
     let s = c.args.range in
-    let words = g.S.WordStore.words c.args.store.now in
     let none : s.first - s.first ≡ 0 = omega arith in
     record {
       from = omega arith;
       most = c.requires.may.ordered;
-      words = rw none (sym (words_set-none words s.page s.first s.word s.step));
-      made = rw (none, sets_of-none words s.page s.first s.word s.step) (λ i. reverse c.args.operations.items);
+      wrote = wrote-none (range_set (record s { end = s.first })) s.page (s.first - s.first) (g.S.WordStore.words c.args.store.now) c.args.log c.requires.ready.counted (λ pool _. rw none (sets-none s.page s.first s.word s.step pool));
       word = rw none (omega arith);
-      counted = c.requires.counted;
-      standing = λ i. g.S.WordStore.stands c.args.store.now;
-      capacity = λ i. vec_capacity c.args.operations;
-      len = omega arith;
+      standing = refl;
     }
 
-pub write_part-requires-clause-may : goal.write_part-requires-clause-may
-write_part-requires-clause-may g c =
+pub write_part-log-requires : goal.write_part-log-requires
+write_part-log-requires g c =
     let s = c.args.range in
     let first = c.loop-first.first in
     let k = c.min-written.result in
     let before = c.loop-first.invariant in
     let to : first + k ≤ s.end = omega (arith, c.min-written.ensures, c.loop-first-test.true) in
     let one : (first + k) - first ≡ k = omega arith in
-    let long = ap length before.words ∙ length-words_set (g.S.WordStore.words c.args.store.now) s.page s.first (first - s.first) s.word s.step in
     record {
-      ordered = omega arith;
-      index_in = omega (arith, to, c.requires.may.index_in);
-      in_range = rw one (part-in_range s.first s.end s.word s.step first k c.loop-first.word _ c.requires.may.in_range before.from to before.word);
-      inside = omega (arith, long, c.requires.may.inside);
-      standing = search rules;
+      may = record {
+        ordered = omega arith;
+        index_in = omega (arith, to, c.requires.may.index_in);
+        in_range = rw one (part-in_range s.first s.end s.word s.step first k c.loop-first.word _ c.requires.may.in_range before.from to before.word);
+        page_in = record { inside = omega (arith, before.wrote.whole, c.requires.may.page_in.inside); standing = search rules };
+      };
+      some = omega (arith, c.min-written.ensures, c.loop-first-test.true);
+      ready = record { counted = before.wrote.counted; room = omega (arith, one, to, before.from, before.wrote.grows.len, before.wrote.grows.capacity, c.requires.ready.room) };
     }
 
 pub overflow_add-word : goal.overflow_add-word
@@ -47,7 +46,6 @@ overflow_add-word g c =
 pub loop-first-preserved : goal.loop-first-preserved
 loop-first-preserved g c =
     let s = c.args.range in
-    let start = g.S.WordStore.words c.args.store.now in
     let n = c.loop-first.first - s.first in
     let k = c.min-written.result in
     let before = c.loop-first.invariant in
@@ -56,17 +54,15 @@ loop-first-preserved g c =
     let next : s.word + s.step * n ≡ c.loop-first.word = sym before.word in
     let more : (c.loop-first.first + k) - s.first ≡ n + k = omega (arith, from) in
     let one : (c.loop-first.first + k) - c.loop-first.first ≡ k = omega arith in
-    let least = c.min-written.ensures in
     rw (more, c.from.ensures) record {
       from = omega (arith, from);
-      most = omega (arith, least, c.loop-first-test.true);
-      words = (rw one at c.write_part.ensures.words) ∙ ap (λ words. words_set words s.page c.loop-first.first k c.loop-first.word s.step) before.words
-          ∙ words_set-join start s.page s.first n k (n + k) s.word s.step c.loop-first.first c.loop-first.word index next refl;
-      made = (rw one at c.write_part.ensures.records) ∙ ap₂ (λ words ops. sets_of words s.page c.loop-first.first k c.loop-first.word s.step ++ ops) before.words before.made
-          ∙ sets_of-over start s.page s.first n k (n + k) s.word s.step c.loop-first.first c.loop-first.word (reverse c.args.operations.items) index next refl;
+      most = omega (arith, c.min-written.ensures, c.loop-first-test.true);
+      wrote = wrote-as (wrote-then before.wrote (rw one at c.write_part-log.ensures.wrote)) (omega arith) (λ pool _. sets-join s.page s.first n k (n + k) s.word s.step c.loop-first.first c.loop-first.word pool index next refl);
       word = omega (arith, next);
-      counted = c.write_part.ensures.counted;
-      standing = c.write_part.ensures.standing ∙ before.standing;
-      capacity = c.write_part.ensures.grows.capacity ∙ before.capacity;
-      len = omega (arith, before.len, c.write_part.ensures.grows.len);
+      standing = c.write_part-log.ensures.standing ∙ before.standing;
     }
+
+pub returns-clause-wrote : goal.returns-clause-wrote
+returns-clause-wrote g c =
+    let end : c.loop-first.first ≡ c.args.range.end = omega (arith, c.loop-first-test.false, c.loop-first.invariant.most) in
+    rw (← end) c.loop-first.invariant.wrote

@@ -6,4 +6,4 @@ pub write_others-requires-clause-ready : goal.write_others-requires-clause-ready
 write_others-requires-clause-ready g c =
     let s = c.args.range in
     let most = length-sets_of-le (g.S.WordStore.words c.args.store.now) s.page s.first (s.end - s.first) s.word s.step in
-    omega (arith, most, c.requires.ready, c.requires.may.ordered)
+    record { counted = c.requires.ready.counted; room = omega (arith, most, c.requires.ready.room) }

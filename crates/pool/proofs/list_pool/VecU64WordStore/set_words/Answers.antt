@@ -10,7 +10,7 @@ loop-index-init c =
 pub index_mut-requires : goal.index_mut-requires
 index_mut-requires c =
     let long = ap length c.loop-index.invariant.words ∙ length-words_set c.args.self.now.items c.args.range.page c.args.range.first (c.loop-index.index - c.args.range.first) c.args.range.word c.args.range.step in
-    omega (arith, long, c.requires.may.inside, c.requires.may.index_in, c.loop-index-test.true)
+    omega (arith, long, c.requires.may.page_in.inside, c.requires.may.index_in, c.loop-index-test.true)
 
 pub loop-index-preserved : goal.loop-index-preserved
 loop-index-preserved c =

@@ -1,53 +1,46 @@
-use Rattle.std.proofs.Common.{◌≡◌, ◌∙◌, arith}
-use Rattle.std.proofs.Math.ListN.{length-set}
-use Rattle.std.proofs.lemmas.List.{get_or_read}
-use Rattle.base.specs.Manifest.{page_count}
-use Rattle.pool.specs.Pool.{words_of}
-use Rattle.pool.proofs.Kept.{free_zero-set}
-use Rattle.pool.proofs.Nonzero.{word-read, nonzero-le, recount-some, counts_nonzero-set}
-use Rattle.pool.proofs.Within.{within-push, set-within}
+use Rattle.std.proofs.Common.{◌≡◌, ◌+◌, ◌-◌, [], ◌∷◌, ℕ, Bool, true, ap, ◌∙◌, arith}
+use Rattle.pool.specs.declared.operation.Op.TheVariants.{Set}
+use Rattle.pool.proofs.Nonzero.{read-test}
+use Rattle.pool.proofs.Replaced.{keeps-set}
+use Rattle.pool.proofs.Stretches.{vec_len-made}
+use Rattle.pool.proofs.Wrote.{wrote-is}
+use Rattle.pool.proofs.Within.{set-within}
+use Rattle.pool.proofs.Written.{stays, state, pool_in}
 use Rattle.pool.proofs.table_pool.TablePoolTableMem.set_word.Goals as goal
 
-pub invariant_of-self-clause-words_whole : goal.invariant_of-self-clause-words_whole
-invariant_of-self-clause-words_whole g c = rw c.set_word.ensures.words (length-set (g.S.WordStore.words c.args.self.now.store) _ _ ∙ c.args.self.now.words_whole)
-
-pub invariant_of-self-clause-free_zero : goal.invariant_of-self-clause-free_zero
-invariant_of-self-clause-free_zero g c =
+pub invariant_of-self : goal.invariant_of-self
+invariant_of-self g c =
     let old = c.args.self.now in
-    rw c.set_word.ensures.words
-    (free_zero-set (g.S.WordStore.words old.store) old.taken (page_count old.quotas.items) c.args.page c.args.index c.args.word old.words_whole c.requires.page_in c.requires.index_in c.requires.taken old.free_zero)
+    let kept = stays old c.args.page c.requires.page_in c.write_word-count.ensures.wrote (λ a room. keeps-set c.args.page c.args.index c.args.word a c.requires.index_in room) c.requires.taken (let here = set-within old.ids.items old.quotas.items c.args.page c.args.index c.args.word c.requires.page_in c.requires.index_in in rw here old.within) in
+    record {
+      ids_whole = old.ids_whole;
+      words_whole = kept.words_whole;
+      taken_whole = old.taken_whole;
+      free_counted = old.free_counted;
+      nonzero_counted = kept.nonzero_counted;
+      fits = old.fits;
+      roots = old.roots;
+      within = kept.within;
+      free_zero = kept.free_zero;
+      standing = λ q held. ap (λ (s : ℕ → Bool). s q) c.write_word-count.ensures.standing ∙ old.standing q held;
+    }
 
-pub recounted-requires-clause-most : goal.recounted-requires-clause-most
-recounted-requires-clause-most g c =
+pub returns-clause-state : goal.returns-clause-state
+returns-clause-state g c =
     let old = c.args.self.now in
-    let counted = old.nonzero_counted.each c.args.page c.requires.page_in in
-    let pages = old.nonzero_counted.pages in
-    let here = get_or_read old.nonzero.items _ _ (omega (arith, pages, c.requires.page_in)) c.index-count.ensures 0 in
-    let most = nonzero-le (words_of (g.S.WordStore.words old.store)) c.args.page in
-    omega (arith, here, counted, most)
+    state old c.args.page c.requires.page_in c.write_word-count.ensures.wrote (λ a room. keeps-set c.args.page c.args.index c.args.word a c.requires.index_in room)
 
-pub recounted-requires-clause-counted : goal.recounted-requires-clause-counted
-recounted-requires-clause-counted g c =
+pub write_word-count-requires-clause-may : goal.write_word-count-requires-clause-may
+write_word-count-requires-clause-may g c =
     let old = c.args.self.now in
-    let counted = old.nonzero_counted.each c.args.page c.requires.page_in in
-    let pages = old.nonzero_counted.pages in
-    let here = get_or_read old.nonzero.items _ _ (omega (arith, pages, c.requires.page_in)) c.index-count.ensures 0 in
-    recount-some (g.S.WordStore.words old.store) c.args.page c.args.index c.index-count.result.now c.standing_word-before.result c.requires.index_in (omega (arith, here, counted)) c.standing_word-before.ensures
+    record {
+      index_in = c.requires.index_in;
+      page_in = record { inside = omega (arith, old.words_whole, c.requires.page_in); standing = old.standing c.args.page c.requires.taken };
+      turned = read-test (g.S.WordStore.words old.store) c.args.page c.args.index c.standing_word-before.result c.requires.index_in c.standing_word-before.ensures;
+    }
 
-pub invariant_of-self-clause-nonzero_counted : goal.invariant_of-self-clause-nonzero_counted
-invariant_of-self-clause-nonzero_counted g c =
-    let old = c.args.self.now in
-    let pages = old.nonzero_counted.pages in
-    let here = get_or_read old.nonzero.items _ _ (omega (arith, pages, c.requires.page_in)) c.index-count.ensures 0 in
-    let read : c.standing_word-before.result ≡ words_of (g.S.WordStore.words old.store) c.args.page c.args.index =
-    word-read (g.S.WordStore.words old.store) c.args.page c.args.index c.standing_word-before.result c.requires.index_in c.standing_word-before.ensures in
-    rw c.set_word.ensures.words
-    (counts_nonzero-set old.quotas.items (g.S.WordStore.words old.store) old.nonzero.items c.args.page c.args.index c.args.word c.recounted.result old.nonzero_counted old.words_whole c.requires.page_in c.requires.index_in
-    (rw (← read, ← here) c.recounted.ensures))
-
-pub invariant_of-self-clause-within : goal.invariant_of-self-clause-within
-invariant_of-self-clause-within g c =
-    let old = c.args.self.now in
-    let here = set-within old.ids.items old.quotas.items c.args.page c.args.index c.args.word c.requires.page_in c.requires.index_in in
-    let items = c.push_reserved.ensures.items in
-    rw items (within-push old.ids.items old.quotas.items old.operations.items _ here old.within)
+pub returns-clause-room : goal.returns-clause-room
+returns-clause-room g c =
+    let wrote = c.write_word-count.ensures.wrote in
+    let long = vec_len-made c.args.self.now.operations c.write_word-count.new.operations (Set c.args.page c.args.index c.args.word ∷ []) (wrote-is wrote).operations in
+    omega (arith, long, wrote.grows.capacity, c.requires.ready)

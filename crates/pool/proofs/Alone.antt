@@ -1,0 +1,46 @@
+-- A page alone, whose word stands at an index.
+use Rattle.std.proofs.Common.{◌≡◌, ◌≢◌, ℕ, ◌+◌, ◌-◌, ◌*◌, ◌<◌, ◌≤◌, ◌⊎◌, arith, [], ◌∷◌, length, slice_index, refl, sym, ap, ◌∙◌, inl, inr}
+use Rattle.pool.specs.Pool.{Pool, after_run, after_set, after_sets, words_set, index_from, words_in}
+use Rattle.pool.specs.Writing.{page_alone, runs_set}
+use Rattle.pool.specs.declared.runs.TableWords.{TableWords}
+use Rattle.pool.proofs.RunWords.{after_run-outside, page-alone, sets-none}
+use Rattle.pool.proofs.Stretches.{words_set-none}
+use Rattle.pool.proofs.Wrote.{sets-more, sets-pass, alone-run}
+
+-- none of them is its
+pub alone-outside : (with : TableWords) (page : ℕ) → (page < with.start) ⊎ (with.start + 512 ≤ page) → (pool : Pool) → runs_set with (page_alone page ∷ []) pool ≡ pool
+alone-outside with page beside pool =
+    let none : index_from with.start (page + 1) ≡ index_from with.start page = elim beside [ inl before ↦ omega (arith, before) | inr behind ↦ omega (arith, behind) ] in
+    alone-run with (page_alone page) pool ∙ after_run-outside with.page with.start with.word with.step (page_alone page) pool none
+
+module _ (with : TableWords) (page index : ℕ) (small : index < 512) (is : with.start + index ≡ page) where
+  at : index ≡ index_from with.start page
+  at = omega (arith, is, small)
+
+  end : index + 1 ≡ index_from with.start (page + 1)
+  end = omega (arith, is, small)
+
+  pub alone-words : words_in with.start (page_alone page ∷ []) ≡ 1
+  alone-words = let a = at in let b = end in omega (arith, a, b)
+
+  alone-sets : (pool : Pool) → runs_set with (page_alone page ∷ []) pool ≡ after_sets with.page index (0 + 1) (with.word + with.step * index) with.step pool
+  alone-sets pool = alone-run with (page_alone page) pool ∙ page-alone with.page with.start with.word with.step page index (with.word + with.step * index) pool at end refl
+
+  read-none : (pool : Pool) → slice_index (words_set pool.memory.words with.page index 0 (with.word + with.step * index) with.step) (512 * with.page + index) ≡ slice_index pool.memory.words (512 * with.page + index)
+  read-none pool = ap (λ l. slice_index l (512 * with.page + index)) (words_set-none pool.memory.words with.page index (with.word + with.step * index) with.step)
+
+  -- it is written
+  pub alone-set : (pool : Pool) → slice_index pool.memory.words (512 * with.page + index) ≢ with.word + with.step * index → runs_set with (page_alone page ∷ []) pool ≡ after_set with.page index (with.word + with.step * index) pool
+  alone-set pool differs =
+      let next = with.word + with.step * index in
+      alone-sets pool
+      ∙ sets-more with.page index 0 next with.step index next pool (omega arith) (omega arith) (λ e. differs (sym (read-none pool) ∙ e))
+      ∙ ap (λ p. after_set with.page index next p) (sets-none with.page index next with.step pool)
+
+  -- or is there
+  pub alone-stays : (pool : Pool) → 512 * with.page + index < length pool.memory.words → slice_index pool.memory.words (512 * with.page + index) ≡ with.word + with.step * index → runs_set with (page_alone page ∷ []) pool ≡ pool
+  alone-stays pool within there =
+      let next = with.word + with.step * index in
+      alone-sets pool
+      ∙ sets-pass with.page index 0 next with.step index next pool (omega arith) (omega arith) within (read-none pool ∙ there)
+      ∙ sets-none with.page index next with.step pool

@@ -1,0 +1,59 @@
+-- What a table memory is, once words of one of its pages are written.
+use Rattle.std.proofs.Common.{◌≡◌, ◌≢◌, ℕ, ◌+◌, ◌*◌, ◌%◌, ◌^◌, ◌<◌, ◌≤◌, Bool, true, false, List, length, reverse, slice_set, true≢false, refl, sym, ap, ◌∙◌, arith}
+use Rattle.std.specs.List.{list_all}
+use Rattle.std.proofs.lemmas.List.{length-reverse}
+use Rattle.base.specs.Manifest.{page_count}
+use Rattle.pool.specs.Pool.{Pool, words_of, taken_of, nonzero_in, lies_in, CountsNonzero}
+use Rattle.pool.specs.Shown.{IsShown}
+use Rattle.pool.specs.Writing.{Wrote, log_of}
+use Rattle.pool.specs.declared.log.Log.{Log}
+use Rattle.pool.specs.declared.operation.Op.{Op}
+use Rattle.pool.specs.declared.table_pool.TablePool.{TablePool}
+use Rattle.pool.specs.declared.word_store.WordStore.{Ghosts}
+use Rattle.pool.proofs.Kept.{memory_in}
+use Rattle.pool.proofs.Nonzero.{counts_nonzero-page}
+use Rattle.pool.proofs.Replaced.{Keeps, pools-same}
+
+-- the pool that it shows, but for the count of operations
+abbrev pub pool_in : {S : Type 0} {g : Ghosts S} → TablePool S g → ℕ → Pool
+pool_in m made = record { memory = memory_in m; operations = reverse m.operations.items; made = made }
+
+-- what holds of it still
+pub record Stays {S : Type 0} {g : Ghosts S} (old : TablePool S g) (page : ℕ) (new : List ℕ) (after : Log) : Type 0 where
+  pub words_whole : length new ≡ 512 * page_count old.quotas.items
+  pub nonzero_counted : CountsNonzero old.quotas.items new (slice_set old.nonzero.items page after.nonzero)
+  pub within : list_all (lies_in old.ids.items old.quotas.items) (reverse after.operations.items) ≡ true
+  pub free_zero : (q i : ℕ) → taken_of old.taken q ≡ false → words_of new q i ≡ 0
+
+module _ {S : Type 0} {g : Ghosts S} (old : TablePool S g) (page : ℕ) (inside : page < page_count old.quotas.items)
+    {step : Pool → Pool} {most count : ℕ} {new : List ℕ} {after : Log} (wrote : Wrote step page most (g.words old.store) new (log_of old.operations count) after)
+    (keeps : (a : Pool) → 512 * page + 512 ≤ length a.memory.words → Keeps page a (step a)) where
+  whole : 512 * page + 512 ≤ length (g.words old.store)
+  whole = let all = old.words_whole in omega (arith, all, inside)
+
+  shown : (made : ℕ) → IsShown new after.operations.items (step (pool_in old made))
+  shown made = wrote.shown (pool_in old made) (record { words = refl; operations = refl })
+
+  pub stays : taken_of old.taken page ≡ true → list_all (lies_in old.ids.items old.quotas.items) (step (pool_in old 0)).operations ≡ true → Stays old page new after
+  stays held lie =
+      let others : (q i : ℕ) → q ≢ page → words_of new q i ≡ words_of (g.words old.store) q i = λ q i other. ap (λ w. words_of w q i) (shown 0).words ∙ (keeps (pool_in old 0) whole).others q i other in
+      record {
+        words_whole = wrote.whole ∙ old.words_whole;
+        nonzero_counted = counts_nonzero-page old.quotas.items (g.words old.store) new old.nonzero.items page after.nonzero old.nonzero_counted inside others wrote.counted;
+        within = rw (shown 0).operations lie;
+        free_zero = λ q i free. others q i (λ is. true≢false (sym held ∙ ap (taken_of old.taken) (sym is) ∙ free)) ∙ old.free_zero q i free;
+      }
+
+  -- it shows what the step makes
+  pub state : (let pool : Pool = record { memory = record { ids = old.ids.items; quotas = old.quotas.items; words = new; taken = old.taken }; operations = reverse after.operations.items; made = (old.made_before + length after.operations.items) % 2 ^ 64 } in pool)
+      ≡ step (pool_in old ((old.made_before + length old.operations.items) % 2 ^ 64))
+  state =
+      let made = (old.made_before + length old.operations.items) % 2 ^ 64 in
+      let pool = step (pool_in old made) in
+      let kept = keeps (pool_in old made) whole in
+      let is = shown made in
+      let was : length (reverse old.operations.items) ≡ length old.operations.items = length-reverse old.operations.items in
+      let count = kept.made old.made_before (ap (λ k. (old.made_before + k) % 2 ^ 64) (sym was)) in
+      let long : length after.operations.items ≡ length pool.operations = sym (length-reverse after.operations.items) ∙ ap length is.operations in
+      pools-same (record { memory = record { ids = old.ids.items; quotas = old.quotas.items; words = new; taken = old.taken }; operations = reverse after.operations.items; made = (old.made_before + length after.operations.items) % 2 ^ 64 }) pool
+      (sym kept.ids) (sym kept.quotas) is.words (sym kept.taken) is.operations (ap (λ k. (old.made_before + k) % 2 ^ 64) long ∙ sym count)

@@ -1,0 +1,253 @@
+-- What is written of a page, step by step.
+use Rattle.std.proofs.Common.{◌≡◌, ◌≢◌, ℕ, zero, suc, ◌+◌, ◌-◌, ◌*◌, ◌%◌, ◌^◌, ◌<◌, ◌≤◌, ◌==◌, true, false, arith, List, [], ◌∷◌, ◌++◌, length, reverse, slice_index, slice_set, vec_len, vec_capacity, refl, sym, subst, ap, ap₂, ◌∙◌, inr, add-one}
+use Rattle.std.proofs.lemmas.Bool.{cases_eq}
+use Rattle.std.proofs.lemmas.Bool.Decides.{nat_tests}
+use Rattle.std.proofs.lemmas.List.{length-set, reverse-append}
+use Rattle.base.specs.Pages.{PageRun, covers}
+use Rattle.pool.specs.Pool.{Pool, words_of, words_set, sets_of, nonzero_in, counted, after_set, after_sets, after_run, after_invalidate, index_from, words_in, gap}
+use Rattle.pool.specs.Shown.{IsShown}
+use Rattle.pool.specs.Writing.{HasRoom, Grows, IsReady, Wrote, IsHeld, Records, TurnRuns, with_range, writes_of, range_set, runs_set, indexes_set}
+use Rattle.pool.specs.declared.log.Log.{Log}
+use Rattle.pool.specs.declared.operation.Op.{Op}
+use Rattle.pool.specs.declared.operation.Op.TheVariants.{Set, Invalidate}
+use Rattle.pool.specs.declared.runs.TableWords.{TableWords}
+use Rattle.pool.specs.declared.word_range.WordRange.{WordRange}
+use Rattle.pool.proofs.Stretches.{words_set-beside, words_set-join, sets_of-join, sets_of-over, set-same, vec_len-made, length-words_set, zeros-stay, zeros-make_none, emptied-rest}
+use Rattle.pool.proofs.RunWords.{after_runs-none, after_runs-next, after_runs-append, words_in-append}
+use Rattle.pool.proofs.Gaps.{gap-one, gap-words, covers-append, or-right}
+
+-- ---- steps
+
+-- none
+pub wrote-none : (step : Pool → Pool) (page most : ℕ) (words : List ℕ) (log : Log) → log.nonzero ≡ nonzero_in (words_of words) page → ((pool : Pool) → pool.memory.words ≡ words → step pool ≡ pool)
+    → Wrote step page most words words log log
+wrote-none step page most words log counted same = record {
+  shown = λ pool shown. subst (λ (p : Pool). IsShown words log.operations.items p) (sym (same pool (sym shown.words))) shown;
+  whole = refl;
+  counted = counted;
+  grows = record { len = omega arith; capacity = refl };
+}
+
+-- one after another
+pub wrote-then : {f g : Pool → Pool} {page a b : ℕ} {old mid new : List ℕ} {before log after : Log} → Wrote f page a old mid before log → Wrote g page b mid new log after
+    → Wrote (λ pool. g (f pool)) page (a + b) old new before after
+wrote-then {f = f} first next = record {
+  shown = λ pool shown. next.shown (f pool) (first.shown pool shown);
+  whole = next.whole ∙ first.whole;
+  counted = next.counted;
+  grows = record { len = omega (arith, first.grows.len, next.grows.len); capacity = next.grows.capacity ∙ first.grows.capacity };
+}
+
+-- the same in other words
+pub wrote-as : {f g : Pool → Pool} {page a b : ℕ} {old new : List ℕ} {before after : Log} → Wrote f page a old new before after → a ≤ b → ((pool : Pool) → pool.memory.words ≡ old → f pool ≡ g pool)
+    → Wrote g page b old new before after
+wrote-as {new = new} {after = after} wrote more same = record {
+  shown = λ pool shown. subst (λ (p : Pool). IsShown new after.operations.items p) (same pool (sym shown.words)) (wrote.shown pool shown);
+  whole = wrote.whole;
+  counted = wrote.counted;
+  grows = record { len = omega (arith, wrote.grows.len, more); capacity = wrote.grows.capacity };
+}
+
+-- a pool that a store's words and a log show
+abbrev pub pool_of : List ℕ → Log → Pool
+pool_of words log = record {
+  memory = record { ids = []; quotas = []; words = words; taken = [] };
+  operations = reverse log.operations.items;
+  made = 0;
+}
+
+pub wrote-is : {f : Pool → Pool} {page a : ℕ} {old new : List ℕ} {before after : Log} → Wrote f page a old new before after → IsShown new after.operations.items (f (pool_of old before))
+wrote-is {old = old} {before = before} wrote = wrote.shown (pool_of old before) (record { words = refl; operations = refl })
+
+-- ---- one word
+
+pub wrote-set : (page index word : ℕ) (old new : List ℕ) (before after : Log) → new ≡ slice_set old (512 * page + index) word → after.operations.items ≡ before.operations.items ++ Set page index word ∷ []
+    → Grows 1 before.operations after.operations → after.nonzero ≡ nonzero_in (words_of new) page → Wrote (after_set page index word) page 1 old new before after
+wrote-set page index word old new before after written pushed more right = record {
+  shown = λ pool shown. record {
+    words = written ∙ ap (λ w. slice_set w (512 * page + index) word) shown.words;
+    operations = ap reverse pushed ∙ reverse-append before.operations.items (Set page index word ∷ []) ∙ ap (λ ops. Set page index word ∷ ops) shown.operations;
+  };
+  whole = ap length written ∙ length-set old (512 * page + index) word;
+  counted = right;
+  grows = more;
+}
+
+pub wrote-invalidate : (p : ℕ) (run : PageRun) (page : ℕ) (words : List ℕ) (before after : Log) → after.operations.items ≡ before.operations.items ++ Invalidate p run ∷ [] → Grows 1 before.operations after.operations
+    → after.nonzero ≡ nonzero_in (words_of words) page → Wrote (after_invalidate p run) page 1 words words before after
+wrote-invalidate p run page words before after pushed more right = record {
+  shown = λ pool shown. record {
+    words = shown.words;
+    operations = ap reverse pushed ∙ reverse-append before.operations.items (Invalidate p run ∷ []) ∙ ap (λ ops. Invalidate p run ∷ ops) shown.operations;
+  };
+  whole = refl;
+  counted = right;
+  grows = more;
+}
+
+-- ---- words of a range
+
+pub wrote-range : (range : WordRange) (old new : List ℕ) (before after : Log) → new ≡ with_range old range → Records old range before.operations.items after.operations.items
+    → Grows (range.end - range.first) before.operations after.operations → after.nonzero ≡ nonzero_in (words_of new) range.page → Wrote (range_set range) range.page (range.end - range.first) old new before after
+wrote-range range old new before after written made more right = record {
+  shown = λ pool shown. record {
+    words = written ∙ ap (λ w. with_range w range) shown.words;
+    operations = made ∙ ap (λ w. writes_of w range ++ reverse before.operations.items) shown.words ∙ ap (λ l. writes_of pool.memory.words range ++ l) shown.operations;
+  };
+  whole = ap length written ∙ length-words_set old range.page range.first (range.end - range.first) range.word range.step;
+  counted = right;
+  grows = more;
+}
+
+-- how much longer is the list then
+pub wrote-length : (range : WordRange) (most : ℕ) (old new : List ℕ) (before after : Log) → Wrote (range_set range) range.page most old new before after
+    → vec_len after.operations ≡ vec_len before.operations + length (writes_of old range)
+wrote-length range most old new before after wrote = vec_len-made before.operations after.operations (writes_of old range) (wrote-is wrote).operations
+
+-- one more, which is not there
+pub sets-more : (page first n word step index next : ℕ) (pool : Pool) → first + n ≡ index → word + step * n ≡ next → slice_index (words_set pool.memory.words page first n word step) (512 * page + index) ≢ next
+    → after_sets page first (n + 1) word step pool ≡ after_set page index next (after_sets page first n word step pool)
+unfolding words_set sets_of
+sets-more page first n word step index next pool is there differs =
+    let test : (slice_index (words_set pool.memory.words page first n word step) (512 * page + index) == next) ≡ false = grind (arith, nat_tests, differs) in
+    rw (add-one, is, there, test) refl
+
+-- or which is
+pub sets-pass : (page first n word step index next : ℕ) (pool : Pool) → first + n ≡ index → word + step * n ≡ next → 512 * page + index < length pool.memory.words → slice_index (words_set pool.memory.words page first n word step) (512 * page + index) ≡ next
+    → after_sets page first (n + 1) word step pool ≡ after_sets page first n word step pool
+unfolding words_set sets_of
+sets-pass page first n word step index next pool is there inside same =
+    let set = words_set pool.memory.words page first n word step in
+    let test : (slice_index set (512 * page + index) == next) ≡ true = grind (arith, nat_tests, same) in
+    let long = length-words_set pool.memory.words page first n word step in
+    let stays : slice_set set (512 * page + index) next ≡ set = set-same set (512 * page + index) next (omega (arith, long, inside)) same in
+    rw (add-one, is, there, test, stays) refl
+
+counted-append : (a b : List Op) (n : ℕ) → counted (a ++ b) n ≡ counted a (counted b n)
+counted-append [] b n = refl
+counted-append (op ∷ a) b n = ap (λ (k : ℕ). (k + 1) % 2 ^ 64) (counted-append a b n)
+
+-- words that go on where others end
+pub sets-join : (page first a b n word step index next : ℕ) (pool : Pool) → first + a ≡ index → word + step * a ≡ next → a + b ≡ n
+    → after_sets page index b next step (after_sets page first a word step pool) ≡ after_sets page first n word step pool
+sets-join page first a b n word step index next pool is there sum =
+    let words = pool.memory.words in
+    let join = words_set-join words page first a b n word step index next is there sum in
+    let over = sets_of-over words page first a b n word step index next pool.operations is there sum in
+    let made = sym (counted-append (sets_of (words_set words page first a word step) page index b next step) (sets_of words page first a word step) pool.made) ∙ ap (λ ops. counted ops pool.made) (sets_of-join words page first a b n word step index next is there sum) in
+    rw (join, over, made) refl
+
+-- where all are 0, none is written to make them so
+pub sets-stay : (page first n word step : ℕ) (pool : Pool) → word ≡ 0 → step ≡ 0 → 512 * page + 512 ≤ length pool.memory.words → first + n ≤ 512 → ((x : ℕ) → x < n → words_of pool.memory.words page (first + x) ≡ 0)
+    → after_sets page first n word step pool ≡ pool
+sets-stay page first n word step pool none same room small zeros =
+    rw (none, same, zeros-stay pool.memory.words page first n room small zeros, zeros-make_none pool.memory.words page first n room small zeros) refl
+
+-- nor those behind, once none of the page is left that is not
+pub sets-rest : (page n : ℕ) (pool : Pool) → 512 * page + 512 ≤ length pool.memory.words → n ≤ 512 → nonzero_in (words_of (words_set pool.memory.words page 0 n 0 0)) page ≡ 0
+    → after_sets page 0 n 0 0 pool ≡ after_sets page 0 512 0 0 pool
+sets-rest page n pool room small none =
+    let rest = emptied-rest pool.memory.words page n room small none in
+    rw (rest.0, rest.1) refl
+
+-- ---- words for the pages of runs
+
+-- those of one
+pub alone-run : (with : TableWords) (run : PageRun) (pool : Pool) → runs_set with (run ∷ []) pool ≡ after_run with.page with.start with.word with.step run pool
+alone-run with run pool = after_runs-next with.page with.start with.word with.step run [] pool ∙ after_runs-none with.page with.start with.word with.step (after_run with.page with.start with.word with.step run pool)
+
+pub wrote-run : (with : TableWords) (run : PageRun) (first end : ℕ) (old new : List ℕ) (before after : Log) → first ≡ index_from with.start run.first → end ≡ index_from with.start (run.first + run.count)
+    → Wrote (indexes_set with first end) with.page (end - first) old new before after → Wrote (runs_set with (run ∷ [])) with.page (words_in with.start (run ∷ [])) old new before after
+wrote-run with run first end old new before after from to wrote =
+    wrote-as wrote (omega (arith, from, to)) (λ pool _.
+    ap₂ (λ a b. indexes_set with a b pool) from to
+    ∙ sym (alone-run with run pool))
+
+pub wrote-gap : (with : TableWords) (first end : ℕ) (old new : List ℕ) (before after : Log) → end ≤ 512 → Wrote (indexes_set with first end) with.page (end - first) old new before after
+    → Wrote (runs_set with (gap with.start first end)) with.page (words_in with.start (gap with.start first end)) old new before after
+wrote-gap with first end old new before after most wrote =
+    let long = gap-words with.start first end most in
+    wrote-as wrote (omega (arith, long)) (λ pool _. sym (gap-one with.page with.start with.word with.step first end pool most))
+
+-- the words behind stay
+pub wrote-beside : (with : TableWords) (first end most i : ℕ) (old new : List ℕ) (before after : Log) → Wrote (indexes_set with first end) with.page most old new before after → 512 * with.page + 512 ≤ length old
+    → first ≤ 512 → end ≤ 512 → first ≤ i → end ≤ i → words_of new with.page i ≡ words_of old with.page i
+wrote-beside with first end most i old new before after wrote room low high from behind =
+    ap (λ l. words_of l with.page i) (wrote-is wrote).words
+    ∙ words_set-beside old with.page first (end - first) (with.word + with.step * first) with.step i room (omega (arith, low, high)) (inr (omega (arith, from, behind)))
+
+pub run-beside : (with : TableWords) (run : PageRun) (i : ℕ) (old new : List ℕ) (before after : Log) → Wrote (runs_set with (run ∷ [])) with.page (words_in with.start (run ∷ [])) old new before after → 512 * with.page + 512 ≤ length old
+    → index_from with.start (run.first + run.count) ≤ i → words_of new with.page i ≡ words_of old with.page i
+run-beside with run i old new before after wrote room behind =
+    let first = index_from with.start run.first in
+    let end = index_from with.start (run.first + run.count) in
+    let sets : Wrote (indexes_set with first end) with.page (words_in with.start (run ∷ [])) old new before after = wrote-as wrote (omega arith) (λ pool _. alone-run with run pool) in
+    wrote-beside with first end (words_in with.start (run ∷ [])) i old new before after sets room (omega arith) (omega arith) (omega (arith, behind)) behind
+
+-- Some of the runs are left: with the words for their pages it is done.
+pub record Left (with : TableWords) (all left : List PageRun) (old new : List ℕ) (before after : Log) : Type 0 where
+  pub shown : (pool : Pool) → IsShown old before.operations.items pool → (now : Pool) × IsShown new after.operations.items now × (runs_set with left now ≡ runs_set with all pool)
+  pub whole : length new ≡ length old
+  pub counted : after.nonzero ≡ nonzero_in (words_of new) with.page
+  pub capacity : vec_capacity after.operations ≡ vec_capacity before.operations
+  pub len : vec_len after.operations + words_in with.start left ≤ vec_len before.operations + words_in with.start all
+
+pub left-all : (with : TableWords) (all : List PageRun) (words : List ℕ) (log : Log) → log.nonzero ≡ nonzero_in (words_of words) with.page → Left with all all words words log log
+left-all with all words log counted = record {
+  shown = λ pool shown. (pool, shown, refl);
+  whole = refl;
+  counted = counted;
+  capacity = refl;
+  len = omega arith;
+}
+
+module _ {with : TableWords} {all left : List PageRun} {old mid : List ℕ} {before log : Log} (so : Left with all left old mid before log) where
+  -- there is room for the first of them
+  pub left-ready : (part rest : List PageRun) (more : ℕ) → left ≡ part ++ rest → more ≤ words_in with.start part → HasRoom before.operations (words_in with.start all) → IsReady mid with.page more log
+  left-ready part rest more parts few room =
+      let sum = ap (words_in with.start) parts ∙ words_in-append with.start part rest in
+      record { counted = so.counted; room = omega (arith, so.len, so.capacity, sum, few, room) }
+
+  -- which are written
+  pub left-less : {new : List ℕ} {after : Log} (part rest : List PageRun) → left ≡ part ++ rest → Wrote (runs_set with part) with.page (words_in with.start part) mid new log after → Left with all rest old new before after
+  left-less part rest parts wrote =
+      let sum = ap (words_in with.start) parts ∙ words_in-append with.start part rest in
+      record {
+        shown = λ pool shown.
+            let was = so.shown pool shown in (
+              runs_set with part was.0,
+              wrote.shown was.0 was.1,
+              sym (ap (λ rs. runs_set with rs was.0) parts ∙ after_runs-append with.page with.start with.word with.step part rest was.0) ∙ was.2,
+            );
+        whole = wrote.whole ∙ so.whole;
+        counted = wrote.counted;
+        capacity = wrote.grows.capacity ∙ so.capacity;
+        len = omega (arith, so.len, wrote.grows.len, sum);
+      }
+
+  -- none is left
+  pub left-none : left ≡ [] → Wrote (runs_set with all) with.page (words_in with.start all) old mid before log
+  left-none none = record {
+    shown = λ pool shown.
+        let was = so.shown pool shown in
+        let done = ap (λ rs. runs_set with rs was.0) none ∙ after_runs-none with.page with.start with.word with.step was.0 in
+        subst (λ (p : Pool). IsShown mid log.operations.items p) (sym done ∙ was.2) was.1;
+    whole = so.whole;
+    counted = so.counted;
+    grows = record { len = omega (arith, so.len); capacity = so.capacity };
+  }
+
+-- ---- words that are turned
+
+pub turned-part : (words : List ℕ) (with : TableWords) (part rest : List PageRun) → TurnRuns words with (part ++ rest) → TurnRuns words with part
+turned-part words with part rest all = record {
+  zeros = all.zeros;
+  each = λ i small within. all.each i small (covers-append with.start part rest (with.start + i) ∙ rw within refl);
+}
+
+pub turned-rest : (old new : List ℕ) (with : TableWords) (part rest : List PageRun) → TurnRuns old with (part ++ rest) → ((i : ℕ) → covers rest (with.start + i) ≡ true → words_of new with.page i ≡ words_of old with.page i) → TurnRuns new with rest
+turned-rest old new with part rest all stay = record {
+  zeros = all.zeros;
+  each = λ i small within.
+      ap (λ (n : ℕ). n == 0) (stay i within) ∙ all.each i small (covers-append with.start part rest (with.start + i) ∙ rw within (or-right with.start (covers part (with.start + i))));
+}

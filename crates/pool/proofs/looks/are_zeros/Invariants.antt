@@ -1,9 +1,0 @@
-use Rattle.std.proofs.Common.{◌≡◌, ℕ, ◌<◌, ◌≤◌, true}
-use Rattle.pool.specs.Pool.{words_of}
-use Rattle.pool.proofs.looks.are_zeros.Given as goal
-
--- the words before this one are so, if it is so yet
-abbrev pub invariant-loop-index : goal.invariant-loop-index
-invariant-loop-index g l = record {
-  before : l.are ≡ true → (i : ℕ) → l.first ≤ i → i < l.index → words_of (g.S.WordStore.words l.store) l.page i ≡ 0;
-}

@@ -1,0 +1,24 @@
+use Rattle.std.proofs.Common.{arith}
+use Rattle.pool.specs.Pool.{words_of}
+use Rattle.pool.specs.Writing.{log_of}
+use Rattle.pool.proofs.Nonzero.{nonzero-le, recount-some, recount}
+use Rattle.pool.proofs.Wrote.{wrote-set}
+use Rattle.pool.proofs.stretch.write_word.Goals as goal
+
+pub recounted-requires : goal.recounted-requires
+recounted-requires g c =
+    let at = c.args.at in
+    let words = g.S.WordStore.words c.args.store.now in
+    let most = nonzero-le (words_of words) at.page in
+    record {
+      counted = recount-some words at.page at.index c.args.nonzero c.args.before c.requires.may.index_in c.requires.ready.counted c.requires.may.turned;
+      most = omega (arith, most, c.requires.ready.counted);
+    }
+
+pub returns-clause-wrote : goal.returns-clause-wrote
+returns-clause-wrote g c =
+    let at = c.args.at in
+    let old = g.S.WordStore.words c.args.store.now in
+    let new = g.S.WordStore.words c.put_word.new.store in
+    wrote-set at.page at.index at.word old new (log_of c.args.operations.now c.args.nonzero) (log_of c.put_word.new.operations c.recounted.result) c.put_word.ensures.words c.put_word.ensures.items c.put_word.ensures.grows
+    (recount old new at.page at.index at.word c.args.nonzero c.args.before c.recounted.result c.requires.may.index_in c.requires.may.page_in.inside c.requires.ready.counted c.requires.may.turned c.put_word.ensures.words c.recounted.ensures)
