@@ -8,11 +8,8 @@ ghost use Rattle.pool.specs.Writing.{IsHeld, MayWrite, AreThere, IsMissing, MayW
 
 use crate::runs::{TableWords, index_at, index_from};
 use crate::word_range::WordRange;
-use crate::word_store::WordStore;
+use crate::word_store::{WORDS, WordStore};
 use base::Run;
-
-/// How many words a page has.
-pub(crate) const WORDS: u32 = 512;
 
 /// Whether the words of a page from one index up to another are all 0, or whether none is.
 #[inline(always)]

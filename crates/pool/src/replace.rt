@@ -6,15 +6,14 @@ ghost use Rattle.pool.specs.Writing.{IsHeld, MayWrite, HasRoom, Grows, IsReady, 
 ghost use Rattle.pool.specs.declared.operation.Op.TheVariants.{Invalidate};
 
 use crate::log::Log;
-use crate::looks::WORDS;
 use crate::operation::Op;
 use crate::stretch::{WordAt, write_word, write_words};
 use crate::word_range::WordRange;
-use crate::word_store::WordStore;
+use crate::word_store::{WORDS, WordStore};
 use base::{Page, PartitionId, Run};
 
-/// How many pages a word stands for.
-const PAGES: u32 = 512;
+/// How many pages a word stands for: one for each word of the table that may stand in its place.
+const PAGES: u32 = WORDS;
 
 /// Words that replace others. Each stands for 512 pages of a partition, which follow those of the one before.
 #[derive(Clone, Copy)]

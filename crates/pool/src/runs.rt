@@ -6,11 +6,10 @@ ghost use Rattle.pool.specs.Pool.{index_from, words_in, gaps_of};
 ghost use Rattle.pool.specs.Writing.{MayWriteRuns, IsTurned, TurnRuns, TurnGaps, IsReady, Wrote, log_of, page_alone, runs_set, indexes_set};
 
 use crate::log::Log;
-use crate::looks::WORDS;
 use crate::operation::Op;
 use crate::stretch::{WordAt, put_word, recounted_all, turn_all, write_word, write_words};
 use crate::word_range::WordRange;
-use crate::word_store::WordStore;
+use crate::word_store::{WORDS, WordStore};
 use base::{Page, Run};
 
 /// What the 512 words of a page are to be: each stands for a page more, and is a step more, than the one before.

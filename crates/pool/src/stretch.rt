@@ -6,10 +6,10 @@ ghost use Rattle.pool.specs.declared.operation.Op.TheVariants.{Set};
 ghost use Rattle.pool.specs.Writing.{range_set, writes_of, zeros_of, log_of, NoneThere, Turns, IsHeld, MayWrite, MayWriteAt, Records, HasRoom, Grows, IsReady, Wrote};
 
 use crate::log::Log;
-use crate::looks::{WORDS, are_all};
+use crate::looks::are_all;
 use crate::operation::Op;
 use crate::word_range::WordRange;
-use crate::word_store::WordStore;
+use crate::word_store::{WORDS, WordStore};
 
 /// How many words are looked at, at most, before they are written: 512 bytes, which are close at hand then.
 const MOST: u32 = 64;
