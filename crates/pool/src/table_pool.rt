@@ -187,6 +187,11 @@ impl<S: WordStore> TableMem for TablePool<S> {
     }
 
     fn turn_runs(&mut self, words: TableWords, runs: &[Run]) {
+        if runs.len() == 1 && runs[0].count() == 1 {
+            // The list stays in its place for a page alone.
+            self.set_runs(words, runs);
+            return;
+        }
         let count = self.nonzero[words.page as usize];
         let log = Log::take(&mut self.operations, count);
         let Log {
