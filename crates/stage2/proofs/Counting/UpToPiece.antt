@@ -1,11 +1,10 @@
 -- What an edit needs for the chunks of a gigabyte before one, and which runs are left for the others: one piece after another.
-use Rattle.std.proofs.Common.{◌≡◌, ℕ, ◌+◌, ◌-◌, ◌*◌, ◌/◌, ◌<◌, ◌≤◌, Bool, true, false, cond, List, sym, ap, subst, ◌∙◌, refl, arith}
+use Rattle.std.proofs.Common.{◌≡◌, ℕ, ◌+◌, ◌-◌, ◌*◌, ◌<◌, ◌≤◌, Bool, true, false, cond, List, sym, ap, ◌∙◌, arith}
 use Rattle.base.specs.Access.{View}
 use Rattle.base.specs.Counts.{count_below}
 use Rattle.base.specs.Pages.{PageRun, are_normal}
 use Rattle.pool.proofs.Count.{count_below-none, count_below-tail, count_below-more}
 use Rattle.stage2.specs.Edits.{edited, touches_chunk}
-use Rattle.stage2.specs.Parts.{runs_past}
 use Rattle.stage2.specs.Room.{sum_below, table_operations, chunk_operations}
 use Rattle.stage2.specs.declared.parts.Piece.{Piece}
 use Rattle.stage2.specs.declared.plan.Plan.{Plan}

@@ -1,6 +1,5 @@
 -- The edit of a gigabyte that has its level 2 table, from that of its chunks.
 use Rattle.std.proofs.Common.{◌≡◌, ℕ, ◌+◌, ◌/◌, ◌<◌, Bool, ◌&&◌, eqb, true, Some, length, List, sym, ap, subst, ◌∙◌, arith}
-use Rattle.base.specs.Access.{View}
 use Rattle.base.specs.Manifest.{row_of, page_count}
 use Rattle.base.specs.Pages.{PageRun}
 use Rattle.pool.specs.Pool.{Pages, Pool, InShare, pages_of, taken_of, row_in}

@@ -4,7 +4,7 @@ use Rattle.std.proofs.lemmas.Bool.Decides.{nat_tests}
 use Rattle.base.specs.Access.{View}
 use Rattle.base.specs.Manifest.{row_of}
 use Rattle.base.specs.Pages.{PageRun}
-use Rattle.pool.specs.Pool.{Pages, Pool, IsWhole, pages_of, words_of, taken_of, free_of, row_in, with_mark, with_put, after_take, IsLowestFree, IsLowestFreeOf}
+use Rattle.pool.specs.Pool.{Pages, Pool, IsWhole, pages_of, words_of, taken_of, free_of, row_in, with_mark, after_take, IsLowestFree, IsLowestFreeOf}
 use Rattle.pool.specs.declared.operation.Op.TheVariants.{Set}
 use Rattle.words.specs.Words.{table_word_of}
 use Rattle.stage2.specs.Edits.{AreFree, edited, disturbed}
@@ -13,7 +13,7 @@ use Rattle.stage2.specs.Orderly.{IsOrderly, IsCanonical, answers, answer_of, lin
 use Rattle.stage2.specs.Walk.{walk, walked, Gigabyte, table_at}
 use Rattle.stage2.specs.declared.site.RowEdit.{RowEdit}
 use Rattle.stage2.specs.declared.walked.Walked.{Walked}
-use Rattle.stage2.specs.inner.Clauses.{second_at, row_view, row_after, Puts, IsLinkedOrderly, IsSecond, FitsInGigabyte, FitsChunks, EditsChunks, ChunksInStep, EditsInGigabyte, GigabyteInStep, operations_in_chunks, operations_in_gigabyte}
+use Rattle.stage2.specs.inner.Clauses.{second_at, row_view, Puts, IsLinkedOrderly, IsSecond, FitsInGigabyte, FitsChunks, EditsChunks, ChunksInStep, EditsInGigabyte, GigabyteInStep, operations_in_chunks, operations_in_gigabyte}
 use Rattle.stage2.specs.inner.Gigabytes.{Fits, IsUnderway, Touches}
 use Rattle.stage2.specs.inner.Steps.{IsSeated, disturbed_below}
 use Rattle.stage2.proofs.Editing.Gigabyte.{touched-below, link-has-free, link-fits, same-answers, link-chunks, finish-link}

@@ -3,7 +3,7 @@ use Rattle.std.proofs.Common.{◌≡◌, ℕ, ◌+◌, ◌-◌, ◌/◌, ◌<◌
 use Rattle.base.specs.Access.{View}
 use Rattle.base.specs.Pages.{PageRun, covers}
 use Rattle.pool.specs.Pool.{Pool, pages_of}
-use Rattle.stage2.specs.Edits.{edited, AreFree}
+use Rattle.stage2.specs.Edits.{AreFree}
 use Rattle.stage2.specs.Moments.{StaysInStep}
 use Rattle.stage2.specs.Orderly.{IsCanonical}
 use Rattle.stage2.specs.Parts.{gigabyte_runs}

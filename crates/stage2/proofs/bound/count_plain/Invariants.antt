@@ -1,4 +1,4 @@
-use Rattle.std.proofs.Common.{◌≡◌, ℕ, ◌+◌, ◌<◌, ◌≤◌, ◌&&◌, not, Some}
+use Rattle.std.proofs.Common.{◌+◌, ◌≤◌, ◌&&◌, not, Some}
 use Rattle.base.specs.Counts.{count_below}
 use Rattle.stage2.specs.inner.Clauses.{is_between, points_at}
 use Rattle.stage2.proofs.bound.count_plain.Given as goal

@@ -1,4 +1,4 @@
-use Rattle.std.proofs.Common.{◌≡◌, ℕ, ◌*◌, ◌≤◌}
+use Rattle.std.proofs.Common.{◌*◌, ◌≤◌}
 use Rattle.stage2.specs.Edits.{edited}
 use Rattle.stage2.specs.Room.{sum_below}
 use Rattle.stage2.specs.inner.Clauses.{view_in}

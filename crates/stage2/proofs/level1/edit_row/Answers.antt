@@ -1,4 +1,4 @@
-use Rattle.std.proofs.Common.{◌≡◌, ◌+◌, ◌≤◌, sym, ◌∙◌, inl, inr, arith}
+use Rattle.std.proofs.Common.{◌+◌, sym, ◌∙◌, inl, inr, arith}
 use Rattle.stage2.proofs.Editing.UpToGigabyte.{row-start, row-ahead, row-edits, row-steps, row-room, row-fits, row-enough, row-next}
 use Rattle.stage2.proofs.Runs.OwnRuns.{gigabyte-covers}
 use Rattle.stage2.proofs.Runs.Spans.{outside-gigabytes}

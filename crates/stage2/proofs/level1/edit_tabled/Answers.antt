@@ -1,4 +1,4 @@
-use Rattle.std.proofs.Common.{◌+◌, ◌≤◌, arith}
+use Rattle.std.proofs.Common.{arith}
 use Rattle.stage2.proofs.Editing.TabledGigabyte.{tabled-orderly, tabled-second, tabled-fits, tabled-room, tabled-page, tabled-root, tabled-row, tabled-inside, tabled-taken, kept-edits, kept-steps, emptied-edits, emptied-steps}
 use Rattle.stage2.proofs.level1.edit_tabled.Goals as goal
 

@@ -1,4 +1,4 @@
-use Rattle.std.proofs.Common.{◌≡◌, ◌+◌, ◌≤◌, ap, ◌∙◌, arith}
+use Rattle.std.proofs.Common.{◌≡◌, ◌+◌, ap, ◌∙◌, arith}
 use Rattle.words.specs.Words.{table_word_of}
 use Rattle.stage2.proofs.Editing.UntabledGigabyte.{untabled-free, untabled-orderly, untabled-second, untabled-fits, untabled-room, untabled-edits, untabled-steps}
 use Rattle.stage2.proofs.level1.edit_untabled.Goals as goal

@@ -1,4 +1,4 @@
-use Rattle.std.proofs.Common.{ℕ, ◌-◌, ◌<◌}
+use Rattle.std.proofs.Common.{◌-◌, ◌<◌}
 use Rattle.stage2.proofs.Editing.UpToChunk.{IsUpTo}
 use Rattle.stage2.proofs.level2.edit_each_chunk.Given as goal
 

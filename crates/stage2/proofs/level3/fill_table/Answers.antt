@@ -1,4 +1,4 @@
-use Rattle.std.proofs.Common.{◌≡◌, ◌==◌, ◌||◌, is_some, sym, ap, ◌∙◌, arith}
+use Rattle.std.proofs.Common.{◌==◌, ◌||◌, is_some, sym, ap, ◌∙◌, arith}
 use Rattle.stage2.proofs.Counting.Operations.{new-unmapped, new-all}
 use Rattle.stage2.proofs.level3.fill_table.Goals as goal
 

@@ -1,4 +1,4 @@
-use Rattle.std.proofs.Common.{◌+◌, ◌*◌, ◌==◌, sym, ap, ◌∙◌, arith}
+use Rattle.std.proofs.Common.{◌==◌, sym, ap, ◌∙◌, arith}
 use Rattle.pool.proofs.Gaps.{rise-normal}
 use Rattle.stage2.specs.inner.Clauses.{word_in}
 use Rattle.stage2.proofs.Editing.RunWords.{runs-written}

@@ -1,4 +1,4 @@
-use Rattle.std.proofs.Common.{ℕ, ◌-◌}
+use Rattle.std.proofs.Common.{◌-◌}
 use Rattle.stage2.specs.inner.Clauses.{view_in}
 use Rattle.stage2.proofs.Counting.UpToPiece.{IsPlanned}
 use Rattle.stage2.proofs.plan.plan_each_chunk.Given as goal
