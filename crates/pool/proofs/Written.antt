@@ -3,7 +3,7 @@ use Rattle.std.proofs.Common.{◌≡◌, ◌≢◌, ℕ, ◌+◌, ◌*◌, ◌%�
 use Rattle.std.specs.List.{list_all}
 use Rattle.std.proofs.lemmas.List.{length-reverse}
 use Rattle.base.specs.Manifest.{page_count}
-use Rattle.pool.specs.Pool.{Pool, words_of, taken_of, nonzero_in, lies_in, CountsNonzero}
+use Rattle.pool.specs.Pool.{Pool, words_of, taken_of, nonzero_in, lies_in, CountsFree, CountsNonzero}
 use Rattle.pool.specs.Shown.{IsShown}
 use Rattle.pool.specs.Writing.{Wrote, log_of}
 use Rattle.pool.specs.declared.log.Log.{Log}
@@ -18,12 +18,20 @@ use Rattle.pool.proofs.Replaced.{Keeps, pools-same}
 abbrev pub pool_in : {S : Type 0} {g : Ghosts S} → TablePool S g → ℕ → Pool
 pool_in m made = record { memory = memory_in m; operations = reverse m.operations.items; made = made }
 
--- what holds of it still
-pub record Stays {S : Type 0} {g : Ghosts S} (old : TablePool S g) (page : ℕ) (new : List ℕ) (after : Log) : Type 0 where
-  pub words_whole : length new ≡ 512 * page_count old.quotas.items
-  pub nonzero_counted : CountsNonzero old.quotas.items new (slice_set old.nonzero.items page after.nonzero)
-  pub within : list_all (lies_in old.ids.items old.quotas.items) (reverse after.operations.items) ≡ true
-  pub free_zero : (q i : ℕ) → taken_of old.taken q ≡ false → words_of new q i ≡ 0
+-- what holds of it then
+abbrev pub Holds : {S : Type 0} {g : Ghosts S} → TablePool S g → ℕ → List ℕ → (ℕ → Bool) → Log → Type 0
+Holds old page new stands after = record {
+  ids_whole : length old.ids.items ≡ length old.quotas.items;
+  words_whole : length new ≡ 512 * page_count old.quotas.items;
+  taken_whole : length old.taken ≡ page_count old.quotas.items;
+  free_counted : CountsFree old.quotas.items old.taken old.free.items;
+  nonzero_counted : CountsNonzero old.quotas.items new (slice_set old.nonzero.items page after.nonzero);
+  fits : page_count old.quotas.items ≤ 2 ^ 27;
+  roots : (row : ℕ) → row < length old.quotas.items → taken_of old.taken row ≡ true;
+  free_zero : (q i : ℕ) → taken_of old.taken q ≡ false → words_of new q i ≡ 0;
+  within : list_all (lies_in old.ids.items old.quotas.items) (reverse after.operations.items) ≡ true;
+  standing : (q : ℕ) → taken_of old.taken q ≡ true → stands q ≡ true;
+}
 
 module _ {S : Type 0} {g : Ghosts S} (old : TablePool S g) (page : ℕ) (inside : page < page_count old.quotas.items)
     {step : Pool → Pool} {most count : ℕ} {new : List ℕ} {after : Log} (wrote : Wrote step page most (g.words old.store) new (log_of old.operations count) after)
@@ -34,14 +42,20 @@ module _ {S : Type 0} {g : Ghosts S} (old : TablePool S g) (page : ℕ) (inside 
   shown : (made : ℕ) → IsShown new after.operations.items (step (pool_in old made))
   shown made = wrote.shown (pool_in old made) (record { words = refl; operations = refl })
 
-  pub stays : taken_of old.taken page ≡ true → list_all (lies_in old.ids.items old.quotas.items) (step (pool_in old 0)).operations ≡ true → Stays old page new after
-  stays held lie =
+  pub stays : {stands : ℕ → Bool} → stands ≡ g.stands old.store → taken_of old.taken page ≡ true → list_all (lies_in old.ids.items old.quotas.items) (step (pool_in old 0)).operations ≡ true → Holds old page new stands after
+  stays stood held lie =
       let others : (q i : ℕ) → q ≢ page → words_of new q i ≡ words_of (g.words old.store) q i = λ q i other. ap (λ w. words_of w q i) (shown 0).words ∙ (keeps (pool_in old 0) whole).others q i other in
       record {
+        ids_whole = old.ids_whole;
         words_whole = wrote.whole ∙ old.words_whole;
+        taken_whole = old.taken_whole;
+        free_counted = old.free_counted;
         nonzero_counted = counts_nonzero-page old.quotas.items (g.words old.store) new old.nonzero.items page after.nonzero old.nonzero_counted inside others wrote.counted;
-        within = rw (shown 0).operations lie;
+        fits = old.fits;
+        roots = old.roots;
         free_zero = λ q i free. others q i (λ is. true≢false (sym held ∙ ap (taken_of old.taken) (sym is) ∙ free)) ∙ old.free_zero q i free;
+        within = rw (shown 0).operations lie;
+        standing = λ q is. ap (λ (s : ℕ → Bool). s q) stood ∙ old.standing q is;
       }
 
   -- it shows what the step makes

@@ -1,4 +1,4 @@
-use Rattle.std.proofs.Common.{ℕ, Bool, ◌+◌, ◌-◌, ◌≤◌, length, reverse, ap, ◌∙◌, arith}
+use Rattle.std.proofs.Common.{◌+◌, ◌-◌, ◌≤◌, length, reverse, arith}
 use Rattle.pool.proofs.RunWords.{keeps-sets}
 use Rattle.pool.proofs.Within.{within-behind}
 use Rattle.pool.proofs.Written.{stays, state, pool_in}
@@ -9,19 +9,7 @@ invariant_of-self g c =
     let old = c.args.self.now in
     let page = c.args.page in
     let small : 0 + 512 ≤ 512 = omega arith in
-    let kept = stays old page c.requires.page_in (rw c.take-log.ensures at c.clear_page-operations.ensures.wrote) (λ a room. keeps-sets page 0 512 0 0 a small room) c.requires.taken (within-behind old.ids.items old.quotas.items (g.S.WordStore.words old.store) page 0 512 0 0 (reverse old.operations.items) c.requires.page_in small old.within) in
-    record {
-      ids_whole = old.ids_whole;
-      words_whole = kept.words_whole;
-      taken_whole = old.taken_whole;
-      free_counted = old.free_counted;
-      nonzero_counted = kept.nonzero_counted;
-      fits = old.fits;
-      roots = old.roots;
-      within = kept.within;
-      free_zero = kept.free_zero;
-      standing = λ q held. ap (λ (s : ℕ → Bool). s q) c.clear_page-operations.ensures.standing ∙ old.standing q held;
-    }
+    stays old page c.requires.page_in (rw c.take-log.ensures at c.clear_page-operations.ensures.wrote) (λ a room. keeps-sets page 0 512 0 0 a small room) c.clear_page-operations.ensures.standing c.requires.taken (within-behind old.ids.items old.quotas.items (g.S.WordStore.words old.store) page 0 512 0 0 (reverse old.operations.items) c.requires.page_in small old.within)
 
 pub returns-clause-state : goal.returns-clause-state
 returns-clause-state g c =

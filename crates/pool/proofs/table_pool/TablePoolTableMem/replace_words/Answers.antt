@@ -1,4 +1,4 @@
-use Rattle.std.proofs.Common.{ℕ, Bool, ◌+◌, ◌-◌, ◌≤◌, ap, ◌∙◌, arith}
+use Rattle.std.proofs.Common.{◌+◌, ◌-◌, ◌≤◌, arith}
 use Rattle.pool.proofs.Replaced.{keeps-replaces}
 use Rattle.pool.proofs.Within.{within-replaces}
 use Rattle.pool.proofs.Written.{stays, state, pool_in}
@@ -10,19 +10,7 @@ invariant_of-self g c =
     let r = c.args.range in
     let n = r.end - r.first in
     let small : r.first + n ≤ 512 = omega (arith, c.requires.ordered, c.requires.index_in) in
-    let kept = stays old r.page c.requires.page_in c.replace_words-count.ensures.wrote (λ a room. keeps-replaces c.args.p r.page r.first n r.word r.step c.args.start a small room) c.requires.taken (within-replaces old.ids.items old.quotas.items c.args.p r.page r.first n r.word r.step c.args.start (pool_in old 0) c.requires.page_in small c.requires.partition c.requires.pages_in old.within) in
-    record {
-      ids_whole = old.ids_whole;
-      words_whole = kept.words_whole;
-      taken_whole = old.taken_whole;
-      free_counted = old.free_counted;
-      nonzero_counted = kept.nonzero_counted;
-      fits = old.fits;
-      roots = old.roots;
-      within = kept.within;
-      free_zero = kept.free_zero;
-      standing = λ q held. ap (λ (s : ℕ → Bool). s q) c.replace_words-count.ensures.standing ∙ old.standing q held;
-    }
+    stays old r.page c.requires.page_in c.replace_words-count.ensures.wrote (λ a room. keeps-replaces c.args.p r.page r.first n r.word r.step c.args.start a small room) c.replace_words-count.ensures.standing c.requires.taken (within-replaces old.ids.items old.quotas.items c.args.p r.page r.first n r.word r.step c.args.start (pool_in old 0) c.requires.page_in small c.requires.partition c.requires.pages_in old.within)
 
 pub returns-clause-state : goal.returns-clause-state
 returns-clause-state g c =

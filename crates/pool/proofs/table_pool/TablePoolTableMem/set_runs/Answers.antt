@@ -1,4 +1,3 @@
-use Rattle.std.proofs.Common.{ℕ, Bool, ap, ◌∙◌}
 use Rattle.pool.proofs.RunWords.{keeps-runs}
 use Rattle.pool.proofs.Within.{within-runs}
 use Rattle.pool.proofs.Written.{stays, state, pool_in}
@@ -9,19 +8,7 @@ invariant_of-self g c =
     let old = c.args.self.now in
     let w = c.args.words in
     let runs = c.args.runs.now in
-    let kept = stays old w.page c.requires.page_in c.set_runs-count.ensures.wrote (λ a room. keeps-runs w.page w.start w.word w.step runs a room) c.requires.taken (within-runs old.ids.items old.quotas.items w.page w.start w.word w.step runs (pool_in old 0) c.requires.page_in old.within) in
-    record {
-      ids_whole = old.ids_whole;
-      words_whole = kept.words_whole;
-      taken_whole = old.taken_whole;
-      free_counted = old.free_counted;
-      nonzero_counted = kept.nonzero_counted;
-      fits = old.fits;
-      roots = old.roots;
-      within = kept.within;
-      free_zero = kept.free_zero;
-      standing = λ q held. ap (λ (s : ℕ → Bool). s q) c.set_runs-count.ensures.standing ∙ old.standing q held;
-    }
+    stays old w.page c.requires.page_in c.set_runs-count.ensures.wrote (λ a room. keeps-runs w.page w.start w.word w.step runs a room) c.set_runs-count.ensures.standing c.requires.taken (within-runs old.ids.items old.quotas.items w.page w.start w.word w.step runs (pool_in old 0) c.requires.page_in old.within)
 
 pub returns-clause-state : goal.returns-clause-state
 returns-clause-state g c =

@@ -1,4 +1,4 @@
-use Rattle.std.proofs.Common.{◌≡◌, ◌+◌, ◌-◌, [], ◌∷◌, ℕ, Bool, true, ap, ◌∙◌, arith}
+use Rattle.std.proofs.Common.{◌≡◌, ◌+◌, ◌-◌, [], ◌∷◌, arith}
 use Rattle.pool.specs.declared.operation.Op.TheVariants.{Set}
 use Rattle.pool.proofs.Nonzero.{read-test}
 use Rattle.pool.proofs.Replaced.{keeps-set}
@@ -11,19 +11,7 @@ use Rattle.pool.proofs.table_pool.TablePoolTableMem.set_word.Goals as goal
 pub invariant_of-self : goal.invariant_of-self
 invariant_of-self g c =
     let old = c.args.self.now in
-    let kept = stays old c.args.page c.requires.page_in c.write_word-count.ensures.wrote (λ a room. keeps-set c.args.page c.args.index c.args.word a c.requires.index_in room) c.requires.taken (let here = set-within old.ids.items old.quotas.items c.args.page c.args.index c.args.word c.requires.page_in c.requires.index_in in rw here old.within) in
-    record {
-      ids_whole = old.ids_whole;
-      words_whole = kept.words_whole;
-      taken_whole = old.taken_whole;
-      free_counted = old.free_counted;
-      nonzero_counted = kept.nonzero_counted;
-      fits = old.fits;
-      roots = old.roots;
-      within = kept.within;
-      free_zero = kept.free_zero;
-      standing = λ q held. ap (λ (s : ℕ → Bool). s q) c.write_word-count.ensures.standing ∙ old.standing q held;
-    }
+    stays old c.args.page c.requires.page_in c.write_word-count.ensures.wrote (λ a room. keeps-set c.args.page c.args.index c.args.word a c.requires.index_in room) c.write_word-count.ensures.standing c.requires.taken (let here = set-within old.ids.items old.quotas.items c.args.page c.args.index c.args.word c.requires.page_in c.requires.index_in in rw here old.within)
 
 pub returns-clause-state : goal.returns-clause-state
 returns-clause-state g c =
