@@ -211,7 +211,7 @@ fn write_part<S: WordStore>(store: &mut S, log: Log, range: WordRange) -> Log
         return turn_all(store, log, range);
     }
     if range.word == 0 && range.step == 0 {
-        return clear_part(store, log, range);
+        return clear_part(store, log, range.zeros());
     }
     write_others(store, log, range)
 }
@@ -259,7 +259,7 @@ fn write_many<S: WordStore>(store: &mut S, log: Log, range: WordRange) -> Log
         return turn_all(store, log, range);
     }
     if log.nonzero == WORDS && range.word == 0 && range.step == 0 {
-        return turn_all(store, log, range);
+        return turn_all(store, log, range.zeros());
     }
     write_parts(store, log, range)
 }
