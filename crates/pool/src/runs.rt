@@ -191,33 +191,40 @@ fn turn_words<S: WordStore>(store: &mut S, log: Log, indexes: Indexes, with: Tab
     turn_all(store, log, with.range(first, end))
 }
 
-/// Writes the word for a page, if it is among them, which is not there.
+/// Writes the word for a page, if it is among them, which is not there. It answers how many words of the page of words
+/// are not 0.
 #[inline(always)]
-fn turn_one<S: WordStore>(store: &mut S, mut log: Log, page: Page, with: TableWords) -> Log
+fn turn_one<S: WordStore>(
+    store: &mut S,
+    operations: &mut Vec<Op>,
+    nonzero: u32,
+    page: Page,
+    with: TableWords,
+) -> u32
     requires may { MayWriteRuns (S.words store.old) (S.stands store.old) with }
     requires turned { TurnRuns (S.words store.old) with (page_alone page ∷ []) }
-    requires ready { IsReady (S.words store.old) with.page (words_in with.start (page_alone page ∷ [])) log }
+    requires ready { IsReady (S.words store.old) with.page (words_in with.start (page_alone page ∷ []))
+        (log_of operations.old nonzero) }
     ensures wrote { Wrote (runs_set with (page_alone page ∷ [])) with.page (words_in with.start (page_alone page ∷ []))
-        (S.words store.old) (S.words store.new) log result }
+        (S.words store.old) (S.words store.new) (log_of operations.old nonzero) (log_of operations.new result) }
     ensures standing { S.stands store.new ≡ S.stands store.old }
 {
     let index = index_at(with.start, page);
     if index >= WORDS {
-        return log;
+        return nonzero;
     }
     let at = WordAt {
         page: with.page,
         index,
         word: with.word + with.step * u64::from(index),
     };
-    put_word(store, &mut log.operations, at);
-    log.nonzero = recounted_all(log.nonzero, 1, with.word);
-    log
+    put_word(store, operations, at);
+    recounted_all(nonzero, 1, with.word)
 }
 
 /// Writes the words for the pages of a run, none of which is there.
 #[inline(always)]
-fn turn_run<S: WordStore>(store: &mut S, log: Log, run: Run, with: TableWords) -> Log
+fn turn_run<S: WordStore>(store: &mut S, mut log: Log, run: Run, with: TableWords) -> Log
     requires may { MayWriteRuns (S.words store.old) (S.stands store.old) with }
     requires turned { TurnRuns (S.words store.old) with (run ∷ []) }
     requires ready { IsReady (S.words store.old) with.page (words_in with.start (run ∷ [])) log }
@@ -226,7 +233,8 @@ fn turn_run<S: WordStore>(store: &mut S, log: Log, run: Run, with: TableWords) -
     ensures standing { S.stands store.new ≡ S.stands store.old }
 {
     if run.count() == 1 {
-        return turn_one(store, log, run.first(), with);
+        log.nonzero = turn_one(store, &mut log.operations, log.nonzero, run.first(), with);
+        return log;
     }
     let first = index_from(with.start, run.first().number());
     let end = index_from(with.start, run.end());
@@ -234,12 +242,8 @@ fn turn_run<S: WordStore>(store: &mut S, log: Log, run: Run, with: TableWords) -
 }
 
 /// Writes the words for the pages of runs, none of which is there.
-pub(crate) fn turn_runs<S: WordStore>(
-    store: &mut S,
-    mut log: Log,
-    runs: &[Run],
-    with: TableWords,
-) -> Log
+#[inline(always)]
+fn turn_each<S: WordStore>(store: &mut S, mut log: Log, runs: &[Run], with: TableWords) -> Log
     requires may { MayWriteRuns (S.words store.old) (S.stands store.old) with }
     requires normal { are_normal runs.now ≡ true }
     requires turned { TurnRuns (S.words store.old) with runs.now }
@@ -252,6 +256,38 @@ pub(crate) fn turn_runs<S: WordStore>(
         log = turn_run(store, log, *run, with);
     }
     log
+}
+
+/// Writes the words for the pages of runs, none of which is there, and records each write behind these operations. It
+/// answers how many words of the page are not 0. For one page alone the list stays where it is.
+pub(crate) fn turn_runs<S: WordStore>(
+    store: &mut S,
+    operations: &mut Vec<Op>,
+    nonzero: u32,
+    runs: &[Run],
+    with: TableWords,
+) -> u32
+    requires may { MayWriteRuns (S.words store.old) (S.stands store.old) with }
+    requires normal { are_normal runs.now ≡ true }
+    requires turned { TurnRuns (S.words store.old) with runs.now }
+    requires ready { IsReady (S.words store.old) with.page (words_in with.start runs.now) (log_of operations.old nonzero) }
+    ensures wrote { Wrote (runs_set with runs.now) with.page (words_in with.start runs.now)
+        (S.words store.old) (S.words store.new) (log_of operations.old nonzero) (log_of operations.new result) }
+    ensures standing { S.stands store.new ≡ S.stands store.old }
+{
+    if runs.len() == 1 {
+        let run = runs[0];
+        if run.count() == 1 {
+            return turn_one(store, operations, nonzero, run.first(), with);
+        }
+    }
+    let log = Log::take(operations, nonzero);
+    let Log {
+        operations: list,
+        nonzero,
+    } = turn_each(store, log, runs, with);
+    *operations = list;
+    nonzero
 }
 
 /// Writes the words for pages in none of the runs, gap by gap. None of them is there.

@@ -187,19 +187,9 @@ impl<S: WordStore> TableMem for TablePool<S> {
     }
 
     fn turn_runs(&mut self, words: TableWords, runs: &[Run]) {
-        if runs.len() == 1 && runs[0].count() == 1 {
-            // The list stays in its place for a page alone.
-            self.set_runs(words, runs);
-            return;
-        }
         let count = self.nonzero[words.page as usize];
-        let log = Log::take(&mut self.operations, count);
-        let Log {
-            operations,
-            nonzero,
-        } = turn_runs(&mut self.store, log, runs, words);
-        self.operations = operations;
-        self.nonzero[words.page as usize] = nonzero;
+        let count = turn_runs(&mut self.store, &mut self.operations, count, runs, words);
+        self.nonzero[words.page as usize] = count;
     }
 
     fn clear_words(&mut self, page: u32) {

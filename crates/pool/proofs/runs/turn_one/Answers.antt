@@ -11,7 +11,7 @@ pub returns-then-index-ge-WORDS-clause-wrote : goal.returns-then-index-ge-WORDS-
 returns-then-index-ge-WORDS-clause-wrote g c =
     let w = c.args.with in
     let page = c.args.page in
-    wrote-none (runs_set w (page_alone page ∷ [])) w.page _ (g.S.WordStore.words c.args.store.now) c.args.log c.requires.ready.counted (λ pool _.
+    wrote-none (runs_set w (page_alone page ∷ [])) w.page _ (g.S.WordStore.words c.args.store.now) (log_of c.args.operations.now c.args.nonzero) c.requires.ready.counted (λ pool _.
     alone-outside w page (c.index_at-index.ensures.beside c.if-index-ge-WORDS.true) pool)
 
 pub put_word-requires : goal.put_word-requires
@@ -55,11 +55,11 @@ returns-clause-wrote g c =
     let one = alone-words w page i small at in
     let written = rw c.from.ensures at c.put_word.ensures.words in
     let pushed = rw c.from.ensures at c.put_word.ensures.items in
-    let counted = turned-counted words w.page i 1 next w.step ends each c.requires.may.page_in.inside (omega (arith, small)) new c.args.log.nonzero c.recounted_all.result (written ∙ set-one words w.page i next w.step) c.requires.ready.counted
+    let counted = turned-counted words w.page i 1 next w.step ends each c.requires.may.page_in.inside (omega (arith, small)) new c.args.nonzero c.recounted_all.result (written ∙ set-one words w.page i next w.step) c.requires.ready.counted
     (λ z. c.recounted_all.ensures.zeros (first-zero w i zeros z)) (λ above. c.recounted_all.ensures.others (some-first w i zeros above)) in
     let read = word-read words w.page i (slice_index words (512 * w.page + i)) small refl in
     let here : i + 0 ≡ i = omega arith in
     let first : next ≡ next + w.step * 0 = omega arith in
     let differs : slice_index words (512 * w.page + i) ≢ next = λ is. turned-differ words w.page i 1 next w.step ends each 0 (omega arith) (ap (words_of words w.page) here ∙ sym read ∙ is ∙ first) in
-    wrote-as (wrote-set w.page i next words new c.args.log (log_of c.put_word.new.operations c.recounted_all.result) written pushed c.put_word.ensures.grows counted) (omega (arith, one)) (λ pool same.
+    wrote-as (wrote-set w.page i next words new (log_of c.args.operations.now c.args.nonzero) (log_of c.put_word.new.operations c.recounted_all.result) written pushed c.put_word.ensures.grows counted) (omega (arith, one)) (λ pool same.
     sym (alone-set w page i small at pool (λ is. differs (ap (λ l. slice_index l (512 * w.page + i)) (sym same) ∙ is))))

@@ -1,7 +1,7 @@
 use Rattle.std.proofs.Common.{◌≡◌, ◌≤◌, [], ◌∷◌, ap, sym, subst, ◌∙◌, refl, arith}
 use Rattle.base.specs.Pages.{PageRun}
 use Rattle.pool.specs.Pool.{index_from, words_in}
-use Rattle.pool.specs.Writing.{IsReady, Wrote, TurnRuns, runs_set}
+use Rattle.pool.specs.Writing.{IsReady, Wrote, TurnRuns, log_of, runs_set}
 use Rattle.pool.proofs.RunWords.{run-alone}
 use Rattle.pool.proofs.Turned.{run-at}
 use Rattle.pool.proofs.Wrote.{wrote-run}
@@ -22,7 +22,7 @@ pub returns-then-count-eq1-clause-wrote : goal.returns-then-count-eq1-clause-wro
 returns-then-count-eq1-clause-wrote g c =
     let w = c.args.with in
     let alone = run-alone c.args.run c.first.result c.first.ensures.same (sym c.count.ensures.same ∙ c.if-count-eq1.true) in
-    subst (λ (r : PageRun). Wrote (runs_set w (r ∷ [])) w.page (words_in w.start (r ∷ [])) (g.S.WordStore.words c.args.store.now) (g.S.WordStore.words c.turn_one.new.store) c.args.log c.turn_one.result) alone c.turn_one.ensures.wrote
+    subst (λ (r : PageRun). Wrote (runs_set w (r ∷ [])) w.page (words_in w.start (r ∷ [])) (g.S.WordStore.words c.args.store.now) (g.S.WordStore.words c.turn_one.new.store) c.args.log (log_of c.turn_one.new.operations c.turn_one.result)) alone c.turn_one.ensures.wrote
 
 pub turn_words-requires : goal.turn_words-requires
 turn_words-requires g c =

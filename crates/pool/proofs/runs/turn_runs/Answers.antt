@@ -1,54 +1,31 @@
-use Rattle.std.proofs.Common.{◌+◌, ◌<◌, ◌≤◌, [], ◌∷◌, drop, refl, sym, ap, ◌∙◌, arith, rules, inl, inr}
-use Rattle.std.proofs.lemmas.Bool.{cases_lt}
-use Rattle.pool.specs.Pool.{index_from}
-use Rattle.pool.proofs.Gaps.{above, before-rise, rise-lower, rise-normal}
-use Rattle.pool.proofs.Turned.{runs-left, runs-done}
-use Rattle.pool.proofs.Wrote.{left-all, left-ready, left-less, left-none, turned-part, turned-rest, run-beside}
+use Rattle.std.proofs.Common.{◌≡◌, [], ◌∷◌, ap, sym, subst, ◌∙◌}
+use Rattle.base.specs.Pages.{PageRun}
+use Rattle.std.proofs.Common.{List}
+use Rattle.pool.specs.Pool.{words_in}
+use Rattle.pool.specs.Writing.{IsReady, Wrote, TurnRuns, log_of, page_alone, runs_set}
+use Rattle.pool.proofs.RunWords.{runs-one}
 use Rattle.pool.proofs.runs.turn_runs.Goals as goal
 
-pub loop-run-init : goal.loop-run-init
-loop-run-init g c = record {
-  left = left-all c.args.with c.args.runs.now (g.S.WordStore.words c.args.store.now) c.args.log c.requires.ready.counted;
-  standing = refl;
-  turned = c.requires.turned;
-  up = rise-normal c.args.runs.now c.requires.normal;
-}
-
-pub turn_run-log-requires : goal.turn_run-log-requires
-turn_run-log-requires g c =
-    let run = c.run-item.result in
-    let behind = drop (c.loop-run.run-index + 1) c.args.runs.now in
-    let parts = runs-left c.args.runs.now c.loop-run.run-index run c.loop-run-test.true c.run-item.is in
-    let before = c.loop-run.invariant in
-    record {
-      may = record {
-        start_in = c.requires.may.start_in;
-        in_range = c.requires.may.in_range;
-        page_in = record { inside = omega (arith, before.left.whole, c.requires.may.page_in.inside); standing = search rules };
-      };
-      turned = turned-part (g.S.WordStore.words c.loop-run.store) c.args.with (run ∷ []) behind (rw parts at before.turned);
-      ready = left-ready before.left (run ∷ []) behind _ parts (omega arith) c.requires.ready.room;
-    }
-
-pub loop-run-preserved : goal.loop-run-preserved
-loop-run-preserved g c =
+pub turn_one-requires-clause-ready : goal.turn_one-requires-clause-ready
+turn_one-requires-clause-ready g c =
     let w = c.args.with in
-    let run = c.run-item.result in
-    let behind = drop (c.loop-run.run-index + 1) c.args.runs.now in
-    let parts = runs-left c.args.runs.now c.loop-run.run-index run c.loop-run-test.true c.run-item.is in
-    let before = c.loop-run.invariant in
-    let old = g.S.WordStore.words c.loop-run.store in
-    let new = g.S.WordStore.words c.turn_run-log.new.store in
-    let up = (above run behind 0 (rw parts at before.up)).1 in
-    record {
-      left = left-less before.left (run ∷ []) behind parts c.turn_run-log.ensures.wrote;
-      standing = c.turn_run-log.ensures.standing ∙ before.standing;
-      turned = turned-rest old new w (run ∷ []) behind (rw parts at before.turned) (λ i within. elim (cases_lt (w.start + i) (run.first + run.count)) [
-        | inl lt ↦ let none = before-rise behind (run.first + run.count) (w.start + i) up lt in absurd (cc)
-        | inr past ↦ run-beside w run i old new c.loop-run.log c.turn_run-log.result c.turn_run-log.ensures.wrote (omega (arith, before.left.whole, c.requires.may.page_in.inside)) (omega (arith, past))
-      ]);
-      up = rise-lower behind (run.first + run.count) 0 (omega arith) up;
-    }
+    let one = runs-one c.args.runs.now c.index-runs-0.result c.first.result c.if-runs-eq1.true c.index-runs-0.is c.first.ensures.same (sym c.count.ensures.same ∙ c.if-count-eq1.true) in
+    subst (λ (rs : List PageRun). IsReady (g.S.WordStore.words c.args.store.now) w.page (words_in w.start rs) (log_of c.args.operations.now c.args.nonzero)) one c.requires.ready
+
+pub returns-then-count-eq1-clause-wrote : goal.returns-then-count-eq1-clause-wrote
+returns-then-count-eq1-clause-wrote g c =
+    let w = c.args.with in
+    let one = runs-one c.args.runs.now c.index-runs-0.result c.first.result c.if-runs-eq1.true c.index-runs-0.is c.first.ensures.same (sym c.count.ensures.same ∙ c.if-count-eq1.true) in
+    subst (λ (rs : List PageRun). Wrote (runs_set w rs) w.page (words_in w.start rs) (g.S.WordStore.words c.args.store.now) (g.S.WordStore.words c.turn_one.new.store) (log_of c.args.operations.now c.args.nonzero) (log_of c.turn_one.new.operations c.turn_one.result)) (sym one) c.turn_one.ensures.wrote
+
+pub turn_one-requires-clause-turned : goal.turn_one-requires-clause-turned
+turn_one-requires-clause-turned g c =
+    let w = c.args.with in
+    let one = runs-one c.args.runs.now c.index-runs-0.result c.first.result c.if-runs-eq1.true c.index-runs-0.is c.first.ensures.same (sym c.count.ensures.same ∙ c.if-count-eq1.true) in
+    subst (λ (rs : List PageRun). TurnRuns (g.S.WordStore.words c.args.store.now) w rs) one c.requires.turned
+
+pub turn_each-list-requires-clause-ready : goal.turn_each-list-requires-clause-ready
+turn_each-list-requires-clause-ready g c = rw c.take-log.ensures c.requires.ready
 
 pub returns-clause-wrote : goal.returns-clause-wrote
-returns-clause-wrote g c = left-none c.loop-run.invariant.left (runs-done c.args.runs.now c.loop-run.run-index c.loop-run-test.false)
+returns-clause-wrote g c = rw c.take-log.ensures at c.turn_each-list.ensures.wrote

@@ -2,7 +2,7 @@ use Rattle.std.proofs.Common.{◌≡◌, drop, true}
 use Rattle.base.specs.Pages.{rise}
 use Rattle.pool.specs.Writing.{TurnRuns}
 use Rattle.pool.proofs.Wrote.{Left}
-use Rattle.pool.proofs.runs.turn_runs.Given as goal
+use Rattle.pool.proofs.runs.turn_each.Given as goal
 
 -- with the words of the runs that are left it is done
 abbrev pub invariant-loop-run : goal.invariant-loop-run
