@@ -1,6 +1,5 @@
 pub mod ReachedRuns
-pub mod FillUpward
-pub mod FillViews
+pub mod ReachedViews
 pub mod FilledLines
 pub mod TextBytes
 pub mod RunLines

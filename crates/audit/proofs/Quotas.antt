@@ -8,12 +8,9 @@ use Rattle.base.specs.Need.{is_mixed, is_reached, need, grow, reaching}
 use Rattle.base.specs.Pages.{covers}
 use Rattle.base.specs.State.{State, sees, start}
 use Rattle.manifest.specs.Valid.{is_valid, quota_of}
-use Rattle.manifest.proofs.Facts.{facts, fits_of, stranger}
-use Rattle.pool.proofs.Count.{count_below-none, count_below-some}
 use Rattle.stage2.proofs.Counting.NeedGrows.{need-grows}
+use Rattle.stage2.proofs.Counting.Quotas.{grants-fit}
 use Rattle.stage2.proofs.Reading.SameViews.{need-same}
-use Rattle.stage2.proofs.Counting.Needs.{mixed-none, reached-none}
-use Rattle.stage2.proofs.Editing.Gigabyte.{not-reached}
 use Rattle.wire.specs.declared.request.Request.{Request}
 use Rattle.rules.specs.Call.{CallWords, IsCall}
 use Rattle.rules.specs.Rule.{Edit, with_edit, fits}
@@ -26,40 +23,8 @@ use Rattle.audit.specs.Laws.{AreWithinQuotas, AreOfReached}
 
 -- ---- before any call
 
-pub quota_at : (rows : List PartitionRow) (p : ℕ) → get_or (quotas_of rows) (row_of (ids_of rows) p) 0 ≡ option_map_or (λ (row : PartitionRow). row.quota) (find (λ row. eqb row.id p) rows) 0
-quota_at [] p = refl
-quota_at (row ∷ rows) p =
-    elim (eqb row.id p) as (λ b. get_or (row.quota ∷ quotas_of rows) (cond (not b) (1 + row_of (ids_of rows) p) 0) 0 ≡ option_map_or (λ (r : PartitionRow). r.quota) (cond b (Some row) (find (λ r. eqb r.id p) rows)) 0) [
-      | true ↦ refl
-      | false ↦ let next : 1 + row_of (ids_of rows) p ≡ suc (row_of (ids_of rows) p) = omega arith in rw next (quota_at rows p)
-    ]
-
--- views that reach nothing need no tables, and the other way round
-need-none : (v : ℕ → View) → ((n : ℕ) → v n ≡ None) → need v ≡ 0
-unfolding need
-need-none v none =
-    let gigabytes = count_below-none (is_reached v) 512 (λ g small. reached-none v g (λ i lt. none (262144 * g + i))) in
-    let chunks = count_below-none (is_mixed v) 262144 (λ c small. mixed-none v c (λ i lt. none (512 * c + i))) in
-    omega (arith, gigabytes, chunks)
-
-pub none-needed : (v : ℕ → View) → need v ≤ 0 → (n : ℕ) → n < 2 ^ 27 → v n ≡ None
-unfolding need
-none-needed v le n small = elim (cases_Bool (is_reached v (n / 262144))) [
-  | inl t ↦
-      let some = count_below-some (is_reached v) 512 (n / 262144) (omega (arith, small)) t in
-      absurd (omega (arith, some, le))
-  | inr f ↦
-      let place : 262144 * (n / 262144) + n % 262144 ≡ n = omega arith in
-      ap v (sym place) ∙ not-reached v (n / 262144) (n % 262144) f (omega arith)
-]
-
 starts : (m : ManifestRows) → IsTrue (is_valid m) → AreWithinQuotas (start m)
-starts m valid = record {
-  fits = λ p. elim (cases_lt (row_of (ids_of m.partitions) p) (length (ids_of m.partitions))) [
-    | inl lt ↦ subst (λ k. need (grant m p) ≤ k) (quota_at m.partitions p) (fits_of m p (facts m valid) lt)
-    | inr le ↦ let none = need-none (grant m p) (λ n. stranger m p n (facts m valid) le) in omega (arith, none)
-  ];
-}
+starts m valid = record { fits = grants-fit m valid }
 
 -- ---- after a call
 

@@ -5,9 +5,8 @@ use Rattle.stage2.specs.Reading.{TableEntry, shown, PassTheSame}
 use Rattle.base.specs.Manifest.{ManifestRows}
 use Rattle.base.specs.Ledger.{view}
 use Rattle.base.specs.Transactions.{Donation, Live}
-use Rattle.stage2.specs.Boot.{AllWalksAre}
 use Rattle.stage2.specs.Orderly.{answer_of}
-use Rattle.stage2.specs.Tables.{TablesView, view_of}
+use Rattle.stage2.specs.Tables.{TablesView, view_of, AllWalksAre}
 use Rattle.stage2.proofs.Editing.ChunkKeeps.{answer-walked}
 use Rattle.audit.specs.Audit.{HaveEntriesOf, HaveSameEntries, Tells, IsAuditText}
 use Rattle.stage2.specs.Listing.{entries}

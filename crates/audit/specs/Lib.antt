@@ -1,6 +1,5 @@
 pub mod Alike
 pub mod Audit
-pub mod Filling
 pub mod Laws
 pub mod Runs
 pub mod TableLines

@@ -12,6 +12,7 @@ use base::{Access, OutOfMemory, Page, PartitionId, Segment};
 use ledger::{Donation, Live};
 use manifest::{Manifest, Region};
 use spans::PageMap;
+use stage2::Views;
 use std::alloc::Global;
 
 /// The lists of a state, and maps from a page to the place of the donation that has it, and of the live transaction
@@ -81,26 +82,6 @@ impl<'a> Lists<'a> {
         })
     }
 
-    /// What a partition reaches of a page, and the number of a page up to which all pages from it on have its
-    /// region, donation and live transaction. One look in each map, by halving, gives both.
-    pub(crate) fn view_from(&self, p: PartitionId, page: Page) -> Segment<Option<Access>>
-        ensures view { result.value
-            ≡ rules.view self.now.manifest.now self.now.donations.now self.now.live.now p page }
-        ensures segment { spec.IsSegment self.now.manifest.now self.now.donations.now
-            self.now.live.now page result.end }
-    {
-        let region = self.manifest.region_at(page);
-        let given = self.given.segment_at(page);
-        let shared = self.shared.segment_at(page);
-        let donation = self.donation(given.value);
-        let transaction = self.transaction(shared.value);
-        let end = self.manifest.region_until(region, page);
-        Segment {
-            value: view_by(p, region, donation, transaction),
-            end: end.min(given.end).min(shared.end),
-        }
-    }
-
     /// The donation at a place.
     fn donation(&self, place: Option<u64>) -> Option<&Donation>
         ensures { option_map (λ d. d.now.value) result ≡ spec.gift_at self.now.donations.now place }
@@ -113,6 +94,24 @@ impl<'a> Lists<'a> {
         ensures { option_map (λ t. t.now) result ≡ spec.at_place self.now.live.now place }
     {
         self.live.get(place? as usize)
+    }
+}
+
+/// What partitions reach. One look in each map, by halving, tells of a page what covers it, and how far.
+impl<'a> Views for Lists<'a> {
+    ghost view = { λ lists. rules.view lists.manifest.now lists.donations.now lists.live.now };
+
+    fn view_from(&self, p: PartitionId, page: Page) -> Segment<Option<Access>> {
+        let region = self.manifest.region_at(page);
+        let given = self.given.segment_at(page);
+        let shared = self.shared.segment_at(page);
+        let donation = self.donation(given.value);
+        let transaction = self.transaction(shared.value);
+        let end = self.manifest.region_until(region, page);
+        Segment {
+            value: view_by(p, region, donation, transaction),
+            end: end.min(given.end).min(shared.end),
+        }
     }
 }
 

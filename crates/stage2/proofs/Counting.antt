@@ -7,3 +7,4 @@ pub mod Outcomes
 pub mod NeedGrows
 pub mod Untabled
 pub mod UpToPiece
+pub mod Quotas

@@ -23,5 +23,7 @@ pub mod GigabyteByGigabyte
 pub mod TabledGigabyte
 pub mod UntabledGigabyte
 pub mod RowOfPartition
-pub mod BootRegions
+pub mod Fronts
+pub mod FillUpward
+pub mod FillPartitions
 pub mod WholeTables

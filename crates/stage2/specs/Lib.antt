@@ -9,7 +9,6 @@ pub mod Parts
 pub mod Edits
 pub mod Orderly
 pub mod Room
-pub mod Boot
 pub mod Entries
 pub mod Tables
 pub mod Moments

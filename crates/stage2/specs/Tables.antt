@@ -4,7 +4,7 @@ use Rattle.base.specs.Access.{View}
 use Rattle.base.specs.Manifest.{row_of}
 use Rattle.base.specs.Need.{need, grow}
 use Rattle.base.specs.Pages.{PageRun, in_run, covers}
-use Rattle.pool.specs.Pool.{words_of, taken_of, pages_of, used_by, row_quota, all_lie_in}
+use Rattle.pool.specs.Pool.{Pool, words_of, taken_of, pages_of, used_by, row_quota, all_lie_in}
 use Rattle.stage2.specs.declared.walked.Walked.{Walked}
 use Rattle.stage2.specs.declared.walked.Walked.TheVariants.{None as Unmapped}
 use Rattle.stage2.specs.Edits.{edited, AreFree, disturbed, with_pages}
@@ -12,6 +12,7 @@ use Rattle.stage2.specs.Entries.{word_at}
 use Rattle.stage2.specs.Room.{row_operations}
 use Rattle.stage2.specs.Moments.{cleared_by, OpenCall, with_clear, IsInStepIn, nothing, StaysInStep, Moments}
 use Rattle.stage2.specs.Orderly.{answer_of, IsCanonical}
+use Rattle.stage2.specs.Slot.{Layout}
 use Rattle.stage2.specs.Walk.{walk, walked, translation, Agrees, Place, table_at, IsPlace}
 pub use Rattle.stage2.specs.Sound.{TablesView}
 
@@ -22,6 +23,10 @@ walk_in t p n = translation t.layout (words_of t.pool.memory.words) p n
 -- what a partition reaches of a page
 abbrev pub view_of : TablesView → ℕ → ℕ → View
 view_of t p n = answer_of (walk_in t p n)
+
+-- all walks give what each partition reaches by a view
+abbrev pub AllWalksAre : Layout → (ℕ → ℕ → View) → Pool → Type 0
+AllWalksAre layout view pool = Agrees layout (words_of pool.memory.words) view
 
 -- the partition has a root
 abbrev pub has_root : TablesView → ℕ → Bool

@@ -6,3 +6,4 @@ pub mod Gigabytes
 pub mod History
 pub mod Steps
 pub mod Clauses
+pub mod Filling

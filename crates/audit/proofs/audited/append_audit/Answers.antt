@@ -1,7 +1,7 @@
 use Rattle.std.proofs.Common.{ℕ, Bor, List, ap, subst, ◌∙◌}
 use Rattle.base.specs.Ledger.{view}
 use Rattle.base.specs.Transactions.{Donation, Live}
-use Rattle.stage2.specs.Boot.{AllWalksAre}
+use Rattle.stage2.specs.Tables.{AllWalksAre}
 use Rattle.audit.proofs.SameEntries.{text-equal, text-differs}
 use Rattle.audit.proofs.audited.append_audit.Goals as goal
 use Rattle.audit.proofs.audited.append_audit.Goals.{then-have_same_entries, else-have_same_entries}

@@ -1,8 +1,8 @@
 use Rattle.std.proofs.Common.{◌≡◌, ℕ, ◌-◌, [], ◌∷◌, Some, sym, ap, subst, ◌∙◌, arith}
 use Rattle.base.specs.Pages.{PageRun}
 use Rattle.stage2.specs.Tables.{Fits}
-use Rattle.audit.proofs.FillUpward.{fits-same}
-use Rattle.audit.proofs.rebuilt.map_pending.Goals as goal
+use Rattle.stage2.proofs.Editing.FillUpward.{fits-same}
+use Rattle.stage2.proofs.tables.Tables.map_pending.Goals as goal
 
 pub new-requires : goal.new-requires
 new-requires g c = let can = c.requires.fits c.in-Some.access c.in-Some.is in let a = can.some in let b = can.inside in omega (arith, a, b)
@@ -20,5 +20,5 @@ pub map-requires-clause-fits : goal.map-requires-clause-fits
 map-requires-clause-fits g c =
     let can = c.requires.fits c.in-Some.access c.in-Some.is in
     let run : c.new-in-Some.result ≡ record { first = c.args.first; count = c.args.end - c.args.first } = c.new-in-Some.ensures ∙ ap (λ (f : ℕ). record { first = f; count = c.args.end - c.args.first }) c.new.ensures in
-    fits-same c.args.p (c.new-in-Some.result ∷ []) (Some c.in-Some.access) c.args.tables.now c.ready.new.self c.ready.ensures.layout c.ready.ensures.pool
-    (subst (λ (r : PageRun). Fits c.args.p (r ∷ []) (Some c.in-Some.access) c.args.tables.now) (sym run) can.fits)
+    fits-same c.args.p (c.new-in-Some.result ∷ []) (Some c.in-Some.access) c.args.self.now c.ready.new.self c.ready.ensures.layout c.ready.ensures.pool
+    (subst (λ (r : PageRun). Fits c.args.p (r ∷ []) (Some c.in-Some.access) c.args.self.now) (sym run) can.fits)

@@ -1,0 +1,83 @@
+-- The tables of all partitions, filled one after another.
+use Rattle.std.proofs.Common.{◌≡◌, ◌≢◌, ℕ, ◌+◌, ◌^◌, ◌<◌, ◌≤◌, true, false, cond, ltb, List, length, get_or, zero, suc, [], ◌∷◌, None, refl, sym, ap, subst, ◌∙◌, arith, inl, inr}
+use Rattle.std.proofs.lemmas.Bool.{cases_lt, cases_eq}
+use Rattle.std.proofs.lemmas.Bool.Decides.{nat_tests}
+use Rattle.std.proofs.lemmas.List.{length-map}
+use Rattle.base.specs.Access.{View}
+use Rattle.base.specs.Manifest.{PartitionRow, ManifestRows, ids_of, row_of}
+use Rattle.base.specs.Need.{need}
+use Rattle.manifest.specs.Valid.{quota_of}
+use Rattle.manifest.proofs.Facts.{Facts, row_of-id}
+use Rattle.pool.proofs.Shares.{row_of-injective}
+use Rattle.stage2.specs.inner.Filling.{KeepsOthers, IsFilled, AreFilled}
+use Rattle.stage2.specs.Slot.{layout_of}
+use Rattle.stage2.specs.Tables.{TablesView, walk_in, AreCanonical}
+use Rattle.stage2.specs.Walk.{walked}
+use Rattle.stage2.specs.declared.walked.Walked.TheVariants.{None as Unmapped}
+use Rattle.stage2.proofs.Counting.Quotas.{no_quota, none-needed}
+
+id-at : (rows : List PartitionRow) (i : ℕ) (row : PartitionRow) → i < length rows → row ≡ get_or rows i row → get_or (ids_of rows) i 0 ≡ row.id
+id-at [] i row lt is = absurd (omega arith)
+id-at (r ∷ rows) zero row lt is = ap (λ (x : PartitionRow). x.id) (sym is)
+id-at (r ∷ rows) (suc i) row lt is = id-at rows i row (omega arith) is
+
+-- the row of the partition that stands at a place
+row-at : (m : ManifestRows) (i : ℕ) (row : PartitionRow) → Facts m → i < length m.partitions → row ≡ get_or m.partitions i row → row_of (ids_of m.partitions) row.id ≡ i
+row-at m i row h lt is = ap (row_of (ids_of m.partitions)) (sym (id-at m.partitions i row lt is)) ∙ row_of-id 0 m.partitions i h.rise lt
+
+count-ids : (m : ManifestRows) → length (ids_of m.partitions) ≡ length m.partitions
+count-ids m = length-map m.partitions (λ (row : PartitionRow). row.id)
+
+-- no partition but that of a row has it
+apart : (m : ManifestRows) (p id i : ℕ) → i < length m.partitions → row_of (ids_of m.partitions) id ≡ i → p ≢ id → row_of (ids_of m.partitions) p ≢ i
+apart m p id i lt mine other at =
+    let count = count-ids m in
+    other (row_of-injective (ids_of m.partitions) p id (at ∙ sym mine) (omega (arith, at, lt, count)))
+
+module _ (m : ManifestRows) (view : ℕ → ℕ → View) where
+  -- nothing is mapped yet
+  pub filled-none : (t : TablesView) → t.layout ≡ layout_of m → AreCanonical t → ((p n : ℕ) → walk_in t p n ≡ Unmapped) → AreFilled (layout_of m) view 0 t
+  filled-none t placed canonical none = record {
+    placed = placed;
+    canonical = canonical;
+    walks = λ p n small. let off : ltb (row_of (ids_of m.partitions) p) 0 ≡ false = grind (arith, nat_tests) in none p n ∙ rw off refl;
+  }
+
+  -- the partition that is to be mapped next
+  module _ (i id : ℕ) (item : PartitionRow) (f : Facts m) (lt : i < length m.partitions) (is : item ≡ get_or m.partitions i item) (same : id ≡ item.id) where
+    here : row_of (ids_of m.partitions) id ≡ i
+    here = ap (row_of (ids_of m.partitions)) same ∙ row-at m i item f lt is
+
+    -- nothing of it is mapped yet
+    pub not-filled : (t : TablesView) → AreFilled (layout_of m) view i t → (n : ℕ) → n < 2 ^ 27 → walk_in t id n ≡ Unmapped
+    not-filled t so n small =
+        let at = here in
+        let off : ltb (row_of (ids_of m.partitions) id) i ≡ false = grind (arith, nat_tests, at) in
+        so.walks id n small ∙ rw off refl
+
+    pub filled-more : (old new : TablesView) → AreFilled (layout_of m) view i old → new.layout ≡ layout_of m → AreCanonical new → KeepsOthers id old new → IsFilled (view id) id new → AreFilled (layout_of m) view (i + 1) new
+    filled-more old new so placed canonical keeps filled = record {
+      placed = placed;
+      canonical = canonical;
+      walks = λ p n small. elim (cases_eq p id) [
+        | inl at ↦
+            let mine : row_of (ids_of m.partitions) p ≡ i = ap (row_of (ids_of m.partitions)) at ∙ here in
+            let on : ltb (row_of (ids_of m.partitions) p) (i + 1) ≡ true = grind (arith, nat_tests, mine) in
+            rw on (ap (λ x. walk_in new x n) at ∙ filled.walks n small ∙ ap (λ x. walked n (view x n)) (sym at))
+        | inr other ↦
+            let away : row_of (ids_of m.partitions) p ≢ i = apart m p id i lt here other in
+            let alike : ltb (row_of (ids_of m.partitions) p) i ≡ ltb (row_of (ids_of m.partitions) p) (i + 1) = grind (arith, nat_tests, away) in
+            keeps.walks p n small other ∙ so.walks p n small ∙ ap (λ b. cond b (walked n (view p n)) Unmapped) alike
+      ];
+    }
+
+  -- all are mapped: a partition that has no row reaches nothing
+  pub filled-all : ((p : ℕ) → need (view p) ≤ quota_of m p) → (i : ℕ) (t : TablesView) → i ≡ length m.partitions → AreFilled (layout_of m) view i t → (p n : ℕ) → n < 2 ^ 27 → walk_in t p n ≡ walked n (view p n)
+  filled-all fits i t end so p n small = so.walks p n small ∙ elim (cases_lt (row_of (ids_of m.partitions) p) i) [
+    | inl lt ↦ let inside : ltb (row_of (ids_of m.partitions) p) i ≡ true = grind (arith, nat_tests) in rw inside refl
+    | inr le ↦
+        let count = count-ids m in
+        let outside : ltb (row_of (ids_of m.partitions) p) i ≡ false = grind (arith, nat_tests) in
+        let none : quota_of m p ≡ 0 = no_quota m.partitions p (omega (arith, le, end, count)) in
+        rw outside (ap (walked n) (sym (none-needed (view p) (subst (λ k. need (view p) ≤ k) none (fits p)) n small)))
+  ]

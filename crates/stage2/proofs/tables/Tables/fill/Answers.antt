@@ -1,0 +1,96 @@
+use Rattle.std.proofs.Common.{◌≡◌, ℕ, ◌^◌, ◌<◌, ◌≤◌, rules, refl, sym, subst, ◌∙◌, arith}
+use Rattle.std.proofs.lemmas.Result.{on_ok_weaker}
+use Rattle.base.specs.Access.{View}
+use Rattle.base.specs.Need.{need}
+use Rattle.base.specs.Manifest.{row_of}
+use Rattle.pool.specs.Pool.{row_quota}
+use Rattle.stage2.specs.inner.Filling.{in_range, IsFilling}
+use Rattle.stage2.proofs.Editing.FillUpward.{can-map, mapped, others, others-more, others-none, edge-between, edge-last, filling-none, filling-more, filling-next, filled, segment-alike, in-range-fits}
+use Rattle.stage2.proofs.tables.Tables.fill.Goals as goal
+
+pub loop-number-init : goal.loop-number-init
+loop-number-init g c = record {
+  filling = filling-none c.args.self.now.layout (in_range (g.V.Views.view c.args.views.now c.args.p)) c.args.p c.args.self.now refl c.requires.canonical c.requires.unmapped;
+  others = others-none c.args.p c.args.self.now;
+}
+
+pub map_pending-requires-clause-fits : goal.map_pending-requires-clause-fits
+map_pending-requires-clause-fits g c = λ a is.
+    let view = g.V.Views.view c.args.views.now c.args.p in
+    let l = c.loop-number in
+    let e = c.view_from-next.ensures in
+    let behind = e.behind in
+    let at = c.new-page.ensures in
+    let here = segment-alike view l.number c.new-page.result c.view_from-next.result.end c.view_from-next.result.value at e.in_range e.alike l.number (omega arith) (omega (arith, behind, at)) in
+    let unlike : (l.access ≡ c.view_from-next.result.value) → ⊥ = search rules in
+    can-map c.args.self.now.layout (in_range view) c.args.p l.first l.number l.access l.self l.invariant.filling a is
+    (edge-between c.args.self.now.layout (in_range view) c.args.p l.first l.number l.access l.self l.invariant.filling (λ same. unlike (same ∙ here))) (in-range-fits view _ c.requires.fits)
+
+pub map_pending-requires-2-clause-fits : goal.map_pending-requires-2-clause-fits
+map_pending-requires-2-clause-fits g c = λ a is.
+    let view = g.V.Views.view c.args.views.now c.args.p in
+    let l = c.loop-number in
+    can-map c.args.self.now.layout (in_range view) c.args.p l.first l.number l.access l.self l.invariant.filling a is
+    (edge-last c.args.self.now.layout view c.args.p l.first l.number l.access a l.self l.invariant.filling c.loop-number-test.false is) (in-range-fits view _ c.requires.fits)
+
+pub loop-number-preserved-in_ok-map_pending : goal.loop-number-preserved-in_ok-map_pending
+loop-number-preserved-in_ok-map_pending g c =
+    let view = g.V.Views.view c.args.views.now c.args.p in
+    let layout = c.args.self.now.layout in
+    let p = c.args.p in
+    let l = c.loop-number in
+    let end = c.view_from-next.result.end in
+    let next = c.view_from-next.result.value in
+    let h = l.invariant.filling in
+    let s = c.view_from-next.ensures in
+    let behind = s.behind in
+    let at = c.new-page.ensures in
+    let alike = segment-alike view l.number c.new-page.result end next at s.in_range s.alike in
+    let behind_number : l.number < end = omega (arith, behind, at) in
+    let here = alike l.number (omega arith) behind_number in
+    let unlike : (l.access ≡ next) → ⊥ = search rules in
+    let edge = edge-between layout (in_range view) p l.first l.number l.access l.self h (λ same. unlike (same ∙ here)) in
+    let new = c.map_pending.new.self in
+    let e = c.in_ok-map_pending.ensures in
+    let walks = mapped layout (in_range view) p l.first l.number l.access l.self h new e.walks in
+    let filling = filling-next layout (in_range view) p l.number end new (e.layout ∙ h.placed) e.canonical walks edge behind_number s.in_range (λ n le lt. alike n le lt ∙ sym here) in
+    record {
+      filling = subst (λ (a : View). IsFilling layout (in_range view) p l.number end a new) here filling;
+      others = others-more p c.args.self.now l.self new l.invariant.others (others layout (in_range view) p l.first l.number l.access l.self h new e.walks);
+    }
+
+pub loop-number-preserved : goal.loop-number-preserved
+loop-number-preserved g c =
+    let view = g.V.Views.view c.args.views.now c.args.p in
+    let layout = c.args.self.now.layout in
+    let p = c.args.p in
+    let l = c.loop-number in
+    let end = c.view_from-next.result.end in
+    let next = c.view_from-next.result.value in
+    let s = c.view_from-next.ensures in
+    let behind = s.behind in
+    let at = c.new-page.ensures in
+    let alike = segment-alike view l.number c.new-page.result end next at s.in_range s.alike in
+    let behind_number : l.number < end = omega (arith, behind, at) in
+    let here = alike l.number (omega arith) behind_number in
+    let same_view : l.access ≡ next = search rules in
+    record {
+      filling = filling-more layout (in_range view) p l.first l.number end l.access l.self l.invariant.filling (same_view ∙ sym here) behind_number s.in_range (λ n le lt. alike n le lt ∙ sym here);
+      others = l.invariant.others;
+    }
+
+pub returns-clause-layout : goal.returns-clause-layout
+returns-clause-layout g c = on_ok_weaker _ (λ (same : c.map_pending-2.new.self.layout ≡ c.loop-number.self.layout). same ∙ c.loop-number.invariant.filling.placed) c.map_pending-2.ensures.layout
+
+pub returns-clause-walks : goal.returns-clause-walks
+returns-clause-walks g c =
+    let view = g.V.Views.view c.args.views.now c.args.p in
+    let l = c.loop-number in
+    on_ok_weaker _ (λ reach. filled c.args.self.now.layout view c.args.p l.first l.number l.access l.self c.map_pending-2.new.self l.invariant.filling c.loop-number-test.false reach) c.map_pending-2.ensures.walks
+
+pub returns-clause-others : goal.returns-clause-others
+returns-clause-others g c =
+    let view = g.V.Views.view c.args.views.now c.args.p in
+    let l = c.loop-number in
+    on_ok_weaker _ (λ reach. others-more c.args.p c.args.self.now l.self c.map_pending-2.new.self l.invariant.others
+    (others c.args.self.now.layout (in_range view) c.args.p l.first l.number l.access l.self l.invariant.filling c.map_pending-2.new.self reach)) c.map_pending-2.ensures.walks

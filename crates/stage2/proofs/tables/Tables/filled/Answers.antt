@@ -1,0 +1,56 @@
+use Rattle.std.proofs.Common.{◌≡◌, ◌<◌, ◌≤◌, List, length, get_or, sym, ap, subst, ◌∙◌, arith}
+use Rattle.base.specs.Manifest.{PartitionRow, row_of}
+use Rattle.base.specs.Need.{need}
+use Rattle.manifest.proofs.Facts.{facts}
+use Rattle.pool.specs.Pool.{Pool, row_quota}
+use Rattle.stage2.specs.Slot.{Layout, layout_of}
+use Rattle.stage2.specs.Tables.{AllWalksAre}
+use Rattle.stage2.proofs.Counting.Quotas.{quota_at}
+use Rattle.stage2.proofs.Editing.FillPartitions.{filled-none, not-filled, filled-more, filled-all}
+use Rattle.stage2.proofs.tables.Tables.filled.Goals as goal
+
+pub loop-partition-init : goal.loop-partition-init
+loop-partition-init g c = filled-none c.args.manifest.now (g.V.Views.view c.args.views.now) c.in_ok-tables.tables c.in_ok-tables.ensures.layout c.in_ok-tables.ensures.canonical c.in_ok-tables.ensures.unmapped
+
+pub fill-requires-clause-fits : goal.fill-requires-clause-fits
+fill-requires-clause-fits g c =
+    let p = c.partition.inside.id in
+    subst (λ (l : Layout). need (g.V.Views.view c.args.views.now p) ≤ row_quota l.quotas (row_of l.ids p)) (sym c.loop-partition.invariant.placed)
+    (subst (λ k. need (g.V.Views.view c.args.views.now p) ≤ k) (sym (quota_at c.args.manifest.now.partitions p)) (c.requires.fits c.partitions-partition-items.ensures.valid p))
+
+pub fill-requires-clause-unmapped : goal.fill-requires-clause-unmapped
+fill-requires-clause-unmapped g c =
+    let m = c.args.manifest.now in
+    let i = c.loop-partition.partition-index in
+    let item = c.partition-item.result in
+    let same = c.partitions-partition-items.ensures.same in
+    let lt : i < length m.partitions = subst (λ (xs : List PartitionRow). i < length xs) same c.loop-partition-test.true in
+    let is : item ≡ get_or m.partitions i item = subst (λ (xs : List PartitionRow). item ≡ get_or xs i item) same c.partition-item.is in
+    let id : c.partition.inside.id ≡ item.id = ap (λ (x : PartitionRow). x.id) c.partition.view_is in
+    not-filled m (g.V.Views.view c.args.views.now) i c.partition.inside.id item (facts m c.partitions-partition-items.ensures.valid) lt is id c.loop-partition.tables c.loop-partition.invariant
+
+pub loop-partition-preserved : goal.loop-partition-preserved
+loop-partition-preserved g c =
+    let m = c.args.manifest.now in
+    let i = c.loop-partition.partition-index in
+    let item = c.partition-item.result in
+    let same = c.partitions-partition-items.ensures.same in
+    let lt : i < length m.partitions = subst (λ (xs : List PartitionRow). i < length xs) same c.loop-partition-test.true in
+    let is : item ≡ get_or m.partitions i item = subst (λ (xs : List PartitionRow). item ≡ get_or xs i item) same c.partition-item.is in
+    let id : c.partition.inside.id ≡ item.id = ap (λ (x : PartitionRow). x.id) c.partition.view_is in
+    let e = c.in_ok-fill.ensures in
+    filled-more m (g.V.Views.view c.args.views.now) i c.partition.inside.id item (facts m c.partitions-partition-items.ensures.valid) lt is id c.loop-partition.tables c.fill.new.self c.loop-partition.invariant
+    (e.layout ∙ c.loop-partition.invariant.placed) e.canonical e.others e.walks
+
+pub returns-clause-agrees : goal.returns-clause-agrees
+returns-clause-agrees g c =
+    let m = c.args.manifest.now in
+    let end : c.loop-partition.partition-index ≡ length m.partitions =
+    omega (arith, c.loop-partition-test.false, c.loop-partition.auto.partition-index-end, ap (λ (xs : List PartitionRow). length xs) c.partitions-partition-items.ensures.same) in
+    let view = g.V.Views.view c.args.views.now in
+    let all : AllWalksAre c.loop-partition.tables.layout view c.loop-partition.tables.pool = filled-all m view (c.requires.fits c.partitions-partition-items.ensures.valid) c.loop-partition.partition-index c.loop-partition.tables end c.loop-partition.invariant in
+    subst (λ (l : Layout). AllWalksAre l view c.give_list_back.new.self.pool) (sym c.give_list_back.ensures.layout)
+    (subst (λ (x : Pool). AllWalksAre c.loop-partition.tables.layout view x) (sym c.give_list_back.ensures.pool) all)
+
+pub returns-clause-layout : goal.returns-clause-layout
+returns-clause-layout g c = c.give_list_back.ensures.layout ∙ c.loop-partition.invariant.placed
