@@ -1,12 +1,14 @@
 -- Runs in the order of their first pages, of which those that touch or share pages become one.
-use Rattle.std.proofs.Common.{◌≡◌, ℕ, zero, suc, ◌<◌, ◌≤◌, Bool, true, false, cond, ◌||◌, leb, ltb, List, [], ◌∷◌, length, refl, sym, ap, subst, ◌∙◌, arith}
+use Rattle.std.proofs.Common.{◌≡◌, ℕ, zero, suc, ◌+◌, ◌<◌, ◌≤◌, Bool, true, false, cond, ◌||◌, leb, ltb, List, [], ◌∷◌, length, refl, sym, ap, subst, ◌∙◌, arith}
 use Rattle.std.specs.List.Retain.{DedupsFrom, IsDeduped}
 use Rattle.std.specs.List.Sorted.{IsNonDecreasingBy}
 use Rattle.std.specs.Bool.{MatchBool}
 use Rattle.std.proofs.lemmas.Bool.{and_parts, leb-true, ltb-true}
 use Rattle.std.proofs.lemmas.Bool.Decides.{nat_tests}
+use Rattle.std.proofs.lemmas.List.Sums.{sum_by-cons}
 use Rattle.base.specs.Pages.{PageRun, in_run, covers, with_run, rise, rise_above, are_normal}
-use Rattle.base.proofs.Joining.{end_of}
+use Rattle.base.specs.Descriptors.Send.{pages_in}
+use Rattle.base.proofs.Joining.{end_of, AreSpread, spread-rest, spread-with, pages_with}
 
 -- ---- maximal runs
 
@@ -46,6 +48,7 @@ pub record IsGathered (first : ℕ) (old new : List PageRun) : Type 0 where
   pub rises : rise_above (end_of kept) rest ≡ true
   pub same : (n : ℕ) → covers new n ≡ covers old n
   pub fewer : length new ≤ length old
+  pub sum : AreSpread old → pages_in new ≡ pages_in old
 
 in_both : (run next : PageRun) (n : ℕ) → run.first ≤ next.first → next.first ≤ end_of run → in_run (with_run run next) n ≡ (in_run run n || in_run next n)
 in_both run next n from to = grind (arith, nat_tests)
@@ -53,6 +56,9 @@ in_both run next n from to = grind (arith, nat_tests)
 or_assoc : (a b c : Bool) → ((a || b) || c) ≡ (a || (b || c))
 or_assoc true b c = refl
 or_assoc false b c = refl
+
+pages_in-first : (run : PageRun) (runs : List PageRun) → pages_in (run ∷ runs) ≡ run.count + pages_in runs
+pages_in-first = sum_by-cons (λ (r : PageRun). r.count)
 
 gathered_as_one : (run next : PageRun) (runs new : List PageRun) → run.first ≤ next.first → next.first ≤ end_of run → IsGathered run.first (with_run run next ∷ runs) new → IsGathered run.first (run ∷ next ∷ runs) new
 gathered_as_one run next runs new le to g = record {
@@ -63,6 +69,10 @@ gathered_as_one run next runs new le to g = record {
   rises = g.rises;
   same = λ n. g.same n ∙ ap (λ b. b || covers runs n) (in_both run next n le to) ∙ or_assoc (in_run run n) (in_run next n) (covers runs n);
   fewer = omega (arith, g.fewer);
+  sum = λ s.
+      let rest = g.sum (spread-with run next runs le s) in
+      let two = pages_with run next runs le to s in
+      omega (arith, rest, two, pages_in-first (with_run run next) runs, pages_in-first run (next ∷ runs), pages_in-first next runs);
 }
 
 gathered_apart : (run next : PageRun) (runs new : List PageRun) → end_of run < next.first → IsGathered next.first (next ∷ runs) new → IsGathered run.first (run ∷ next ∷ runs) (run ∷ new)
@@ -76,6 +86,7 @@ gathered_apart run next runs new lt g =
       rises = ap (rise_above (end_of run)) g.is ∙ rw here g.rises;
       same = λ n. ap (λ b. in_run run n || b) (g.same n);
       fewer = omega (arith, g.fewer);
+      sum = λ s. omega (arith, g.sum (spread-rest run (next ∷ runs) s), pages_in-first run new, pages_in-first run (next ∷ runs));
     }
 
 -- of any runs
@@ -85,6 +96,7 @@ pub record AreGathered (old new : List PageRun) : Type 0 where
   pub same : (n : ℕ) → covers new n ≡ covers old n
   pub fewer : length new ≤ length old
   pub some : 0 < length old → 0 < length new
+  pub sum : AreSpread old → pages_in new ≡ pages_in old
 
 -- each call takes a run in where it begins in the one kept or at its end, and changes nothing else
 module _ {F : Type 0} (R : F → PageRun → PageRun → Bool → F → PageRun → PageRun → Type 0) (f : F)
@@ -98,6 +110,7 @@ module _ {F : Type 0} (R : F → PageRun → PageRun → Bool → F → PageRun 
     rises = refl;
     same = λ n. refl;
     fewer = omega arith;
+    sum = λ s. refl;
   }
   gathered_from (next ∷ runs) g run new e up t =
       let one = h next run t.0 t.1 t.2 t.3 (subst (λ (y : F). R y next run t.0 t.1 t.2 t.3) e t.4) in
@@ -120,6 +133,7 @@ module _ {F : Type 0} (R : F → PageRun → PageRun → Bool → F → PageRun 
     same = λ n. refl;
     fewer = omega arith;
     some = λ h. h;
+    sum = λ s. refl;
   }
   all_gathered (run ∷ runs) new up k =
       let g = gathered_from runs f run new refl up k.told in
@@ -131,4 +145,5 @@ module _ {F : Type 0} (R : F → PageRun → PageRun → Bool → F → PageRun 
         same = g.same;
         fewer = g.fewer;
         some = λ h. omega (arith, long);
+        sum = g.sum;
       }

@@ -1,7 +1,8 @@
 //! Puts runs in ascending order.
 
 ghost use Rattle.std.specs.Prelude.{◌≡◌, ◌≤◌, ◌<◌, ℕ, true, length, vec_capacity};
-ghost use Rattle.base.specs.Pages.{are_normal, covers, rise};
+ghost use Rattle.base.specs.Descriptors.Send.{pages_in};
+ghost use Rattle.base.specs.Pages.{are_disjoint, are_normal, covers, rise};
 
 use crate::page::Run;
 use crate::runs::are_normal;
@@ -13,6 +14,7 @@ pub fn gather(runs: &mut Vec<Run>)
     ensures ascending { rise 0 runs.new.items ≡ true }
     ensures same { (n : ℕ) → covers runs.new.items n ≡ covers runs.old.items n }
     ensures fewer { length runs.new.items ≤ length runs.old.items }
+    ensures sum { are_disjoint runs.old.items ≡ true → pages_in runs.new.items ≡ pages_in runs.old.items }
     ensures some { 0 < length runs.old.items → 0 < length runs.new.items }
     ensures capacity { vec_capacity runs.old ≤ vec_capacity runs.new }
 {

@@ -1,7 +1,8 @@
 use Rattle.std.proofs.Common.{◌≡◌, ◌∙◌, length, sym, ap, arith, rules}
-use Rattle.std.proofs.lemmas.List.Sorted.{list_any-IsPermutation, length_permutation, IsNonDecreasingBy-from_sort_by_key}
+use Rattle.std.proofs.lemmas.List.Sorted.{list_any-IsPermutation, length_permutation, sum_by-IsPermutation, IsNonDecreasingBy-from_sort_by_key}
 use Rattle.base.specs.Pages.{PageRun, in_run, rise}
 use Rattle.base.proofs.Gathering.{all_gathered, rise_from_normal}
+use Rattle.base.proofs.Joining.{spread, are_disjoint-IsPermutation}
 use Rattle.base.proofs.order.gather.Goals as goal
 
 pub returns : goal.returns
@@ -17,6 +18,9 @@ returns c =
       fewer = omega (arith, all.fewer, long);
       some = λ h. all.some (omega (arith, h, long));
       capacity = search rules;
+      sum = λ disjoint.
+          let spread_out = spread _ (are_disjoint-IsPermutation c.args.runs.now.items _ sorted.permutation disjoint) ordered in
+          all.sum spread_out ∙ sum_by-IsPermutation (λ (run : PageRun). run.count) _ _ sorted.permutation;
     }
 
 pub returns-then-are_normal-clause-ascending : goal.returns-then-are_normal-clause-ascending
