@@ -1,7 +1,16 @@
-//! The limits of the core, and the size of a page.
+//! The limits of the core, and the sizes of pages and of translation tables (Arm ARM, VMSAv8-64, 4 KB granule).
 
-/// The size of a page of the 4 KB granule, in bytes.
+/// The size of a page, in bytes.
 pub const PAGE_SIZE: u64 = 4096;
+
+/// The words of a translation table, which fills a page.
+pub const TABLE_WORDS: u32 = 512;
+
+/// The pages of a chunk, which are 2 MB: a level 3 table maps them, and a word of level 2 stands for them.
+pub const CHUNK_PAGES: u32 = TABLE_WORDS;
+
+/// The pages of a gigabyte: a level 2 table maps its chunks, and a word of level 1 stands for them.
+pub const GIGABYTE_PAGES: u32 = TABLE_WORDS * CHUNK_PAGES;
 
 /// The most receivers that a send names.
 pub const MOST_RECEIVERS: usize = 8;

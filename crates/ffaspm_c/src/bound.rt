@@ -8,14 +8,9 @@ ghost use Rattle.ffaspm_c.specs.Answers.{IsFaultNumber, IsDocument};
 
 use crate::status::DONE;
 use base::Run;
+use base::limits::{CHUNK_PAGES, MOST_LIVE, MOST_RANGES, PAGE_SIZE};
 use manifest::{Manifest, ManifestFault, read};
 use std::alloc::Global;
-
-/// Ranges that one call may have at most.
-const RANGES: u32 = 512;
-
-/// Transactions of one partition that are live at most.
-const LIVE: u64 = 32;
 
 /// The least that two blocks of intervals side by side have together.
 const PAIR: u64 = 113;
@@ -52,8 +47,8 @@ fn list(count: u64, size: u64) -> u64 {
 
 /// In how many chunks of 2 MB a run has a page.
 fn chunks_of(run: Run) -> u64 {
-    let last = run.end().saturating_sub(1) / 512;
-    let first = run.first().number() / 512;
+    let last = run.end().saturating_sub(1) / CHUNK_PAGES;
+    let first = run.first().number() / CHUNK_PAGES;
     u64::from(last.saturating_sub(first)).saturating_add(1)
 }
 
@@ -72,14 +67,14 @@ fn counts_of(manifest: &Manifest, ranges: u32) -> Counts {
         tables: u64::from(manifest.table_pages()),
         pages: pages.fold(0, add),
         chunks: chunks.fold(0, add),
-        ranges: u64::from(ranges.min(RANGES)),
+        ranges: u64::from(ranges.min(MOST_RANGES as u32)),
     }
 }
 
 /// What stays from boot on: words, counts and marks of the table pool, the manifest's lists, and the manager.
 fn kept(counts: &Counts) -> u64 {
     total(&[
-        places(counts.tables, 4096 + 4 + 2),
+        places(counts.tables, PAGE_SIZE + 4 + 2),
         places(counts.partitions, 128),
         places(counts.regions, 128),
         list(counts.grants, 16),
@@ -96,14 +91,14 @@ fn operations(counts: &Counts) -> u64 {
 
 /// How many ranges are live at most: each has a page of its own.
 fn live_ranges(counts: &Counts) -> u64 {
-    places(counts.ranges, LIVE)
+    places(counts.ranges, MOST_LIVE as u64)
         .saturating_mul(counts.partitions)
         .min(counts.pages)
 }
 
 /// Live transactions, with their ranges.
 fn transactions(counts: &Counts) -> u64 {
-    let live = places(counts.partitions, LIVE);
+    let live = places(counts.partitions, MOST_LIVE as u64);
     total(&[
         list(live, 16),
         places(live, 256),

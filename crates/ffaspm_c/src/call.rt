@@ -11,6 +11,7 @@ ghost use Rattle.spm.specs.Machine.{MayNeedMemory, unchanged};
 use crate::holder::Holder;
 use crate::kept::Manager;
 use crate::status::{DONE, NO_MEMORY, NOT_MADE, RX_SHORT};
+use base::limits::PAGE_SIZE;
 use base::{OutOfMemory, PartitionId};
 use spm::{LentCall, Reply};
 use std::alloc::Global;
@@ -38,7 +39,7 @@ fn rx_size(spm: &Manager, p: PartitionId) -> usize
     ensures { result ≡ rx_size spm.now.state p }
 {
     match spm.buffers(p) {
-        Some(pair) => 4096 * pair.rx.count() as usize,
+        Some(pair) => PAGE_SIZE as usize * pair.rx.count() as usize,
         None => 0,
     }
 }

@@ -10,6 +10,7 @@ ghost use Rattle.ffaspm_c.specs.Answers.{page_at, bits_of, version_word, IsPairO
 
 use crate::holder::Holder;
 use crate::status::{DONE, NOT_MADE, NOTHING_THERE};
+use base::limits::PAGE_SIZE;
 use base::{Access, MemoryKind, Page, PartitionId, Rights, Version};
 use std::alloc::Global;
 
@@ -28,7 +29,7 @@ fn page_of(address: u64) -> Option<Page>
     ensures some { IfSome result (λ page. page ≡ page_at address) }
     ensures none { IsNone result → 2 ^ 27 ≤ page_at address }
 {
-    let number = address / 4096;
+    let number = address / PAGE_SIZE;
     if number < u64::from(Page::COUNT) {
         Some(Page::new(number as u32))
     } else {
@@ -185,8 +186,8 @@ pub extern "C" fn ffaspm_buffers(
     match found {
         Some(pair) => {
             *buffers = BuffersOut {
-                tx_address: 4096 * u64::from(pair.tx.first().number()),
-                rx_address: 4096 * u64::from(pair.rx.first().number()),
+                tx_address: PAGE_SIZE * u64::from(pair.tx.first().number()),
+                rx_address: PAGE_SIZE * u64::from(pair.rx.first().number()),
                 tx_pages: pair.tx.count(),
                 rx_pages: pair.rx.count(),
             };

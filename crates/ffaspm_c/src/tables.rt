@@ -9,6 +9,7 @@ ghost use Rattle.ffaspm_c.specs.Tables.{pool_pages, operation_out, IsOperationAt
 use crate::holder::Holder;
 use crate::status::{DONE, NOT_MADE, NOTHING_THERE};
 use base::PartitionId;
+use base::limits::{PAGE_SIZE, TABLE_WORDS};
 use manifest::Manifest;
 use pool::{Op, row_in};
 use std::alloc::Global;
@@ -48,7 +49,7 @@ fn operation_out(op: Op) -> OperationOut
             partition: 0,
         },
         Op::Invalidate { who, run } => OperationOut {
-            address: 4096 * u64::from(run.first().number()),
+            address: PAGE_SIZE * u64::from(run.first().number()),
             word: 0,
             kind: 1,
             page: 0,
@@ -57,7 +58,7 @@ fn operation_out(op: Op) -> OperationOut
             partition: who.number(),
         },
         Op::Clear { run } => OperationOut {
-            address: 4096 * u64::from(run.first().number()),
+            address: PAGE_SIZE * u64::from(run.first().number()),
             word: 0,
             kind: 2,
             page: 0,
@@ -127,7 +128,7 @@ pub extern "C" fn ffaspm_pool(
     let Some(spm) = holder.take(alloc) else {
         return NOT_MADE;
     };
-    *address = 4096 * u64::from(spm.manifest().pool().number());
+    *address = PAGE_SIZE * u64::from(spm.manifest().pool().number());
     *pages = spm.manifest().table_pages();
     holder.put(spm);
     DONE
@@ -200,7 +201,7 @@ pub extern "C" fn ffaspm_word(
     let Some(spm) = holder.take(alloc) else {
         return NOT_MADE;
     };
-    let status = if page < spm.manifest().table_pages() && index < 512 {
+    let status = if page < spm.manifest().table_pages() && index < TABLE_WORDS {
         *word = spm.word(page, index);
         DONE
     } else {

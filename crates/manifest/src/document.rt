@@ -11,6 +11,7 @@ use crate::draft::{Draft, PartitionDraft, RegionDraft};
 use crate::fault::{Key, ManifestFault, Place, Table};
 use crate::manifest::Partition;
 use crate::region::Grant;
+use base::limits::PAGE_SIZE;
 use base::{MemoryKind, PartitionId, Rights};
 use std::alloc::Global;
 use toml::Value;
@@ -90,8 +91,8 @@ fn page_of(address: i64) -> u32
 {
     if 0 <= address && address < 0x80_0000_0000 {
         let address = address as u64;
-        if address % 4096 == 0 {
-            return (address / 4096) as u32;
+        if address % PAGE_SIZE == 0 {
+            return (address / PAGE_SIZE) as u32;
         }
     }
     0x800_0000

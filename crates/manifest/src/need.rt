@@ -8,14 +8,9 @@ ghost use Rattle.manifest.specs.Boundaries.{is_boundary, added, passed};
 
 use crate::lookup::grant_at;
 use crate::region::Region;
+use base::limits::{CHUNK_PAGES, GIGABYTE_PAGES};
 use base::{Page, PartitionId};
 use std::marker::Model;
-
-/// The pages of a chunk, which a level 3 table maps.
-const CHUNK: u32 = 512;
-
-/// The pages of a gigabyte, which a level 2 table maps.
-const GIGABYTE: u32 = 262_144;
 
 /// Places counted upward: those below `next` were looked at, and `count` of them need a table.
 #[derive(Clone, Copy)]
@@ -63,7 +58,7 @@ impl Tally {
         ensures { self.new ≡ passed (granted_by regions.now p) page self.old }
     {
         if changes_inside_chunk(regions, p, page) {
-            self.add(page / CHUNK, page / CHUNK + 1);
+            self.add(page / CHUNK_PAGES, page / CHUNK_PAGES + 1);
         }
     }
 }
@@ -74,7 +69,7 @@ fn changes_inside_chunk(regions: &[Region], p: PartitionId, page: u32) -> bool
     requires page { page ≤ 2 ^ 27 }
     ensures { result ≡ is_boundary (granted_by regions.now p) page }
 {
-    page % CHUNK != 0
+    page % CHUNK_PAGES != 0
         && grant_at(regions, p, Page::new(page - 1)) != grant_at(regions, p, Page::new(page))
 }
 
@@ -103,8 +98,8 @@ fn reached_gigabytes(regions: &[Region], p: PartitionId) -> u32
         let pages = region.pages();
         if region.access(p).is_some() {
             tally.add(
-                pages.first().number() / GIGABYTE,
-                (pages.end() - 1) / GIGABYTE + 1,
+                pages.first().number() / GIGABYTE_PAGES,
+                (pages.end() - 1) / GIGABYTE_PAGES + 1,
             );
         }
     }

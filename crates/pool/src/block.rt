@@ -5,8 +5,9 @@ ghost use Rattle.pool.specs.Writing.{with_range};
 
 use crate::cells::{Base, Cells, Deed, allocate, deallocate};
 use crate::word_range::WordRange;
-use crate::word_store::{WORDS, WordStore};
+use crate::word_store::WordStore;
 use base::OutOfMemory;
+use base::limits::TABLE_WORDS;
 use std::alloc::Global;
 use std_alloc::room::may_hold;
 
@@ -14,7 +15,7 @@ use std_alloc::room::may_hold;
 mod tests;
 
 /// How many words a page has, as a number of places.
-const PAGE: usize = WORDS as usize;
+const PAGE: usize = TABLE_WORDS as usize;
 
 /// Words in a block of raw memory, which goes back to the allocator when they end. Those of a page stand there
 /// once it has a mark: a memory of many pages is made without a write to any of them.

@@ -3,6 +3,7 @@ ghost use Rattle.pool.specs.Pool as copies;
 ghost use Rattle.pool.specs.Pool.{words_of, IsInImage, applied};
 
 use crate::operation::Op;
+use base::limits::TABLE_WORDS;
 use std::marker::Model;
 
 /// A copy of the words of all table pages, to which operations are applied one by one.
@@ -45,7 +46,7 @@ impl Image {
         requires index_in { index < 512 }
         ensures { result ≡ words_of self.now.words page index }
     {
-        self.words[512 * page as usize + index as usize]
+        self.words[TABLE_WORDS as usize * page as usize + index as usize]
     }
 
     /// Applies one operation: a write changes its word, and an invalidation and a clear change none.
@@ -55,7 +56,7 @@ impl Image {
         ensures words { words_of self.new.words ≡ applied operation.now (words_of self.old.words) }
     {
         if let Op::Set { page, index, word } = operation {
-            self.words[512 * *page as usize + *index as usize] = *word;
+            self.words[TABLE_WORDS as usize * *page as usize + *index as usize] = *word;
         }
     }
 }

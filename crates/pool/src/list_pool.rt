@@ -4,6 +4,7 @@ use crate::table_pool::TablePool;
 use crate::word_range::WordRange;
 use crate::word_store::WordStore;
 use base::OutOfMemory;
+use base::limits::TABLE_WORDS;
 use std::alloc::Global;
 
 /// Table memory in a vector.
@@ -21,21 +22,21 @@ impl WordStore for Vec<u64> {
     fn fill(&mut self, _page: u32) {}
 
     fn word(&self, page: u32, index: u32) -> u64 {
-        self[512 * page as usize + index as usize]
+        self[TABLE_WORDS as usize * page as usize + index as usize]
     }
 
     fn standing_word(&self, page: u32, index: u32) -> u64 {
-        self[512 * page as usize + index as usize]
+        self[TABLE_WORDS as usize * page as usize + index as usize]
     }
 
     fn set_word(&mut self, page: u32, index: u32, word: u64) {
-        self[512 * page as usize + index as usize] = word;
+        self[TABLE_WORDS as usize * page as usize + index as usize] = word;
     }
 
     fn set_words(&mut self, range: WordRange) {
         let mut next = range.word;
         for index in range.first..range.end {
-            self[512 * range.page as usize + index as usize] = next;
+            self[TABLE_WORDS as usize * range.page as usize + index as usize] = next;
             next += range.step;
         }
     }

@@ -8,8 +8,9 @@ ghost use Rattle.pool.specs.Writing.{IsHeld, MayWrite, AreThere, IsMissing, MayW
 
 use crate::runs::{TableWords, index_at, index_from};
 use crate::word_range::WordRange;
-use crate::word_store::{WORDS, WordStore};
+use crate::word_store::WordStore;
 use base::Run;
+use base::limits::TABLE_WORDS;
 
 /// Whether the words of a page from one index up to another are all 0, or whether none is.
 #[inline(always)]
@@ -56,7 +57,7 @@ fn is_filled<S: WordStore>(store: &S, page: u32, start: u32, run: Run) -> bool
 {
     if run.count() == 1 {
         let index = index_at(start, run.first());
-        if index >= WORDS {
+        if index >= TABLE_WORDS {
             return true;
         }
         return store.standing_word(page, index) != 0;
@@ -112,5 +113,5 @@ pub(crate) fn are_gaps_there<S: WordStore>(store: &S, runs: &[Run], with: TableW
         }
         first = first.max(index_from(with.start, run.end()));
     }
-    is_gap_there(store, first, WORDS, with)
+    is_gap_there(store, first, TABLE_WORDS, with)
 }

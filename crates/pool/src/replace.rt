@@ -9,11 +9,12 @@ use crate::log::Log;
 use crate::operation::Op;
 use crate::stretch::{WordAt, write_word, write_words};
 use crate::word_range::WordRange;
-use crate::word_store::{WORDS, WordStore};
+use crate::word_store::WordStore;
+use base::limits::TABLE_WORDS;
 use base::{Page, PartitionId, Run};
 
 /// How many pages a word stands for: one for each word of the table that may stand in its place.
-const PAGES: u32 = WORDS;
+const PAGES: u32 = TABLE_WORDS;
 
 /// Words that replace others. Each stands for 512 pages of a partition, which follow those of the one before.
 #[derive(Clone, Copy)]
@@ -203,7 +204,7 @@ fn replace_all<S: WordStore>(store: &mut S, log: Log, with: Replacement) -> Log
     if log.nonzero == 0 && with.range.word > 0 {
         return write_words(store, log, with.range);
     }
-    if log.nonzero == WORDS && with.range.word == 0 && with.range.step == 0 {
+    if log.nonzero == TABLE_WORDS && with.range.word == 0 && with.range.step == 0 {
         return break_all(store, log, with);
     }
     replace_others(store, log, with)

@@ -9,7 +9,8 @@ use crate::log::Log;
 use crate::operation::Op;
 use crate::stretch::{WordAt, put_word, recounted_all, turn_all, write_word, write_words};
 use crate::word_range::WordRange;
-use crate::word_store::{WORDS, WordStore};
+use crate::word_store::WordStore;
+use base::limits::TABLE_WORDS;
 use base::{Page, Run};
 
 /// What the 512 words of a page are to be: each stands for a page more, and is a step more, than the one before.
@@ -54,7 +55,7 @@ impl TableWords {
 pub(crate) fn index_from(start: u32, number: u32) -> u32
     ensures { result ≡ index_from start number }
 {
-    number.saturating_sub(start).min(WORDS)
+    number.saturating_sub(start).min(TABLE_WORDS)
 }
 
 /// The same where it is one of them, and else a number of 512 or more: that is one comparison.
@@ -85,7 +86,7 @@ fn set_one<S: WordStore>(
     ensures standing { S.stands store.new ≡ S.stands store.old }
 {
     let index = index_at(with.start, page);
-    if index >= WORDS {
+    if index >= TABLE_WORDS {
         return nonzero;
     }
     let word = with.word + with.step * u64::from(index);
@@ -210,7 +211,7 @@ fn turn_one<S: WordStore>(
     ensures standing { S.stands store.new ≡ S.stands store.old }
 {
     let index = index_at(with.start, page);
-    if index >= WORDS {
+    if index >= TABLE_WORDS {
         return nonzero;
     }
     let at = WordAt {
@@ -311,5 +312,13 @@ pub(crate) fn turn_gaps<S: WordStore>(
         log = turn_words(store, log, Indexes { first, end }, with);
         first = first.max(index_from(with.start, run.end()));
     }
-    turn_words(store, log, Indexes { first, end: WORDS }, with)
+    turn_words(
+        store,
+        log,
+        Indexes {
+            first,
+            end: TABLE_WORDS,
+        },
+        with,
+    )
 }

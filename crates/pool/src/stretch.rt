@@ -9,7 +9,8 @@ use crate::log::Log;
 use crate::looks::are_all;
 use crate::operation::Op;
 use crate::word_range::WordRange;
-use crate::word_store::{WORDS, WordStore};
+use crate::word_store::WordStore;
+use base::limits::TABLE_WORDS;
 
 /// How many words are looked at, at most, before they are written: 512 bytes, which are close at hand then.
 const MOST: u32 = 64;
@@ -206,7 +207,7 @@ fn write_part<S: WordStore>(store: &mut S, log: Log, range: WordRange) -> Log
         end,
         ..
     } = range;
-    let most = WORDS - (end - first);
+    let most = TABLE_WORDS - (end - first);
     if range.word > 0 && log.nonzero <= most && are_all(store, page, first, end, true) {
         return turn_all(store, log, range);
     }
@@ -258,7 +259,7 @@ fn write_many<S: WordStore>(store: &mut S, log: Log, range: WordRange) -> Log
     if log.nonzero == 0 && range.word > 0 {
         return turn_all(store, log, range);
     }
-    if log.nonzero == WORDS && range.word == 0 && range.step == 0 {
+    if log.nonzero == TABLE_WORDS && range.word == 0 && range.step == 0 {
         return turn_all(store, log, range.zeros());
     }
     write_parts(store, log, range)
@@ -314,11 +315,11 @@ pub(crate) fn clear_page<S: WordStore>(store: &mut S, log: Log, page: u32) -> Lo
         (S.words store.old) (S.words store.new) log result }
     ensures standing { S.stands store.new ≡ S.stands store.old }
 {
-    if log.nonzero == WORDS {
+    if log.nonzero == TABLE_WORDS {
         let all = WordRange {
             page,
             first: 0,
-            end: WORDS,
+            end: TABLE_WORDS,
             word: 0,
             step: 0,
         };

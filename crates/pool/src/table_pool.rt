@@ -16,6 +16,7 @@ use crate::stretch::{WordAt, clear_page, write_word, write_words};
 use crate::table_mem::TableMem;
 use crate::word_range::WordRange;
 use crate::word_store::WordStore;
+use base::limits::TABLE_WORDS;
 use base::{OutOfMemory, Page, PartitionId, Run};
 use manifest::{Manifest, Partition};
 use marks::Marks;
@@ -80,7 +81,7 @@ fn filled<S: WordStore>(alloc: Global, pages: usize, first: usize) -> Result<S, 
     ensures { IfOk result (λ store. (S.words store ≡ replicate (512 * pages) 0)
         × ((page : ℕ) → page < first → S.stands store page ≡ true)) }
 {
-    let mut store = S::zeroed(alloc, 512 * pages)?;
+    let mut store = S::zeroed(alloc, TABLE_WORDS as usize * pages)?;
     for page in 0..first {
         store.fill(page as u32);
     }

@@ -6,9 +6,6 @@ use crate::word_range::WordRange;
 use base::OutOfMemory;
 use std::alloc::Global;
 
-/// How many words a page has.
-pub(crate) const WORDS: u32 = 512;
-
 /// A row of words, 512 to a page, whose number does not change.
 pub trait WordStore: Drop {
     /// The words, in order.

@@ -21,6 +21,7 @@ use crate::read::read_word;
 use crate::site::RowPlan;
 use crate::table_page::TablePage;
 use base::Run;
+use base::limits::{CHUNK_PAGES, GIGABYTE_PAGES};
 use pool::TableMem;
 
 /// How many chunks of a gigabyte, from one up to another, counted from its first, have no table.
@@ -95,7 +96,7 @@ fn chunks_between(pages: Span) -> u32
     requires { pages.end ≤ 2 ^ 27 }
     ensures { result ≡ (pages.end + 511) / 512 - pages.first / 512 }
 {
-    ((pages.end + 511) / 512).saturating_sub(pages.first / 512)
+    ((pages.end + CHUNK_PAGES - 1) / CHUNK_PAGES).saturating_sub(pages.first / CHUNK_PAGES)
 }
 
 /// How many table pages an edit of the pages of these runs takes at most: one for each chunk and each
@@ -106,7 +107,7 @@ pub(crate) fn most_growth(runs: &[Run]) -> u32
         → grow before (edited runs.now access before) ≤ result }
 {
     let pages = bounds(runs);
-    let gigabytes = (pages.end + 262_143) / 512 / 512 - pages.first / 512 / 512;
+    let gigabytes = (pages.end + GIGABYTE_PAGES - 1) / GIGABYTE_PAGES - pages.first / GIGABYTE_PAGES;
     gigabytes + chunks_between(pages)
 }
 

@@ -8,12 +8,12 @@ ghost use Rattle.stage2.specs.declared.table_page.Level.TheVariants.{Third};
 ghost use Rattle.stage2.specs.Reading as spec;
 ghost use Rattle.stage2.specs.Reading.{left_in, IsCursor, PassTheSame, pages_at};
 
-use crate::place::{PAGE_STEP, WORDS};
 use crate::read::AT_ONCE;
 use crate::source::WordSource;
 use crate::table_entry::TableEntry;
 use crate::table_page::{Level, TablePage};
 use base::Page;
+use base::limits::{PAGE_SIZE, TABLE_WORDS};
 
 /// The words of a table from an index on.
 #[derive(Clone, Copy, Debug)]
@@ -54,7 +54,7 @@ impl Cursor {
             level,
             table: TablePage::new(0),
             first: 0,
-            index: WORDS,
+            index: TABLE_WORDS,
             left: 0,
         }
     }
@@ -67,7 +67,7 @@ impl Cursor {
         ensures at { IfSome result (λ e. e.level ≡ level) }
         ensures is { IsCursor (W.pages words.now) (words_of (W.words words.now)) level self.new }
     {
-        while self.left > 0 && self.index < WORDS {
+        while self.left > 0 && self.index < TABLE_WORDS {
             let index = self.index;
             let word = words.word(self.table.number(), index);
             self.index += 1;
@@ -93,10 +93,10 @@ impl Cursor {
         ensures range { spec.next_first level self.old + pages_at level * result ≤ 2 ^ 27 }
         ensures is { IsCursor (W.pages words.now) (words_of (W.words words.now)) level self.new }
     {
-        let step = PAGE_STEP * u64::from(level.pages());
+        let step = PAGE_SIZE * u64::from(level.pages());
         let mut next = word;
         let mut count = 0;
-        while self.left > 0 && self.index < WORDS {
+        while self.left > 0 && self.index < TABLE_WORDS {
             if words.word(self.table.number(), self.index) != next {
                 break;
             }
@@ -124,7 +124,7 @@ impl Cursor {
         ensures { result ≡ true → (pages : ℕ) (words : Words) (level : Level)
             → IsCursor pages words level self.now → left_in words self.now ≡ [] }
     {
-        self.left == 0 || self.index >= WORDS
+        self.left == 0 || self.index >= TABLE_WORDS
     }
 
     /// Passes words of two level 3 tables that are the same, 64 at once, as far as both stand for the same pages and are
@@ -147,7 +147,7 @@ impl Cursor {
         let (table, other_table) = (self.table, other.table);
         while self.first == other.first
             && self.index == other.index
-            && WORDS - self.index >= AT_ONCE
+            && TABLE_WORDS - self.index >= AT_ONCE
             && are_same_words(words, table, others, other_table, self.index)
         {
             self.index += AT_ONCE;

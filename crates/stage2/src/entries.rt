@@ -12,16 +12,16 @@ ghost use Rattle.stage2.specs.Reading.{StandBehind, StandInRow, PassTheSame, lef
 
 use crate::cursor::Cursor;
 use crate::layout::slot_at;
-use crate::place::PAGE_STEP;
 use crate::source::WordSource;
 use crate::table_entry::TableEntry;
 use crate::table_page::{Level, TablePage};
 use crate::walked::Slot;
+use base::limits::{CHUNK_PAGES, PAGE_SIZE};
 use base::{Access, Page};
 use std::marker::Model;
 
 /// By how much the address in a word grows with each block.
-const BLOCK_STEP: u64 = 512 * PAGE_STEP;
+const BLOCK_STEP: u64 = PAGE_SIZE * CHUNK_PAGES as u64;
 
 /// The valid words of a partition's tables that are still to come, in address order, those of a table
 /// right behind its own. No table is read before its own entry has come.
@@ -107,7 +107,7 @@ impl<W: WordSource + Drop> Entries<W> {
         if !self.third.is_behind(entry) {
             return 0;
         }
-        let word = entry.word() + PAGE_STEP;
+        let word = entry.word() + PAGE_SIZE;
         self.third.pass_row(&self.words, Level::Third, word)
     }
 

@@ -18,6 +18,7 @@ use crate::parts::{part_in, runs_from, stretch_at};
 use crate::place::{Chunk, Span};
 use crate::site::ChunkEdit;
 use crate::table_page::TablePage;
+use base::limits::CHUNK_PAGES;
 use base::{Access, Page, PartitionId, Run};
 use pool::{TableMem, TableWords, WordRange};
 use words::leaf_word;
@@ -201,9 +202,9 @@ fn write_all<M: TableMem>(
     let chunk = edit.chunk;
     let mut rest = edit.runs;
     let mut first = 0;
-    while first < 512 {
+    while first < CHUNK_PAGES {
         rest = runs_from(rest, chunk.page(first));
-        let part = stretch_at(rest, chunk, first, 512);
+        let part = stretch_at(rest, chunk, first, CHUNK_PAGES);
         let end = part.end;
         let answer = answer_of(part.value, &edit.access, other);
         write_pages(memory, third, chunk, Span { first, end }, answer);
@@ -257,7 +258,7 @@ pub(crate) fn empty_table<M: TableMem>(memory: &mut M, third: TablePage, edit: &
 {
     if edit.access.is_none() {
         zero_runs(memory, third, edit);
-    } else if memory.nonzero(third.number()) + edit.pieces.pages == 512 {
+    } else if memory.nonzero(third.number()) + edit.pieces.pages == CHUNK_PAGES {
         write_gaps(memory, third, edit, &None);
     } else {
         clear_words(memory, third);

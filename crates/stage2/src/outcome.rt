@@ -16,6 +16,7 @@ use crate::site::ChunkEdit;
 use crate::table_page::TablePage;
 use crate::walked::Slot;
 use base::Access;
+use base::limits::CHUNK_PAGES;
 use pool::TableMem;
 
 /// Whether two pages are reached alike.
@@ -36,7 +37,7 @@ pub(crate) fn is_alike_in_block(edit: &ChunkEdit, entry: &Slot) -> bool
         → IsOutcome edit.now.chunk (edited edit.now.runs.now edit.now.access before)
         (tells result edit.now.access) }
 {
-    edit.pieces.pages == 512 || is_alike(&block_of(entry), &edit.access)
+    edit.pieces.pages == CHUNK_PAGES || is_alike(&block_of(entry), &edit.access)
 }
 
 /// Whether so many words of a chunk's table are not 0 that a page beside the runs is reached after the edit and theirs are not, or
@@ -47,7 +48,7 @@ pub(crate) fn is_told_mixed<M: TableMem>(memory: &M, edit: &ChunkEdit, third: Ta
 {
     let nonzero = memory.nonzero(third.number());
     match edit.access {
-        Some(_) => nonzero + edit.pieces.pages < 512,
+        Some(_) => nonzero + edit.pieces.pages < CHUNK_PAGES,
         None => nonzero > edit.pieces.pages,
     }
 }
@@ -65,7 +66,7 @@ fn is_emptied<M: TableMem>(memory: &M, edit: &ChunkEdit, third: TablePage) -> bo
     }
     let pages = edit.pieces.pages;
     let nonzero = memory.nonzero(third.number());
-    pages <= 256 && nonzero == pages && are_all_mapped(memory, edit, third)
+    pages <= CHUNK_PAGES / 2 && nonzero == pages && are_all_mapped(memory, edit, third)
 }
 
 /// Whether the pages of a chunk that has a table are all reached alike after an edit. Where the number of words that are not 0 leaves

@@ -9,7 +9,8 @@ ghost use Rattle.stage2.specs.inner.Pieces.{IsNextPiece};
 ghost use Rattle.stage2.specs.Room.{pages_among, pages_in};
 ghost use Rattle.std.specs.Prelude.{◌≡◌, [], ◌∷◌, ℕ, ◌+◌, ◌*◌, ◌<◌, ◌≤◌, true, false, None, take, drop, length, ◌/◌, ◌^◌, IfSome};
 
-use crate::place::{Chunk, Gigabyte, Span, WORDS, whole_chunks};
+use crate::place::{Chunk, Gigabyte, Span, whole_chunks};
+use base::limits::{CHUNK_PAGES, GIGABYTE_PAGES, TABLE_WORDS};
 use base::{Page, Run, Segment};
 
 /// How many runs are looked at one by one before they are halved: from chunk to chunk mostly one ends, or none.
@@ -282,8 +283,8 @@ pub(crate) fn gigabyte_span(runs: &[Run]) -> Span
 {
     let pages = bounds(runs);
     Span {
-        first: pages.first / 512 / 512,
-        end: (pages.end + 262_143) / 512 / 512,
+        first: pages.first / GIGABYTE_PAGES,
+        end: (pages.end + GIGABYTE_PAGES - 1) / GIGABYTE_PAGES,
     }
 }
 
@@ -299,8 +300,12 @@ pub(crate) fn chunk_span(runs: &[Run], gigabyte: Gigabyte) -> Span
 {
     let pages = bounds(runs);
     let chunks = gigabyte.chunks();
-    let first = (pages.first / 512).max(chunks.first).min(chunks.end);
-    let end = ((pages.end + 511) / 512).max(chunks.first).min(chunks.end);
+    let first = (pages.first / CHUNK_PAGES)
+        .max(chunks.first)
+        .min(chunks.end);
+    let end = ((pages.end + CHUNK_PAGES - 1) / CHUNK_PAGES)
+        .max(chunks.first)
+        .min(chunks.end);
     Span {
         first: first - chunks.first,
         end: end - chunks.first,
@@ -351,7 +356,7 @@ pub(crate) fn next_piece(runs: &[Run], gigabyte: Gigabyte, index: u32) -> Option
         → touches_chunk (512 * gigabyte + x) runs.now ≡ false }
     ensures in_range { gigabyte < 512 }
 {
-    if index >= WORDS {
+    if index >= TABLE_WORDS {
         return None;
     }
     let start = gigabyte.chunk(index).first().number();
@@ -368,7 +373,7 @@ pub(crate) fn next_piece(runs: &[Run], gigabyte: Gigabyte, index: u32) -> Option
     let rest = runs_on(rest, chunk.first().number());
     Some(Piece {
         first,
-        filled: first_unfilled(rest, gigabyte, first, WORDS),
+        filled: first_unfilled(rest, gigabyte, first, TABLE_WORDS),
         runs: rest,
     })
 }

@@ -3,17 +3,9 @@
 ghost use Rattle.std.specs.Prelude.{◌≡◌, ℕ, ◌+◌, ◌*◌, ◌/◌, ◌%◌, ◌<◌, ◌==◌, Some};
 ghost use Rattle.base.specs.Pages.{IsRun};
 
+use base::limits::{CHUNK_PAGES, GIGABYTE_PAGES, TABLE_WORDS};
 use base::{Page, Run};
 use std::marker::Model;
-
-/// How many words a table has: so many pages has a chunk, and so many chunks a gigabyte.
-pub(crate) const WORDS: u32 = 512;
-
-/// By how much the address in a word grows with each page.
-pub(crate) const PAGE_STEP: u64 = 4096;
-
-/// How many pages a gigabyte has.
-const GIGABYTE: u32 = WORDS * WORDS;
 
 /// Numbers from one up to another.
 #[derive(Clone, Copy)]
@@ -51,7 +43,7 @@ impl Gigabyte {
     pub(crate) fn of(page: Page) -> Self
         ensures { result ≡ page / 512 / 512 }
     {
-        Gigabyte(page.number() / WORDS / WORDS)
+        Gigabyte(page.number() / GIGABYTE_PAGES)
     }
 
     /// The number of the gigabyte.
@@ -76,10 +68,10 @@ impl Gigabyte {
         ensures end { result.end ≡ 512 * self + 512 }
         ensures in_range { self < 512 }
     {
-        let first = WORDS * self.0;
+        let first = TABLE_WORDS * self.0;
         Span {
             first,
-            end: first + WORDS,
+            end: first + TABLE_WORDS,
         }
     }
 
@@ -89,7 +81,7 @@ impl Gigabyte {
         ensures same { result ≡ 512 * self + index }
         ensures in_range { self < 512 }
     {
-        Chunk(WORDS * self.0 + index)
+        Chunk(TABLE_WORDS * self.0 + index)
     }
 
     /// Whether a chunk is one of its chunks.
@@ -97,7 +89,7 @@ impl Gigabyte {
         ensures same { result ≡ (chunk / 512 == self) }
         ensures in_range { self < 512 }
     {
-        chunk.number() / WORDS == self.0
+        chunk.number() / TABLE_WORDS == self.0
     }
 
     /// Its first page.
@@ -105,7 +97,7 @@ impl Gigabyte {
         ensures same { result ≡ 262144 * self }
         ensures in_range { self < 512 }
     {
-        Page::new(GIGABYTE * self.0)
+        Page::new(GIGABYTE_PAGES * self.0)
     }
 
     /// The number after its last page's.
@@ -113,7 +105,7 @@ impl Gigabyte {
         ensures same { result ≡ 262144 * self + 262144 }
         ensures in_range { self < 512 }
     {
-        GIGABYTE * self.0 + GIGABYTE
+        GIGABYTE_PAGES * self.0 + GIGABYTE_PAGES
     }
 
     /// All its pages.
@@ -121,7 +113,7 @@ impl Gigabyte {
         ensures same { result ≡ record { first = 262144 * self; count = 262144 } }
         ensures in_range { self < 512 }
     {
-        Run::new(self.first(), GIGABYTE)
+        Run::new(self.first(), GIGABYTE_PAGES)
     }
 }
 
@@ -147,7 +139,7 @@ impl Chunk {
     pub(crate) fn of(page: Page) -> Self
         ensures { result ≡ page / 512 }
     {
-        Chunk(page.number() / WORDS)
+        Chunk(page.number() / CHUNK_PAGES)
     }
 
     /// The number of the chunk.
@@ -163,7 +155,7 @@ impl Chunk {
         ensures same { result ≡ self % 512 }
         ensures in_range { self < 262144 }
     {
-        self.0 % WORDS
+        self.0 % TABLE_WORDS
     }
 
     /// Its page whose word has this index in a level 3 table.
@@ -172,7 +164,7 @@ impl Chunk {
         ensures same { result ≡ 512 * self + index }
         ensures in_range { self < 262144 }
     {
-        Page::new(WORDS * self.0 + index)
+        Page::new(CHUNK_PAGES * self.0 + index)
     }
 
     /// Its first page.
@@ -188,7 +180,7 @@ impl Chunk {
         ensures same { result ≡ 512 * self + 512 }
         ensures in_range { self < 262144 }
     {
-        WORDS * self.0 + WORDS
+        CHUNK_PAGES * self.0 + CHUNK_PAGES
     }
 
     /// All its pages.
@@ -196,14 +188,14 @@ impl Chunk {
         ensures same { result ≡ record { first = 512 * self; count = 512 } }
         ensures in_range { self < 262144 }
     {
-        Run::new(self.first(), WORDS)
+        Run::new(self.first(), CHUNK_PAGES)
     }
 
     /// Whether a page is in the chunk.
     pub(crate) fn has(self, page: Page) -> bool
         ensures { result ≡ (page / 512 == self) }
     {
-        page.number() / WORDS == self.0
+        page.number() / CHUNK_PAGES == self.0
     }
 }
 
@@ -211,12 +203,12 @@ impl Chunk {
 pub(crate) fn page_index(page: Page) -> u32
     ensures { result ≡ page % 512 }
 {
-    page.number() % WORDS
+    page.number() % CHUNK_PAGES
 }
 
 /// How many chunks end before or at a page's begin.
 pub(crate) fn whole_chunks(page: u32) -> u32
     ensures { result ≡ page / 512 }
 {
-    page / WORDS
+    page / CHUNK_PAGES
 }

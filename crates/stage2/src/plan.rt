@@ -28,6 +28,7 @@ use crate::read::read_chunk;
 use crate::site::{ChunkEdit, RowPlan};
 use crate::table_page::{Row, TablePage};
 use crate::walked::Slot;
+use base::limits::CHUNK_PAGES;
 use base::{Access, Run};
 use pool::TableMem;
 
@@ -98,8 +99,8 @@ fn words_of_new(pages: u32, before: &Option<Access>, access: &Option<Access>) ->
     match (before, access) {
         (None, None) => 0,
         (None, Some(_)) => pages,
-        (Some(_), None) => 512 - pages,
-        (Some(_), Some(_)) => 512,
+        (Some(_), None) => CHUNK_PAGES - pages,
+        (Some(_), Some(_)) => CHUNK_PAGES,
     }
 }
 

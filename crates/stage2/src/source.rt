@@ -4,7 +4,7 @@ ghost use Rattle.std.specs.Prelude.{◌≡◌, ℕ, ◌<◌, ◌≤◌, List};
 ghost use Rattle.base.specs.Manifest.{page_count};
 ghost use Rattle.pool.specs.Pool.{words_of, nonzero_in};
 
-use crate::place::WORDS;
+use base::limits::TABLE_WORDS;
 use pool::{Image, TableMem};
 
 /// Words of pages of table memory, 512 to a page.
@@ -59,6 +59,6 @@ impl<'a> WordSource for ImageWords<'a> {
     }
 
     fn most_words(&self, _page: u32) -> u32 {
-        WORDS
+        TABLE_WORDS
     }
 }

@@ -5,6 +5,7 @@ ghost use Rattle.std.specs.Prelude.{◌≡◌, ◌≤◌};
 ghost use Rattle.stage2.specs.Level.{number_of};
 ghost use Rattle.stage2.specs.Reading.{pages_at};
 
+use base::limits::{CHUNK_PAGES, GIGABYTE_PAGES};
 use std::marker::Model;
 
 /// The number of a page of table memory, which one table fills.
@@ -97,8 +98,8 @@ impl Level {
         ensures { result ≡ pages_at self }
     {
         match self {
-            Level::First => 262_144,
-            Level::Second => 512,
+            Level::First => GIGABYTE_PAGES,
+            Level::Second => CHUNK_PAGES,
             Level::Third => 1,
         }
     }

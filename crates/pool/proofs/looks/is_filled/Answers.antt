@@ -9,11 +9,11 @@ use Rattle.pool.proofs.looks.is_filled.Goals as goal
 there : (run : PageRun) (n : ℕ) → in_run run n ≡ true → (run.first ≤ n) × (n < run.first + run.count)
 there run n is = (grind (arith, nat_tests, is), grind (arith, nat_tests, is))
 
-pub returns-then-index-ge-WORDS-clause-yes : goal.returns-then-index-ge-WORDS-clause-yes
-returns-then-index-ge-WORDS-clause-yes g c = λ _ i small within.
+pub returns-then-index-ge-TABLE_WORDS-clause-yes : goal.returns-then-index-ge-TABLE_WORDS-clause-yes
+returns-then-index-ge-TABLE_WORDS-clause-yes g c = λ _ i small within.
     let at = there c.args.run (c.args.start + i) within in
     let one : c.args.run.count ≡ 1 = sym c.count.ensures.same ∙ c.if-count-eq1.true in
-    elim (c.index_at-index.ensures.beside c.if-index-ge-WORDS.true) [ inl before ↦ absurd (omega (arith, at.0, at.1, one, before, c.first.ensures.same)) | inr behind ↦ absurd (omega (arith, at.0, at.1, one, small, behind, c.first.ensures.same)) ]
+    elim (c.index_at-index.ensures.beside c.if-index-ge-TABLE_WORDS.true) [ inl before ↦ absurd (omega (arith, at.0, at.1, one, before, c.first.ensures.same)) | inr behind ↦ absurd (omega (arith, at.0, at.1, one, small, behind, c.first.ensures.same)) ]
 
 pub returns-then-count-eq1-clause-yes : goal.returns-then-count-eq1-clause-yes
 returns-then-count-eq1-clause-yes g c = λ some i small within.
@@ -21,9 +21,9 @@ returns-then-count-eq1-clause-yes g c = λ some i small within.
     let one : c.args.run.count ≡ 1 = sym c.count.ensures.same ∙ c.if-count-eq1.true in
     let words = g.S.WordStore.words c.args.store.now in
     let index = c.index_at-index.result in
-    let stands = c.index_at-index.ensures.within c.if-index-ge-WORDS.false in
+    let stands = c.index_at-index.ensures.within c.if-index-ge-TABLE_WORDS.false in
     let is : i ≡ index = omega (arith, at.0, at.1, one, stands, c.first.ensures.same) in
-    let read = word-read words c.args.page index c.standing_word.result (omega (arith, c.if-index-ge-WORDS.false)) c.standing_word.ensures in
+    let read = word-read words c.args.page index c.standing_word.result (omega (arith, c.if-index-ge-TABLE_WORDS.false)) c.standing_word.ensures in
     λ zero. let none : c.standing_word.result ≡ 0 = read ∙ ap (words_of words c.args.page) (sym is) ∙ zero in absurd (grind (arith, nat_tests, some, none))
 
 pub returns-clause-yes : goal.returns-clause-yes
@@ -45,8 +45,8 @@ returns-then-count-eq1-clause-no g c = λ none.
     let one : c.args.run.count ≡ 1 = sym c.count.ensures.same ∙ c.if-count-eq1.true in
     let words = g.S.WordStore.words c.args.store.now in
     let index = c.index_at-index.result in
-    let stands = c.index_at-index.ensures.within c.if-index-ge-WORDS.false in
-    let small = c.if-index-ge-WORDS.false in
+    let stands = c.index_at-index.ensures.within c.if-index-ge-TABLE_WORDS.false in
+    let small = c.if-index-ge-TABLE_WORDS.false in
     let is : c.args.start + index ≡ c.args.run.first = omega (arith, stands, c.first.ensures.same) in
     let read = word-read words c.args.page index c.standing_word.result small c.standing_word.ensures in
     let zero : c.standing_word.result ≡ 0 = grind (arith, nat_tests, none) in

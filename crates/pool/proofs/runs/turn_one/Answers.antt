@@ -7,32 +7,32 @@ use Rattle.pool.proofs.Turned.{turned-alone, turned-word, turned-differ, turned-
 use Rattle.pool.proofs.Wrote.{wrote-none, wrote-as, wrote-set}
 use Rattle.pool.proofs.runs.turn_one.Goals as goal
 
-pub returns-then-index-ge-WORDS-clause-wrote : goal.returns-then-index-ge-WORDS-clause-wrote
-returns-then-index-ge-WORDS-clause-wrote g c =
+pub returns-then-index-ge-TABLE_WORDS-clause-wrote : goal.returns-then-index-ge-TABLE_WORDS-clause-wrote
+returns-then-index-ge-TABLE_WORDS-clause-wrote g c =
     let w = c.args.with in
     let page = c.args.page in
     wrote-none (runs_set w (page_alone page ∷ [])) w.page _ (g.S.WordStore.words c.args.store.now) (log_of c.args.operations.now c.args.nonzero) c.requires.ready.counted (λ pool _.
-    alone-outside w page (c.index_at-index.ensures.beside c.if-index-ge-WORDS.true) pool)
+    alone-outside w page (c.index_at-index.ensures.beside c.if-index-ge-TABLE_WORDS.true) pool)
 
 pub put_word-requires : goal.put_word-requires
 put_word-requires g c =
     let w = c.args.with in
-    let one = alone-words w c.args.page c.index_at-index.result c.if-index-ge-WORDS.false (c.index_at-index.ensures.within c.if-index-ge-WORDS.false) in
-    record { index_in = c.if-index-ge-WORDS.false; page_in = c.requires.may.page_in; ready = omega (arith, one, c.requires.ready.room) }
+    let one = alone-words w c.args.page c.index_at-index.result c.if-index-ge-TABLE_WORDS.false (c.index_at-index.ensures.within c.if-index-ge-TABLE_WORDS.false) in
+    record { index_in = c.if-index-ge-TABLE_WORDS.false; page_in = c.requires.may.page_in; ready = omega (arith, one, c.requires.ready.room) }
 
 pub recounted_all-requires : goal.recounted_all-requires
 recounted_all-requires g c =
     let w = c.args.with in
     let words = g.S.WordStore.words c.args.store.now in
     let i = c.index_at-index.result in
-    let at = c.index_at-index.ensures.within c.if-index-ge-WORDS.false in
+    let at = c.index_at-index.ensures.within c.if-index-ge-TABLE_WORDS.false in
     let zeros = c.requires.turned.zeros in
-    let turned = turned-alone words w c.args.page i c.if-index-ge-WORDS.false at c.requires.turned in
+    let turned = turned-alone words w c.args.page i c.if-index-ge-TABLE_WORDS.false at c.requires.turned in
     let most = nonzero-le (words_of words) w.page in
     record {
       least = λ zero.
           let all = zero-first w i zeros zero in
-          let least = turned-least words w.page i 1 (w.word + w.step * i) w.step (λ z. zeros (first-zero w i zeros z)) (λ x lt. let here : i + x ≡ i = omega (arith, lt) in rw here (turned-word words w i i zeros turned)) c.requires.may.page_in.inside (omega (arith, c.if-index-ge-WORDS.false)) all in
+          let least = turned-least words w.page i 1 (w.word + w.step * i) w.step (λ z. zeros (first-zero w i zeros z)) (λ x lt. let here : i + x ≡ i = omega (arith, lt) in rw here (turned-word words w i i zeros turned)) c.requires.may.page_in.inside (omega (arith, c.if-index-ge-TABLE_WORDS.false)) all in
           omega (arith, least, c.requires.ready.counted);
       most = omega (arith, most, c.requires.ready.counted);
       few = omega arith;
@@ -45,10 +45,10 @@ returns-clause-wrote g c =
     let words = g.S.WordStore.words c.args.store.now in
     let new = g.S.WordStore.words c.put_word.new.store in
     let i = c.index_at-index.result in
-    let at = c.index_at-index.ensures.within c.if-index-ge-WORDS.false in
+    let at = c.index_at-index.ensures.within c.if-index-ge-TABLE_WORDS.false in
     let next = w.word + w.step * i in
     let zeros = c.requires.turned.zeros in
-    let small = c.if-index-ge-WORDS.false in
+    let small = c.if-index-ge-TABLE_WORDS.false in
     let turned = turned-alone words w page i small at c.requires.turned in
     let each : (x : ℕ) → x < 1 → (words_of words w.page (i + x) == 0) ≡ not (next == 0) = λ x lt. let here : i + x ≡ i = omega (arith, lt) in rw here (turned-word words w i i zeros turned) in
     let ends = λ (z : next ≡ 0). zeros (first-zero w i zeros z) in

@@ -14,7 +14,7 @@ turn_all-requires-then-range-eq0-2 g c =
     let words = g.S.WordStore.words c.args.store.now in
     rw c.zeros.ensures record {
       may = c.requires.may;
-      turned = turns-others words s c.if-range-eq0.true c.if-range-eq0-2.true (λ x lt. all-counted words s.page (s.first + x) (sym c.requires.ready.counted ∙ c.if-log-eq-WORDS.true) (omega (arith, lt, c.requires.may.index_in)));
+      turned = turns-others words s c.if-range-eq0.true c.if-range-eq0-2.true (λ x lt. all-counted words s.page (s.first + x) (sym c.requires.ready.counted ∙ c.if-log-eq-TABLE_WORDS.true) (omega (arith, lt, c.requires.may.index_in)));
       ready = c.requires.ready;
     }
 

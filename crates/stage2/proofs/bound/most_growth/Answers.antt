@@ -1,6 +1,15 @@
+use Rattle.std.proofs.Common.{ℕ, ◌≡◌, ◌+◌, ◌-◌, ◌/◌, arith}
 use Rattle.stage2.proofs.Counting.Bounds.{grow-most}
 use Rattle.stage2.proofs.bound.most_growth.Goals as goal
 
+-- the gigabyte of a page is that of its chunk
+gigabyte_of : (n : ℕ) → n / 262144 ≡ n / 512 / 512
+gigabyte_of n = omega arith
+
 pub returns : goal.returns
 returns c = λ before access.
-    rw c.chunks_between.ensures (grow-most c.args.runs.now access before c.bounds-pages.result.first c.bounds-pages.result.end c.bounds-pages.ensures.within)
+    let first = c.bounds-pages.result.first in
+    let end = c.bounds-pages.result.end in
+    let most = grow-most c.args.runs.now access before first end c.bounds-pages.ensures.within in
+    let last : end + 262144 - 1 ≡ end + 262143 = omega arith in
+    rw (c.chunks_between.ensures, last, gigabyte_of (end + 262143), gigabyte_of first) most

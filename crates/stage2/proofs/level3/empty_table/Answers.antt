@@ -70,21 +70,21 @@ write_gaps-requires-clause-turned g c = λ i small out.
     let other = word-some (512 * e.chunk + i) e.access (words_of (g.M.TableMem.state c.args.memory.now).memory.words c.args.third i) some (c.requires.left i small out) in
     grind (arith, nat_tests, other)
 
-pub returns-then-nonzero-edit-eq512-clause-writes : goal.returns-then-nonzero-edit-eq512-clause-writes
-returns-then-nonzero-edit-eq512-clause-writes g c =
+pub returns-then-nonzero-edit-eq-CHUNK_PAGES-clause-writes : goal.returns-then-nonzero-edit-eq-CHUNK_PAGES-clause-writes
+returns-then-nonzero-edit-eq-CHUNK_PAGES-clause-writes g c =
     let e = c.args.edit.now in
     let k = c.args.third in
     let old = pages_of (g.M.TableMem.state c.args.memory.now).memory in
     let new = pages_of (g.M.TableMem.state c.write_gaps.new.memory).memory in
     let nonzero = counted c.nonzero.result c.number.result k old.words c.nonzero.ensures c.number.ensures in
     let pages = e.pages in
-    let left = c.if-nonzero-edit-eq512.true in
+    let left = c.if-nonzero-edit-eq-CHUNK_PAGES.true in
     let some : e.access ≢ None = λ none. let bad : false ≡ true = ap (λ a. is_some a) (sym none) ∙ c.is_none.ensures ∙ ap not c.if-is_none.false in cc in
     let zero = none-among old.words k (λ i. covers e.runs.now (512 * e.chunk + i)) (omega (arith, nonzero, pages, left)) (λ i small out. word-some (512 * e.chunk + i) e.access (old.words k i) some (c.requires.left i small out)) in
     writes-zero k e.chunk e.runs.now old new (writes-gaps k e.chunk e.runs.now None old new zero c.write_gaps.ensures.writes)
 
-pub returns-then-nonzero-edit-eq512-clause-filled : goal.returns-then-nonzero-edit-eq512-clause-filled
-returns-then-nonzero-edit-eq512-clause-filled g c =
+pub returns-then-nonzero-edit-eq-CHUNK_PAGES-clause-filled : goal.returns-then-nonzero-edit-eq-CHUNK_PAGES-clause-filled
+returns-then-nonzero-edit-eq-CHUNK_PAGES-clause-filled g c =
     let e = c.args.edit.now in
     filled-more c.args.third e.chunk 512 (gaps e.runs.now None) plan (g.M.TableMem.state c.args.memory.now) (g.M.TableMem.state c.write_gaps.new.memory)
     (λ n answer given. here e.runs.now n answer (covers e.runs.now n) refl given) c.write_gaps.ensures.filled
@@ -95,8 +95,8 @@ returns-then-nonzero-edit-eq512-clause-filled g c =
 
 -- ---- all words that are not 0
 
-pub returns-else-nonzero-edit-eq512-clause-writes : goal.returns-else-nonzero-edit-eq512-clause-writes
-returns-else-nonzero-edit-eq512-clause-writes g c =
+pub returns-else-nonzero-edit-eq-CHUNK_PAGES-clause-writes : goal.returns-else-nonzero-edit-eq-CHUNK_PAGES-clause-writes
+returns-else-nonzero-edit-eq-CHUNK_PAGES-clause-writes g c =
     let start = g.M.TableMem.state c.args.memory.now in
     let old = pages_of start.memory in
     let new = pages_of (g.M.TableMem.state c.clear_words.new.memory).memory in
@@ -107,8 +107,8 @@ returns-else-nonzero-edit-eq512-clause-writes g c =
     writes-all k chunk 512 plan old new (λ x small from. absurd (omega (arith, small, from)))
     (writes-join k chunk 0 512 plan None old old new (omega arith) (λ x from lt. refl) (writes-none k chunk 0 plan old (λ x lt. absurd (omega (arith, lt)))) all)
 
-pub returns-else-nonzero-edit-eq512-clause-filled : goal.returns-else-nonzero-edit-eq512-clause-filled
-returns-else-nonzero-edit-eq512-clause-filled g c =
+pub returns-else-nonzero-edit-eq-CHUNK_PAGES-clause-filled : goal.returns-else-nonzero-edit-eq-CHUNK_PAGES-clause-filled
+returns-else-nonzero-edit-eq-CHUNK_PAGES-clause-filled g c =
     let start = g.M.TableMem.state c.args.memory.now in
     let new = g.M.TableMem.state c.clear_words.new.memory in
     let k = c.args.third in

@@ -23,9 +23,9 @@ loop-self-preserved g c =
     let at : c.word.result ≡ words cursor.table cursor.index = c.word.ensures ∙ ap (λ n. words n cursor.index) c.number.ensures in
     let place : c.word.result ≡ c.args.word + 4096 * pages_at level * c.loop-self.count = c.if-word-next.false ∙ so.next ∙ ap (λ p. c.args.word + 4096 * p * c.loop-self.count) pages in
     record {
-      is = counted _ words level cursor so.is c.if-self-lt-WORDS.true c.loop-self-test.true (λ even. odd-row level c.args.word c.loop-self.count c.word.result c.requires.odd place (ap (λ n. n % 2) at ∙ even));
+      is = counted _ words level cursor so.is c.if-self-lt-TABLE_WORDS.true c.loop-self-test.true (λ even. odd-row level c.args.word c.loop-self.count c.word.result c.requires.odd place (ap (λ n. n % 2) at ∙ even));
       first = so.first;
       index = omega (arith, so.index);
       next = step-more level c.args.word c.from-step.result c.loop-self.next c.loop-self.count pages so.next;
-      entries = row-step _ words level c.args.self.now cursor c.args.word c.loop-self.count c.word.result so.is so.first so.index c.if-self-lt-WORDS.true c.requires.odd at place so.entries;
+      entries = row-step _ words level c.args.self.now cursor c.args.word c.loop-self.count c.word.result so.is so.first so.index c.if-self-lt-TABLE_WORDS.true c.requires.odd at place so.entries;
     }
