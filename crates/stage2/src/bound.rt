@@ -63,7 +63,6 @@ fn most_in_gigabyte<M: TableMem>(
     runs: &[Run],
 ) -> u32
     requires canonical { IsCanonical edit.now.layout.now (pages_of (M.state memory.now).memory) }
-    requires partition { (r : ℕ) → edit.now.row ≡ Some r → r < length edit.now.layout.now.ids }
     requires normal { are_normal runs.now ≡ true }
     ensures most { let before = view_in edit.now.layout.now edit.now.row (M.state memory.now) in
         gigabyte_growth before (edited runs.now edit.now.access before) gigabyte ≤ result }
@@ -78,7 +77,6 @@ fn most_in_gigabyte<M: TableMem>(
 /// touch to the last. It looks at no run between, and at words of level 1 and 2 alone.
 pub(crate) fn most_tables<M: TableMem>(memory: &M, edit: &RowPlan, runs: &[Run]) -> u32
     requires canonical { IsCanonical edit.now.layout.now (pages_of (M.state memory.now).memory) }
-    requires partition { (r : ℕ) → edit.now.row ≡ Some r → r < length edit.now.layout.now.ids }
     requires normal { are_normal runs.now ≡ true }
     ensures { let before = view_in edit.now.layout.now edit.now.row (M.state memory.now) in
         grow before (edited runs.now edit.now.access before) ≤ result }
@@ -107,7 +105,8 @@ pub(crate) fn most_growth(runs: &[Run]) -> u32
         → grow before (edited runs.now access before) ≤ result }
 {
     let pages = bounds(runs);
-    let gigabytes = (pages.end + GIGABYTE_PAGES - 1) / GIGABYTE_PAGES - pages.first / GIGABYTE_PAGES;
+    let gigabytes = (pages.end + GIGABYTE_PAGES - 1) / GIGABYTE_PAGES
+        - pages.first / GIGABYTE_PAGES;
     gigabytes + chunks_between(pages)
 }
 

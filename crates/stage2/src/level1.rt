@@ -1,9 +1,9 @@
 //! Level 1: the word of a gigabyte, and its level 2 table.
 
-ghost use Rattle.base.specs.Manifest.{page_count, row_of};
+ghost use Rattle.base.specs.Manifest.{page_count};
 ghost use Rattle.base.specs.Pages.{PageRun, are_normal, covers};
 ghost use Rattle.pool.specs.Pool.{pages_of, taken_of, row_in, InShare};
-ghost use Rattle.stage2.specs.inner.Clauses.{operations_in_gigabyte, second_at, IsEmpty, Unlinks, UnlinksInStep, FitsInGigabyte, EditsInGigabyte, GigabyteInStep, operations_in_row, FitsInRow, EditsInRow, RowInStep};
+ghost use Rattle.stage2.specs.inner.Clauses.{second_at, IsEmpty, Unlinks, UnlinksInStep, CanEditGigabyte, IsGigabyteEdited, operations_in_row, FitsInRow, EditsInRow, RowInStep};
 ghost use Rattle.stage2.specs.inner.Gigabytes.{Touches};
 ghost use Rattle.stage2.specs.Orderly.{IsCanonical};
 ghost use Rattle.stage2.specs.Parts.{gigabyte_runs};
@@ -68,23 +68,10 @@ fn edit_tabled<M: TableMem>(
     gigabyte: Gigabyte,
     runs: &[Run],
 )
-    requires canonical { IsCanonical edit.now.layout.now (pages_of (M.state memory.old).memory) }
     requires table { second_at edit.now.layout.now edit.now.row gigabyte (M.state memory.old) ≡ Some second }
-    requires touched { Touches runs.now gigabyte }
-    requires row { row_of edit.now.layout.now.ids edit.now.p ≡ edit.now.row }
-    requires partition { edit.now.row < length edit.now.layout.now.ids }
-    requires normal { are_normal runs.now ≡ true }
-    requires free { FitsInGigabyte edit.now gigabyte runs.now
-        (M.state memory.old) }
-    requires room { operations_in_gigabyte edit.now gigabyte runs.now
-        (M.state memory.old) ≤ M.room memory.old }
-    ensures edits { EditsInGigabyte edit.now gigabyte runs.now
-        (M.state memory.old) (M.state memory.new) }
-    ensures in_step { GigabyteInStep edit.now gigabyte runs.now
-        (M.state memory.old) (M.state memory.new) }
-    ensures room { M.room memory.old ≤ M.room memory.new
-        + operations_in_gigabyte edit.now gigabyte runs.now
-        (M.state memory.old) }
+    requires can { CanEditGigabyte edit.now gigabyte runs.now (M.state memory.old) (M.room memory.old) }
+    ensures { IsGigabyteEdited edit.now gigabyte runs.now
+        (M.state memory.old) (M.room memory.old) (M.state memory.new) (M.room memory.new) }
 {
     edit_chunks(memory, edit, second, gigabyte, runs);
     if is_empty(memory, second) {
@@ -94,24 +81,11 @@ fn edit_tabled<M: TableMem>(
 
 /// Edits a gigabyte that has no level 2 table: one is taken, and linked after its last chunk.
 fn edit_untabled<M: TableMem>(memory: &mut M, edit: &RowEdit, gigabyte: Gigabyte, runs: &[Run])
-    requires canonical { IsCanonical edit.now.layout.now (pages_of (M.state memory.old).memory) }
     requires none { second_at edit.now.layout.now edit.now.row gigabyte (M.state memory.old) ≡ None }
-    requires touched { Touches runs.now gigabyte }
     requires maps { is_some edit.now.access ≡ true }
-    requires row { row_of edit.now.layout.now.ids edit.now.p ≡ edit.now.row }
-    requires partition { edit.now.row < length edit.now.layout.now.ids }
-    requires normal { are_normal runs.now ≡ true }
-    requires free { FitsInGigabyte edit.now gigabyte runs.now
-        (M.state memory.old) }
-    requires room { operations_in_gigabyte edit.now gigabyte runs.now
-        (M.state memory.old) ≤ M.room memory.old }
-    ensures edits { EditsInGigabyte edit.now gigabyte runs.now
-        (M.state memory.old) (M.state memory.new) }
-    ensures in_step { GigabyteInStep edit.now gigabyte runs.now
-        (M.state memory.old) (M.state memory.new) }
-    ensures room { M.room memory.old ≤ M.room memory.new
-        + operations_in_gigabyte edit.now gigabyte runs.now
-        (M.state memory.old) }
+    requires can { CanEditGigabyte edit.now gigabyte runs.now (M.state memory.old) (M.room memory.old) }
+    ensures { IsGigabyteEdited edit.now gigabyte runs.now
+        (M.state memory.old) (M.room memory.old) (M.state memory.new) (M.room memory.new) }
 {
     let second = take_page(memory, edit.p);
     edit_chunks(memory, edit, second, gigabyte, runs);
@@ -130,22 +104,9 @@ pub(crate) fn edit_gigabyte<M: TableMem>(
     gigabyte: Gigabyte,
     runs: &[Run],
 )
-    requires canonical { IsCanonical edit.now.layout.now (pages_of (M.state memory.old).memory) }
-    requires touched { Touches runs.now gigabyte }
-    requires row { row_of edit.now.layout.now.ids edit.now.p ≡ edit.now.row }
-    requires partition { edit.now.row < length edit.now.layout.now.ids }
-    requires normal { are_normal runs.now ≡ true }
-    requires free { FitsInGigabyte edit.now gigabyte runs.now
-        (M.state memory.old) }
-    requires room { operations_in_gigabyte edit.now gigabyte runs.now
-        (M.state memory.old) ≤ M.room memory.old }
-    ensures edits { EditsInGigabyte edit.now gigabyte runs.now
-        (M.state memory.old) (M.state memory.new) }
-    ensures in_step { GigabyteInStep edit.now gigabyte runs.now
-        (M.state memory.old) (M.state memory.new) }
-    ensures room { M.room memory.old ≤ M.room memory.new
-        + operations_in_gigabyte edit.now gigabyte runs.now
-        (M.state memory.old) }
+    requires { CanEditGigabyte edit.now gigabyte runs.now (M.state memory.old) (M.room memory.old) }
+    ensures { IsGigabyteEdited edit.now gigabyte runs.now
+        (M.state memory.old) (M.room memory.old) (M.state memory.new) (M.room memory.new) }
 {
     match find_table(memory, edit.layout, edit.row, gigabyte) {
         Some(second) => edit_tabled(memory, edit, second, gigabyte, runs),
@@ -172,8 +133,6 @@ pub(crate) fn touches(part: &[Run]) -> bool
 /// Edits the pages of runs: they are reached with this access, or not at all.
 pub(crate) fn edit_row<M: TableMem>(memory: &mut M, edit: &RowEdit, runs: &[Run])
     requires canonical { IsCanonical edit.now.layout.now (pages_of (M.state memory.old).memory) }
-    requires row { row_of edit.now.layout.now.ids edit.now.p ≡ edit.now.row }
-    requires partition { edit.now.row < length edit.now.layout.now.ids }
     requires normal { are_normal runs.now ≡ true }
     requires free { FitsInRow edit.now runs.now (M.state memory.old) }
     requires room { operations_in_row edit.now runs.now (M.state memory.old)

@@ -1,17 +1,17 @@
 //! Level 2: the word of a chunk, its table, and the chunks of a gigabyte.
 
-ghost use Rattle.base.specs.Manifest.{page_count, row_of};
+ghost use Rattle.base.specs.Manifest.{page_count};
 ghost use Rattle.base.specs.Pages.{are_normal};
 ghost use Rattle.pool.specs.Pool.{taken_of, HasRow};
 ghost use Rattle.stage2.specs.inner.Change.{block_step};
 ghost use Rattle.stage2.specs.inner.Chunks.{block_answer, IsEntryFor};
 ghost use Rattle.stage2.specs.Edits.{edited};
-ghost use Rattle.stage2.specs.inner.Clauses.{IsAt, IsRowOf, words_left, operations_in_table, operations_kept, Puts, Breaks, Replaces, slot_at, AnswersAll, HasFree, GrowsChunk, ReplacesBlocks, EditsChunk, EditsMixed, OthersAnswer, SetsChunk, SetsInStep, MixesInStep, ChunkInStep, IsLinkedOrderly, IsSecond, FitsChunks, operations_in_chunks, EditsChunks, ChunksInStep, word_in};
+ghost use Rattle.stage2.specs.inner.Clauses.{IsAt, IsRowOf, words_left, operations_in_table, operations_kept, Puts, Breaks, Replaces, slot_at, AnswersAll, HasFree, GrowsChunk, ReplacesBlocks, EditsChunk, EditsMixed, OthersAnswer, SetsChunk, SetsInStep, MixesInStep, ChunkInStep, CanEditChunks, AreChunksEdited, word_in};
 ghost use Rattle.stage2.specs.Room.{reached_in};
 ghost use Rattle.stage2.specs.Slot.{Layout, slot};
 ghost use Rattle.stage2.specs.Walk.{next_page};
 ghost use Rattle.stage2.specs.declared.walked.Slot.TheVariants.{Next};
-ghost use Rattle.std.specs.Prelude.{◌≡◌, ℕ, ◌+◌, ◌*◌, ◌%◌, ◌<◌, ◌≤◌, ◌||◌, ◌==◌, true, false, Some, None, is_some, length};
+ghost use Rattle.std.specs.Prelude.{◌≡◌, ℕ, ◌+◌, ◌*◌, ◌%◌, ◌<◌, ◌≤◌, ◌||◌, ◌==◌, true, false, Some, None, is_some};
 
 use crate::layout::Layout;
 use crate::level3::{empty_table, fill_table, invalidate_parts, write_runs};
@@ -335,22 +335,9 @@ fn edit_each_chunk<M: TableMem>(
     gigabyte: Gigabyte,
     runs: &[Run],
 )
-    requires orderly { IsLinkedOrderly edit.now gigabyte second (M.state memory.old) }
-    requires second { IsSecond edit.now gigabyte second (M.state memory.old) }
-    requires row { row_of edit.now.layout.now.ids edit.now.p ≡ edit.now.row }
-    requires partition { edit.now.row < length edit.now.layout.now.ids }
-    requires normal { are_normal runs.now ≡ true }
-    requires free { FitsChunks edit.now gigabyte second runs.now
-        (M.state memory.old) }
-    requires room { operations_in_chunks edit.now gigabyte second runs.now
-        (M.state memory.old) ≤ M.room memory.old }
-    ensures underway { EditsChunks edit.now gigabyte second runs.now
-        (M.state memory.old) (M.state memory.new) }
-    ensures in_step { ChunksInStep edit.now gigabyte second runs.now
-        (M.state memory.old) (M.state memory.new) }
-    ensures room { M.room memory.old ≤ M.room memory.new
-        + operations_in_chunks edit.now gigabyte second runs.now
-        (M.state memory.old) }
+    requires { CanEditChunks edit.now gigabyte second runs.now (M.state memory.old) (M.room memory.old) }
+    ensures { AreChunksEdited edit.now gigabyte second runs.now
+        (M.state memory.old) (M.room memory.old) (M.state memory.new) (M.room memory.new) }
 {
     let site = Site {
         p: edit.p,
@@ -388,22 +375,9 @@ pub(crate) fn edit_chunks<M: TableMem>(
     gigabyte: Gigabyte,
     runs: &[Run],
 )
-    requires orderly { IsLinkedOrderly edit.now gigabyte second (M.state memory.old) }
-    requires second { IsSecond edit.now gigabyte second (M.state memory.old) }
-    requires row { row_of edit.now.layout.now.ids edit.now.p ≡ edit.now.row }
-    requires partition { edit.now.row < length edit.now.layout.now.ids }
-    requires normal { are_normal runs.now ≡ true }
-    requires free { FitsChunks edit.now gigabyte second runs.now
-        (M.state memory.old) }
-    requires room { operations_in_chunks edit.now gigabyte second runs.now
-        (M.state memory.old) ≤ M.room memory.old }
-    ensures underway { EditsChunks edit.now gigabyte second runs.now
-        (M.state memory.old) (M.state memory.new) }
-    ensures in_step { ChunksInStep edit.now gigabyte second runs.now
-        (M.state memory.old) (M.state memory.new) }
-    ensures room { M.room memory.old ≤ M.room memory.new
-        + operations_in_chunks edit.now gigabyte second runs.now
-        (M.state memory.old) }
+    requires { CanEditChunks edit.now gigabyte second runs.now (M.state memory.old) (M.room memory.old) }
+    ensures { AreChunksEdited edit.now gigabyte second runs.now
+        (M.state memory.old) (M.room memory.old) (M.state memory.new) (M.room memory.new) }
 {
     match ChunkEdit::alone(edit.layout, runs, gigabyte, &edit.access) {
         Some(here) => {

@@ -7,7 +7,6 @@ ghost use Rattle.stage2.specs.inner.Change.{entry_for, step_for};
 ghost use Rattle.stage2.specs.inner.Chunks.{planned, filling, IsWordFor};
 ghost use Rattle.stage2.specs.Edits.{edited};
 ghost use Rattle.stage2.specs.inner.Clauses.{AreWordsOf, AreTurned, AreRunsTurned, LeavesNone, WritesPlan, some_pages, IsEmpty, word_in, words_left, IsStray, OthersAnswer, gaps, covers_in};
-ghost use Rattle.stage2.specs.inner.History.{Filled};
 ghost use Rattle.stage2.specs.Moments.{Settles};
 ghost use Rattle.stage2.specs.Parts.{part_count};
 ghost use Rattle.stage2.specs.Room.{pages_in, reached_in};
@@ -110,9 +109,7 @@ pub(crate) fn write_pages<M: TableMem>(
     requires ordered { pages.first ≤ pages.end }
     requires most { pages.end ≤ 512 }
     requires room { pages.end ≤ M.room memory.old + pages.first }
-    ensures writes { WritesPlan third chunk (some_pages chunk pages.first pages.end answer)
-        (M.state memory.old) (M.state memory.new) }
-    ensures filled { Filled third chunk pages.end (some_pages chunk pages.first pages.end answer)
+    ensures writes { WritesPlan third chunk pages.end (some_pages chunk pages.first pages.end answer)
         (M.state memory.old) (M.state memory.new) }
     ensures room { M.room memory.old + pages.first ≤ M.room memory.new + pages.end }
 {
@@ -127,9 +124,7 @@ pub(crate) fn write_runs<M: TableMem>(memory: &mut M, third: TablePage, edit: &C
     requires page_in { third < page_count (M.state memory.old).memory.quotas }
     requires taken { taken_of (M.state memory.old).memory.taken third ≡ true }
     requires room { pages_in edit.now.runs.now edit.now.chunk ≤ M.room memory.old }
-    ensures writes { WritesPlan third edit.now.chunk (planned edit.now.runs.now edit.now.access None)
-        (M.state memory.old) (M.state memory.new) }
-    ensures filled { Filled third edit.now.chunk 512 (planned edit.now.runs.now edit.now.access None)
+    ensures writes { WritesPlan third edit.now.chunk 512 (planned edit.now.runs.now edit.now.access None)
         (M.state memory.old) (M.state memory.new) }
     ensures room { M.room memory.old ≤ M.room memory.new + pages_in edit.now.runs.now edit.now.chunk }
 {
@@ -144,9 +139,7 @@ fn turn_runs<M: TableMem>(memory: &mut M, third: TablePage, edit: &ChunkEdit)
     requires taken { taken_of (M.state memory.old).memory.taken third ≡ true }
     requires turned { AreRunsTurned third edit.now (M.state memory.old) }
     requires room { pages_in edit.now.runs.now edit.now.chunk ≤ M.room memory.old }
-    ensures writes { WritesPlan third edit.now.chunk (planned edit.now.runs.now edit.now.access None)
-        (M.state memory.old) (M.state memory.new) }
-    ensures filled { Filled third edit.now.chunk 512 (planned edit.now.runs.now edit.now.access None)
+    ensures writes { WritesPlan third edit.now.chunk 512 (planned edit.now.runs.now edit.now.access None)
         (M.state memory.old) (M.state memory.new) }
     ensures room { M.room memory.old ≤ M.room memory.new + pages_in edit.now.runs.now edit.now.chunk }
 {
@@ -162,9 +155,7 @@ fn zero_runs<M: TableMem>(memory: &mut M, third: TablePage, edit: &ChunkEdit)
     requires none { edit.now.access ≡ None }
     requires left { LeavesNone third edit.now (M.state memory.old) }
     requires room { pages_in edit.now.runs.now edit.now.chunk ≤ M.room memory.old }
-    ensures writes { WritesPlan third edit.now.chunk (planned edit.now.runs.now edit.now.access None)
-        (M.state memory.old) (M.state memory.new) }
-    ensures filled { Filled third edit.now.chunk 512 (planned edit.now.runs.now edit.now.access None)
+    ensures writes { WritesPlan third edit.now.chunk 512 (planned edit.now.runs.now edit.now.access None)
         (M.state memory.old) (M.state memory.new) }
     ensures room { M.room memory.old ≤ M.room memory.new + pages_in edit.now.runs.now edit.now.chunk }
 {
@@ -193,9 +184,7 @@ fn write_all<M: TableMem>(
     requires page_in { third < page_count (M.state memory.old).memory.quotas }
     requires taken { taken_of (M.state memory.old).memory.taken third ≡ true }
     requires room { 512 ≤ M.room memory.old }
-    ensures writes { WritesPlan third edit.now.chunk (planned edit.now.runs.now edit.now.access (Some other.now))
-        (M.state memory.old) (M.state memory.new) }
-    ensures filled { Filled third edit.now.chunk 512 (planned edit.now.runs.now edit.now.access (Some other.now))
+    ensures writes { WritesPlan third edit.now.chunk 512 (planned edit.now.runs.now edit.now.access (Some other.now))
         (M.state memory.old) (M.state memory.new) }
     ensures room { M.room memory.old ≤ M.room memory.new + 512 }
 {
@@ -227,9 +216,7 @@ pub(crate) fn fill_table<M: TableMem>(
     requires some { (is_some before.now || is_some edit.now.access) ≡ true }
     requires room { reached_in (edited edit.now.runs.now edit.now.access (λ n. before.now)) edit.now.chunk
         ≤ M.room memory.old }
-    ensures writes { WritesPlan third edit.now.chunk (planned edit.now.runs.now edit.now.access (filling before.now))
-        (M.state memory.old) (M.state memory.new) }
-    ensures filled { Filled third edit.now.chunk 512 (planned edit.now.runs.now edit.now.access (filling before.now))
+    ensures writes { WritesPlan third edit.now.chunk 512 (planned edit.now.runs.now edit.now.access (filling before.now))
         (M.state memory.old) (M.state memory.new) }
     ensures room { M.room memory.old ≤ M.room memory.new
         + reached_in (edited edit.now.runs.now edit.now.access (λ n. before.now)) edit.now.chunk }
@@ -249,9 +236,7 @@ pub(crate) fn empty_table<M: TableMem>(memory: &mut M, third: TablePage, edit: &
     requires left { OthersAnswer third edit.now.chunk edit.now.runs.now edit.now.access (M.state memory.old) }
     requires room { words_left third edit.now (M.state memory.old)
         ≤ M.room memory.old }
-    ensures writes { WritesPlan third edit.now.chunk (planned [] None (Some None))
-        (M.state memory.old) (M.state memory.new) }
-    ensures filled { Filled third edit.now.chunk 512 (planned [] None (Some None))
+    ensures writes { WritesPlan third edit.now.chunk 512 (planned [] None (Some None))
         (M.state memory.old) (M.state memory.new) }
     ensures room { M.room memory.old ≤ M.room memory.new
         + words_left third edit.now (M.state memory.old) }
@@ -277,9 +262,7 @@ fn write_gaps<M: TableMem>(
     requires taken { taken_of (M.state memory.old).memory.taken third ≡ true }
     requires turned { AreTurned third edit.now answer.now (M.state memory.old) }
     requires room { 512 ≤ M.room memory.old + pages_in edit.now.runs.now edit.now.chunk }
-    ensures writes { WritesPlan third edit.now.chunk (gaps edit.now.runs.now answer.now)
-        (M.state memory.old) (M.state memory.new) }
-    ensures filled { Filled third edit.now.chunk 512 (gaps edit.now.runs.now answer.now)
+    ensures writes { WritesPlan third edit.now.chunk 512 (gaps edit.now.runs.now answer.now)
         (M.state memory.old) (M.state memory.new) }
     ensures room { M.room memory.old + pages_in edit.now.runs.now edit.now.chunk ≤ M.room memory.new + 512 }
 {
@@ -300,9 +283,7 @@ pub(crate) fn fill_gaps<M: TableMem>(
     requires empty { IsEmpty third (M.state memory.old) }
     requires some { is_some other.now ≡ true }
     requires room { 512 ≤ M.room memory.old + pages_in edit.now.runs.now edit.now.chunk }
-    ensures writes { WritesPlan third edit.now.chunk (planned edit.now.runs.now None (Some other.now))
-        (M.state memory.old) (M.state memory.new) }
-    ensures filled { Filled third edit.now.chunk 512 (planned edit.now.runs.now None (Some other.now))
+    ensures writes { WritesPlan third edit.now.chunk 512 (planned edit.now.runs.now None (Some other.now))
         (M.state memory.old) (M.state memory.new) }
     ensures room { M.room memory.old + pages_in edit.now.runs.now edit.now.chunk ≤ M.room memory.new + 512 }
 {

@@ -8,11 +8,11 @@ ghost use Rattle.pool.specs.Pool.{pages_of, taken_of};
 ghost use Rattle.stage2.specs.inner.Chunks.{block_answer, covers_chunk};
 ghost use Rattle.stage2.specs.Edits.{edited};
 ghost use Rattle.stage2.specs.inner.Clauses as clauses;
-ghost use Rattle.stage2.specs.inner.Clauses.{IsSpelled, read_before, read_after, view_in, second_in, entry_read, chunks_growth, words_left};
+ghost use Rattle.stage2.specs.inner.Clauses.{IsSpelled, read_before, read_after, view_in, second_in, entry_read, words_left, ArePlanned};
 ghost use Rattle.stage2.specs.inner.Gigabytes.{grows_at, gigabyte_growth, Touches};
 ghost use Rattle.stage2.specs.Orderly.{IsCanonical};
 ghost use Rattle.stage2.specs.Parts.{runs_past};
-ghost use Rattle.stage2.specs.Room.{pages_in, reached_in, table_operations, chunk_operations, chunks_operations, gigabyte_operations, row_operations};
+ghost use Rattle.stage2.specs.Room.{pages_in, reached_in, table_operations, chunk_operations, gigabyte_operations, row_operations};
 ghost use Rattle.stage2.specs.Slot.{Layout};
 ghost use Rattle.stage2.specs.Walk.{next_page};
 ghost use Rattle.stage2.specs.declared.walked.Slot.TheVariants.{Next};
@@ -224,7 +224,6 @@ fn plan_in<M: TableMem>(
     requires canonical { IsCanonical row.now.layout.now (pages_of (M.state memory.now).memory) }
     requires layout { edit.now.layout.now ≡ row.now.layout.now }
     requires in_range { edit.now.chunk < 2 ^ 18 }
-    requires partition { (r : ℕ) → row.now.row ≡ Some r → r < length row.now.layout.now.ids }
     requires table { second_in row.now.layout.now row.now.row (edit.now.chunk / 512) (M.state memory.now) ≡ second.now }
     ensures tables { let before = view_in row.now.layout.now row.now.row (M.state memory.now) in
         let after = edited edit.now.runs.now edit.now.access before in
@@ -247,7 +246,6 @@ fn plan_at<M: TableMem>(
     runs: &[Run],
 ) -> Plan
     requires canonical { IsCanonical edit.now.layout.now (pages_of (M.state memory.now).memory) }
-    requires partition { (r : ℕ) → edit.now.row ≡ Some r → r < length edit.now.layout.now.ids }
     requires normal { are_normal runs.now ≡ true }
     requires past { runs_past (512 * chunk) runs.now ≡ runs.now }
     requires in_range { chunk < 2 ^ 18 }
@@ -290,16 +288,9 @@ fn plan_each_chunk<M: TableMem>(
     runs: &[Run],
 ) -> Plan
     requires canonical { IsCanonical edit.now.layout.now (pages_of (M.state memory.now).memory) }
-    requires partition { (r : ℕ) → edit.now.row ≡ Some r → r < length edit.now.layout.now.ids }
     requires normal { are_normal runs.now ≡ true }
     requires table { second_in edit.now.layout.now edit.now.row gigabyte (M.state memory.now) ≡ second.now }
-    ensures tables { let before = view_in edit.now.layout.now edit.now.row (M.state memory.now) in
-        result.tables ≡ chunks_growth before (edited runs.now edit.now.access before) gigabyte }
-    ensures operations { let before = view_in edit.now.layout.now edit.now.row (M.state memory.now) in
-        chunks_operations runs.now edit.now.access before gigabyte
-        ≤ result.operations }
-    ensures few { result.tables ≤ 512 }
-    ensures most { result.operations ≤ 1027 * 512 }
+    ensures { ArePlanned edit.now gigabyte runs.now (M.state memory.now) result }
 {
     let mut plan = Plan::new(0, 0);
     let mut rest = runs;
@@ -329,16 +320,9 @@ fn plan_chunks<M: TableMem>(
     runs: &[Run],
 ) -> Plan
     requires canonical { IsCanonical edit.now.layout.now (pages_of (M.state memory.now).memory) }
-    requires partition { (r : ℕ) → edit.now.row ≡ Some r → r < length edit.now.layout.now.ids }
     requires normal { are_normal runs.now ≡ true }
     requires table { second_in edit.now.layout.now edit.now.row gigabyte (M.state memory.now) ≡ second.now }
-    ensures tables { let before = view_in edit.now.layout.now edit.now.row (M.state memory.now) in
-        result.tables ≡ chunks_growth before (edited runs.now edit.now.access before) gigabyte }
-    ensures operations { let before = view_in edit.now.layout.now edit.now.row (M.state memory.now) in
-        chunks_operations runs.now edit.now.access before gigabyte
-        ≤ result.operations }
-    ensures few { result.tables ≤ 512 }
-    ensures most { result.operations ≤ 1027 * 512 }
+    ensures { ArePlanned edit.now gigabyte runs.now (M.state memory.now) result }
 {
     match ChunkEdit::alone(edit.layout, runs, gigabyte, &edit.access) {
         Some(here) => plan_in(memory, edit, second, &here),
@@ -350,7 +334,6 @@ fn plan_chunks<M: TableMem>(
 fn plan_gigabyte<M: TableMem>(memory: &M, edit: &RowPlan, gigabyte: Gigabyte, runs: &[Run]) -> Plan
     requires canonical { IsCanonical edit.now.layout.now (pages_of (M.state memory.now).memory) }
     requires touched { Touches runs.now gigabyte }
-    requires partition { (r : ℕ) → edit.now.row ≡ Some r → r < length edit.now.layout.now.ids }
     requires normal { are_normal runs.now ≡ true }
     ensures tables { let before = view_in edit.now.layout.now edit.now.row (M.state memory.now) in
         result.tables ≡ gigabyte_growth before (edited runs.now edit.now.access before) gigabyte }
@@ -378,7 +361,6 @@ fn plan_gigabyte<M: TableMem>(memory: &M, edit: &RowPlan, gigabyte: Gigabyte, ru
 /// What an edit needs: the tables after it at places where there is none before it, and its operations.
 pub(crate) fn plan_row<M: TableMem>(memory: &M, edit: &RowPlan, runs: &[Run]) -> Plan
     requires canonical { IsCanonical edit.now.layout.now (pages_of (M.state memory.now).memory) }
-    requires partition { (r : ℕ) → edit.now.row ≡ Some r → r < length edit.now.layout.now.ids }
     requires normal { are_normal runs.now ≡ true }
     ensures tables { let before = view_in edit.now.layout.now edit.now.row (M.state memory.now) in
         result.tables ≡ grow before (edited runs.now edit.now.access before) }

@@ -1,10 +1,11 @@
 //! What the functions of an edit are told.
 
+ghost use Rattle.base.specs.Manifest.{row_of};
 ghost use Rattle.base.specs.Pages.{are_normal};
 ghost use Rattle.stage2.specs.Edits.{touches_chunk};
 ghost use Rattle.stage2.specs.Parts.{chunk_runs, part_count, runs_past};
 ghost use Rattle.stage2.specs.Room.{pages_in};
-ghost use Rattle.std.specs.Prelude.{◌≡◌, ◌≢◌, ℕ, ◌*◌, ◌/◌, ◌<◌, ◌≤◌, true, false, None, IfSome};
+ghost use Rattle.std.specs.Prelude.{◌≡◌, ◌≢◌, ℕ, ◌*◌, ◌/◌, ◌<◌, ◌≤◌, true, false, Some, None, length, IfSome};
 
 use crate::layout::Layout;
 use crate::parts::{Pieces, bounds, chunk_runs, count_pieces};
@@ -13,12 +14,14 @@ use crate::table_page::{Row, TablePage};
 use base::{Access, Page, PartitionId, Run};
 
 /// The edit of a partition's pages: those that are edited are reached with this access, or not at all.
-#[derive(Clone, Copy)]
+#[derive(Drop)]
 pub(crate) struct RowEdit<'a> {
     pub(crate) layout: &'a Layout,
     pub(crate) p: PartitionId,
     pub(crate) row: Row,
     pub(crate) access: Option<Access>,
+    pub(crate) ghost own: { row_of layout.now.ids p ≡ row },
+    pub(crate) ghost inside: { row < length layout.now.ids },
 }
 
 /// The same of one chunk, by runs that have pages there, and how many they have.
@@ -115,11 +118,12 @@ pub(crate) struct Site {
 }
 
 /// The edit of a partition's pages that is planned, which may have no root.
-#[derive(Clone, Copy)]
+#[derive(Drop)]
 pub(crate) struct RowPlan<'a> {
     pub(crate) layout: &'a Layout,
     pub(crate) row: Option<Row>,
     pub(crate) access: Option<Access>,
     /// Whether words of tables may be looked at, to tell which of them stay: else those count that need more.
     pub(crate) looks: bool,
+    pub(crate) ghost inside: { (r : ℕ) → row ≡ Some r → r < length layout.now.ids },
 }

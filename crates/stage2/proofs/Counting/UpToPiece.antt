@@ -26,17 +26,17 @@ pub record IsPlanned (g : ℕ) (runs : List PageRun) (access : View) (v : ℕ �
   pub normal : are_normal rest ≡ true
   pub last : i ≤ 512
 
-module _ (g : ℕ) (runs : List PageRun) (access : View) (v : ℕ → View) where
-  abbrev grows : ℕ → Bool
-  grows x = grows_at v (edited runs access v) (512 * g + x)
+abbrev grows : ℕ → List PageRun → View → (ℕ → View) → ℕ → Bool
+grows g runs access v x = grows_at v (edited runs access v) (512 * g + x)
 
-  abbrev cost : ℕ → ℕ
-  cost x = chunk_operations runs access v (512 * g + x)
+abbrev cost : ℕ → List PageRun → View → (ℕ → View) → ℕ → ℕ
+cost g runs access v x = chunk_operations runs access v (512 * g + x)
 
-  pub planned-start : (plan : Plan) → plan ≡ record { tables = 0; operations = 0 } → are_normal runs ≡ true → IsPlanned g runs access v 0 runs plan
-  planned-start plan is normal = rw is record {
-    tables = sym (count_below-none grows 0 (λ k lt. absurd (omega (arith, lt))));
-    operations = let none = sum_below-none cost 0 (λ k lt. absurd (omega (arith, lt))) in omega (arith, none);
+module _ {g : ℕ} {runs : List PageRun} {access : View} {v : ℕ → View} where
+  pub planned-start : {plan : Plan} → plan ≡ record { tables = 0; operations = 0 } → are_normal runs ≡ true → IsPlanned g runs access v 0 runs plan
+  planned-start is normal = rw is record {
+    tables = sym (count_below-none (grows g runs access v) 0 (λ k lt. absurd (omega (arith, lt))));
+    operations = let none = sum_below-none (cost g runs access v) 0 (λ k lt. absurd (omega (arith, lt))) in omega (arith, none);
     few = omega arith;
     most = omega arith;
     left = left-all (512 * g + 0) runs;
@@ -44,17 +44,17 @@ module _ (g : ℕ) (runs : List PageRun) (access : View) (v : ℕ → View) wher
     last = omega arith;
   }
 
-  module _ (i : ℕ) (rest : List PageRun) (plan : Plan) (so : IsPlanned g runs access v i rest plan) where
+  module _ {i : ℕ} {rest : List PageRun} {plan : Plan} (so : IsPlanned g runs access v i rest plan) where
     spare : (x : ℕ) → i ≤ x → touches_chunk (512 * g + x) rest ≡ false → touches_chunk (512 * g + x) runs ≡ false
     spare x from none = sym (left-touches (512 * g + x) rest runs (left-later (512 * g + i) (512 * g + x) rest runs (omega (arith, from)) so.left)) ∙ none
 
     -- chunks that no run touches need nothing
     gap : (k : ℕ) → i ≤ k → k ≤ 512 → ((x : ℕ) → i ≤ x → x < k → touches_chunk (512 * g + x) rest ≡ false) → (later : List PageRun) → AreLeft (512 * g + k) later runs → are_normal later ≡ true → IsPlanned g runs access v k later plan
     gap k from most apart later left normal =
-        let none = count_below-tail grows i k from (λ x low lt. grows-nothing runs access v (512 * g + x) (λ n at. untouched (512 * g + x) runs n (spare x low (apart x low lt)) at)) in
+        let none = count_below-tail (grows g runs access v) i k from (λ x low lt. grows-nothing runs access v (512 * g + x) (λ n at. untouched (512 * g + x) runs n (spare x low (apart x low lt)) at)) in
         let all : i + (k - i) ≡ k = omega (arith, from) in
-        let nothing = sum_below-tail cost (k - i) i (λ x low lt. ap (λ t. cond t (3 + table_operations runs access v (512 * g + x)) 0) (spare x low (apart x low (omega (arith, lt, from))))) in
-        let same = ap (sum_below cost) all in
+        let nothing = sum_below-tail (cost g runs access v) (k - i) i (λ x low lt. ap (λ t. cond t (3 + table_operations runs access v (512 * g + x)) 0) (spare x low (apart x low (omega (arith, lt, from))))) in
+        let same = ap (sum_below (cost g runs access v)) all in
         let made = so.operations in
         let few = so.few in
         let many = so.most in
@@ -68,8 +68,8 @@ module _ (g : ℕ) (runs : List PageRun) (access : View) (v : ℕ → View) wher
           last = most;
         }
 
-    pub planned-piece : (piece : Piece) → IsNextPiece g i rest piece → IsPlanned g runs access v piece.first piece.runs.now plan
-    planned-piece piece next =
+    pub planned-piece : {piece : Piece} → IsNextPiece g i rest piece → IsPlanned g runs access v piece.first piece.runs.now plan
+    planned-piece {piece} next =
         gap piece.first next.from (omega (arith, next.small)) next.apart piece.runs.now
         (left-past (512 * g + piece.first) (512 * (512 * g + piece.first)) rest piece.runs.now runs (λ _. 512 * (512 * g + piece.first)) next.past (left-later (512 * g + i) (512 * g + piece.first) rest runs (omega (arith, next.from)) so.left))
         next.normal
@@ -78,13 +78,13 @@ module _ (g : ℕ) (runs : List PageRun) (access : View) (v : ℕ → View) wher
     planned-end none = gap 512 so.last (omega arith) none rest (left-later (512 * g + i) (512 * g + 512) rest runs (omega (arith, so.last)) so.left) so.normal
 
     -- chunks that take no table, and three operations each
-    pub planned-filled : (end : ℕ) → i < end → end ≤ 512 → ((x : ℕ) → i ≤ x → x < end → grows_at v (edited runs access v) (512 * g + x) ≡ false) → ((x : ℕ) → i ≤ x → x < end → chunk_operations runs access v (512 * g + x) ≡ 3)
-        → (next : Plan) → next ≡ record { tables = plan.tables; operations = plan.operations + 3 * (end - i) } → IsPlanned g runs access v end rest next
-    planned-filled end ahead most none three next is =
-        let tail = count_below-tail grows i end (omega (arith, ahead)) none in
+    pub planned-filled : {end : ℕ} → i < end → end ≤ 512 → ((x : ℕ) → i ≤ x → x < end → grows_at v (edited runs access v) (512 * g + x) ≡ false) → ((x : ℕ) → i ≤ x → x < end → chunk_operations runs access v (512 * g + x) ≡ 3)
+        → {next : Plan} → next ≡ record { tables = plan.tables; operations = plan.operations + 3 * (end - i) } → IsPlanned g runs access v end rest next
+    planned-filled {end} ahead most none three is =
+        let tail = count_below-tail (grows g runs access v) i end (omega (arith, ahead)) none in
         let all : i + (end - i) ≡ end = omega (arith, ahead) in
-        let each = sum_below-each cost i (end - i) 3 (λ x from to. three x from (omega (arith, to, ahead))) in
-        let same = ap (sum_below cost) all in
+        let each = sum_below-each (cost g runs access v) i (end - i) 3 (λ x from to. three x from (omega (arith, to, ahead))) in
+        let same = ap (sum_below (cost g runs access v)) all in
         let made = so.operations in
         let few = so.few in
         let many = so.most in
@@ -99,18 +99,18 @@ module _ (g : ℕ) (runs : List PageRun) (access : View) (v : ℕ → View) wher
         }
 
     -- the next chunk, by the runs that are left
-    pub planned-one : i < 512 → (one next : Plan) → next ≡ record { tables = plan.tables + one.tables; operations = plan.operations + one.operations }
+    pub planned-one : i < 512 → {one next : Plan} → next ≡ record { tables = plan.tables + one.tables; operations = plan.operations + one.operations }
         → one.tables ≡ bit (grows_at v (edited rest access v) (512 * g + i)) → chunk_operations rest access v (512 * g + i) ≤ one.operations → one.operations ≤ 1027 → IsPlanned g runs access v (i + 1) rest next
-    planned-one lt one next is tables operations most =
+    planned-one lt {one} is tables operations most =
         let left = left-later (512 * g + i) (512 * g + i) rest runs (omega arith) so.left in
-        let grown : one.tables ≡ bit (grows i) = tables ∙ ap bit (left-grows (512 * g + i) rest runs left access v) in
+        let grown : one.tables ≡ bit (grows g runs access v i) = tables ∙ ap bit (left-grows (512 * g + i) rest runs left access v) in
         let made = left-operations (512 * g + i) rest runs left access v in
-        let count = count_below-more grows i in
-        let sum = sum_below-more cost i in
-        let bit_most = bit-most (grows i) in
+        let count = count_below-more (grows g runs access v) i in
+        let sum = sum_below-more (cost g runs access v) i in
+        let bit_most = bit-most (grows g runs access v i) in
         rw is record {
-          tables = up plan.tables one.tables (bit (grows i)) (count_below grows i) (count_below grows (i + 1)) so.tables grown count;
-          operations = up_to (sum_below cost i) plan.operations (chunk_operations rest access v (512 * g + i)) (cost i) one.operations (sum_below cost (i + 1)) so.operations made operations sum;
+          tables = up plan.tables one.tables (bit (grows g runs access v i)) (count_below (grows g runs access v) i) (count_below (grows g runs access v) (i + 1)) so.tables grown count;
+          operations = up_to (sum_below (cost g runs access v) i) plan.operations (chunk_operations rest access v (512 * g + i)) (cost g runs access v i) one.operations (sum_below (cost g runs access v) (i + 1)) so.operations made operations sum;
           few = let few = so.few in omega (arith, few, grown, bit_most);
           most = let many = so.most in omega (arith, many, most);
           left = left-later (512 * g + i) (512 * g + (i + 1)) rest runs (omega arith) so.left;

@@ -3,13 +3,13 @@ use Rattle.std.proofs.Common.{◌≡◌, ℕ, ◌+◌, ◌*◌, ◌<◌, Bool, t
 use Rattle.base.specs.Access.{View}
 use Rattle.std.proofs.lemmas.Bool.{cases_Bool}
 use Rattle.base.specs.Pages.{PageRun, covers, rise}
-use Rattle.pool.specs.Pool.{Pages, Pool, gaps_of}
+use Rattle.pool.specs.Pool.{Pages, Pool, pages_of, gaps_of}
 use Rattle.pool.proofs.Gaps.{gaps-out, gaps-in}
 use Rattle.words.proofs.RoundTrip.{entry-zero}
 use Rattle.words.specs.Words.{entry_of}
 use Rattle.stage2.specs.inner.Change.{entry_for}
 use Rattle.stage2.specs.inner.Chunks.{planned, Writes, IsWordFor}
-use Rattle.stage2.specs.inner.Clauses.{gaps}
+use Rattle.stage2.specs.inner.Clauses.{gaps, WritesPlan}
 use Rattle.stage2.specs.inner.History.{Filled}
 use Rattle.stage2.proofs.Walkers.Histories.{filled-more}
 
@@ -56,8 +56,8 @@ module _ (k c : ℕ) (runs : List PageRun) (answer : View) where
   ]
 
   -- the words that are planned for them are those planned beside the runs
-  pub writes-gap-runs : (a b : Pages) → rise 0 runs ≡ true → Writes k c (planned (gaps_of (512 * c) runs) answer None) a b → Writes k c (gaps runs answer) a b
-  writes-gap-runs a b up so = record {
+  words-gap-runs : (a b : Pages) → rise 0 runs ≡ true → Writes k c (planned (gaps_of (512 * c) runs) answer None) a b → Writes k c (gaps runs answer) a b
+  words-gap-runs a b up so = record {
     ids = so.ids;
     quotas = so.quotas;
     taken = so.taken;
@@ -66,9 +66,15 @@ module _ (k c : ℕ) (runs : List PageRun) (answer : View) where
     stays = λ i small none. so.stays i small (out-or-in i up small ∙ none);
   }
 
-  pub filled-gap-runs : (a b : Pool) → rise 0 runs ≡ true → Filled k c 512 (planned (gaps_of (512 * c) runs) answer None) a b → Filled k c 512 (gaps runs answer) a b
-  filled-gap-runs a b up so = filled-more k c 512 (planned (gaps_of (512 * c) runs) answer None) (gaps runs answer) a b (λ n v given. told n v (cases_Bool (covers (gaps_of (512 * c) runs) n)) given) so
+  made-gap-runs : (a b : Pool) → rise 0 runs ≡ true → Filled k c 512 (planned (gaps_of (512 * c) runs) answer None) a b → Filled k c 512 (gaps runs answer) a b
+  made-gap-runs a b up so = filled-more k c 512 (planned (gaps_of (512 * c) runs) answer None) (gaps runs answer) a b (λ n v given. told n v (cases_Bool (covers (gaps_of (512 * c) runs) n)) given) so
     where
       told : (n : ℕ) (v : View) → (covers (gaps_of (512 * c) runs) n ≡ true) ⊎ (covers (gaps_of (512 * c) runs) n ≡ false) → planned (gaps_of (512 * c) runs) answer None n ≡ Some v → gaps runs answer n ≡ Some v
       told n v (inl t) given = ap (λ b. cond b None (Some answer)) (gaps-out (512 * c) runs n up t) ∙ sym (ap (λ b. cond b (Some answer) None) t) ∙ given
       told n v (inr f) given = let bad : None ≡ Some v = sym (ap (λ b. cond b (Some answer) None) f) ∙ given in absurd (cc)
+
+  pub writes-gap-runs : (a b : Pool) → rise 0 runs ≡ true → WritesPlan k c 512 (planned (gaps_of (512 * c) runs) answer None) a b → WritesPlan k c 512 (gaps runs answer) a b
+  writes-gap-runs a b up so = record {
+    words = words-gap-runs (pages_of a.memory) (pages_of b.memory) up so.words;
+    made = made-gap-runs a b up so.made;
+  }

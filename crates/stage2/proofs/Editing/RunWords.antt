@@ -10,10 +10,11 @@ use Rattle.pool.proofs.Stretches.{length-words_set}
 use Rattle.pool.proofs.Gaps.{before-rise}
 use Rattle.pool.proofs.RunWords.{after_runs-none, after_runs-next}
 use Rattle.stage2.specs.inner.Chunks.{planned, below, Writes, IsWordFor}
+use Rattle.stage2.specs.inner.Clauses.{WritesPlan, some_pages}
 use Rattle.stage2.specs.inner.History.{Filled}
 use Rattle.stage2.proofs.Editing.Level3Words.{writes-none, writes-pass, writes-all}
 use Rattle.stage2.proofs.Editing.PlannedWords.{writes-join, filled-join}
-use Rattle.stage2.proofs.Editing.Stretches.{writes-stretch, filled-stretch}
+use Rattle.stage2.proofs.Editing.Stretches.{writes-stretch}
 use Rattle.stage2.proofs.Walkers.Histories.{filled-none, filled-wider}
 
 -- ---- where a run lies in a chunk
@@ -86,13 +87,14 @@ module _ (k c word step : ℕ) (answer : View) (is : (x : ℕ) → x < 512 → I
 
     pub written-more : AreWritten plan end a (after_run k (512 * c) word step run s)
     written-more =
-        let e = after_run k (512 * c) word step run s in (
+        let e = after_run k (512 * c) word step run s in
+        let written : WritesPlan k c end (some_pages c first end answer) s e = writes-stretch k c first end (word + step * first) step answer s whole inside ordered most words in (
           writes-join k c first end plan answer (pages_of a.memory) (pages_of s.memory) (pages_of e.memory) ordered some-there
               (writes-pass k c i first plan (pages_of a.memory) (pages_of s.memory) from none-before so.0)
-              (writes-stretch k c first end (word + step * first) step answer s whole inside ordered most words),
+              written.words,
           filled-join k c first end plan answer a s e ordered some-there
               (filled-wider k c i first plan a s from so.1)
-              (filled-stretch k c first end (word + step * first) step answer s whole inside ordered most words),
+              written.made,
         )
 
     pub whole-more : IsWhole (after_run k (512 * c) word step run s).memory
@@ -104,15 +106,15 @@ module _ (k c word step : ℕ) (answer : View) (is : (x : ℕ) → x < 512 → I
 
   -- ---- all that are left
 
-  abbrev IsDone : (ℕ → Option View) → Pool → Pool → Type 0
-  IsDone plan a s = (Writes k c plan (pages_of a.memory) (pages_of s.memory)) × (Filled k c 512 plan a s)
-
-  none-left : (plan : ℕ → Option View) (i : ℕ) (a s : Pool) → i ≤ 512 → IsLeft plan [] i → AreWritten plan i a s → IsDone plan a s
+  none-left : (plan : ℕ → Option View) (i : ℕ) (a s : Pool) → i ≤ 512 → IsLeft plan [] i → AreWritten plan i a s → WritesPlan k c 512 plan a s
   none-left plan i a s most left so =
-      (writes-all k c i plan (pages_of a.memory) (pages_of s.memory) (λ x small from. left x from small) so.0, filled-wider k c i 512 plan a s most so.1)
+      record {
+        words = writes-all k c i plan (pages_of a.memory) (pages_of s.memory) (λ x small from. left x from small) so.0;
+        made = filled-wider k c i 512 plan a s most so.1;
+      }
 
   rest-written : (plan : ℕ → Option View) (rest : List PageRun) (end : ℕ) (a s : Pool) → IsWhole s.memory → k < page_count s.memory.quotas → rise end rest ≡ true
-      → IsLeft plan rest (index_from (512 * c) end) → AreWritten plan (index_from (512 * c) end) a s → IsDone plan a (after_runs k (512 * c) word step rest s)
+      → IsLeft plan rest (index_from (512 * c) end) → AreWritten plan (index_from (512 * c) end) a s → WritesPlan k c 512 plan a (after_runs k (512 * c) word step rest s)
   rest-written plan [] end a s whole inside rises left so =
       rw (after_runs-none k (512 * c) word step s) (none-left plan (index_from (512 * c) end) a s (omega arith) left so)
   rest-written plan (run ∷ rest) end a s whole inside rises left so =
@@ -130,7 +132,7 @@ module _ (k c word step : ℕ) (answer : View) (is : (x : ℕ) → x < 512 → I
   start-written plan s = (writes-none k c 0 plan (pages_of s.memory) (λ x lt. absurd (omega (arith, lt))), filled-none k c 0 plan s)
 
   pub runs-written : (runs : List PageRun) (s : Pool) → IsWhole s.memory → k < page_count s.memory.quotas → rise 0 runs ≡ true
-      → IsDone (planned runs answer None) s (after_runs k (512 * c) word step runs s)
+      → WritesPlan k c 512 (planned runs answer None) s (after_runs k (512 * c) word step runs s)
   runs-written runs s whole inside rises =
       let plan = plan_of runs answer in
       let none : 0 ≡ index_from (512 * c) 0 = omega arith in

@@ -7,11 +7,11 @@ use Rattle.base.specs.Manifest.{page_count}
 use Rattle.words.specs.declared.word.Entry.TheVariants.{Leaf}
 use Rattle.words.specs.Words.{leaf_word_of, entry_of, IsLeafWord}
 use Rattle.words.proofs.RoundTrip.{entry-zero, entry-page, word-leaf}
-use Rattle.pool.specs.Pool.{Pool, Words, IsWhole, words_of, put, words_set, sets_of, after_sets}
+use Rattle.pool.specs.Pool.{pages_of, Pool, Words, IsWhole, words_of, put, words_set, sets_of, after_sets}
 use Rattle.pool.proofs.Words.{words_of-set_at}
 use Rattle.pool.proofs.Stretches.{length-words_set, set-same, words_set-other, words_set-beside, words_set-at}
 use Rattle.stage2.specs.inner.Change.{entry_for, step_for}
-use Rattle.stage2.specs.inner.Chunks.{IsWordFor}
+use Rattle.stage2.specs.inner.Chunks.{IsWordFor, Writes}
 use Rattle.stage2.specs.inner.Clauses.{some_pages, WritesPlan}
 use Rattle.stage2.specs.inner.History.{AreSets, AllChange, Filled}
 use Rattle.stage2.proofs.Editing.LeafWords.{word-small}
@@ -142,8 +142,8 @@ module _ (k c first end word step : ℕ) (answer : View) (s : Pool) (whole : IsW
   small : first + (end - first) ≤ 512
   small = omega (arith, ordered, most)
 
-  pub writes-stretch : WritesPlan k c (some_pages c first end answer) s (after_sets k first (end - first) word step s)
-  writes-stretch = record {
+  words-stretch : Writes k c (some_pages c first end answer) (pages_of s.memory) (pages_of (after_sets k first (end - first) word step s).memory)
+  words-stretch = record {
     ids = refl;
     quotas = refl;
     taken = refl;
@@ -172,7 +172,7 @@ module _ (k c first end word step : ℕ) (answer : View) (s : Pool) (whole : IsW
     ];
   }
 
-  pub filled-stretch : Filled k c end (some_pages c first end answer) s (after_sets k first (end - first) word step s)
+  filled-stretch : Filled k c end (some_pages c first end answer) s (after_sets k first (end - first) word step s)
   filled-stretch = record {
     ops = sets_of s.memory.words k first (end - first) word step;
     made = record { operations = refl; count = refl; words = after-sets s.memory.words k first (end - first) word step room small };
@@ -181,3 +181,6 @@ module _ (k c first end word step : ℕ) (answer : View) (s : Pool) (whole : IsW
         (sets-planned s.memory.words k c first (end - first) word step end answer (omega (arith, ordered)) is);
     changes = sets-change s.memory.words k first (end - first) word step room small;
   }
+
+  pub writes-stretch : WritesPlan k c end (some_pages c first end answer) s (after_sets k first (end - first) word step s)
+  writes-stretch = record { words = words-stretch; made = filled-stretch }

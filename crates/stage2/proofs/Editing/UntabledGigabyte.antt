@@ -1,5 +1,5 @@
 -- The edit of a gigabyte that gets its level 2 table, from that of its chunks.
-use Rattle.std.proofs.Common.{◌≡◌, ℕ, ◌+◌, ◌/◌, ◌%◌, ◌<◌, Bool, true, false, ◌&&◌, eqb, cond, is_some, None, Some, length, List, sym, ap, subst, ◌∙◌, arith}
+use Rattle.std.proofs.Common.{◌≡◌, ℕ, ◌+◌, ◌/◌, ◌%◌, ◌<◌, Bool, true, false, ◌&&◌, eqb, cond, is_some, None, Some, List, sym, ap, subst, ◌∙◌, arith}
 use Rattle.std.proofs.lemmas.Bool.Decides.{nat_tests}
 use Rattle.base.specs.Access.{View}
 use Rattle.base.specs.Manifest.{row_of}
@@ -9,12 +9,12 @@ use Rattle.pool.specs.declared.operation.Op.TheVariants.{Set}
 use Rattle.words.specs.Words.{table_word_of}
 use Rattle.stage2.specs.Edits.{AreFree, edited, disturbed}
 use Rattle.stage2.specs.Moments.{StaysInStep, IsLogged}
-use Rattle.stage2.specs.Orderly.{IsOrderly, IsCanonical, answers, answer_of, linked}
+use Rattle.stage2.specs.Orderly.{IsOrderly, answers, answer_of, linked}
 use Rattle.stage2.specs.Walk.{walk, walked, Gigabyte, table_at}
 use Rattle.stage2.specs.declared.site.RowEdit.{RowEdit}
 use Rattle.stage2.specs.declared.walked.Walked.{Walked}
-use Rattle.stage2.specs.inner.Clauses.{second_at, row_view, Puts, IsLinkedOrderly, IsSecond, FitsInGigabyte, FitsChunks, EditsChunks, ChunksInStep, EditsInGigabyte, GigabyteInStep, operations_in_chunks, operations_in_gigabyte}
-use Rattle.stage2.specs.inner.Gigabytes.{Fits, IsUnderway, Touches}
+use Rattle.stage2.specs.inner.Clauses.{second_at, row_view, Puts, CanEditChunks, AreChunksEdited, CanEditGigabyte, IsGigabyteEdited, EditsInGigabyte, GigabyteInStep, operations_in_chunks, operations_in_gigabyte}
+use Rattle.stage2.specs.inner.Gigabytes.{Fits, IsUnderway}
 use Rattle.stage2.specs.inner.Steps.{IsSeated, disturbed_below}
 use Rattle.stage2.proofs.Editing.Gigabyte.{touched-below, link-has-free, link-fits, same-answers, link-chunks, finish-link}
 use Rattle.stage2.proofs.Editing.RootLinks.{IsLink, untabled, link-table, link-rooted, rooted}
@@ -23,77 +23,85 @@ use Rattle.stage2.proofs.Tree.TakenPages.{pages_of-take}
 use Rattle.stage2.proofs.Walkers.RootWrites.{stays-linked, stays-root, root-zero, forest-unlinked, gives-new}
 use Rattle.stage2.proofs.Walkers.ZeroedTables.{stays-after, stays-taken}
 
-module _ (e : RowEdit) (g : ℕ) (runs : List PageRun) (first : Pool) (canonical : IsCanonical e.layout.now (pages_of first.memory)) (inside : e.row < length e.layout.now.ids) (own : row_of e.layout.now.ids e.p ≡ e.row)
-    (touches : Touches runs g) (none : second_at e.layout.now e.row g first ≡ None) (maps : is_some e.access ≡ true) where
+module _ {e : RowEdit} {g : ℕ} {runs : List PageRun} {first : Pool} {r0 : ℕ} (can : CanEditGigabyte e g runs first r0) (none : second_at e.layout.now e.row g first ≡ None) (maps : is_some e.access ≡ true) where
   below : g < 512
-  below = touched-below runs g touches
+  below = touched-below runs g can.touched
 
   is_row : row_in first.memory e.p ≡ e.row
-  is_row = ap (λ x. row_of x e.p) (sym canonical.orderly.ids) ∙ own
+  is_row = ap (λ x. row_of x e.p) (sym can.canonical.orderly.ids) ∙ e.own
 
   -- a page is free for it
-  pub untabled-free : FitsInGigabyte e g runs first → 0 < free_of (pages_of first.memory) e.p
-  untabled-free fits =
-      let free = link-has-free e.layout.now e.row g runs e.access (pages_of first.memory) canonical inside below none touches maps fits.fits in
+  pub untabled-free : 0 < free_of (pages_of first.memory) e.p
+  untabled-free =
+      let free = link-has-free e.layout.now e.row g runs e.access (pages_of first.memory) can.canonical e.inside below none can.touched maps can.fits.fits in
       rw is_row (omega (arith, free))
 
   -- which is taken
-  module _ (j : ℕ) (taken : Pool) (whole : IsWhole first.memory) (zeros : (i : ℕ) → taken_of first.memory.taken j ≡ false → words_of first.memory.words j i ≡ 0) (lowest : IsLowestFreeOf first.memory e.p j) (is : taken ≡ after_take j first) where
+  module _ {j : ℕ} {taken : Pool} (whole : IsWhole first.memory) (zeros : (i : ℕ) → taken_of first.memory.taken j ≡ false → words_of first.memory.words j i ≡ 0) (lowest : IsLowestFreeOf first.memory e.p j) (is : taken ≡ after_take j first) where
     link : IsLink e.layout.now e.row g j (pages_of first.memory)
     link =
         let free : IsLowestFree (pages_of first.memory) e.row j = subst (λ x. IsLowestFree (pages_of first.memory) x j) is_row lowest in
-        record { orderly = canonical.orderly; partition = inside; gigabyte = below; none = none; inside = free.inside; free = free.free; zero = λ i. zeros i free.free }
+        record { orderly = can.canonical.orderly; partition = e.inside; gigabyte = below; none = none; inside = free.inside; free = free.free; zero = λ i. zeros i free.free }
 
     marked : pages_of taken.memory ≡ with_mark j true (pages_of first.memory)
     marked = pages_of-take first taken (row_in first.memory e.p) j whole lowest is
 
-    pub untabled-orderly : IsLinkedOrderly e g j taken
-    untabled-orderly =
-        subst (λ (x : Pages). IsOrderly e.layout.now (linked e.layout.now e.row g j x)) (sym marked)
-        (rooted e.layout.now e.row g (table_word_of (e.layout.now.base + j)) (pages_of first.memory) (linked e.layout.now e.row g j (with_mark j true (pages_of first.memory))) (link-rooted e.layout.now e.row g j (pages_of first.memory) link))
-
-    pub untabled-second : IsSecond e g j taken
-    untabled-second =
-        subst (λ (x : Pages). table_at e.layout.now (linked e.layout.now e.row g j x).words (Gigabyte e.row g) ≡ Some j) (sym marked) (link-table e.layout.now e.row g j (pages_of first.memory) link)
-
-    pub untabled-fits : FitsInGigabyte e g runs first → FitsChunks e g j runs taken
-    untabled-fits fits =
-        subst (λ (x : Pages). Fits e.layout.now e.row g j runs e.access x) (sym marked) (record { fits = link-fits e.layout.now e.row g j runs e.access (pages_of first.memory) canonical below link touches maps fits.fits })
-
     -- two operations are for its link
-    pub untabled-room : operations_in_gigabyte e g runs first ≡ operations_in_chunks e g j runs taken + 2
-    untabled-room =
-        let least = touched-operations runs e.access (row_view e.layout.now e.row first) g touches in
-        let chunks = link-chunks e.layout.now e.row g j runs e.access (pages_of first.memory) canonical below link touches maps (pages_of taken.memory) marked in
+    costs : operations_in_gigabyte e g runs first ≡ operations_in_chunks e g j runs taken + 2
+    costs =
+        let least = touched-operations runs e.access (row_view e.layout.now e.row first) g can.touched in
+        let chunks = link-chunks e.layout.now e.row g j runs e.access (pages_of first.memory) can.canonical below link can.touched maps (pages_of taken.memory) marked in
         omega (arith, least, chunks)
 
-    -- after its chunks it is linked
-    module _ (mid new : Pool) (edits : EditsChunks e g j runs taken mid) (puts : Puts e.row g (table_word_of (e.layout.now.base + j)) mid new) where
-      pub untabled-edits : EditsInGigabyte e g runs first new
-      untabled-edits =
-          finish-link e.layout.now e.row g j runs e.access (pages_of first.memory) canonical below link touches maps (pages_of mid.memory) (pages_of new.memory)
-          (subst (λ (x : Pages). IsUnderway e.layout.now e.row g j 512 (edited runs e.access (answers e.layout.now (linked e.layout.now e.row g j x).words e.row)) x (pages_of mid.memory)) marked edits) puts
+    pub untabled-can : {r1 : ℕ} → r1 ≡ r0 → CanEditChunks e g j runs taken r1
+    untabled-can kept = record {
+      orderly =
+          subst (λ (x : Pages). IsOrderly e.layout.now (linked e.layout.now e.row g j x)) (sym marked)
+          (rooted e.layout.now e.row g (table_word_of (e.layout.now.base + j)) (pages_of first.memory) (linked e.layout.now e.row g j (with_mark j true (pages_of first.memory))) (link-rooted e.layout.now e.row g j (pages_of first.memory) link));
+      second = subst (λ (x : Pages). table_at e.layout.now (linked e.layout.now e.row g j x).words (Gigabyte e.row g) ≡ Some j) (sym marked) (link-table e.layout.now e.row g j (pages_of first.memory) link);
+      normal = can.normal;
+      fits = subst (λ (x : Pages). Fits e.layout.now e.row g j runs e.access x) (sym marked) (record { fits = link-fits e.layout.now e.row g j runs e.access (pages_of first.memory) can.canonical below link can.touched maps can.fits.fits });
+      room = let all = costs in let room = can.room in omega (arith, all, room, kept);
+    }
 
-      pub untabled-steps : ChunksInStep e g j runs taken mid → IsLogged (Set e.row g (table_word_of (e.layout.now.base + j))) mid new → GigabyteInStep e g runs first new
-      untabled-steps steps logged free =
-          let layout = e.layout.now in
-          let m = pages_of first.memory in
-          let v : ℕ → View = row_view layout e.row first in
-          let which : ℕ → Bool = λ n. eqb (n / 512 / 512) g && disturbed runs v (edited runs e.access v) n in
-          let answer : ℕ → Walked = λ n. walked n (edited runs e.access v n) in
-          let P : Pages → Type 0 = λ s. IsSeated layout e.row g j s → AreFree (λ n. eqb (n / 512 / 512) g) runs e.access (answers layout (linked layout e.row g j s).words e.row)
-          → StaysInStep layout e.row (disturbed_below g 512 runs (answers layout (linked layout e.row g j s).words e.row) (edited runs e.access (answers layout (linked layout e.row g j s).words e.row)))
-          (λ n. walked n (edited runs e.access (answers layout (linked layout e.row g j s).words e.row) n)) taken mid in
-          let take = stays-taken layout e.row which answer first taken (ap (λ (s : Pool). words_of s.memory.words) is) (ap (λ (s : Pool). s.operations) is) (ap (λ (s : Pool). s.made) is) in
-          let chunks = stays-linked layout e.row g j runs e.access m canonical below link taken mid (same-answers layout e.row g j runs e.access m canonical below link touches maps) (subst P marked steps) free in
-          let zero : (pages_of mid.memory).words e.row g ≡ 0 = edits.root g ∙ ap (λ (s : Pages). s.words e.row g) marked ∙ root-zero layout m e.row g canonical.orderly inside below none in
-          let root = stays-root layout e.row g (table_word_of (layout.base + j)) which answer mid new (forest-unlinked layout e.row g j (pages_of mid.memory) edits.orderly inside zero) inside (ap (λ w. w % 2) zero)
-          (λ n small at.
-          let nothing : v n ≡ None = ap answer_of (untabled layout m e.row n canonical.orderly inside small (ap (λ q. table_at layout m.words (Gigabyte e.row q)) at ∙ none)) in
-          gives-new g runs e.access v n (walk layout (words_of new.memory.words) e.row n) at nothing
-          (untabled-edits.walks e.row n small ∙ ap (λ b. cond b (walked n (edited runs e.access v n)) (walk layout m.words e.row n)) (here e.row (n / 512 / 512) g at)))
-          (ap (λ (s : Pages). s.words) puts) logged in
-          stays-after layout e.row which answer first mid new (stays-after layout e.row which answer first taken mid take chunks) root
-        where
-          here : (x y z : ℕ) → y ≡ z → (eqb x x && eqb y z) ≡ true
-          here x y z same = grind (arith, nat_tests)
+    -- after its chunks it is linked
+    module _ {mid : Pool} {r1 r2 : ℕ} (kept : r1 ≡ r0) (chunks : AreChunksEdited e g j runs taken r1 mid r2) where
+      pub untabled-left : 0 < r2
+      untabled-left = let all = costs in let room = can.room in let left = chunks.room in omega (arith, all, room, left, kept)
+
+      module _ {new : Pool} (puts : Puts e.row g (table_word_of (e.layout.now.base + j)) mid new) (logged : IsLogged (Set e.row g (table_word_of (e.layout.now.base + j))) mid new) where
+        made : EditsInGigabyte e g runs first new
+        made =
+            finish-link e.layout.now e.row g j runs e.access (pages_of first.memory) can.canonical below link can.touched maps (pages_of mid.memory) (pages_of new.memory)
+            (subst (λ (x : Pages). IsUnderway e.layout.now e.row g j 512 (edited runs e.access (answers e.layout.now (linked e.layout.now e.row g j x).words e.row)) x (pages_of mid.memory)) marked chunks.edits) puts
+
+        steps : GigabyteInStep e g runs first new
+        steps free =
+            let layout = e.layout.now in
+            let m = pages_of first.memory in
+            let v : ℕ → View = row_view layout e.row first in
+            let which : ℕ → Bool = λ n. eqb (n / 512 / 512) g && disturbed runs v (edited runs e.access v) n in
+            let answer : ℕ → Walked = λ n. walked n (edited runs e.access v n) in
+            let P : Pages → Type 0 = λ s. IsSeated layout e.row g j s → AreFree (λ n. eqb (n / 512 / 512) g) runs e.access (answers layout (linked layout e.row g j s).words e.row)
+            → StaysInStep layout e.row (disturbed_below g 512 runs (answers layout (linked layout e.row g j s).words e.row) (edited runs e.access (answers layout (linked layout e.row g j s).words e.row)))
+            (λ n. walked n (edited runs e.access (answers layout (linked layout e.row g j s).words e.row) n)) taken mid in
+            let take = stays-taken layout e.row which answer first taken (ap (λ (s : Pool). words_of s.memory.words) is) (ap (λ (s : Pool). s.operations) is) (ap (λ (s : Pool). s.made) is) in
+            let passed = stays-linked layout e.row g j runs e.access m can.canonical below link taken mid (same-answers layout e.row g j runs e.access m can.canonical below link can.touched maps) (subst P marked chunks.in_step) free in
+            let zero : (pages_of mid.memory).words e.row g ≡ 0 = chunks.edits.root g ∙ ap (λ (s : Pages). s.words e.row g) marked ∙ root-zero layout m e.row g can.canonical.orderly e.inside below none in
+            let root = stays-root layout e.row g (table_word_of (layout.base + j)) which answer mid new (forest-unlinked layout e.row g j (pages_of mid.memory) chunks.edits.orderly e.inside zero) e.inside (ap (λ w. w % 2) zero)
+            (λ n small at.
+            let nothing : v n ≡ None = ap answer_of (untabled layout m e.row n can.canonical.orderly e.inside small (ap (λ q. table_at layout m.words (Gigabyte e.row q)) at ∙ none)) in
+            gives-new g runs e.access v n (walk layout (words_of new.memory.words) e.row n) at nothing
+            (made.walks e.row n small ∙ ap (λ b. cond b (walked n (edited runs e.access v n)) (walk layout m.words e.row n)) (here e.row (n / 512 / 512) g at)))
+            (ap (λ (s : Pages). s.words) puts) logged in
+            stays-after layout e.row which answer first mid new (stays-after layout e.row which answer first taken mid take passed) root
+          where
+            here : (x y z : ℕ) → y ≡ z → (eqb x x && eqb y z) ≡ true
+            here x y z same = grind (arith, nat_tests)
+
+        pub untabled-edited : {r3 : ℕ} → r3 + 1 ≡ r2 → IsGigabyteEdited e g runs first r0 new r3
+        untabled-edited last = record {
+          edits = made;
+          in_step = steps;
+          room = let all = costs in let left = chunks.room in omega (arith, all, left, kept, last);
+        }

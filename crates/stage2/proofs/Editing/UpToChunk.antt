@@ -1,7 +1,7 @@
 -- The chunks of a gigabyte before one are edited, and these runs are left for the others: one piece after another.
-use Rattle.std.proofs.Common.{◌≡◌, ◌≢◌, ℕ, zero, suc, ◌+◌, ◌-◌, ◌*◌, ◌/◌, ◌%◌, ◌<◌, ◌≤◌, eqb, true, false, cond, None, length, List, sym, ap, subst, ◌∙◌, arith}
+use Rattle.std.proofs.Common.{◌≡◌, ◌≢◌, ℕ, zero, suc, ◌+◌, ◌-◌, ◌*◌, ◌/◌, ◌%◌, ◌<◌, ◌≤◌, eqb, true, false, cond, None, List, sym, ap, subst, ◌∙◌, arith}
 use Rattle.base.specs.Access.{View}
-use Rattle.base.specs.Manifest.{page_count, row_of}
+use Rattle.base.specs.Manifest.{page_count}
 use Rattle.base.specs.Pages.{PageRun, are_normal}
 use Rattle.pool.specs.Pool.{Pool, IsWhole, pages_of, words_of, taken_of, after_replaces}
 use Rattle.stage2.specs.Edits.{edited, touches_chunk, AreFree}
@@ -15,7 +15,7 @@ use Rattle.stage2.specs.declared.site.ChunkEdit.{ChunkEdit}
 use Rattle.stage2.specs.declared.site.RowEdit.{RowEdit}
 use Rattle.stage2.specs.inner.Change.{block_step}
 use Rattle.stage2.specs.inner.Chunks.{answers_in, covers_chunk}
-use Rattle.stage2.specs.inner.Clauses.{IsAt, IsLinkedOrderly, IsSecond, GrowsChunk, HasFree, FitsChunks, EditsChunk, EditsChunks, ChunkInStep, ChunksInStep, ReplacesBlocks, linked_view, operations_in_table, operations_in_chunks}
+use Rattle.stage2.specs.inner.Clauses.{IsAt, GrowsChunk, HasFree, EditsChunk, ChunkInStep, CanEditChunks, AreChunksEdited, ReplacesBlocks, linked_view, operations_in_table}
 use Rattle.stage2.specs.inner.Gigabytes.{IsUnderway}
 use Rattle.stage2.specs.inner.Pieces.{IsNextPiece}
 use Rattle.stage2.specs.inner.Steps.{IsSeated, disturbed_below}
@@ -50,18 +50,18 @@ pub record IsUpTo (e : RowEdit) (j g : ℕ) (runs : List PageRun) (first : Pool)
   pub last : i ≤ 512
   pub room : room_first ≤ room_now + sum_below (cost e j g runs first) i
 
-module _ (e : RowEdit) (j g : ℕ) (runs : List PageRun) (first : Pool) (r0 : ℕ) (inside : e.row < length e.layout.now.ids) (below : g < 512) where
-  pub at-start : IsLinkedOrderly e g j first → IsSecond e g j first → are_normal runs ≡ true → IsUpTo e j g runs first r0 0 runs first r0
-  at-start orderly second normal = record {
-    underway = underway-start e.layout.now e.row g j runs e.access (pages_of first.memory) inside below orderly second;
+module _ {e : RowEdit} {j g : ℕ} {runs : List PageRun} {first : Pool} {r0 : ℕ} (can : CanEditChunks e g j runs first r0) (below : g < 512) where
+  pub at-start : IsUpTo e j g runs first r0 0 runs first r0
+  at-start = record {
+    underway = underway-start e.layout.now e.row g j runs e.access (pages_of first.memory) e.inside below can.orderly can.second;
     in_step = λ seated free. stays-none e.layout.now e.row (disturbed_below g 0 runs (linked_view e g j first) (after e j g runs first)) (λ n. walked n (after e j g runs first n)) first;
     left = left-all (512 * g + 0) runs;
-    normal = normal;
+    normal = can.normal;
     last = omega arith;
     room = omega arith;
   }
 
-  module _ (i : ℕ) (rest : List PageRun) (now : Pool) (r : ℕ) (so : IsUpTo e j g runs first r0 i rest now r) where
+  module _ {i : ℕ} {rest : List PageRun} {now : Pool} {r : ℕ} (so : IsUpTo e j g runs first r0 i rest now r) where
     -- a chunk that these runs leave alone all leave alone
     alone : (x : ℕ) → i ≤ x → touches_chunk (512 * g + x) rest ≡ false → touches_chunk (512 * g + x) runs ≡ false
     alone x from none = sym (left-touches (512 * g + x) rest runs (left-later (512 * g + i) (512 * g + x) rest runs (omega (arith, from)) so.left)) ∙ none
@@ -75,17 +75,17 @@ module _ (e : RowEdit) (j g : ℕ) (runs : List PageRun) (first : Pool) (r0 : �
         let room = so.room in
         record {
           underway = subst (λ n. IsUnderway e.layout.now e.row g j n (after e j g runs first) (pages_of first.memory) (pages_of now.memory)) all
-              (underway-gap e.layout.now e.row g j runs e.access (pages_of first.memory) (pages_of now.memory) inside below (k - i) i (omega (arith, from, most)) none so.underway);
+              (underway-gap e.layout.now e.row g j runs e.access (pages_of first.memory) (pages_of now.memory) e.inside below (k - i) i (omega (arith, from, most)) none so.underway);
           in_step = λ seated free. subst (λ n. StaysInStep e.layout.now e.row (disturbed_below g n runs (linked_view e g j first) (after e j g runs first)) (λ n. walked n (after e j g runs first n)) first now) all
-              (stays-gap e.layout.now e.row g j runs e.access (pages_of first.memory) (pages_of now.memory) inside below first now (k - i) i (omega (arith, from, most)) none so.underway (so.in_step seated free));
+              (stays-gap e.layout.now e.row g j runs e.access (pages_of first.memory) (pages_of now.memory) e.inside below first now (k - i) i (omega (arith, from, most)) none so.underway (so.in_step seated free));
           left = left;
           normal = normal;
           last = most;
           room = omega (arith, up, room);
         }
 
-    pub at-piece : (piece : Piece) → IsNextPiece g i rest piece → IsUpTo e j g runs first r0 piece.first piece.runs.now now r
-    at-piece piece next =
+    pub at-piece : {piece : Piece} → IsNextPiece g i rest piece → IsUpTo e j g runs first r0 piece.first piece.runs.now now r
+    at-piece {piece} next =
         gap piece.first next.from (omega (arith, next.small)) next.apart piece.runs.now
         (left-past (512 * g + piece.first) (512 * (512 * g + piece.first)) rest piece.runs.now runs (λ _. 512 * (512 * g + piece.first)) next.past (left-later (512 * g + i) (512 * g + piece.first) rest runs (omega (arith, next.from)) so.left))
         next.normal
@@ -97,21 +97,15 @@ module _ (e : RowEdit) (j g : ℕ) (runs : List PageRun) (first : Pool) (r0 : �
 
     -- no chunk is left
     module _ (none : (x : ℕ) → i ≤ x → x < 512 → touches_chunk (512 * g + x) rest ≡ false) where
-      done : IsUpTo e j g runs first r0 512 rest now r
-      done = gap 512 so.last (omega arith) none rest (left-later (512 * g + i) (512 * g + 512) rest runs (omega (arith, so.last)) so.left) so.normal
+      all : IsUpTo e j g runs first r0 512 rest now r
+      all = gap 512 so.last (omega arith) none rest (left-later (512 * g + i) (512 * g + 512) rest runs (omega (arith, so.last)) so.left) so.normal
 
-      pub end-edits : EditsChunks e g j runs first now
-      end-edits = done.underway
-
-      pub end-steps : ChunksInStep e g j runs first now
-      end-steps = done.in_step
-
-      pub end-room : r0 ≤ r + operations_in_chunks e g j runs first
-      end-room = done.room
+      pub at-end : AreChunksEdited e g j runs first r0 now r
+      at-end = record { edits = all.underway; in_step = all.in_step; room = all.room }
 
     -- a chunk's own runs among those that are left
-    pub own-here : (part : List PageRun) → part ≡ chunk_runs (512 * g + i) rest → AreOwn (512 * g + i) part runs
-    own-here part own = own-chunk (512 * g + i) runs part (own ∙ so.left.parts (512 * g + i) (omega arith))
+    pub own-here : {part : List PageRun} → part ≡ chunk_runs (512 * g + i) rest → AreOwn (512 * g + i) part runs
+    own-here {part} own = own-chunk (512 * g + i) runs part (own ∙ so.left.parts (512 * g + i) (omega arith))
 
     -- the next chunk
     module _ (lt : i < 512) (h : ChunkEdit) (layout : h.layout.now ≡ e.layout.now) (at : h.chunk ≡ 512 * g + i) (own : AreOwn (512 * g + i) h.runs.now runs) (access : h.access ≡ e.access) where
@@ -119,11 +113,11 @@ module _ (e : RowEdit) (j g : ℕ) (runs : List PageRun) (first : Pool) (r0 : �
       v = answers_in e.layout.now e.row (512 * g + i) j (pages_of now.memory)
 
       pub here-site : IsAt (record { p = e.p; row = e.row; second = j }) h now
-      here-site = site-made (record { p = e.p; row = e.row; second = j }) h e.layout.now (512 * g + i) e.access layout at access now now (site e.layout.now e.row g j runs e.access (pages_of first.memory) inside below i lt (pages_of now.memory) so.underway)
+      here-site = site-made (record { p = e.p; row = e.row; second = j }) h e.layout.now (512 * g + i) e.access layout at access now now (site e.layout.now e.row g j runs e.access (pages_of first.memory) e.inside below i lt (pages_of now.memory) so.underway)
 
-      pub here-free : FitsChunks e g j runs first → GrowsChunk (record { p = e.p; row = e.row; second = j }) h now → HasFree e.row now
-      here-free fits grows =
-          has-free e.layout.now e.row g j runs e.access (pages_of first.memory) inside below i lt (pages_of now.memory) so.underway fits.fits
+      pub here-free : GrowsChunk (record { p = e.p; row = e.row; second = j }) h now → HasFree e.row now
+      here-free grows =
+          has-free e.layout.now e.row g j runs e.access (pages_of first.memory) e.inside below i lt (pages_of now.memory) so.underway can.fits.fits
           (chunk-growing (512 * g + i) runs h.runs.now e.access own.covered v (grows-made (record { p = e.p; row = e.row; second = j }) h e.layout.now (512 * g + i) e.access layout at access now now grows))
 
       touched : touches_chunk (512 * g + i) h.runs.now ≡ true
@@ -132,35 +126,36 @@ module _ (e : RowEdit) (j g : ℕ) (runs : List PageRun) (first : Pool) (r0 : �
       here-cost : cost e j g runs first i ≡ 3 + operations_in_table (record { p = e.p; row = e.row; second = j }) h now
       here-cost =
           let same = chunk-same runs h.runs.now e.access (linked_view e g j first) v (512 * g + i) own.covered own.count
-          (λ x small. still-answers e.layout.now e.row g j runs e.access (pages_of first.memory) inside below i lt (pages_of now.memory) so.underway (512 * (512 * g + i) + x) (omega (arith, small, lt, below)) (omega (arith, small))) own.touches in
+          (λ x small. still-answers e.layout.now e.row g j runs e.access (pages_of first.memory) e.inside below i lt (pages_of now.memory) so.underway (512 * (512 * g + i) + x) (omega (arith, small, lt, below)) (omega (arith, small))) own.touches in
           sym (ap (λ t. cond t (3 + table_operations h.runs.now e.access v (512 * g + i)) 0) (sym touched) ∙ same)
           ∙ ap (λ n. 3 + n) (sym (room-made (record { p = e.p; row = e.row; second = j }) h e.layout.now (512 * g + i) e.access layout at access now now))
 
-      pub here-room : operations_in_chunks e g j runs first ≤ r0 → 3 + operations_in_table (record { p = e.p; row = e.row; second = j }) h now ≤ r
-      here-room enough =
+      pub here-room : 3 + operations_in_table (record { p = e.p; row = e.row; second = j }) h now ≤ r
+      here-room =
+          let enough = can.room in
           let more = sum_below-more (cost e j g runs first) i in
           let up = sum_below-up (cost e j g runs first) (i + 1) 512 (omega (arith, lt)) in
           let room = so.room in
           let one = here-cost in
           omega (arith, more, up, room, one, enough)
 
-      pub here-next : (new : Pool) (r2 : ℕ) → EditsChunk (record { p = e.p; row = e.row; second = j }) h now new → ChunkInStep (record { p = e.p; row = e.row; second = j }) h now new → r ≤ r2 + (3 + operations_in_table (record { p = e.p; row = e.row; second = j }) h now)
+      pub here-next : {new : Pool} {r2 : ℕ} → EditsChunk (record { p = e.p; row = e.row; second = j }) h now new → ChunkInStep (record { p = e.p; row = e.row; second = j }) h now new → r ≤ r2 + (3 + operations_in_table (record { p = e.p; row = e.row; second = j }) h now)
           → IsUpTo e j g runs first r0 (i + 1) rest new r2
-      here-next new r2 edits steps spent =
+      here-next {new} edits steps spent =
           let more = sum_below-more (cost e j g runs first) i in
           let room = so.room in
           let one = here-cost in
           record {
-            underway = underway-edit e.layout.now e.row g j runs e.access (pages_of first.memory) inside below i lt (pages_of now.memory) so.underway (pages_of new.memory)
+            underway = underway-edit e.layout.now e.row g j runs e.access (pages_of first.memory) e.inside below i lt (pages_of now.memory) so.underway (pages_of new.memory)
                 (chunk-redoes e.layout.now e.row (512 * g + i) runs h.runs.now e.access own.covered j v (pages_of now.memory) (pages_of new.memory)
                 (edits-made (record { p = e.p; row = e.row; second = j }) h e.layout.now (512 * g + i) e.access layout at access now new edits));
             in_step = λ seated free.
-                march-edit e.layout.now e.row g j runs e.access (pages_of first.memory) inside below i lt (pages_of now.memory) so.underway first now new (sym own.touches ∙ touched) (so.in_step seated free)
+                march-edit e.layout.now e.row g j runs e.access (pages_of first.memory) e.inside below i lt (pages_of now.memory) so.underway first now new (sym own.touches ∙ touched) (so.in_step seated free)
                 (chunk-stays e.layout.now e.row (512 * g + i) runs h.runs.now e.access own.covered v now new
                 (step-made (record { p = e.p; row = e.row; second = j }) h e.layout.now (512 * g + i) e.access layout at access now new steps
-                (march-seated e.layout.now e.row g j runs e.access (pages_of first.memory) inside below i lt (pages_of now.memory) so.underway seated)
+                (march-seated e.layout.now e.row g j runs e.access (pages_of first.memory) e.inside below i lt (pages_of now.memory) so.underway seated)
                 (chunk-free (512 * g + i) runs h.runs.now e.access own.covered v
-                (march-free e.layout.now e.row g j runs e.access (pages_of first.memory) inside below i lt (pages_of now.memory) so.underway free))));
+                (march-free e.layout.now e.row g j runs e.access (pages_of first.memory) e.inside below i lt (pages_of now.memory) so.underway free))));
             left = left-later (512 * g + i) (512 * g + (i + 1)) rest runs (omega arith) so.left;
             normal = so.normal;
             last = omega (arith, lt);
@@ -170,13 +165,13 @@ module _ (e : RowEdit) (j g : ℕ) (runs : List PageRun) (first : Pool) (r0 : �
     -- its level 2 table
     module _ (lt : i < 512) where
       pub table-inside : j < page_count now.memory.quotas
-      table-inside = second-inside e.layout.now e.row (512 * g + i) j (pages_of now.memory) (site e.layout.now e.row g j runs e.access (pages_of first.memory) inside below i lt (pages_of now.memory) so.underway)
+      table-inside = second-inside e.layout.now e.row (512 * g + i) j (pages_of now.memory) (site e.layout.now e.row g j runs e.access (pages_of first.memory) e.inside below i lt (pages_of now.memory) so.underway)
 
       pub table-taken : taken_of now.memory.taken j ≡ true
-      table-taken = second-taken e.layout.now e.row (512 * g + i) j (pages_of now.memory) (site e.layout.now e.row g j runs e.access (pages_of first.memory) inside below i lt (pages_of now.memory) so.underway)
+      table-taken = second-taken e.layout.now e.row (512 * g + i) j (pages_of now.memory) (site e.layout.now e.row g j runs e.access (pages_of first.memory) e.inside below i lt (pages_of now.memory) so.underway)
 
     -- chunks up to one that a run fills
-    module _ (end : ℕ) (ahead : i < end) (most : end ≤ 512) (filled : (x : ℕ) → i ≤ x → x < end → covers_chunk (512 * g + x) rest ≡ true) where
+    module _ {end : ℕ} (ahead : i < end) (most : end ≤ 512) (filled : (x : ℕ) → i ≤ x → x < end → covers_chunk (512 * g + x) rest ≡ true) where
       fills : (x : ℕ) → i ≤ x → x < end → covers_chunk (512 * g + x) runs ≡ true
       fills x from to = sym (so.left.fills (512 * g + x) (omega (arith, from))) ∙ filled x from to
 
@@ -193,26 +188,27 @@ module _ (e : RowEdit) (j g : ℕ) (runs : List PageRun) (first : Pool) (r0 : �
       spent : sum_below (cost e j g runs first) i + 3 * (end - i) ≤ sum_below (cost e j g runs first) end
       spent = let all : i + (end - i) ≡ end = omega (arith, ahead) in let so_many = three (end - i) (omega (arith, ahead)) in subst (λ n. sum_below (cost e j g runs first) i + 3 * (end - i) ≤ sum_below (cost e j g runs first) n) all so_many
 
-      pub blocks-room : operations_in_chunks e g j runs first ≤ r0 → 3 * end ≤ r + 3 * i
-      blocks-room enough =
+      pub blocks-room : 3 * end ≤ r + 3 * i
+      blocks-room =
+          let enough = can.room in
           let up = sum_below-up (cost e j g runs first) end 512 most in
           let room = so.room in
           let costs = spent in
           omega (arith, up, room, costs, enough, ahead)
 
-      pub blocks-next : row_of e.layout.now.ids e.p ≡ e.row → IsWhole now.memory → ((x : ℕ) → i ≤ x → x < end → next_page (slot e.layout.now 2 (words_of now.memory.words j x)) ≡ None) → (new : Pool) (r2 : ℕ)
+      pub blocks-next : IsWhole now.memory → ((x : ℕ) → i ≤ x → x < end → next_page (slot e.layout.now 2 (words_of now.memory.words j x)) ≡ None) → {new : Pool} {r2 : ℕ}
           → ReplacesBlocks e.p j g i end e.access now new → r + 3 * i ≤ r2 + 3 * end → IsUpTo e j g runs first r0 end rest new r2
-      blocks-next is_row whole none new r2 blocks less =
+      blocks-next whole none {new} blocks less =
           let all : i + (end - i) ≡ end = omega (arith, ahead) in
           let room = so.room in
           let costs = spent in
           record {
             underway = subst (λ (t : Pool). IsUnderway e.layout.now e.row g j end (after e j g runs first) (pages_of first.memory) (pages_of t.memory)) (sym blocks.state)
                 (subst (λ n. IsUnderway e.layout.now e.row g j n (after e j g runs first) (pages_of first.memory) (pages_of (after_replaces e.p j i (end - i) blocks.word (block_step e.access) (512 * (512 * g + i)) now).memory)) all
-                (edited-many e.layout.now e.row g j runs e.access (pages_of first.memory) inside below e.p is_row first i blocks.word now whole (table-inside (omega (arith, ahead, most))) blocks.block end most fills none so.underway (end - i) (omega (arith, all))));
+                (edited-many e.layout.now e.row g j runs e.access (pages_of first.memory) e.inside below e.p e.own first i blocks.word now whole (table-inside (omega (arith, ahead, most))) blocks.block end most fills none so.underway (end - i) (omega (arith, all))));
             in_step = λ seated free. subst (λ (t : Pool). StaysInStep e.layout.now e.row (disturbed_below g end runs (linked_view e g j first) (after e j g runs first)) (λ n. walked n (after e j g runs first n)) first t) (sym blocks.state)
                 (subst (λ n. StaysInStep e.layout.now e.row (disturbed_below g n runs (linked_view e g j first) (after e j g runs first)) (λ n. walked n (after e j g runs first n)) first (after_replaces e.p j i (end - i) blocks.word (block_step e.access) (512 * (512 * g + i)) now)) all
-                (stays-many e.layout.now e.row g j runs e.access (pages_of first.memory) inside below e.p is_row first i blocks.word now whole (table-inside (omega (arith, ahead, most))) blocks.block end most fills none so.underway (end - i) (omega (arith, all)) seated (so.in_step seated free)));
+                (stays-many e.layout.now e.row g j runs e.access (pages_of first.memory) e.inside below e.p e.own first i blocks.word now whole (table-inside (omega (arith, ahead, most))) blocks.block end most fills none so.underway (end - i) (omega (arith, all)) seated (so.in_step seated free)));
             left = left-later (512 * g + i) (512 * g + end) rest runs (omega (arith, ahead)) so.left;
             normal = so.normal;
             last = most;
@@ -221,29 +217,29 @@ module _ (e : RowEdit) (j g : ℕ) (runs : List PageRun) (first : Pool) (r0 : �
 
   -- ---- a chunk that is the only one that runs touch
 
-  module _ (orderly : IsLinkedOrderly e g j first) (second : IsSecond e g j first) (normal : are_normal runs ≡ true) (h : ChunkEdit) (layout : h.layout.now ≡ e.layout.now)
-      (here : h.chunk / 512 ≡ g) (own : h.runs.now ≡ runs) (access : h.access ≡ e.access) (others : (k : ℕ) → k ≢ h.chunk → touches_chunk k runs ≡ false) where
+  module _ (h : ChunkEdit) (layout : h.layout.now ≡ e.layout.now) (here : h.chunk / 512 ≡ g) (own : h.runs.now ≡ runs) (access : h.access ≡ e.access) (others : (k : ℕ) → k ≢ h.chunk → touches_chunk k runs ≡ false) where
     at : h.chunk ≡ 512 * g + h.chunk % 512
     at = omega (arith, here)
 
     apart : (x : ℕ) → x ≢ h.chunk % 512 → touches_chunk (512 * g + x) runs ≡ false
     apart x differs = others (512 * g + x) (λ same. differs (omega (arith, same, at)))
 
+    owns : AreOwn (512 * g + h.chunk % 512) h.runs.now runs
+    owns = own-all (512 * g + h.chunk % 512) runs h.runs.now own
+
     under : IsUpTo e j g runs first r0 (h.chunk % 512) runs first r0
-    under = gap 0 runs first r0 (at-start orderly second normal) (h.chunk % 512) (omega arith) (omega arith) (λ x from to. apart x (λ same. omega (arith, same, to))) runs (left-all (512 * g + h.chunk % 512) runs) normal
+    under = gap at-start (h.chunk % 512) (omega arith) (omega arith) (λ x from to. apart x (λ same. omega (arith, same, to))) runs (left-all (512 * g + h.chunk % 512) runs) can.normal
 
     pub alone-site : IsAt (record { p = e.p; row = e.row; second = j }) h first
-    alone-site = here-site (h.chunk % 512) runs first r0 under (omega arith) h layout at (own-all (512 * g + h.chunk % 512) runs h.runs.now own) access
+    alone-site = here-site under (omega arith) h layout at owns access
 
-    pub alone-free : FitsChunks e g j runs first → GrowsChunk (record { p = e.p; row = e.row; second = j }) h first → HasFree e.row first
-    alone-free = here-free (h.chunk % 512) runs first r0 under (omega arith) h layout at (own-all (512 * g + h.chunk % 512) runs h.runs.now own) access
+    pub alone-free : GrowsChunk (record { p = e.p; row = e.row; second = j }) h first → HasFree e.row first
+    alone-free = here-free under (omega arith) h layout at owns access
 
-    pub alone-room : operations_in_chunks e g j runs first ≤ r0 → 3 + operations_in_table (record { p = e.p; row = e.row; second = j }) h first ≤ r0
-    alone-room = here-room (h.chunk % 512) runs first r0 under (omega arith) h layout at (own-all (512 * g + h.chunk % 512) runs h.runs.now own) access
+    pub alone-room : 3 + operations_in_table (record { p = e.p; row = e.row; second = j }) h first ≤ r0
+    alone-room = here-room under (omega arith) h layout at owns access
 
     -- with it all are edited
-    pub alone-all : (new : Pool) (r : ℕ) → EditsChunk (record { p = e.p; row = e.row; second = j }) h first new → ChunkInStep (record { p = e.p; row = e.row; second = j }) h first new → r0 ≤ r + (3 + operations_in_table (record { p = e.p; row = e.row; second = j }) h first)
-        → IsUpTo e j g runs first r0 512 runs new r
-    alone-all new r edits steps spent =
-        let next = here-next (h.chunk % 512) runs first r0 under (omega arith) h layout at (own-all (512 * g + h.chunk % 512) runs h.runs.now own) access new r edits steps spent in
-        gap (h.chunk % 512 + 1) runs new r next 512 (omega arith) (omega arith) (λ x from to. apart x (λ same. omega (arith, same, from))) runs (left-all (512 * g + 512) runs) normal
+    pub alone-all : {new : Pool} {r : ℕ} → EditsChunk (record { p = e.p; row = e.row; second = j }) h first new → ChunkInStep (record { p = e.p; row = e.row; second = j }) h first new → r0 ≤ r + (3 + operations_in_table (record { p = e.p; row = e.row; second = j }) h first)
+        → AreChunksEdited e g j runs first r0 new r
+    alone-all edits steps spent = at-end (here-next under (omega arith) h layout at owns access edits steps spent) (λ x from small. apart x (λ same. omega (arith, same, from)))

@@ -1,7 +1,7 @@
 -- The gigabytes of a row before one are edited: one after another.
-use Rattle.std.proofs.Common.{◌≡◌, ℕ, ◌+◌, ◌-◌, ◌/◌, ◌<◌, ◌≤◌, true, false, length, List, subst, ◌∙◌, arith}
+use Rattle.std.proofs.Common.{◌≡◌, ℕ, ◌+◌, ◌-◌, ◌/◌, ◌<◌, ◌≤◌, true, false, List, subst, ◌∙◌, arith}
 use Rattle.base.specs.Access.{View}
-use Rattle.base.specs.Pages.{PageRun, covers}
+use Rattle.base.specs.Pages.{PageRun, covers, are_normal}
 use Rattle.pool.specs.Pool.{Pool, pages_of}
 use Rattle.stage2.specs.Edits.{AreFree}
 use Rattle.stage2.specs.Moments.{StaysInStep}
@@ -10,8 +10,8 @@ use Rattle.stage2.specs.Parts.{gigabyte_runs}
 use Rattle.stage2.specs.Room.{sum_below, gigabyte_operations}
 use Rattle.stage2.specs.Walk.{walked}
 use Rattle.stage2.specs.declared.site.RowEdit.{RowEdit}
-use Rattle.stage2.specs.inner.Clauses.{row_view, row_after, FitsInGigabyte, EditsInGigabyte, GigabyteInStep, operations_in_gigabyte, FitsInRow, EditsInRow, RowInStep, operations_in_row}
-use Rattle.stage2.specs.inner.Gigabytes.{IsPast}
+use Rattle.stage2.specs.inner.Clauses.{row_view, row_after, CanEditGigabyte, IsGigabyteEdited, operations_in_gigabyte, FitsInRow, EditsInRow, RowInStep, operations_in_row}
+use Rattle.stage2.specs.inner.Gigabytes.{IsPast, Touches}
 use Rattle.stage2.proofs.Editing.ChunkByChunk.{sum_below-more, sum_below-up}
 use Rattle.stage2.proofs.Editing.GigabyteByGigabyte.{past-none, past-fits, past-operations, past-edit, past-all}
 use Rattle.stage2.proofs.Runs.OwnRuns.{gigabyte-operations, gigabyte-fits, gigabyte-edits, gigabyte-free, gigabyte-stays}
@@ -30,18 +30,15 @@ pub record IsRowUpTo (e : RowEdit) (runs : List PageRun) (first : Pool) (room_fi
       → StaysInStep e.layout.now e.row (disturbed_before i runs (row_view e.layout.now e.row first) (row_after e runs first)) (λ n. walked n (row_after e runs first n)) first now
   pub room : room_first ≤ room_now + sum_below (cost e runs first) i
 
-module _ (e : RowEdit) (runs : List PageRun) (first : Pool) (r0 : ℕ) (inside : e.row < length e.layout.now.ids) where
-  abbrev v : ℕ → View
-  v = row_view e.layout.now e.row first
-
+module _ {e : RowEdit} {runs : List PageRun} {first : Pool} {r0 : ℕ} where
   pub row-start : IsCanonical e.layout.now (pages_of first.memory) → IsRowUpTo e runs first r0 0 first r0
   row-start canonical = record {
-    past = past-none e.layout.now e.row runs e.access (pages_of first.memory) inside canonical;
-    in_step = λ free. stays-none e.layout.now e.row (disturbed_before 0 runs v (row_after e runs first)) (λ n. walked n (row_after e runs first n)) first;
+    past = past-none e.layout.now e.row runs e.access (pages_of first.memory) e.inside canonical;
+    in_step = λ free. stays-none e.layout.now e.row (disturbed_before 0 runs (row_view e.layout.now e.row first) (row_after e runs first)) (λ n. walked n (row_after e runs first n)) first;
     room = omega arith;
   }
 
-  module _ (i : ℕ) (now : Pool) (r : ℕ) (so : IsRowUpTo e runs first r0 i now r) where
+  module _ {i : ℕ} {now : Pool} {r : ℕ} (so : IsRowUpTo e runs first r0 i now r) where
     -- gigabytes that the runs leave alone
     pub row-ahead : (k : ℕ) → i ≤ k → k ≤ 512 → ((n : ℕ) → i ≤ n / 512 / 512 → n / 512 / 512 < k → covers runs n ≡ false) → IsRowUpTo e runs first r0 k now r
     row-ahead k from most none =
@@ -50,55 +47,58 @@ module _ (e : RowEdit) (runs : List PageRun) (first : Pool) (r0 : ℕ) (inside :
         let room = so.room in
         record {
           past = subst (λ n. IsPast e.layout.now e.row n (row_after e runs first) (pages_of first.memory) (pages_of now.memory)) all
-              (past-gap e.layout.now e.row runs e.access (pages_of first.memory) (pages_of now.memory) inside (k - i) i (omega (arith, from, most)) (λ n low high. none n low (omega (arith, high, from))) so.past);
-          in_step = λ free. subst (λ n. StaysInStep e.layout.now e.row (disturbed_before n runs v (row_after e runs first)) (λ n. walked n (row_after e runs first n)) first now) all
-              (cross-gap e.layout.now e.row runs v (row_after e runs first) first now (k - i) i (so.in_step free));
+              (past-gap e.layout.now e.row runs e.access (pages_of first.memory) (pages_of now.memory) e.inside (k - i) i (omega (arith, from, most)) (λ n low high. none n low (omega (arith, high, from))) so.past);
+          in_step = λ free. subst (λ n. StaysInStep e.layout.now e.row (disturbed_before n runs (row_view e.layout.now e.row first) (row_after e runs first)) (λ n. walked n (row_after e runs first n)) first now) all
+              (cross-gap e.layout.now e.row runs (row_view e.layout.now e.row first) (row_after e runs first) first now (k - i) i (so.in_step free));
           room = omega (arith, up, room);
         }
 
     -- no page is left
     module _ (most : i ≤ 512) (none : (n : ℕ) → i ≤ n / 512 / 512 → n / 512 / 512 < 512 → covers runs n ≡ false) where
-      done : IsRowUpTo e runs first r0 512 now r
-      done = row-ahead 512 most (omega arith) none
+      all : IsRowUpTo e runs first r0 512 now r
+      all = row-ahead 512 most (omega arith) none
 
       pub row-edits : EditsInRow e runs first now
-      row-edits = past-all e.layout.now e.row runs e.access (pages_of first.memory) inside (pages_of now.memory) done.past
+      row-edits = past-all e.layout.now e.row runs e.access (pages_of first.memory) e.inside (pages_of now.memory) all.past
 
       pub row-steps : RowInStep e runs first now
-      row-steps free = cross-all e.layout.now e.row 512 runs v (row_after e runs first) first now (omega arith) (done.in_step free)
+      row-steps free = cross-all e.layout.now e.row 512 runs (row_view e.layout.now e.row first) (row_after e runs first) first now (omega arith) (all.in_step free)
 
       pub row-room : r0 ≤ r + operations_in_row e runs first
-      row-room = done.room
+      row-room = all.room
 
     -- the next gigabyte, by the runs that have pages there
-    module _ (lt : i < 512) (part : List PageRun) (is : part ≡ gigabyte_runs i runs) where
-      pub row-fits : IsCanonical e.layout.now (pages_of first.memory) → FitsInRow e runs first → FitsInGigabyte e i part now
-      row-fits canonical fits =
-          gigabyte-fits e.layout.now e.row i runs part e.access is (pages_of now.memory) (past-fits e.layout.now e.row runs e.access (pages_of first.memory) inside i lt (pages_of now.memory) so.past canonical fits)
-
+    module _ (lt : i < 512) {part : List PageRun} (is : part ≡ gigabyte_runs i runs) where
       same-cost : operations_in_gigabyte e i part now ≡ cost e runs first i
-      same-cost = gigabyte-operations i runs part is e.access (row_view e.layout.now e.row now) ∙ past-operations e.layout.now e.row runs e.access (pages_of first.memory) inside i lt (pages_of now.memory) so.past
+      same-cost = gigabyte-operations i runs part is e.access (row_view e.layout.now e.row now) ∙ past-operations e.layout.now e.row runs e.access (pages_of first.memory) e.inside i lt (pages_of now.memory) so.past
 
-      pub row-enough : operations_in_row e runs first ≤ r0 → operations_in_gigabyte e i part now ≤ r
-      row-enough enough =
+      pub row-can : IsCanonical e.layout.now (pages_of first.memory) → FitsInRow e runs first → operations_in_row e runs first ≤ r0 → Touches part i → are_normal part ≡ true → CanEditGigabyte e i part now r
+      row-can canonical fits enough touched normal = record {
+        canonical = so.past.canonical;
+        touched = touched;
+        normal = normal;
+        fits = gigabyte-fits e.layout.now e.row i runs part e.access is (pages_of now.memory) (past-fits e.layout.now e.row runs e.access (pages_of first.memory) e.inside i lt (pages_of now.memory) so.past canonical fits);
+        room =
+            let more = sum_below-more (cost e runs first) i in
+            let up = sum_below-up (cost e runs first) (i + 1) 512 (omega (arith, lt)) in
+            let room = so.room in
+            let one = same-cost in
+            omega (arith, more, up, room, one, enough);
+      }
+
+      pub row-next : {new : Pool} {r2 : ℕ} → IsGigabyteEdited e i part now r new r2 → IsRowUpTo e runs first r0 (i + 1) new r2
+      row-next {new} done =
           let more = sum_below-more (cost e runs first) i in
-          let up = sum_below-up (cost e runs first) (i + 1) 512 (omega (arith, lt)) in
           let room = so.room in
           let one = same-cost in
-          omega (arith, more, up, room, one, enough)
-
-      pub row-next : (new : Pool) (r2 : ℕ) → EditsInGigabyte e i part now new → GigabyteInStep e i part now new → r ≤ r2 + operations_in_gigabyte e i part now → IsRowUpTo e runs first r0 (i + 1) new r2
-      row-next new r2 edits steps spent =
-          let more = sum_below-more (cost e runs first) i in
-          let room = so.room in
-          let one = same-cost in
+          let spent = done.room in
           record {
-            past = past-edit e.layout.now e.row runs e.access (pages_of first.memory) inside i lt (pages_of now.memory) so.past (pages_of new.memory)
-                (gigabyte-edits e.layout.now e.row i runs part e.access is (pages_of now.memory) (pages_of new.memory) edits);
+            past = past-edit e.layout.now e.row runs e.access (pages_of first.memory) e.inside i lt (pages_of now.memory) so.past (pages_of new.memory)
+                (gigabyte-edits e.layout.now e.row i runs part e.access is (pages_of now.memory) (pages_of new.memory) done.edits);
             in_step = λ free.
-                cross-edit e.layout.now e.row runs e.access (pages_of first.memory) inside i lt (pages_of now.memory) so.past first now new (so.in_step free)
+                cross-edit e.layout.now e.row runs e.access (pages_of first.memory) e.inside i lt (pages_of now.memory) so.past first now new (so.in_step free)
                 (gigabyte-stays e.layout.now e.row i runs part e.access is (row_view e.layout.now e.row now) now new
-                (steps (gigabyte-free e.layout.now e.row i runs part e.access is (row_view e.layout.now e.row now)
-                (cross-free e.layout.now e.row runs e.access (pages_of first.memory) inside i lt (pages_of now.memory) so.past free))));
+                (done.in_step (gigabyte-free e.layout.now e.row i runs part e.access is (row_view e.layout.now e.row now)
+                (cross-free e.layout.now e.row runs e.access (pages_of first.memory) e.inside i lt (pages_of now.memory) so.past free))));
             room = omega (arith, more, room, one, spent);
           }

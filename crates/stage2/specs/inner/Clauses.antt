@@ -1,23 +1,25 @@
 -- What the clauses of an edit say, of the pool before it and the pool after it.
-use Rattle.std.specs.Prelude.{◌≡◌, ◌≢◌, ℕ, ◌+◌, ◌-◌, ◌*◌, ◌/◌, ◌%◌, ◌^◌, ◌<◌, Bool, nat_le, nat_lt, true, false, not, ◌&&◌, ◌==◌, if◌then◌else◌, is_some, Option, Some, None, List, length}
+use Rattle.std.specs.Prelude.{◌≡◌, ◌≢◌, ℕ, ◌+◌, ◌-◌, ◌*◌, ◌/◌, ◌%◌, ◌^◌, ◌<◌, ◌≤◌, Bool, nat_le, nat_lt, true, false, not, ◌&&◌, ◌==◌, if◌then◌else◌, is_some, Option, Some, None, List, length}
 use Rattle.base.specs.Access.{View}
 use Rattle.base.specs.Counts.{count_below}
 use Rattle.base.specs.Manifest.{row_of}
-use Rattle.base.specs.Pages.{PageRun, covers}
+use Rattle.base.specs.Pages.{PageRun, covers, are_normal}
 use Rattle.pool.specs.Pool.{Pool, pages_of, words_of, nonzero_in, with_put, with_mark, after_replaces, used_by, row_quota}
 use Rattle.pool.specs.declared.runs.TableWords.{TableWords}
 use Rattle.stage2.specs.declared.site.ChunkEdit.{ChunkEdit}
+use Rattle.stage2.specs.declared.plan.Plan.{Plan}
 use Rattle.stage2.specs.declared.site.RowEdit.{RowEdit}
+use Rattle.stage2.specs.declared.site.RowPlan.{RowPlan}
 use Rattle.stage2.specs.declared.site.Site.{Site}
 use Rattle.stage2.specs.declared.walked.Walked.{Walked}
 use Rattle.stage2.specs.declared.walked.Walked.TheVariants.{None as Unmapped}
 use Rattle.stage2.specs.inner.Change.{block_step}
 use Rattle.stage2.specs.Edits.{edited, AreFree, disturbs, disturbed}
 use Rattle.stage2.specs.inner.Chunks.{IsEntryFor, IsWordFor, Writes, answers_at, answers_in, answers_of, second_of, entry_in, IsOutcome, IsGrowing, IsSite, Redoes_in}
-use Rattle.stage2.specs.inner.Gigabytes.{grows_at, Fits, FitsGigabyte, FitsRow, IsUnderway, EditsGigabyte, EditsRow}
-use Rattle.stage2.specs.inner.History.{Made, broken, replaced}
+use Rattle.stage2.specs.inner.Gigabytes.{grows_at, Touches, Fits, FitsGigabyte, FitsRow, IsUnderway, EditsGigabyte, EditsRow}
+use Rattle.stage2.specs.inner.History.{Made, Filled, broken, replaced}
 use Rattle.stage2.specs.Moments.{StaysInStep}
-use Rattle.stage2.specs.Orderly.{IsOrderly, answers, linked}
+use Rattle.stage2.specs.Orderly.{IsOrderly, IsCanonical, answers, linked}
 use Rattle.stage2.specs.Parts.{part_count}
 use Rattle.stage2.specs.Room.{pages_in, table_operations, chunks_operations, gigabyte_operations, row_operations}
 use Rattle.stage2.specs.Slot.{Layout, Slot, Next, slot}
@@ -30,9 +32,10 @@ use Rattle.stage2.specs.Walk.{Gigabyte, table_at, walk, walked, IsForest}
 abbrev pub Puts : ℕ → ℕ → ℕ → Pool → Pool → Type 0
 Puts page index word old new = pages_of new.memory ≡ with_put page index word (pages_of old.memory)
 
--- of the words for a chunk's pages in a table those are written that are planned
-abbrev pub WritesPlan : ℕ → ℕ → (ℕ → Option View) → Pool → Pool → Type 0
-WritesPlan k c plan old new = Writes k c plan (pages_of old.memory) (pages_of new.memory)
+-- of the words for a chunk's pages in a table those are written that are planned, upward and below the b-th, and nothing else is done
+pub record WritesPlan (k c b : ℕ) (plan : ℕ → Option View) (old new : Pool) : Type 0 where
+  pub words : Writes k c plan (pages_of old.memory) (pages_of new.memory)
+  pub made : Filled k c b plan old new
 
 -- the words of table k for the pages of a chunk, all of which have this answer
 pub record AreWordsOf (k c : ℕ) (answer : View) (words : TableWords) : Type 0 where
@@ -261,6 +264,20 @@ ChunksInStep e g j runs old new =
 abbrev pub FitsChunks : RowEdit → ℕ → ℕ → List PageRun → Pool → Type 0
 FitsChunks e g j runs pool = Fits e.layout.now e.row g j runs e.access (pages_of pool.memory)
 
+-- the chunks of runs can be edited: the tables are orderly once their level 2 table is linked, its own fit, and there is room for the operations
+pub record CanEditChunks (e : RowEdit) (g j : ℕ) (runs : List PageRun) (pool : Pool) (left : ℕ) : Type 0 where
+  pub orderly : IsLinkedOrderly e g j pool
+  pub second : IsSecond e g j pool
+  pub normal : are_normal runs ≡ true
+  pub fits : FitsChunks e g j runs pool
+  pub room : operations_in_chunks e g j runs pool ≤ left
+
+-- they are edited
+pub record AreChunksEdited (e : RowEdit) (g j : ℕ) (runs : List PageRun) (old : Pool) (left_old : ℕ) (new : Pool) (left : ℕ) : Type 0 where
+  pub edits : EditsChunks e g j runs old new
+  pub in_step : ChunksInStep e g j runs old new
+  pub room : left_old ≤ left + operations_in_chunks e g j runs old
+
 -- the pages from one up to another
 abbrev pub is_between : ℕ → ℕ → ℕ → Bool
 is_between first end i = nat_le first i && nat_lt i end
@@ -340,6 +357,20 @@ GigabyteInStep e g runs old new =
     (λ n. (n / 512 / 512 == g) && disturbed runs (row_view e.layout.now e.row old) (row_after e runs old) n)
     (λ n. walked n (row_after e runs old n)) old new
 
+-- a gigabyte that runs touch can be edited: the tables are canonical, its own fit, and there is room for the operations
+pub record CanEditGigabyte (e : RowEdit) (g : ℕ) (runs : List PageRun) (pool : Pool) (left : ℕ) : Type 0 where
+  pub canonical : IsCanonical e.layout.now (pages_of pool.memory)
+  pub touched : Touches runs g
+  pub normal : are_normal runs ≡ true
+  pub fits : FitsInGigabyte e g runs pool
+  pub room : operations_in_gigabyte e g runs pool ≤ left
+
+-- it is edited
+pub record IsGigabyteEdited (e : RowEdit) (g : ℕ) (runs : List PageRun) (old : Pool) (left_old : ℕ) (new : Pool) (left : ℕ) : Type 0 where
+  pub edits : EditsInGigabyte e g runs old new
+  pub in_step : GigabyteInStep e g runs old new
+  pub room : left_old ≤ left + operations_in_gigabyte e g runs old
+
 -- of a row
 abbrev pub EditsInRow : RowEdit → List PageRun → Pool → Pool → Type 0
 EditsInRow e runs old new =
@@ -368,3 +399,10 @@ entry_read layout second i pool = entry_in layout (words_of pool.memory.words) s
 -- the level 3 tables of the new view in this gigabyte at places where the old has none
 abbrev pub chunks_growth : (ℕ → View) → (ℕ → View) → ℕ → ℕ
 chunks_growth old new g = count_below (λ x. grows_at old new (512 * g + x)) 512
+
+-- what the chunks of a gigabyte need: so many tables, and operations at most
+pub record ArePlanned (e : RowPlan) (g : ℕ) (runs : List PageRun) (pool : Pool) (plan : Plan) : Type 0 where
+  pub tables : plan.tables ≡ chunks_growth (view_in e.layout.now e.row pool) (edited runs e.access (view_in e.layout.now e.row pool)) g
+  pub operations : chunks_operations runs e.access (view_in e.layout.now e.row pool) g ≤ plan.operations
+  pub few : plan.tables ≤ 512
+  pub most : plan.operations ≤ 1027 * 512

@@ -8,13 +8,13 @@ use Rattle.stage2.proofs.bound.most_in_gigabyte.Goals as goal
 pub count_untabled-chunks-requires-clause-page_in : goal.count_untabled-chunks-requires-clause-page_in
 count_untabled-chunks-requires-clause-page_in g c = λ j e.
     let pool = g.M.TableMem.state c.args.memory.now in
-    let inside = second-inside c.args.edit.now.layout.now (pages_of pool.memory) c.requires.canonical c.args.gigabyte c.chunk_span.ensures.in_range c.args.edit.now.row c.requires.partition j (sym c.second_at-second.ensures ∙ e) in
+    let inside = second-inside c.args.edit.now.layout.now (pages_of pool.memory) c.requires.canonical c.args.gigabyte c.chunk_span.ensures.in_range c.args.edit.now.row c.args.edit.now.inside j (sym c.second_at-second.ensures ∙ e) in
     rw c.requires.canonical.orderly.pages at inside
 
 pub returns : goal.returns
 returns g c =
     let pool = g.M.TableMem.state c.args.memory.now in
-    let most = growth-untabled c.args.edit.now.layout.now pool c.requires.canonical c.args.edit.now.row c.requires.partition c.args.gigabyte c.chunk_span.ensures.in_range c.second_at-second.result (sym c.second_at-second.ensures)
+    let most = growth-untabled c.args.edit.now.layout.now pool c.requires.canonical c.args.edit.now.row c.args.edit.now.inside c.args.gigabyte c.chunk_span.ensures.in_range c.second_at-second.result (sym c.second_at-second.ensures)
     c.args.runs.now c.args.edit.now.access c.chunk_span.result.first c.chunk_span.result.end c.chunk_span.ensures.within c.count_untabled-chunks.result c.count_untabled-chunks.ensures.counts in
     let few = c.count_untabled-chunks.ensures.few in
     elim (cases_Bool c.is_none.result) [

@@ -44,20 +44,20 @@ give_page-requires-clause-inside g c =
     let m1 = pages_of (g.M.TableMem.state c.replace_entry.new.memory).memory in
     let m2 = pages_of (g.M.TableMem.state c.empty_table.new.memory).memory in
     let share : InShare m.quotas c.args.site.now.row c.args.third = third-share c.args.edit.now.layout.now c.args.site.now.row c.args.edit.now.chunk c.args.site.now.second m c.requires.site c.args.third c.requires.table in
-    let quotas : m2.quotas ≡ m.quotas = c.empty_table.ensures.writes.quotas ∙ ap (λ (x : Pages). x.quotas) c.replace_entry.ensures.pages in
-    let ids : m2.ids ≡ c.args.edit.now.layout.now.ids = c.empty_table.ensures.writes.ids ∙ ap (λ (x : Pages). x.ids) c.replace_entry.ensures.pages ∙ sym c.requires.site.orderly.ids in
+    let quotas : m2.quotas ≡ m.quotas = c.empty_table.ensures.writes.words.quotas ∙ ap (λ (x : Pages). x.quotas) c.replace_entry.ensures.pages in
+    let ids : m2.ids ≡ c.args.edit.now.layout.now.ids = c.empty_table.ensures.writes.words.ids ∙ ap (λ (x : Pages). x.ids) c.replace_entry.ensures.pages ∙ sym c.requires.site.orderly.ids in
     let is : row_of m2.ids c.args.site.now.p ≡ c.args.site.now.row = ap (λ x. row_of x c.args.site.now.p) ids ∙ c.requires.row in
     subst (λ x. InShare m2.quotas x c.args.third) (sym is) (subst (λ x. InShare x c.args.site.now.row c.args.third) (sym quotas) share)
 
 pub give_page-requires-clause-taken : goal.give_page-requires-clause-taken
 give_page-requires-clause-taken g c =
     let m = pages_of (g.M.TableMem.state c.args.memory.now).memory in
-    ap (λ f. f c.args.third) c.empty_table.ensures.writes.taken ∙ ap (λ (x : Pages). x.taken c.args.third) c.replace_entry.ensures.pages ∙ third-taken c.args.edit.now.layout.now c.args.site.now.row c.args.edit.now.chunk c.args.site.now.second m c.requires.site c.args.third c.requires.table
+    ap (λ f. f c.args.third) c.empty_table.ensures.writes.words.taken ∙ ap (λ (x : Pages). x.taken c.args.third) c.replace_entry.ensures.pages ∙ third-taken c.args.edit.now.layout.now c.args.site.now.row c.args.edit.now.chunk c.args.site.now.second m c.requires.site c.args.third c.requires.table
 
 pub give_page-requires-clause-empty : goal.give_page-requires-clause-empty
 give_page-requires-clause-empty g c =
     let m = pages_of (g.M.TableMem.state c.args.memory.now).memory in
-    drop-zero c.args.edit.now.layout.now c.args.site.now.row c.args.edit.now.chunk c.args.site.now.second m c.requires.site c.args.third (pages_of (g.M.TableMem.state c.replace_entry.new.memory).memory) (pages_of (g.M.TableMem.state c.empty_table.new.memory).memory) c.empty_table.ensures.writes
+    drop-zero c.args.edit.now.layout.now c.args.site.now.row c.args.edit.now.chunk c.args.site.now.second m c.requires.site c.args.third (pages_of (g.M.TableMem.state c.replace_entry.new.memory).memory) (pages_of (g.M.TableMem.state c.empty_table.new.memory).memory) c.empty_table.ensures.writes.words
 
 pub returns-clause-redoes : goal.returns-clause-redoes
 returns-clause-redoes g c = λ view outcome.
@@ -65,9 +65,9 @@ returns-clause-redoes g c = λ view outcome.
     let m1 = pages_of (g.M.TableMem.state c.replace_entry.new.memory).memory in
     let m2 = pages_of (g.M.TableMem.state c.empty_table.new.memory).memory in
     let inside : c.args.third < page_count m.quotas = third-inside c.args.edit.now.layout.now c.args.site.now.row c.args.edit.now.chunk c.args.site.now.second m c.requires.site c.args.third c.requires.table in
-    let quotas : m2.quotas ≡ m.quotas = c.empty_table.ensures.writes.quotas ∙ ap (λ (x : Pages). x.quotas) c.replace_entry.ensures.pages in
+    let quotas : m2.quotas ≡ m.quotas = c.empty_table.ensures.writes.words.quotas ∙ ap (λ (x : Pages). x.quotas) c.replace_entry.ensures.pages in
     does-drop c.args.edit.now.layout.now c.args.site.now.row c.args.edit.now.chunk c.args.site.now.second m c.requires.site
-    view c.args.edit.now.access c.block_word.result c.args.third m1 m2 (pages_of (g.M.TableMem.state c.give_page.new.memory).memory) c.requires.table c.block_word.ensures c.replace_entry.ensures.pages c.empty_table.ensures.writes
+    view c.args.edit.now.access c.block_word.result c.args.third m1 m2 (pages_of (g.M.TableMem.state c.give_page.new.memory).memory) c.requires.table c.block_word.ensures c.replace_entry.ensures.pages c.empty_table.ensures.writes.words
     (pages_of-give (g.M.TableMem.state c.empty_table.new.memory) (g.M.TableMem.state c.give_page.new.memory) c.args.third (g.met.M.TableMem.whole c.empty_table.new.memory) (subst (λ x. c.args.third < page_count x) (sym quotas) inside) c.give_page.ensures.state)
     outcome
 
@@ -98,7 +98,7 @@ returns-clause-in_step g c = λ view outcome seated.
     unheld-word layout (words_of x.memory.words) row chunk j word k site.partition site.chunk hung none (third-alone layout row chunk j m site seated k c.requires.table) (third-loose layout row chunk j m site seated k c.requires.table) in
     let wrote : words_of y.memory.words ≡ put j (chunk % 512) word (words_of x.memory.words) = ap (λ (s : Pages). s.words) c.replace_entry.ensures.pages in
     let second : StaysInStep layout row which answer y z =
-    stays-filled layout row k chunk 512 (planned [] None (Some None)) which answer y z c.empty_table.ensures.filled (subst (λ (w : Words). IsUnheld layout w k) (sym wrote) loose) in
+    stays-filled layout row k chunk 512 (planned [] None (Some None)) which answer y z c.empty_table.ensures.writes.made (subst (λ (w : Words). IsUnheld layout w k) (sym wrote) loose) in
     let third : StaysInStep layout row which answer z e =
     stays-taken layout row which answer z e (ap (λ (s : Pool). words_of s.memory.words) c.give_page.ensures.state) (ap (λ (s : Pool). s.operations) c.give_page.ensures.state) (ap (λ (s : Pool). s.made) c.give_page.ensures.state) in
     stays-after layout row which answer x z e (stays-after layout row which answer x y z first second) third

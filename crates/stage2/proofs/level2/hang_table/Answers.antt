@@ -33,14 +33,14 @@ replace_entry-requires-clause-page_in g c =
     let old = g.M.TableMem.state c.args.memory.now in
     let m2 = pages_of (g.M.TableMem.state c.fill_table.new.memory).memory in
     let marked = pages_of-take old (g.M.TableMem.state c.take_page-third.new.memory) (row_in old.memory c.args.site.now.p) c.take_page-third.result (g.met.M.TableMem.whole c.args.memory.now) c.take_page-third.ensures.lowest c.take_page-third.ensures.state in
-    let quotas : m2.quotas ≡ (pages_of old.memory).quotas = c.fill_table.ensures.writes.quotas ∙ ap (λ (x : Pages). x.quotas) marked in
+    let quotas : m2.quotas ≡ (pages_of old.memory).quotas = c.fill_table.ensures.writes.words.quotas ∙ ap (λ (x : Pages). x.quotas) marked in
     subst (λ x. c.args.site.now.second < page_count x) (sym quotas) (second-inside c.args.edit.now.layout.now c.args.site.now.row c.args.edit.now.chunk c.args.site.now.second (pages_of old.memory) c.requires.site)
 
 pub replace_entry-requires-clause-taken : goal.replace_entry-requires-clause-taken
 replace_entry-requires-clause-taken g c =
     let old = g.M.TableMem.state c.args.memory.now in
     let marked = pages_of-take old (g.M.TableMem.state c.take_page-third.new.memory) (row_in old.memory c.args.site.now.p) c.take_page-third.result (g.met.M.TableMem.whole c.args.memory.now) c.take_page-third.ensures.lowest c.take_page-third.ensures.state in
-    ap (λ f. f c.args.site.now.second) c.fill_table.ensures.writes.taken ∙ ap (λ (x : Pages). x.taken c.args.site.now.second) marked
+    ap (λ f. f c.args.site.now.second) c.fill_table.ensures.writes.words.taken ∙ ap (λ (x : Pages). x.taken c.args.site.now.second) marked
     ∙ mark-kept (pages_of old.memory).taken c.take_page-third.result c.args.site.now.second (second-taken c.args.edit.now.layout.now c.args.site.now.row c.args.edit.now.chunk c.args.site.now.second (pages_of old.memory) c.requires.site)
 
 pub returns-clause-redoes : goal.returns-clause-redoes
@@ -59,7 +59,7 @@ returns-clause-redoes g c = λ outcome.
     c.args.edit.now.runs.now c.args.edit.now.access c.args.before.now k m1 m2 new c.requires.none lowest c.requires.before marked
     (writes-fresh k c.args.edit.now.chunk c.args.edit.now.runs.now c.args.edit.now.access c.args.before.now m1 m2
     (λ i. ap (λ (x : Pages). x.words k i) marked ∙ g.met.M.TableMem.free_is_zero c.args.memory.now k i lowest.free)
-    c.fill_table.ensures.writes)
+    c.fill_table.ensures.writes.words)
     (subst (λ x. new ≡ with_put c.args.site.now.second (c.args.edit.now.chunk % 512) x m2) word c.replace_entry.ensures.pages)
     outcome
 
@@ -86,10 +86,10 @@ returns-clause-in_step g c = λ outcome seated.
     stays-taken layout row which answer x y took (ap (λ (s : Pool). s.operations) c.take_page-third.ensures.state) (ap (λ (s : Pool). s.made) c.take_page-third.ensures.state) in
     let loose : IsUnheld layout (words_of y.memory.words) k = subst (λ (w : Words). IsUnheld layout w k) (sym took) (unheld-free layout row chunk j m site seated k free) in
     let second : StaysInStep layout row which answer y z =
-    stays-filled layout row k chunk 512 (planned c.args.edit.now.runs.now c.args.edit.now.access (filling c.args.before.now)) which answer y z c.fill_table.ensures.filled loose in
+    stays-filled layout row k chunk 512 (planned c.args.edit.now.runs.now c.args.edit.now.access (filling c.args.before.now)) which answer y z c.fill_table.ensures.writes.made loose in
     let hung : IsHung layout (words_of y.memory.words) row chunk j = subst (λ (w : Words). IsHung layout w row chunk j) (sym took) (hung-seen layout row chunk j m site seated) in
-    let hung_z : IsHung layout (words_of z.memory.words) row chunk j = hung-outside layout (words_of y.memory.words) (words_of z.memory.words) row chunk j k site.partition site.chunk loose c.fill_table.ensures.writes.others hung in
-    let loose_z : IsUnheld layout (words_of z.memory.words) k = unheld-outside layout (words_of y.memory.words) (words_of z.memory.words) k loose c.fill_table.ensures.writes.others in
+    let hung_z : IsHung layout (words_of z.memory.words) row chunk j = hung-outside layout (words_of y.memory.words) (words_of z.memory.words) row chunk j k site.partition site.chunk loose c.fill_table.ensures.writes.words.others hung in
+    let loose_z : IsUnheld layout (words_of z.memory.words) k = unheld-outside layout (words_of y.memory.words) (words_of z.memory.words) k loose c.fill_table.ensures.writes.words.others in
     let inside : k < page_count m.quotas = share_inside m.quotas row k (subst (λ r. InShare m.quotas r k) (ap (λ i. row_of i c.args.site.now.p) (sym site.orderly.ids) ∙ c.requires.row) c.take_page-third.ensures.lowest.inside) in
     let is_word : word ≡ table_word_of (layout.base + k) = c.table_word.ensures.value ∙ ap table_word_of c.address.ensures in
     let is_slot : slot layout 2 word ≡ Next k = ap (slot layout 2) is_word ∙ slot-table layout 2 k (omega arith) (rw site.orderly.pages inside) site.orderly.fits in
@@ -109,5 +109,5 @@ pub replace_entry-requires-clause-partition : goal.replace_entry-requires-clause
 replace_entry-requires-clause-partition g c =
     let old = g.M.TableMem.state c.args.memory.now in
     let marked = pages_of-take old (g.M.TableMem.state c.take_page-third.new.memory) (row_in old.memory c.args.site.now.p) c.take_page-third.result (g.met.M.TableMem.whole c.args.memory.now) c.take_page-third.ensures.lowest c.take_page-third.ensures.state in
-    let ids = c.fill_table.ensures.writes.ids ∙ ap (λ (x : Pages). x.ids) marked in
+    let ids = c.fill_table.ensures.writes.words.ids ∙ ap (λ (x : Pages). x.ids) marked in
     has-row c.args.edit.now.layout.now (g.M.TableMem.state c.fill_table.new.memory).memory c.args.site.now.p c.args.site.now.row (c.requires.site.orderly.ids ∙ sym ids) c.requires.row c.requires.site.partition

@@ -28,7 +28,7 @@ write_runs-requires-clause-taken g c = third-taken c.args.edit.now.layout.now c.
 pub returns-else-is_none-clause-redoes : goal.returns-else-is_none-clause-redoes
 returns-else-is_none-clause-redoes g c = λ outcome.
     does-rewrite c.args.edit.now.layout.now c.args.site.now.row c.args.edit.now.chunk c.args.site.now.second (pages_of (g.M.TableMem.state c.args.memory.now).memory) c.requires.site
-    c.args.edit.now.runs.now c.args.edit.now.access c.args.third (pages_of (g.M.TableMem.state c.write_runs.new.memory).memory) c.requires.table c.write_runs.ensures.writes outcome
+    c.args.edit.now.runs.now c.args.edit.now.access c.args.third (pages_of (g.M.TableMem.state c.write_runs.new.memory).memory) c.requires.table c.write_runs.ensures.writes.words outcome
 
 -- pages that are mapped were not before
 unmapped : (runs : List PageRun) (access : View) (view : ℕ → View) (n : ℕ) (here : Bool) → is_some access ≡ true → (covers runs n ≡ true → (access ≡ None) ⊎ (view n ≡ None)) → (covers runs n && here) ≡ true → view n ≡ None
@@ -55,9 +55,9 @@ returns-else-is_none-clause-in_step g c = λ seated free.
     stays-covered layout row chunk runs access (chunk_view c.args.site.now c.args.edit.now x) (λ n. walked n access) x y (λ n. refl)
     (elim seated [
       | inl e ↦
-          stays-made layout row k chunk (planned runs access None) which access x y c.write_runs.ensures.filled (plans-runs chunk runs access) (level_3-seen layout row chunk j m site e k c.requires.table)
+          stays-made layout row k chunk (planned runs access None) which access x y c.write_runs.ensures.writes.made (plans-runs chunk runs access) (level_3-seen layout row chunk j m site e k c.requires.table)
           (λ i small w. invalid-word layout row chunk j m site k i c.requires.table small (unmapped runs access (answers_in layout row chunk j m) (512 * chunk + i) (eqb ((512 * chunk + i) / 512) chunk) maps (free (512 * chunk + i) (let below = site.chunk in omega (arith, small, below)) (both (covers runs (512 * chunk + i)) (eqb ((512 * chunk + i) / 512) chunk) w).1) w))
-      | inr e ↦ stays-filled layout row k chunk 512 (planned runs access None) which (λ n. walked n access) x y c.write_runs.ensures.filled (unheld-third layout row chunk j m site e k c.requires.table)
+      | inr e ↦ stays-filled layout row k chunk 512 (planned runs access None) which (λ n. walked n access) x y c.write_runs.ensures.writes.made (unheld-third layout row chunk j m site e k c.requires.table)
     ])
 
 -- ---- pages are unmapped: they are invalidated run by run
@@ -66,7 +66,7 @@ pub invalidate_parts-requires-clause-partition : goal.invalidate_parts-requires-
 invalidate_parts-requires-clause-partition g c =
     let s = c.args.site.now in
     let e = c.args.edit.now in
-    has-row e.layout.now (g.M.TableMem.state c.write_runs.new.memory).memory s.p s.row (c.requires.site.orderly.ids ∙ sym c.write_runs.ensures.writes.ids) c.requires.row c.requires.site.partition
+    has-row e.layout.now (g.M.TableMem.state c.write_runs.new.memory).memory s.p s.row (c.requires.site.orderly.ids ∙ sym c.write_runs.ensures.writes.words.ids) c.requires.row c.requires.site.partition
 
 unmaps : (a : View) (b : Bool) (k : ℕ) → is_some a ≡ not b → b ≡ true → cond (is_some a) 0 k ≡ k
 unmaps a b k e f = let none : is_some a ≡ false = e ∙ ap not f in rw none refl
@@ -85,7 +85,7 @@ returns-then-is_none-clause-redoes g c = λ outcome.
     let e = c.args.edit.now in
     let pool = g.M.TableMem.state c.args.memory.now in
     subst (λ (x : Memory). Redoes_in e.layout.now s.row e.chunk s.second (chunk_after s e pool) (pages_of pool.memory) (pages_of x)) (sym c.invalidate_parts.ensures.memory)
-    (does-rewrite e.layout.now s.row e.chunk s.second (pages_of pool.memory) c.requires.site e.runs.now e.access c.args.third (pages_of (g.M.TableMem.state c.write_runs.new.memory).memory) c.requires.table c.write_runs.ensures.writes outcome)
+    (does-rewrite e.layout.now s.row e.chunk s.second (pages_of pool.memory) c.requires.site e.runs.now e.access c.args.third (pages_of (g.M.TableMem.state c.write_runs.new.memory).memory) c.requires.table c.write_runs.ensures.writes.words outcome)
 
 gone : (a : View) (b : Bool) → is_some a ≡ not b → b ≡ true → a ≡ None
 gone None b e f = refl
@@ -111,8 +111,8 @@ returns-then-is_none-clause-in_step g c = λ seated free.
     (stays-cleared layout row c.args.site.now.p which x y new c.requires.row
     (elim seated [
       | inl e ↦
-          clears-made layout row k chunk (planned runs access None) which x y c.write_runs.ensures.filled (subst (λ (a : View). PlansOnly chunk (planned runs access None) which a) none (plans-runs chunk runs access)) (level_3-seen layout row chunk j m site e k c.requires.table)
-      | inr e ↦ clears-filled layout row k chunk 512 (planned runs access None) which x y c.write_runs.ensures.filled (unheld-third layout row chunk j m site e k c.requires.table)
+          clears-made layout row k chunk (planned runs access None) which x y c.write_runs.ensures.writes.made (subst (λ (a : View). PlansOnly chunk (planned runs access None) which a) none (plans-runs chunk runs access)) (level_3-seen layout row chunk j m site e k c.requires.table)
+      | inr e ↦ clears-filled layout row k chunk 512 (planned runs access None) which x y c.write_runs.ensures.writes.made (unheld-third layout row chunk j m site e k c.requires.table)
     ]) c.invalidate_parts.ensures.settles)
 
 pub returns-then-is_none-clause-room : goal.returns-then-is_none-clause-room

@@ -11,9 +11,10 @@ write_gaps-requires-clause-turned g c = λ i small out. ap (λ (w : ℕ). w == 0
 
 pub returns-clause-writes : goal.returns-clause-writes
 returns-clause-writes g c =
-    writes-gaps c.args.third c.args.edit.now.chunk c.args.edit.now.runs.now c.args.other.now (pages_of (g.M.TableMem.state c.args.memory.now).memory) (pages_of (g.M.TableMem.state c.write_gaps.new.memory).memory) (λ i small _. c.requires.empty i small) c.write_gaps.ensures.writes
-
-pub returns-clause-filled : goal.returns-clause-filled
-returns-clause-filled g c =
     let runs = c.args.edit.now.runs.now in
-    filled-more c.args.third c.args.edit.now.chunk 512 (gaps runs c.args.other.now) (planned runs None (Some c.args.other.now)) (g.M.TableMem.state c.args.memory.now) (g.M.TableMem.state c.write_gaps.new.memory) (planned-gaps runs c.args.other.now) c.write_gaps.ensures.filled
+    let old = g.M.TableMem.state c.args.memory.now in
+    let new = g.M.TableMem.state c.write_gaps.new.memory in
+    record {
+      words = writes-gaps c.args.third c.args.edit.now.chunk runs c.args.other.now (pages_of old.memory) (pages_of new.memory) (λ i small _. c.requires.empty i small) c.write_gaps.ensures.writes.words;
+      made = filled-more c.args.third c.args.edit.now.chunk 512 (gaps runs c.args.other.now) (planned runs None (Some c.args.other.now)) old new (planned-gaps runs c.args.other.now) c.write_gaps.ensures.writes.made;
+    }

@@ -26,15 +26,7 @@ returns-clause-writes g c =
     let w = c.chunk_words-words.ensures in
     let words = c.chunk_words-words.result in
     rw (c.turn_runs.ensures.state, w.page, w.start)
-    (runs-written c.args.third e.chunk words.word words.step e.access w.each e.runs.now (g.M.TableMem.state c.args.memory.now) (g.met.M.TableMem.whole c.args.memory.now) c.requires.page_in (rise-normal e.runs.now e.normal)).0
-
-pub returns-clause-filled : goal.returns-clause-filled
-returns-clause-filled g c =
-    let e = c.args.edit.now in
-    let w = c.chunk_words-words.ensures in
-    let words = c.chunk_words-words.result in
-    rw (c.turn_runs.ensures.state, w.page, w.start)
-    (runs-written c.args.third e.chunk words.word words.step e.access w.each e.runs.now (g.M.TableMem.state c.args.memory.now) (g.met.M.TableMem.whole c.args.memory.now) c.requires.page_in (rise-normal e.runs.now e.normal)).1
+    (runs-written c.args.third e.chunk words.word words.step e.access w.each e.runs.now (g.M.TableMem.state c.args.memory.now) (g.met.M.TableMem.whole c.args.memory.now) c.requires.page_in (rise-normal e.runs.now e.normal))
 
 pub returns-clause-room : goal.returns-clause-room
 returns-clause-room g c =

@@ -46,8 +46,8 @@ loop-first-preserved g c =
     let there : (x : ℕ) → i ≤ x → x < end → p (512 * chunk + x) ≡ Some answer =
     λ x least lt. plan-there runs c.args.edit.now.access c.args.other.now answer (512 * chunk + x) c.stretch_at-part.result.value (sym (ahead (512 * chunk + x) (omega (arith, least))) ∙ c.stretch_at-part.ensures.alike x least lt) c.answer_of-answer.ensures in
     record {
-      writes = writes-join c.args.third chunk i end p answer (pages_of start.memory) (pages_of (g.M.TableMem.state c.loop-first.memory).memory) (pages_of (g.M.TableMem.state c.write_pages.new.memory).memory) (omega (arith, behind)) there c.loop-first.invariant.writes c.write_pages.ensures.writes;
-      filled = filled-join c.args.third chunk i end p answer start (g.M.TableMem.state c.loop-first.memory) (g.M.TableMem.state c.write_pages.new.memory) (omega (arith, behind)) there c.loop-first.invariant.filled c.write_pages.ensures.filled;
+      writes = writes-join c.args.third chunk i end p answer (pages_of start.memory) (pages_of (g.M.TableMem.state c.loop-first.memory).memory) (pages_of (g.M.TableMem.state c.write_pages.new.memory).memory) (omega (arith, behind)) there c.loop-first.invariant.writes c.write_pages.ensures.writes.words;
+      filled = filled-join c.args.third chunk i end p answer start (g.M.TableMem.state c.loop-first.memory) (g.M.TableMem.state c.write_pages.new.memory) (omega (arith, behind)) there c.loop-first.invariant.filled c.write_pages.ensures.writes.made;
       ahead = λ m from. ahead m (omega (arith, from, behind));
       normal = c.runs_from-rest.ensures.normal;
       last = c.stretch_at-part.ensures.most;
@@ -56,12 +56,12 @@ loop-first-preserved g c =
 
 pub returns-clause-writes : goal.returns-clause-writes
 returns-clause-writes g c =
-    let old = pages_of (g.M.TableMem.state c.args.memory.now).memory in
-    let mid = pages_of (g.M.TableMem.state c.loop-first.memory).memory in
+    let old = g.M.TableMem.state c.args.memory.now in
+    let now = g.M.TableMem.state c.loop-first.memory in
+    let chunk = c.args.edit.now.chunk in
+    let i = c.loop-first.first in
     let p = planned c.args.edit.now.runs.now c.args.edit.now.access (Some c.args.other.now) in
-    writes-all c.args.third c.args.edit.now.chunk c.loop-first.first p old mid (λ x small from. absurd (omega (arith, small, from, c.loop-first-test.false))) c.loop-first.invariant.writes
-
-pub returns-clause-filled : goal.returns-clause-filled
-returns-clause-filled g c =
-    filled-wider c.args.third c.args.edit.now.chunk c.loop-first.first 512 (planned c.args.edit.now.runs.now c.args.edit.now.access (Some c.args.other.now)) (g.M.TableMem.state c.args.memory.now) (g.M.TableMem.state c.loop-first.memory)
-    c.loop-first.invariant.last c.loop-first.invariant.filled
+    record {
+      words = writes-all c.args.third chunk i p (pages_of old.memory) (pages_of now.memory) (λ x small from. absurd (omega (arith, small, from, c.loop-first-test.false))) c.loop-first.invariant.writes;
+      made = filled-wider c.args.third chunk i 512 p old now c.loop-first.invariant.last c.loop-first.invariant.filled;
+    }

@@ -1,8 +1,8 @@
 use Rattle.std.proofs.Common.{◌+◌, ◌*◌, ◌==◌, sym, ap, ◌∙◌, arith}
-use Rattle.pool.specs.Pool.{pages_of, gaps_of}
+use Rattle.pool.specs.Pool.{gaps_of}
 use Rattle.pool.proofs.Gaps.{rise-normal, gaps-rise, gaps-words, gaps-out}
 use Rattle.stage2.specs.inner.Clauses.{word_in}
-use Rattle.stage2.proofs.Editing.Gaps.{writes-gap-runs, filled-gap-runs}
+use Rattle.stage2.proofs.Editing.Gaps.{writes-gap-runs}
 use Rattle.stage2.proofs.Editing.RunWords.{runs-written}
 use Rattle.stage2.proofs.Counting.Pieces.{words-pages}
 use Rattle.stage2.proofs.level3.write_gaps.Goals as goal
@@ -34,19 +34,9 @@ returns-clause-writes g c =
     let w = c.chunk_words-words.ensures in
     let words = c.chunk_words-words.result in
     let old = g.M.TableMem.state c.args.memory.now in
-    writes-gap-runs c.args.third e.chunk e.runs.now c.args.answer.now (pages_of old.memory) (pages_of (g.M.TableMem.state c.set_gaps.new.self).memory) (rise-normal e.runs.now e.normal)
+    writes-gap-runs c.args.third e.chunk e.runs.now c.args.answer.now old (g.M.TableMem.state c.set_gaps.new.self) (rise-normal e.runs.now e.normal)
     (rw (c.set_gaps.ensures.state, w.page, w.start)
-    (runs-written c.args.third e.chunk words.word words.step c.args.answer.now w.each (gaps_of (512 * e.chunk) e.runs.now) old (g.met.M.TableMem.whole c.args.memory.now) c.requires.page_in (gaps-rise (512 * e.chunk) e.runs.now)).0)
-
-pub returns-clause-filled : goal.returns-clause-filled
-returns-clause-filled g c =
-    let e = c.args.edit.now in
-    let w = c.chunk_words-words.ensures in
-    let words = c.chunk_words-words.result in
-    let old = g.M.TableMem.state c.args.memory.now in
-    filled-gap-runs c.args.third e.chunk e.runs.now c.args.answer.now old (g.M.TableMem.state c.set_gaps.new.self) (rise-normal e.runs.now e.normal)
-    (rw (c.set_gaps.ensures.state, w.page, w.start)
-    (runs-written c.args.third e.chunk words.word words.step c.args.answer.now w.each (gaps_of (512 * e.chunk) e.runs.now) old (g.met.M.TableMem.whole c.args.memory.now) c.requires.page_in (gaps-rise (512 * e.chunk) e.runs.now)).1)
+    (runs-written c.args.third e.chunk words.word words.step c.args.answer.now w.each (gaps_of (512 * e.chunk) e.runs.now) old (g.met.M.TableMem.whole c.args.memory.now) c.requires.page_in (gaps-rise (512 * e.chunk) e.runs.now)))
 
 pub returns-clause-room : goal.returns-clause-room
 returns-clause-room g c =

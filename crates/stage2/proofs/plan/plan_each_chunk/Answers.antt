@@ -1,7 +1,6 @@
-use Rattle.std.proofs.Common.{◌≡◌, ℕ, ◌+◌, ◌-◌, ◌*◌, ◌<◌, ◌≤◌, true, refl, sym, ap, subst, ◌∙◌, arith}
+use Rattle.std.proofs.Common.{◌≡◌, ℕ, ◌+◌, ◌*◌, ◌<◌, ◌≤◌, true, refl, sym, ap, subst, ◌∙◌, arith}
 use Rattle.pool.specs.Pool.{pages_of}
 use Rattle.stage2.specs.inner.Chunks.{covers_chunk}
-use Rattle.stage2.specs.inner.Clauses.{view_in}
 use Rattle.stage2.proofs.Counting.Growth.{filled-grows, filled-operations, second-inside}
 use Rattle.stage2.proofs.Counting.UpToPiece.{planned-start, planned-piece, planned-end, planned-filled, planned-one}
 use Rattle.stage2.proofs.Runs.Between.{past-past}
@@ -9,18 +8,18 @@ use Rattle.stage2.proofs.plan.plan_each_chunk.Goals as goal
 
 pub loop-piece-init : goal.loop-piece-init
 loop-piece-init g c = record {
-  planned = planned-start c.args.gigabyte c.args.runs.now c.args.edit.now.access (view_in c.args.edit.now.layout.now c.args.edit.now.row (g.M.TableMem.state c.args.memory.now)) c.new-plan.result c.new-plan.ensures c.requires.normal;
+  planned = planned-start c.new-plan.ensures c.requires.normal;
 }
 
 pub plain_from-plain-requires-clause-page_in : goal.plain_from-plain-requires-clause-page_in
 plain_from-plain-requires-clause-page_in g c = λ j is.
     let m = pages_of (g.M.TableMem.state c.args.memory.now).memory in
-    let inside = second-inside c.args.edit.now.layout.now m c.requires.canonical c.args.gigabyte c.in-Some.ensures.in_range c.args.edit.now.row c.requires.partition j (c.requires.table ∙ is) in
+    let inside = second-inside c.args.edit.now.layout.now m c.requires.canonical c.args.gigabyte c.in-Some.ensures.in_range c.args.edit.now.row c.args.edit.now.inside j (c.requires.table ∙ is) in
     subst (λ n. j < n) c.requires.canonical.orderly.pages inside
 
 pub loop-piece-preserved-then-piece-plain : goal.loop-piece-preserved-then-piece-plain
 loop-piece-preserved-then-piece-plain g c =
-    let so = planned-piece c.args.gigabyte c.args.runs.now c.args.edit.now.access (view_in c.args.edit.now.layout.now c.args.edit.now.row (g.M.TableMem.state c.args.memory.now)) c.loop-piece.index c.loop-piece.rest.now c.loop-piece.plan c.loop-piece.invariant.planned c.in-Some.piece c.in-Some.ensures.some in
+    let so = planned-piece c.loop-piece.invariant.planned c.in-Some.ensures.some in
     let m = pages_of (g.M.TableMem.state c.args.memory.now).memory in
     let gigabyte = c.args.gigabyte in
     let runs = c.args.runs.now in
@@ -35,10 +34,10 @@ loop-piece-preserved-then-piece-plain g c =
     let filled : (x : ℕ) → first ≤ x → x < end → covers_chunk (512 * gigabyte + x) runs ≡ true =
     λ x from lt. sym (so.left.fills (512 * gigabyte + x) (omega (arith, from))) ∙ c.in-Some.ensures.some.filled x from (omega (arith, lt, most)) in
     record {
-      planned = planned-filled c.args.gigabyte c.args.runs.now c.args.edit.now.access (view_in c.args.edit.now.layout.now c.args.edit.now.row (g.M.TableMem.state c.args.memory.now)) c.in-Some.piece.first c.in-Some.piece.runs.now c.loop-piece.plan so end c.if-piece-plain.true (omega (arith, most, last))
+      planned = planned-filled so c.if-piece-plain.true (omega (arith, most, last))
           (λ x from lt. filled-grows layout m c.requires.canonical gigabyte below row runs access (512 * gigabyte + x) (filled x from lt))
-          (λ x from lt. filled-operations layout m c.requires.canonical gigabyte below row c.requires.partition runs access c.args.second.now x (omega (arith, lt, most, last)) c.requires.table (c.plain_from-plain.ensures.plain layout x from lt) (filled x from lt))
-          (record { tables = c.loop-piece.plan.tables; operations = c.loop-piece.plan.operations + 3 * (end - first) }) refl;
+          (λ x from lt. filled-operations layout m c.requires.canonical gigabyte below row c.args.edit.now.inside runs access c.args.second.now x (omega (arith, lt, most, last)) c.requires.table (c.plain_from-plain.ensures.plain layout x from lt) (filled x from lt))
+          refl;
     }
 
 pub plan_at-more-requires-clause-past : goal.plan_at-more-requires-clause-past
@@ -48,13 +47,13 @@ plan_at-more-requires-clause-past g c =
 
 pub loop-piece-preserved : goal.loop-piece-preserved
 loop-piece-preserved g c =
-    let so = planned-piece c.args.gigabyte c.args.runs.now c.args.edit.now.access (view_in c.args.edit.now.layout.now c.args.edit.now.row (g.M.TableMem.state c.args.memory.now)) c.loop-piece.index c.loop-piece.rest.now c.loop-piece.plan c.loop-piece.invariant.planned c.in-Some.piece c.in-Some.ensures.some in
+    let so = planned-piece c.loop-piece.invariant.planned c.in-Some.ensures.some in
     let here = c.chunk.ensures.same in
     record {
-      planned = planned-one c.args.gigabyte c.args.runs.now c.args.edit.now.access (view_in c.args.edit.now.layout.now c.args.edit.now.row (g.M.TableMem.state c.args.memory.now)) c.in-Some.piece.first c.in-Some.piece.runs.now c.loop-piece.plan so c.in-Some.ensures.some.small c.plan_at-more.result (record { tables = c.loop-piece.plan.tables + c.plan_at-more.result.tables; operations = c.loop-piece.plan.operations + c.plan_at-more.result.operations }) refl (rw here at c.plan_at-more.ensures.tables) (rw here at c.plan_at-more.ensures.operations) c.plan_at-more.ensures.most;
+      planned = planned-one so c.in-Some.ensures.some.small refl (rw here at c.plan_at-more.ensures.tables) (rw here at c.plan_at-more.ensures.operations) c.plan_at-more.ensures.most;
     }
 
 pub returns : goal.returns
 returns g c =
-    let so = planned-end c.args.gigabyte c.args.runs.now c.args.edit.now.access (view_in c.args.edit.now.layout.now c.args.edit.now.row (g.M.TableMem.state c.args.memory.now)) c.loop-piece.index c.loop-piece.rest.now c.loop-piece.plan c.loop-piece.invariant.planned (c.in_default.ensures.none refl) in
+    let so = planned-end c.loop-piece.invariant.planned (c.in_default.ensures.none refl) in
     record { tables = so.tables; operations = so.operations; few = so.few; most = so.most }

@@ -17,18 +17,18 @@ use Rattle.stage2.proofs.plan.plan_in.Goals as goal
 pub entry_at-entry-requires-clause-table : goal.entry_at-entry-requires-clause-table
 entry_at-entry-requires-clause-table g c = λ j e.
     let chunk = c.args.edit.now.chunk in
-    second-inside c.args.row.now.layout.now (pages_of (g.M.TableMem.state c.args.memory.now).memory) c.requires.canonical (chunk / 512) (omega (arith, c.requires.in_range)) c.args.row.now.row c.requires.partition j (c.requires.table ∙ e)
+    second-inside c.args.row.now.layout.now (pages_of (g.M.TableMem.state c.args.memory.now).memory) c.requires.canonical (chunk / 512) (omega (arith, c.requires.in_range)) c.args.row.now.row c.args.row.now.inside j (c.requires.table ∙ e)
 
 pub plan_chunk-requires-clause-taken : goal.plan_chunk-requires-clause-taken
 plan_chunk-requires-clause-taken g c = λ k next.
     let chunk = c.args.edit.now.chunk in
-    view-taken c.args.row.now.layout.now (pages_of (g.M.TableMem.state c.args.memory.now).memory) c.requires.canonical (chunk / 512) (omega (arith, c.requires.in_range)) c.args.row.now.row c.requires.partition c.args.second.now (chunk % 512) (omega arith) c.requires.table k
+    view-taken c.args.row.now.layout.now (pages_of (g.M.TableMem.state c.args.memory.now).memory) c.requires.canonical (chunk / 512) (omega (arith, c.requires.in_range)) c.args.row.now.row c.args.row.now.inside c.args.second.now (chunk % 512) (omega arith) c.requires.table k
     (sym c.entry_at-entry.ensures.same ∙ next)
 
 pub plan_chunk-requires-clause-spelled : goal.plan_chunk-requires-clause-spelled
 plan_chunk-requires-clause-spelled g c = λ k next n there.
     let chunk = c.args.edit.now.chunk in
-    rw c.requires.layout (view-spelled c.args.row.now.layout.now (pages_of (g.M.TableMem.state c.args.memory.now).memory) c.requires.canonical (chunk / 512) (omega (arith, c.requires.in_range)) c.args.row.now.row c.requires.partition c.args.second.now (chunk % 512) (omega arith) c.requires.table k
+    rw c.requires.layout (view-spelled c.args.row.now.layout.now (pages_of (g.M.TableMem.state c.args.memory.now).memory) c.requires.canonical (chunk / 512) (omega (arith, c.requires.in_range)) c.args.row.now.row c.args.row.now.inside c.args.second.now (chunk % 512) (omega arith) c.requires.table k
     (sym c.entry_at-entry.ensures.same ∙ next) n (omega (arith, there)))
 
 pub plan_chunk-requires-clause-mixed : goal.plan_chunk-requires-clause-mixed
@@ -38,7 +38,7 @@ plan_chunk-requires-clause-mixed g c =
     let m = pages_of (g.M.TableMem.state c.args.memory.now).memory in
     let entry = entry_in layout m.words c.args.second.now (chunk % 512) in
     let at : 512 * (chunk / 512) + chunk % 512 ≡ chunk = omega arith in
-    let read = view-mixed layout m c.requires.canonical (chunk / 512) (omega (arith, c.requires.in_range)) c.args.row.now.row c.requires.partition c.args.second.now (chunk % 512) (omega arith) c.requires.table in
+    let read = view-mixed layout m c.requires.canonical (chunk / 512) (omega (arith, c.requires.in_range)) c.args.row.now.row c.args.row.now.inside c.args.second.now (chunk % 512) (omega arith) c.requires.table in
     let there : is_mixed (answers_at layout m.words entry) chunk ≡ is_some (next_page entry) = subst (λ x. is_mixed (answers_at layout m.words entry) x ≡ is_some (next_page entry)) at read in
     rw (c.requires.layout, c.entry_at-entry.ensures.same) there
 
@@ -51,7 +51,7 @@ returns-clause-tables g c =
     let entry = entry_in layout m.words c.args.second.now (chunk % 512) in
     let before : ℕ → View = answers_of layout m.words c.args.row.now.row in
     let at : 512 * (chunk / 512) + chunk % 512 ≡ chunk = omega arith in
-    let grows = grows-entry layout m c.requires.canonical (chunk / 512) (omega (arith, c.requires.in_range)) c.args.row.now.row c.requires.partition h.runs.now h.access c.args.second.now (chunk % 512) (omega arith) c.requires.table in
+    let grows = grows-entry layout m c.requires.canonical (chunk / 512) (omega (arith, c.requires.in_range)) c.args.row.now.row c.args.row.now.inside h.runs.now h.access c.args.second.now (chunk % 512) (omega arith) c.requires.table in
     let there : (is_mixed (edited h.runs.now h.access (answers_at layout m.words entry)) chunk && not (is_some (next_page entry))) ≡ grows_at before (edited h.runs.now h.access before) chunk =
     subst (λ x. (is_mixed (edited h.runs.now h.access (answers_at layout m.words entry)) x && not (is_some (next_page entry))) ≡ grows_at before (edited h.runs.now h.access before) x) at grows in
     (rw c.requires.layout at c.plan_chunk.ensures.tables)
@@ -67,7 +67,7 @@ returns-clause-operations g c =
     let read : ℕ → View = answers_at layout m.words c.entry_at-entry.result in
     let same = chunk-same h.runs.now h.runs.now h.access before read chunk (λ n at. refl) refl
     (λ i small. ap (λ (s : Slot). answers_at layout m.words s (512 * chunk + i)) c.entry_at-entry.ensures.same
-    ∙ entry-view layout m c.requires.canonical (chunk / 512) (omega (arith, c.requires.in_range)) c.args.row.now.row c.requires.partition c.args.second.now (chunk % 512) (512 * chunk + i) (omega arith) c.requires.table (omega (arith, small)))
+    ∙ entry-view layout m c.requires.canonical (chunk / 512) (omega (arith, c.requires.in_range)) c.args.row.now.row c.args.row.now.inside c.args.second.now (chunk % 512) (512 * chunk + i) (omega arith) c.requires.table (omega (arith, small)))
     refl in
     let all : 3 + table_operations h.runs.now h.access read chunk ≤ c.plan_chunk.result.operations = rw c.requires.layout at c.plan_chunk.ensures.operations in
     let so_many : 3 + table_operations h.runs.now h.access read chunk ≡ chunk_operations h.runs.now h.access before chunk = ap (λ t. cond t (3 + table_operations h.runs.now h.access read chunk) 0) (sym (touches-made h)) ∙ same in

@@ -3,12 +3,8 @@ use Rattle.base.specs.Need.{grow}
 use Rattle.stage2.specs.Edits.{edited}
 use Rattle.stage2.specs.Sound.{TablesView}
 use Rattle.stage2.specs.Tables.{view_of}
-use Rattle.stage2.proofs.Tree.Rows.{row-found}
 use Rattle.stage2.proofs.Editing.WholeTables.{view, grow-found}
 use Rattle.stage2.proofs.tables.Tables.most_growth.Goals as goal
-
-pub most_tables-requires-clause-partition : goal.most_tables-requires-clause-partition
-most_tables-requires-clause-partition g c = λ row is. (row-found c.self.inside.layout.ids c.args.p row (sym c.row.ensures.row ∙ is)).inside
 
 pub returns : goal.returns
 returns g c =

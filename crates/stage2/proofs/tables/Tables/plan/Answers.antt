@@ -3,12 +3,8 @@ use Rattle.base.specs.Need.{grow}
 use Rattle.stage2.specs.Edits.{edited}
 use Rattle.stage2.specs.Sound.{TablesView}
 use Rattle.stage2.specs.Tables.{view_of, edit_operations}
-use Rattle.stage2.proofs.Tree.Rows.{row-found}
 use Rattle.stage2.proofs.Editing.WholeTables.{view, grow-found, room-found}
 use Rattle.stage2.proofs.tables.Tables.plan.Goals as goal
-
-pub plan_row-requires-clause-partition : goal.plan_row-requires-clause-partition
-plan_row-requires-clause-partition g c = λ row is. (row-found c.self.inside.layout.ids c.args.p row (sym c.row.ensures.row ∙ is)).inside
 
 pub returns-clause-tables : goal.returns-clause-tables
 returns-clause-tables g c =
