@@ -24,8 +24,8 @@ near t kept gone most least either is least_is few = elim either [
 ]
 
 -- where no word is looked at
-pub returns-then-not-looks-clause-operations : goal.returns-then-not-looks-clause-operations
-returns-then-not-looks-clause-operations g c =
+pub returns-then-not-looks : goal.returns-then-not-looks
+returns-then-not-looks g c =
     let e = c.args.edit.now in
     let pool = g.M.TableMem.state c.args.memory.now in
     let view : ℕ → View = read_before e (Next c.args.third) pool in
@@ -35,7 +35,13 @@ returns-then-not-looks-clause-operations g c =
     let either = table-either e.runs.now e.access view e.chunk (512 * e.chunk + page.0) c.requires.mixed (omega (arith, lt)) page.2 in
     let most = within (table_operations e.runs.now e.access view e.chunk) c.operations_kept-kept.result c.operations_gone-gone.result c.max-most.result (rw (c.operations_kept-kept.ensures.same, gone) either) c.max-most.ensures in
     let is : c.new-then-not-looks.result.operations ≡ 3 + c.max-most.result = ap (λ (p : Plan). p.operations) c.new-then-not-looks.ensures in
-    omega (arith, most, is)
+    let looks = c.if-not-looks.true in
+    record {
+      tables = ap (λ (p : Plan). p.tables) c.new-then-not-looks.ensures;
+      operations = omega (arith, most, is);
+      close = λ yes. absurd (cc);
+      most = omega (arith, is, c.max-most.ensures, c.operations_kept-kept.ensures.most, c.operations_gone-gone.ensures.most);
+    }
   where
     within : (t k1 k2 most : ℕ) → (t ≡ k1) ⊎ (t ≡ k2) → most ≡ max k1 k2 → t ≤ most
     within t k1 k2 most either is = elim either [
@@ -43,8 +49,8 @@ returns-then-not-looks-clause-operations g c =
       | inr e ↦ omega (arith, e, is)
     ]
 
-pub returns-then-most-min-le-SURPLUS-clause-operations : goal.returns-then-most-min-le-SURPLUS-clause-operations
-returns-then-most-min-le-SURPLUS-clause-operations g c =
+pub returns-then-most-min-le-SURPLUS : goal.returns-then-most-min-le-SURPLUS
+returns-then-most-min-le-SURPLUS g c =
     let e = c.args.edit.now in
     let pool = g.M.TableMem.state c.args.memory.now in
     let view : ℕ → View = read_before e (Next c.args.third) pool in
@@ -54,26 +60,18 @@ returns-then-most-min-le-SURPLUS-clause-operations g c =
     let either = table-either e.runs.now e.access view e.chunk (512 * e.chunk + page.0) c.requires.mixed (omega (arith, lt)) page.2 in
     let both = near (table_operations e.runs.now e.access view e.chunk) c.operations_kept-kept.result c.operations_gone-gone.result c.max-most.result c.min.result (rw (c.operations_kept-kept.ensures.same, gone) either) c.max-most.ensures c.min.ensures c.if-most-min-le-SURPLUS.true in
     let least = both.0 in
-    let is : c.new-then-most-min-le-SURPLUS.result.operations ≡ 3 + c.max-most.result = ap (λ (p : Plan). p.operations) c.new-then-most-min-le-SURPLUS.ensures in
-    omega (arith, least, is)
-
-pub returns-then-most-min-le-SURPLUS-clause-close : goal.returns-then-most-min-le-SURPLUS-clause-close
-returns-then-most-min-le-SURPLUS-clause-close g c =
-    let e = c.args.edit.now in
-    let pool = g.M.TableMem.state c.args.memory.now in
-    let view : ℕ → View = read_before e (Next c.args.third) pool in
-    let gone = gone-words e c.args.third c.operations_gone-gone.result pool c.requires.spelled c.operations_gone-gone.ensures.same in
-    let page = one e in
-    let lt = page.1 in
-    let either = table-either e.runs.now e.access view e.chunk (512 * e.chunk + page.0) c.requires.mixed (omega (arith, lt)) page.2 in
-    let both = near (table_operations e.runs.now e.access view e.chunk) c.operations_kept-kept.result c.operations_gone-gone.result c.max-most.result c.min.result (rw (c.operations_kept-kept.ensures.same, gone) either) c.max-most.ensures c.min.ensures c.if-most-min-le-SURPLUS.true in
     let most = both.1 in
     let is : c.new-then-most-min-le-SURPLUS.result.operations ≡ 3 + c.max-most.result = ap (λ (p : Plan). p.operations) c.new-then-most-min-le-SURPLUS.ensures in
-    omega (arith, most, is)
+    record {
+      tables = ap (λ (p : Plan). p.tables) c.new-then-most-min-le-SURPLUS.ensures;
+      operations = omega (arith, least, is);
+      close = λ _. omega (arith, most, is);
+      most = omega (arith, is, c.max-most.ensures, c.operations_kept-kept.ensures.most, c.operations_gone-gone.ensures.most);
+    }
 
 -- a table that goes
-pub returns-then-is_alike_in_table-clause-operations : goal.returns-then-is_alike_in_table-clause-operations
-returns-then-is_alike_in_table-clause-operations g c =
+pub returns-then-is_alike_in_table : goal.returns-then-is_alike_in_table
+returns-then-is_alike_in_table g c =
     let e = c.args.edit.now in
     let pool = g.M.TableMem.state c.args.memory.now in
     let view : ℕ → View = read_before e (Next c.args.third) pool in
@@ -81,55 +79,40 @@ returns-then-is_alike_in_table-clause-operations g c =
     let outcome = subst (λ b. IsOutcome e.chunk (read_after e (Next c.args.third) pool) (tells b e.access)) c.if-is_alike_in_table.true c.is_alike_in_table.ensures in
     let all = dropped e.runs.now e.access view e.chunk e.access c.requires.mixed outcome in
     let is : c.new-then-is_alike_in_table.result.operations ≡ 3 + c.operations_gone-gone.result = ap (λ (p : Plan). p.operations) c.new-then-is_alike_in_table.ensures in
-    omega (arith, all, is, gone)
-
-pub returns-then-is_alike_in_table-clause-close : goal.returns-then-is_alike_in_table-clause-close
-returns-then-is_alike_in_table-clause-close g c =
-    let e = c.args.edit.now in
-    let pool = g.M.TableMem.state c.args.memory.now in
-    let view : ℕ → View = read_before e (Next c.args.third) pool in
-    let gone = gone-words e c.args.third c.operations_gone-gone.result pool c.requires.spelled c.operations_gone-gone.ensures.same in
-    let outcome = subst (λ b. IsOutcome e.chunk (read_after e (Next c.args.third) pool) (tells b e.access)) c.if-is_alike_in_table.true c.is_alike_in_table.ensures in
-    let all = dropped e.runs.now e.access view e.chunk e.access c.requires.mixed outcome in
-    let is : c.new-then-is_alike_in_table.result.operations ≡ 3 + c.operations_gone-gone.result = ap (λ (p : Plan). p.operations) c.new-then-is_alike_in_table.ensures in
-    omega (arith, all, is, gone)
+    record {
+      tables = ap (λ (p : Plan). p.tables) c.new-then-is_alike_in_table.ensures;
+      operations = omega (arith, all, is, gone);
+      close = λ _. omega (arith, all, is, gone);
+      most = omega (arith, is, c.operations_gone-gone.ensures.most);
+    }
 
 -- one that stays
-pub returns-else-is_alike_in_table-clause-operations : goal.returns-else-is_alike_in_table-clause-operations
-returns-else-is_alike_in_table-clause-operations g c =
+pub returns-else-is_alike_in_table : goal.returns-else-is_alike_in_table
+returns-else-is_alike_in_table g c =
     let e = c.args.edit.now in
     let pool = g.M.TableMem.state c.args.memory.now in
     let view : ℕ → View = read_before e (Next c.args.third) pool in
     let outcome = subst (λ b. IsOutcome e.chunk (read_after e (Next c.args.third) pool) (tells b e.access)) c.if-is_alike_in_table.false c.is_alike_in_table.ensures in
     let all = kept e.runs.now e.access view e.chunk c.requires.mixed outcome in
     let is : c.new-else-is_alike_in_table.result.operations ≡ 3 + c.operations_kept-kept.result = ap (λ (p : Plan). p.operations) c.new-else-is_alike_in_table.ensures in
-    omega (arith, all, is, c.operations_kept-kept.ensures.same)
-
-pub returns-else-is_alike_in_table-clause-close : goal.returns-else-is_alike_in_table-clause-close
-returns-else-is_alike_in_table-clause-close g c =
-    let e = c.args.edit.now in
-    let pool = g.M.TableMem.state c.args.memory.now in
-    let view : ℕ → View = read_before e (Next c.args.third) pool in
-    let outcome = subst (λ b. IsOutcome e.chunk (read_after e (Next c.args.third) pool) (tells b e.access)) c.if-is_alike_in_table.false c.is_alike_in_table.ensures in
-    let all = kept e.runs.now e.access view e.chunk c.requires.mixed outcome in
-    let is : c.new-else-is_alike_in_table.result.operations ≡ 3 + c.operations_kept-kept.result = ap (λ (p : Plan). p.operations) c.new-else-is_alike_in_table.ensures in
-    omega (arith, all, is, c.operations_kept-kept.ensures.same)
+    record {
+      tables = ap (λ (p : Plan). p.tables) c.new-else-is_alike_in_table.ensures;
+      operations = omega (arith, all, is, c.operations_kept-kept.ensures.same);
+      close = λ _. omega (arith, all, is, c.operations_kept-kept.ensures.same);
+      most = omega (arith, is, c.operations_kept-kept.ensures.most);
+    }
 
 -- one that stays, as its count tells
-pub returns-then-is_told_mixed-clause-operations : goal.returns-then-is_told_mixed-clause-operations
-returns-then-is_told_mixed-clause-operations g c =
+pub returns-then-is_told_mixed : goal.returns-then-is_told_mixed
+returns-then-is_told_mixed g c =
     let e = c.args.edit.now in
     let pool = g.M.TableMem.state c.args.memory.now in
     let view : ℕ → View = read_before e (Next c.args.third) pool in
     let all = kept e.runs.now e.access view e.chunk c.requires.mixed (stray-mixed e c.args.third pool c.requires.spelled (c.is_told_mixed.ensures c.if-is_told_mixed.true)) in
     let is : c.new.result.operations ≡ 3 + c.operations_kept-kept.result = ap (λ (p : Plan). p.operations) c.new.ensures in
-    omega (arith, all, is, c.operations_kept-kept.ensures.same)
-
-pub returns-then-is_told_mixed-clause-close : goal.returns-then-is_told_mixed-clause-close
-returns-then-is_told_mixed-clause-close g c =
-    let e = c.args.edit.now in
-    let pool = g.M.TableMem.state c.args.memory.now in
-    let view : ℕ → View = read_before e (Next c.args.third) pool in
-    let all = kept e.runs.now e.access view e.chunk c.requires.mixed (stray-mixed e c.args.third pool c.requires.spelled (c.is_told_mixed.ensures c.if-is_told_mixed.true)) in
-    let is : c.new.result.operations ≡ 3 + c.operations_kept-kept.result = ap (λ (p : Plan). p.operations) c.new.ensures in
-    λ _. omega (arith, all, is, c.operations_kept-kept.ensures.same)
+    record {
+      tables = ap (λ (p : Plan). p.tables) c.new.ensures;
+      operations = omega (arith, all, is, c.operations_kept-kept.ensures.same);
+      close = λ _. omega (arith, all, is, c.operations_kept-kept.ensures.same);
+      most = omega (arith, is, c.operations_kept-kept.ensures.most);
+    }
