@@ -7,7 +7,7 @@ ghost use Rattle.base.specs.Need.{grow};
 ghost use Rattle.base.specs.Pages.{are_normal};
 ghost use Rattle.pool.specs.Pool.{pages_of};
 ghost use Rattle.stage2.specs.Edits.{edited};
-ghost use Rattle.stage2.specs.inner.Clauses.{is_between, points_at, view_in, second_in};
+ghost use Rattle.stage2.specs.inner.Clauses.{is_between, points_at, view_in};
 ghost use Rattle.stage2.specs.inner.Gigabytes.{gigabyte_growth};
 ghost use Rattle.stage2.specs.Orderly.{IsCanonical};
 ghost use Rattle.stage2.specs.Room.{row_operations};

@@ -1,7 +1,6 @@
 //! Level 2: the word of a chunk, its table, and the chunks of a gigabyte.
 
 ghost use Rattle.base.specs.Manifest.{page_count};
-ghost use Rattle.base.specs.Pages.{are_normal};
 ghost use Rattle.pool.specs.Pool.{taken_of, HasRow};
 ghost use Rattle.stage2.specs.inner.Change.{block_step};
 ghost use Rattle.stage2.specs.inner.Chunks.{block_answer, IsEntryFor};

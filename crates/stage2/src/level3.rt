@@ -1,16 +1,16 @@
 //! Level 3: the words of a chunk's pages, in its table.
 
 ghost use Rattle.base.specs.Manifest.{page_count};
-ghost use Rattle.base.specs.Pages.{covers, in_run};
-ghost use Rattle.pool.specs.Pool.{words_of, taken_of, after_sets, after_runs, words_in, nonzero_in, HasRow};
+ghost use Rattle.base.specs.Pages.{covers};
+ghost use Rattle.pool.specs.Pool.{words_of, taken_of, after_sets, nonzero_in, HasRow};
 ghost use Rattle.stage2.specs.inner.Change.{entry_for, step_for};
-ghost use Rattle.stage2.specs.inner.Chunks.{planned, filling, IsWordFor};
+ghost use Rattle.stage2.specs.inner.Chunks.{planned, filling};
 ghost use Rattle.stage2.specs.Edits.{edited};
 ghost use Rattle.stage2.specs.inner.Clauses.{AreWordsOf, AreTurned, AreRunsTurned, LeavesNone, WritesPlan, some_pages, IsEmpty, word_in, words_left, IsStray, OthersAnswer, gaps, covers_in};
 ghost use Rattle.stage2.specs.Moments.{Settles};
 ghost use Rattle.stage2.specs.Parts.{part_count};
 ghost use Rattle.stage2.specs.Room.{pages_in, reached_in};
-ghost use Rattle.std.specs.Prelude.{◌≡◌, ℕ, ◌+◌, ◌-◌, ◌*◌, ◌^◌, ◌<◌, ◌≤◌, true, None, [], ◌||◌, false, Some, is_some, if◌then◌else◌, min, ◌≢◌};
+ghost use Rattle.std.specs.Prelude.{◌≡◌, ℕ, ◌+◌, ◌-◌, ◌*◌, ◌^◌, ◌<◌, ◌≤◌, true, None, [], ◌||◌, false, Some, is_some, if◌then◌else◌, ◌≢◌};
 ghost use Rattle.words.specs.Words.{entry_of};
 
 use crate::parts::{part_in, runs_from, stretch_at};

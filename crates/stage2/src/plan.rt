@@ -5,7 +5,7 @@ ghost use Rattle.base.specs.Manifest.{page_count};
 ghost use Rattle.base.specs.Need.{is_mixed, grow};
 ghost use Rattle.base.specs.Pages.{PageRun, are_normal};
 ghost use Rattle.pool.specs.Pool.{pages_of, taken_of};
-ghost use Rattle.stage2.specs.inner.Chunks.{block_answer, covers_chunk};
+ghost use Rattle.stage2.specs.inner.Chunks.{block_answer};
 ghost use Rattle.stage2.specs.Edits.{edited};
 ghost use Rattle.stage2.specs.inner.Clauses as clauses;
 ghost use Rattle.stage2.specs.inner.Clauses.{IsSpelled, read_before, read_after, view_in, second_in, entry_read, words_left, ArePlanned};
