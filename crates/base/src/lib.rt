@@ -25,7 +25,7 @@ pub use order::gather;
 pub use page::{Page, Run};
 pub use partition::{PartitionId, Version};
 pub use permissions::{DataAccess, InstructionAccess, Permissions};
-pub use runs::normal;
+pub use runs::{Runs, normal};
 pub use segment::Segment;
 pub use status::{OutOfMemory, Status};
 pub use transaction::Kind;

@@ -6,10 +6,54 @@ use crate::order::gather;
 use crate::page::Run;
 use crate::status::OutOfMemory;
 use std::alloc::Global;
+use std::marker::Model;
 use std::mem::replace;
 
 #[cfg(test)]
 mod tests;
+
+/// Runs that are maximal, in ascending order: a page lies between any two of them.
+#[derive(Drop)]
+pub struct Runs<'a>(&'a [Run]);
+
+impl<'a> Model for Runs<'a> {
+    ghost use Rattle.base.specs.Pages.{PageRun, are_normal};
+    ghost use Rattle.std.specs.Prelude.{◌≡◌, List, true};
+
+    ghost Value = { List PageRun };
+
+    ghost view = { λ runs. runs.0.now };
+
+    ghost invariant = { λ runs. are_normal runs.0.now ≡ true };
+}
+
+impl<'a> Runs<'a> {
+    /// The runs of a list.
+    #[inline(always)]
+    pub fn of(list: &'a [Run]) -> Self
+        requires { are_normal list.now ≡ true }
+        ensures { result ≡ list.now }
+    {
+        Runs(list)
+    }
+
+    /// The list.
+    #[inline(always)]
+    pub fn list(&self) -> &'a [Run]
+        ensures same { result.now ≡ self.now }
+        ensures normal { are_normal result.now ≡ true }
+    {
+        self.0
+    }
+
+    /// The same runs once more.
+    #[inline(always)]
+    pub fn again(&self) -> Runs<'a>
+        ensures { result ≡ self.now }
+    {
+        Runs(self.0)
+    }
+}
 
 /// The maximal runs of the pages that the runs cover, in ascending order, in the memory of the spare list, which is
 /// empty then. Where memory runs out, the spare list alone has changed.

@@ -1,6 +1,6 @@
 ghost use Rattle.std.specs.Prelude.{◌≡◌, ◌≢◌, ℕ, ◌+◌, ◌-◌, ◌*◌, ◌^◌, ◌<◌, ◌≤◌, length, reverse, IfOk, OnOk, true, false};
 ghost use Rattle.base.specs.Manifest.{page_count};
-ghost use Rattle.base.specs.Pages.{are_normal, covers};
+ghost use Rattle.base.specs.Pages.{covers};
 ghost use Rattle.pool.specs.Pool.{Pool, IsWhole, HasRow, all_lie_in, InShareOf, IsLowestFreeOf, pages_of, words_of, taken_of, nonzero_in, words_in, new_pool, after_set, after_sets, after_runs, gaps_of, after_replaces, after_invalidate, after_clear, after_take, after_give, emptied, free_of, image_of};
 ghost use Rattle.pool.specs.Writing.{AreGapsThere, IsGapMissing, TurnRuns, TurnGaps, HasZero};
 
@@ -8,7 +8,7 @@ use crate::image::Image;
 use crate::operation::Op;
 use crate::runs::TableWords;
 use crate::word_range::WordRange;
-use base::{OutOfMemory, Page, PartitionId, Run};
+use base::{OutOfMemory, Page, PartitionId, Run, Runs};
 use manifest::Manifest;
 use std::alloc::Global;
 
@@ -44,7 +44,7 @@ pub trait TableMem {
         ensures { result ≡ nonzero_in (words_of (state self.now).memory.words) page };
 
     /// Whether all words of a root, or of a page that is taken, that stand for pages in none of the runs are these.
-    fn has_gaps(&self, words: TableWords, runs: &[Run]) -> bool
+    fn has_gaps(&self, words: TableWords, runs: &Runs) -> bool
         requires page_in { words.page < page_count (state self.now).memory.quotas }
         requires taken { taken_of (state self.now).memory.taken words.page ≡ true }
         requires start_in { words.start < 2 ^ 27 }
@@ -54,7 +54,7 @@ pub trait TableMem {
 
     /// Whether no word of a root, or of a page that is taken, is 0 that stands for a page of the runs. The first
     /// stands for page `start`, and each other one for a page more than the one before.
-    fn has_all(&self, page: u32, start: u32, runs: &[Run]) -> bool
+    fn has_all(&self, page: u32, start: u32, runs: &Runs) -> bool
         requires page_in { page < page_count (state self.now).memory.quotas }
         requires taken { taken_of (state self.now).memory.taken page ≡ true }
         requires start_in { start < 2 ^ 27 }
@@ -86,10 +86,9 @@ pub trait TableMem {
 
     /// Writes the words of a root, or of a page that is taken, that stand for the pages of runs. A word that is there
     /// is not written.
-    fn set_runs(&mut self, words: TableWords, runs: &[Run])
+    fn set_runs(&mut self, words: TableWords, runs: &Runs)
         requires page_in { words.page < page_count (state self.old).memory.quotas }
         requires taken { taken_of (state self.old).memory.taken words.page ≡ true }
-        requires normal { are_normal runs.now ≡ true }
         requires start_in { words.start < 2 ^ 27 }
         requires in_range { words.word + words.step * 512 < 2 ^ 64 }
         requires ready { words_in words.start runs.now ≤ room self.old }
@@ -99,7 +98,7 @@ pub trait TableMem {
 
     /// Writes the words of a root, or of a page that is taken, that stand for the pages in none of the runs. None of
     /// them is there: they are 0 exactly where the first of these words is not.
-    fn set_gaps(&mut self, words: TableWords, runs: &[Run])
+    fn set_gaps(&mut self, words: TableWords, runs: &Runs)
         requires page_in { words.page < page_count (state self.old).memory.quotas }
         requires taken { taken_of (state self.old).memory.taken words.page ≡ true }
         requires start_in { words.start < 2 ^ 27 }
@@ -113,10 +112,9 @@ pub trait TableMem {
 
     /// Writes the words of a root, or of a page that is taken, that stand for the pages of runs. None of them is there:
     /// they are 0 exactly where the first of these words is not.
-    fn turn_runs(&mut self, words: TableWords, runs: &[Run])
+    fn turn_runs(&mut self, words: TableWords, runs: &Runs)
         requires page_in { words.page < page_count (state self.old).memory.quotas }
         requires taken { taken_of (state self.old).memory.taken words.page ≡ true }
-        requires normal { are_normal runs.now ≡ true }
         requires start_in { words.start < 2 ^ 27 }
         requires in_range { words.word + words.step * 512 < 2 ^ 64 }
         requires turned { TurnRuns (state self.old).memory.words words runs.now }

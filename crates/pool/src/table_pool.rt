@@ -17,7 +17,7 @@ use crate::table_mem::TableMem;
 use crate::word_range::WordRange;
 use crate::word_store::WordStore;
 use base::limits::TABLE_WORDS;
-use base::{OutOfMemory, Page, PartitionId, Run};
+use base::{OutOfMemory, Page, PartitionId, Run, Runs};
 use manifest::{Manifest, Partition};
 use marks::Marks;
 use std::alloc::Global;
@@ -143,12 +143,12 @@ impl<S: WordStore> TableMem for TablePool<S> {
         self.nonzero[page as usize]
     }
 
-    fn has_gaps(&self, words: TableWords, runs: &[Run]) -> bool {
-        are_gaps_there(&self.store, runs, words)
+    fn has_gaps(&self, words: TableWords, runs: &Runs) -> bool {
+        are_gaps_there(&self.store, runs.list(), words)
     }
 
-    fn has_all(&self, page: u32, start: u32, runs: &[Run]) -> bool {
-        are_filled(&self.store, page, start, runs)
+    fn has_all(&self, page: u32, start: u32, runs: &Runs) -> bool {
+        are_filled(&self.store, page, start, runs.list())
     }
 
     fn set_word(&mut self, page: u32, index: u32, word: u64) {
@@ -170,26 +170,26 @@ impl<S: WordStore> TableMem for TablePool<S> {
         self.nonzero[range.page as usize] = nonzero;
     }
 
-    fn set_runs(&mut self, words: TableWords, runs: &[Run]) {
+    fn set_runs(&mut self, words: TableWords, runs: &Runs) {
         let count = self.nonzero[words.page as usize];
-        let count = set_runs(&mut self.store, &mut self.operations, count, runs, words);
+        let count = set_runs(&mut self.store, &mut self.operations, count, runs.list(), words);
         self.nonzero[words.page as usize] = count;
     }
 
-    fn set_gaps(&mut self, words: TableWords, runs: &[Run]) {
+    fn set_gaps(&mut self, words: TableWords, runs: &Runs) {
         let count = self.nonzero[words.page as usize];
         let log = Log::take(&mut self.operations, count);
         let Log {
             operations,
             nonzero,
-        } = turn_gaps(&mut self.store, log, runs, words);
+        } = turn_gaps(&mut self.store, log, runs.list(), words);
         self.operations = operations;
         self.nonzero[words.page as usize] = nonzero;
     }
 
-    fn turn_runs(&mut self, words: TableWords, runs: &[Run]) {
+    fn turn_runs(&mut self, words: TableWords, runs: &Runs) {
         let count = self.nonzero[words.page as usize];
-        let count = turn_runs(&mut self.store, &mut self.operations, count, runs, words);
+        let count = turn_runs(&mut self.store, &mut self.operations, count, runs.list(), words);
         self.nonzero[words.page as usize] = count;
     }
 

@@ -13,7 +13,7 @@ ghost use Rattle.spm.specs.Machine.{AreEditedBy, ShowsEdit, fits_in};
 use crate::calls::{buffers, reclaim, relinquish, retrieve, send, version};
 use crate::change::{Change, Edit, Update};
 use crate::state::State;
-use base::{OutOfMemory, PartitionId, Run};
+use base::{OutOfMemory, PartitionId, Run, Runs};
 use pool::TableMem;
 use stage2::Tables;
 use wire::Reply;
@@ -29,7 +29,7 @@ pub(crate) fn fits<M: TableMem + Drop>(
     ensures { (m : ManifestRows) → tables.now.layout ≡ layout_of m → result ≡ fits_in m tables.now edit.now }
 {
     match edit {
-        Some(edit) => tables.fits(p, &edit.runs, edit.to),
+        Some(edit) => tables.fits(p, &Runs::of(&edit.runs), edit.to),
         None => true,
     }
 }
@@ -93,7 +93,12 @@ fn edit_and_apply<M: TableMem + Drop>(
     ensures err_state { OnErr result (state.new ≡ state.old) }
     ensures err_pool { OnErr result (tables.new.pool ≡ tables.old.pool) }
 {
-    tables.ready(edit.who, &edit.runs, edit.to, clear_count(&edit))?;
+    tables.ready(
+        edit.who,
+        &Runs::of(&edit.runs),
+        edit.to,
+        clear_count(&edit),
+    )?;
     apply(state, p, update)?;
     edit_tables(tables, &edit);
     *spare = edit.runs;
@@ -124,13 +129,14 @@ fn edit_tables<M: TableMem + Drop>(tables: &mut Tables<M>, edit: &Edit)
     ensures walks { ReachSo edit.now.who edit.now.runs edit.now.to tables.old tables.new }
     ensures shown { ShowsOne edit.now tables.old tables.new }
 {
+    let runs = Runs::of(&edit.runs);
     match edit.to {
         Some(access) => {
             clear_pages(tables, edit);
-            tables.map(edit.who, &edit.runs, access);
+            tables.map(edit.who, &runs, access);
         }
         None => {
-            tables.unmap(edit.who, &edit.runs);
+            tables.unmap(edit.who, &runs);
             clear_pages(tables, edit);
         }
     }

@@ -4,7 +4,6 @@ ghost use Rattle.base.specs.Access.{View};
 ghost use Rattle.base.specs.Counts.{count_below};
 ghost use Rattle.base.specs.Manifest.{page_count};
 ghost use Rattle.base.specs.Need.{grow};
-ghost use Rattle.base.specs.Pages.{are_normal};
 ghost use Rattle.pool.specs.Pool.{pages_of};
 ghost use Rattle.stage2.specs.Edits.{edited};
 ghost use Rattle.stage2.specs.inner.Clauses.{is_between, points_at, view_in};
@@ -20,7 +19,7 @@ use crate::plan::second_at;
 use crate::read::read_word;
 use crate::site::RowPlan;
 use crate::table_page::TablePage;
-use base::Run;
+use base::Runs;
 use base::limits::{CHUNK_PAGES, GIGABYTE_PAGES};
 use pool::TableMem;
 
@@ -60,10 +59,9 @@ fn most_in_gigabyte<M: TableMem>(
     memory: &M,
     edit: &RowPlan,
     gigabyte: Gigabyte,
-    runs: &[Run],
+    runs: &Runs,
 ) -> u32
     requires canonical { IsCanonical edit.now.layout.now (pages_of (M.state memory.now).memory) }
-    requires normal { are_normal runs.now ≡ true }
     ensures most { let before = view_in edit.now.layout.now edit.now.row (M.state memory.now) in
         gigabyte_growth before (edited runs.now edit.now.access before) gigabyte ≤ result }
     ensures few { result ≤ 513 }
@@ -75,9 +73,8 @@ fn most_in_gigabyte<M: TableMem>(
 
 /// How many tables an edit takes at most: one for each chunk and each gigabyte without a table, from the first that the runs
 /// touch to the last. It looks at no run between, and at words of level 1 and 2 alone.
-pub(crate) fn most_tables<M: TableMem>(memory: &M, edit: &RowPlan, runs: &[Run]) -> u32
+pub(crate) fn most_tables<M: TableMem>(memory: &M, edit: &RowPlan, runs: &Runs) -> u32
     requires canonical { IsCanonical edit.now.layout.now (pages_of (M.state memory.now).memory) }
-    requires normal { are_normal runs.now ≡ true }
     ensures { let before = view_in edit.now.layout.now edit.now.row (M.state memory.now) in
         grow before (edited runs.now edit.now.access before) ≤ result }
 {
@@ -99,8 +96,7 @@ fn chunks_between(pages: Span) -> u32
 
 /// How many table pages an edit of the pages of these runs takes at most: one for each chunk and each
 /// gigabyte from the first that they touch to the last. It reads no table.
-pub(crate) fn most_growth(runs: &[Run]) -> u32
-    requires normal { are_normal runs.now ≡ true }
+pub(crate) fn most_growth(runs: &Runs) -> u32
     ensures { (before : ℕ → View) (access : View)
         → grow before (edited runs.now access before) ≤ result }
 {
@@ -112,22 +108,22 @@ pub(crate) fn most_growth(runs: &[Run]) -> u32
 
 /// How many operations an edit of the runs makes at most, whatever the tables are: 518 for each chunk from the first
 /// that they touch to the last. It looks at no run between.
-pub(crate) fn most_operations(runs: &[Run]) -> usize
-    requires normal { are_normal runs.now ≡ true }
+pub(crate) fn most_operations(runs: &Runs) -> usize
     ensures bound { (before : ℕ → View) (access : View)
         → row_operations runs.now access before ≤ result }
     ensures most { result ≤ 518 * 2 ^ 18 }
+    ensures few { length runs.now ≤ 2 ^ 27 + 1 }
 {
     518 * chunks_between(bounds(runs)) as usize
 }
 
 /// How many operations an edit of the runs mostly makes, at most: a write for each page between the first and the last, and an
 /// invalidation for each run.
-pub(crate) fn likely_operations(runs: &[Run]) -> usize
-    requires normal { are_normal runs.now ≡ true }
+pub(crate) fn likely_operations(runs: &Runs) -> usize
     ensures { length runs.now ≤ result }
 {
     let pages = bounds(runs);
-    runs.len()
+    runs.list()
+        .len()
         .saturating_add((pages.end - pages.first) as usize)
 }

@@ -15,7 +15,7 @@ ghost use Rattle.std.specs.Prelude.{◌≡◌, [], ℕ, ◌<◌, ◌≤◌, ◌^
 
 use crate::tables::Tables;
 use crate::views::Views;
-use base::{Access, OutOfMemory, Page, PartitionId, Run, Segment};
+use base::{Access, OutOfMemory, Page, PartitionId, Run, Runs, Segment};
 use manifest::Manifest;
 use pool::TableMem;
 use std::alloc::Global;
@@ -86,7 +86,8 @@ impl<M: TableMem + Drop> Tables<M> {
         ensures walks { OnOk result (ReachSo p (pending_runs first end access) access self.old self.new) }
     {
         if let Some(access) = access {
-            let runs = [Run::new(Page::new(first), end - first)];
+            let run = [Run::new(Page::new(first), end - first)];
+            let runs = Runs::of(&run);
             self.ready(p, &runs, Some(access), 0)?;
             self.map(p, &runs, access);
             self.begin();

@@ -1,7 +1,7 @@
 //! Level 1: the word of a gigabyte, and its level 2 table.
 
 ghost use Rattle.base.specs.Manifest.{page_count};
-ghost use Rattle.base.specs.Pages.{PageRun, are_normal, covers};
+ghost use Rattle.base.specs.Pages.{PageRun, covers};
 ghost use Rattle.pool.specs.Pool.{pages_of, taken_of, row_in, InShare};
 ghost use Rattle.stage2.specs.inner.Clauses.{second_at, IsEmpty, Unlinks, UnlinksInStep, CanEditGigabyte, IsGigabyteEdited, operations_in_row, FitsInRow, EditsInRow, RowInStep};
 ghost use Rattle.stage2.specs.inner.Gigabytes.{Touches};
@@ -18,7 +18,7 @@ use crate::place::Gigabyte;
 use crate::read::read_gigabyte;
 use crate::site::RowEdit;
 use crate::table_page::{Row, TablePage};
-use base::{PartitionId, Run};
+use base::{PartitionId, Runs};
 use pool::TableMem;
 use words::table_word;
 
@@ -66,7 +66,7 @@ fn edit_tabled<M: TableMem>(
     edit: &RowEdit,
     second: TablePage,
     gigabyte: Gigabyte,
-    runs: &[Run],
+    runs: &Runs,
 )
     requires table { second_at edit.now.layout.now edit.now.row gigabyte (M.state memory.old) ≡ Some second }
     requires can { CanEditGigabyte edit.now gigabyte runs.now (M.state memory.old) (M.room memory.old) }
@@ -80,7 +80,7 @@ fn edit_tabled<M: TableMem>(
 }
 
 /// Edits a gigabyte that has no level 2 table: one is taken, and linked after its last chunk.
-fn edit_untabled<M: TableMem>(memory: &mut M, edit: &RowEdit, gigabyte: Gigabyte, runs: &[Run])
+fn edit_untabled<M: TableMem>(memory: &mut M, edit: &RowEdit, gigabyte: Gigabyte, runs: &Runs)
     requires none { second_at edit.now.layout.now edit.now.row gigabyte (M.state memory.old) ≡ None }
     requires maps { is_some edit.now.access ≡ true }
     requires can { CanEditGigabyte edit.now gigabyte runs.now (M.state memory.old) (M.room memory.old) }
@@ -102,7 +102,7 @@ pub(crate) fn edit_gigabyte<M: TableMem>(
     memory: &mut M,
     edit: &RowEdit,
     gigabyte: Gigabyte,
-    runs: &[Run],
+    runs: &Runs,
 )
     requires { CanEditGigabyte edit.now gigabyte runs.now (M.state memory.old) (M.room memory.old) }
     ensures { IsGigabyteEdited edit.now gigabyte runs.now
@@ -119,21 +119,20 @@ pub(crate) fn edit_gigabyte<M: TableMem>(
 }
 
 /// Whether there is a page in these runs, those of some that have one in a gigabyte.
-pub(crate) fn touches(part: &[Run]) -> bool
+pub(crate) fn touches(part: &Runs) -> bool
     ensures yes { result ≡ true → (gigabyte : ℕ) (runs : List PageRun) → part.now ≡ gigabyte_runs gigabyte runs
         → Touches part.now gigabyte }
     ensures no { result ≡ false → (n : ℕ) → covers part.now n ≡ false }
 {
-    match part.first() {
+    match part.list().first() {
         Some(run) => run.count() > 0,
         None => false,
     }
 }
 
 /// Edits the pages of runs: they are reached with this access, or not at all.
-pub(crate) fn edit_row<M: TableMem>(memory: &mut M, edit: &RowEdit, runs: &[Run])
+pub(crate) fn edit_row<M: TableMem>(memory: &mut M, edit: &RowEdit, runs: &Runs)
     requires canonical { IsCanonical edit.now.layout.now (pages_of (M.state memory.old).memory) }
-    requires normal { are_normal runs.now ≡ true }
     requires free { FitsInRow edit.now runs.now (M.state memory.old) }
     requires room { operations_in_row edit.now runs.now (M.state memory.old)
         ≤ M.room memory.old }
@@ -148,8 +147,8 @@ pub(crate) fn edit_row<M: TableMem>(memory: &mut M, edit: &RowEdit, runs: &[Run]
     for number in span.first..span.end {
         let gigabyte = Gigabyte::new(number);
         let part = gigabyte_runs(runs, gigabyte);
-        if touches(part) {
-            edit_gigabyte(memory, edit, gigabyte, part);
+        if touches(&part) {
+            edit_gigabyte(memory, edit, gigabyte, &part);
         }
     }
 }

@@ -22,7 +22,7 @@ use crate::read::{AT_ONCE, read_chunk, read_word};
 use crate::site::{ChunkEdit, RowEdit, Site};
 use crate::table_page::TablePage;
 use crate::walked::Slot;
-use base::{Access, PartitionId, Run};
+use base::{Access, PartitionId, Runs};
 use pool::{TableMem, WordRange};
 use words::{leaf_word, table_word};
 
@@ -142,7 +142,7 @@ fn set_block<M: TableMem>(memory: &mut M, site: &Site, edit: &ChunkEdit)
 fn drop_table<M: TableMem>(memory: &mut M, site: &Site, edit: &ChunkEdit, third: TablePage)
     requires site { IsAt site.now edit.now (M.state memory.old) }
     requires row { IsRowOf site.now edit.now }
-    requires left { OthersAnswer third edit.now.chunk edit.now.runs.now edit.now.access (M.state memory.old) }
+    requires left { OthersAnswer third edit.now.chunk edit.now.runs edit.now.access (M.state memory.old) }
     requires table { slot_at site.now edit.now (M.state memory.old) ≡ Next third }
     requires room { 3 + words_left third edit.now (M.state memory.old)
         ≤ M.room memory.old }
@@ -179,7 +179,7 @@ fn rewrite_table<M: TableMem>(memory: &mut M, site: &Site, edit: &ChunkEdit, thi
 {
     write_runs(memory, third, edit);
     if edit.access.is_none() {
-        invalidate_parts(memory, site.p, edit.chunk, edit.runs);
+        invalidate_parts(memory, site.p, edit.chunk, &edit.runs);
     }
 }
 
@@ -191,14 +191,14 @@ fn hang_table<M: TableMem>(memory: &mut M, site: &Site, edit: &ChunkEdit, before
     requires before { AnswersAll site.now edit.now before.now (M.state memory.old) }
     requires free { HasFree site.now.row (M.state memory.old) }
     requires some { (is_some before.now || is_some edit.now.access) ≡ true }
-    requires room { 3 + reached_in (edited edit.now.runs.now edit.now.access (λ n. before.now)) edit.now.chunk
+    requires room { 3 + reached_in (edited edit.now.runs edit.now.access (λ n. before.now)) edit.now.chunk
         ≤ M.room memory.old }
     ensures redoes { EditsMixed site.now edit.now
         (M.state memory.old) (M.state memory.new) }
     ensures in_step { MixesInStep site.now edit.now
         (M.state memory.old) (M.state memory.new) }
     ensures room { M.room memory.old ≤ M.room memory.new
-        + (3 + reached_in (edited edit.now.runs.now edit.now.access (λ n. before.now)) edit.now.chunk) }
+        + (3 + reached_in (edited edit.now.runs edit.now.access (λ n. before.now)) edit.now.chunk) }
 {
     let Site { p, second, .. } = *site;
     let third = take_page(memory, p);
@@ -332,7 +332,7 @@ fn edit_each_chunk<M: TableMem>(
     edit: &RowEdit,
     second: TablePage,
     gigabyte: Gigabyte,
-    runs: &[Run],
+    runs: &Runs,
 )
     requires { CanEditChunks edit.now gigabyte second runs.now (M.state memory.old) (M.room memory.old) }
     ensures { AreChunksEdited edit.now gigabyte second runs.now
@@ -343,9 +343,9 @@ fn edit_each_chunk<M: TableMem>(
         row: edit.row,
         second,
     };
-    let mut rest = runs;
+    let mut rest = runs.again();
     let mut index = 0;
-    while let Some(piece) = next_piece(rest, gigabyte, index) {
+    while let Some(piece) = next_piece(&rest, gigabyte, index) {
         rest = piece.runs;
         let plain = plain_until(memory, second, piece.first, piece.filled);
         if piece.first < plain {
@@ -357,7 +357,7 @@ fn edit_each_chunk<M: TableMem>(
             index = plain;
         } else {
             let chunk = gigabyte.chunk(piece.first);
-            if let Some(here) = ChunkEdit::new(edit.layout, rest, chunk, &edit.access) {
+            if let Some(here) = ChunkEdit::new(edit.layout, &rest, chunk, &edit.access) {
                 edit_chunk(memory, &site, &here);
             }
             index = piece.first + 1;
@@ -372,7 +372,7 @@ pub(crate) fn edit_chunks<M: TableMem>(
     edit: &RowEdit,
     second: TablePage,
     gigabyte: Gigabyte,
-    runs: &[Run],
+    runs: &Runs,
 )
     requires { CanEditChunks edit.now gigabyte second runs.now (M.state memory.old) (M.room memory.old) }
     ensures { AreChunksEdited edit.now gigabyte second runs.now

@@ -18,7 +18,7 @@ use crate::place::{Chunk, Span};
 use crate::site::ChunkEdit;
 use crate::table_page::TablePage;
 use base::limits::CHUNK_PAGES;
-use base::{Access, Page, PartitionId, Run};
+use base::{Access, Page, PartitionId, Runs};
 use pool::{TableMem, TableWords, WordRange};
 use words::leaf_word;
 
@@ -123,13 +123,13 @@ pub(crate) fn write_pages<M: TableMem>(
 pub(crate) fn write_runs<M: TableMem>(memory: &mut M, third: TablePage, edit: &ChunkEdit)
     requires page_in { third < page_count (M.state memory.old).memory.quotas }
     requires taken { taken_of (M.state memory.old).memory.taken third ≡ true }
-    requires room { pages_in edit.now.runs.now edit.now.chunk ≤ M.room memory.old }
-    ensures writes { WritesPlan third edit.now.chunk 512 (planned edit.now.runs.now edit.now.access None)
+    requires room { pages_in edit.now.runs edit.now.chunk ≤ M.room memory.old }
+    ensures writes { WritesPlan third edit.now.chunk 512 (planned edit.now.runs edit.now.access None)
         (M.state memory.old) (M.state memory.new) }
-    ensures room { M.room memory.old ≤ M.room memory.new + pages_in edit.now.runs.now edit.now.chunk }
+    ensures room { M.room memory.old ≤ M.room memory.new + pages_in edit.now.runs edit.now.chunk }
 {
     let words = chunk_words(third, edit.chunk, &edit.access);
-    memory.set_runs(words, edit.runs);
+    memory.set_runs(words, &edit.runs);
 }
 
 /// Writes the words for the pages of the runs in a chunk into a table. None of them is there: they are valid exactly
@@ -138,13 +138,13 @@ fn turn_runs<M: TableMem>(memory: &mut M, third: TablePage, edit: &ChunkEdit)
     requires page_in { third < page_count (M.state memory.old).memory.quotas }
     requires taken { taken_of (M.state memory.old).memory.taken third ≡ true }
     requires turned { AreRunsTurned third edit.now (M.state memory.old) }
-    requires room { pages_in edit.now.runs.now edit.now.chunk ≤ M.room memory.old }
-    ensures writes { WritesPlan third edit.now.chunk 512 (planned edit.now.runs.now edit.now.access None)
+    requires room { pages_in edit.now.runs edit.now.chunk ≤ M.room memory.old }
+    ensures writes { WritesPlan third edit.now.chunk 512 (planned edit.now.runs edit.now.access None)
         (M.state memory.old) (M.state memory.new) }
-    ensures room { M.room memory.old ≤ M.room memory.new + pages_in edit.now.runs.now edit.now.chunk }
+    ensures room { M.room memory.old ≤ M.room memory.new + pages_in edit.now.runs edit.now.chunk }
 {
     let words = chunk_words(third, edit.chunk, &edit.access);
-    memory.turn_runs(words, edit.runs);
+    memory.turn_runs(words, &edit.runs);
 }
 
 /// Writes 0 into the words of the runs' pages in a chunk, all others of which are 0. Where as many are not 0 as the runs have
@@ -154,10 +154,10 @@ fn zero_runs<M: TableMem>(memory: &mut M, third: TablePage, edit: &ChunkEdit)
     requires taken { taken_of (M.state memory.old).memory.taken third ≡ true }
     requires none { edit.now.access ≡ None }
     requires left { LeavesNone third edit.now (M.state memory.old) }
-    requires room { pages_in edit.now.runs.now edit.now.chunk ≤ M.room memory.old }
-    ensures writes { WritesPlan third edit.now.chunk 512 (planned edit.now.runs.now edit.now.access None)
+    requires room { pages_in edit.now.runs edit.now.chunk ≤ M.room memory.old }
+    ensures writes { WritesPlan third edit.now.chunk 512 (planned edit.now.runs edit.now.access None)
         (M.state memory.old) (M.state memory.new) }
-    ensures room { M.room memory.old ≤ M.room memory.new + pages_in edit.now.runs.now edit.now.chunk }
+    ensures room { M.room memory.old ≤ M.room memory.new + pages_in edit.now.runs edit.now.chunk }
 {
     if memory.nonzero(third.number()) == edit.pieces.pages {
         turn_runs(memory, third, edit);
@@ -184,16 +184,16 @@ fn write_all<M: TableMem>(
     requires page_in { third < page_count (M.state memory.old).memory.quotas }
     requires taken { taken_of (M.state memory.old).memory.taken third ≡ true }
     requires room { 512 ≤ M.room memory.old }
-    ensures writes { WritesPlan third edit.now.chunk 512 (planned edit.now.runs.now edit.now.access (Some other.now))
+    ensures writes { WritesPlan third edit.now.chunk 512 (planned edit.now.runs edit.now.access (Some other.now))
         (M.state memory.old) (M.state memory.new) }
     ensures room { M.room memory.old ≤ M.room memory.new + 512 }
 {
     let chunk = edit.chunk;
-    let mut rest = edit.runs;
+    let mut rest = edit.runs.again();
     let mut first = 0;
     while first < CHUNK_PAGES {
-        rest = runs_from(rest, chunk.page(first));
-        let part = stretch_at(rest, chunk, first, CHUNK_PAGES);
+        rest = runs_from(&rest, chunk.page(first));
+        let part = stretch_at(&rest, chunk, first, CHUNK_PAGES);
         let end = part.end;
         let answer = answer_of(part.value, &edit.access, other);
         write_pages(memory, third, chunk, Span { first, end }, answer);
@@ -214,12 +214,12 @@ pub(crate) fn fill_table<M: TableMem>(
     requires taken { taken_of (M.state memory.old).memory.taken third ≡ true }
     requires empty { IsEmpty third (M.state memory.old) }
     requires some { (is_some before.now || is_some edit.now.access) ≡ true }
-    requires room { reached_in (edited edit.now.runs.now edit.now.access (λ n. before.now)) edit.now.chunk
+    requires room { reached_in (edited edit.now.runs edit.now.access (λ n. before.now)) edit.now.chunk
         ≤ M.room memory.old }
-    ensures writes { WritesPlan third edit.now.chunk 512 (planned edit.now.runs.now edit.now.access (filling before.now))
+    ensures writes { WritesPlan third edit.now.chunk 512 (planned edit.now.runs edit.now.access (filling before.now))
         (M.state memory.old) (M.state memory.new) }
     ensures room { M.room memory.old ≤ M.room memory.new
-        + reached_in (edited edit.now.runs.now edit.now.access (λ n. before.now)) edit.now.chunk }
+        + reached_in (edited edit.now.runs edit.now.access (λ n. before.now)) edit.now.chunk }
 {
     match (before, edit.access) {
         (None, _) => turn_runs(memory, third, edit),
@@ -233,7 +233,7 @@ pub(crate) fn fill_table<M: TableMem>(
 pub(crate) fn empty_table<M: TableMem>(memory: &mut M, third: TablePage, edit: &ChunkEdit)
     requires page_in { third < page_count (M.state memory.old).memory.quotas }
     requires taken { taken_of (M.state memory.old).memory.taken third ≡ true }
-    requires left { OthersAnswer third edit.now.chunk edit.now.runs.now edit.now.access (M.state memory.old) }
+    requires left { OthersAnswer third edit.now.chunk edit.now.runs edit.now.access (M.state memory.old) }
     requires room { words_left third edit.now (M.state memory.old)
         ≤ M.room memory.old }
     ensures writes { WritesPlan third edit.now.chunk 512 (planned [] None (Some None))
@@ -261,13 +261,13 @@ fn write_gaps<M: TableMem>(
     requires page_in { third < page_count (M.state memory.old).memory.quotas }
     requires taken { taken_of (M.state memory.old).memory.taken third ≡ true }
     requires turned { AreTurned third edit.now answer.now (M.state memory.old) }
-    requires room { 512 ≤ M.room memory.old + pages_in edit.now.runs.now edit.now.chunk }
-    ensures writes { WritesPlan third edit.now.chunk 512 (gaps edit.now.runs.now answer.now)
+    requires room { 512 ≤ M.room memory.old + pages_in edit.now.runs edit.now.chunk }
+    ensures writes { WritesPlan third edit.now.chunk 512 (gaps edit.now.runs answer.now)
         (M.state memory.old) (M.state memory.new) }
-    ensures room { M.room memory.old + pages_in edit.now.runs.now edit.now.chunk ≤ M.room memory.new + 512 }
+    ensures room { M.room memory.old + pages_in edit.now.runs edit.now.chunk ≤ M.room memory.new + 512 }
 {
     let words = chunk_words(third, edit.chunk, answer);
-    memory.set_gaps(words, edit.runs);
+    memory.set_gaps(words, &edit.runs);
 }
 
 /// Fills a table whose words are all 0, as those of the runs' pages are to stay: the words beside them
@@ -282,10 +282,10 @@ pub(crate) fn fill_gaps<M: TableMem>(
     requires taken { taken_of (M.state memory.old).memory.taken third ≡ true }
     requires empty { IsEmpty third (M.state memory.old) }
     requires some { is_some other.now ≡ true }
-    requires room { 512 ≤ M.room memory.old + pages_in edit.now.runs.now edit.now.chunk }
-    ensures writes { WritesPlan third edit.now.chunk 512 (planned edit.now.runs.now None (Some other.now))
+    requires room { 512 ≤ M.room memory.old + pages_in edit.now.runs edit.now.chunk }
+    ensures writes { WritesPlan third edit.now.chunk 512 (planned edit.now.runs None (Some other.now))
         (M.state memory.old) (M.state memory.new) }
-    ensures room { M.room memory.old + pages_in edit.now.runs.now edit.now.chunk ≤ M.room memory.new + 512 }
+    ensures room { M.room memory.old + pages_in edit.now.runs edit.now.chunk ≤ M.room memory.new + 512 }
 {
     write_gaps(memory, third, edit, other);
 }
@@ -295,20 +295,20 @@ pub(crate) fn has_stray<M: TableMem>(memory: &M, third: TablePage, edit: &ChunkE
     requires page_in { third < page_count (M.state memory.now).memory.quotas }
     requires taken { taken_of (M.state memory.now).memory.taken third ≡ true }
     ensures yes { result ≡ true → IsStray third edit.now (M.state memory.now) }
-    ensures no { result ≡ false → OthersAnswer third edit.now.chunk edit.now.runs.now edit.now.access
+    ensures no { result ≡ false → OthersAnswer third edit.now.chunk edit.now.runs edit.now.access
         (M.state memory.now) }
 {
-    !memory.has_gaps(chunk_words(third, edit.chunk, &edit.access), edit.runs)
+    !memory.has_gaps(chunk_words(third, edit.chunk, &edit.access), &edit.runs)
 }
 
 /// Whether no word of the runs' pages in a chunk is 0.
 pub(crate) fn are_all_mapped<M: TableMem>(memory: &M, edit: &ChunkEdit, third: TablePage) -> bool
     requires page_in { third < page_count (M.state memory.now).memory.quotas }
     requires taken { taken_of (M.state memory.now).memory.taken third ≡ true }
-    ensures { result ≡ true → (i : ℕ) → i < 512 → covers edit.now.runs.now (512 * edit.now.chunk + i) ≡ true
+    ensures { result ≡ true → (i : ℕ) → i < 512 → covers edit.now.runs (512 * edit.now.chunk + i) ≡ true
         → word_in (M.state memory.now) third i ≢ 0 }
 {
-    memory.has_all(third.number(), edit.chunk.first().number(), edit.runs)
+    memory.has_all(third.number(), edit.chunk.first().number(), &edit.runs)
 }
 
 /// Invalidates the runs' parts in a chunk.
@@ -316,7 +316,7 @@ pub(crate) fn invalidate_parts<M: TableMem>(
     memory: &mut M,
     p: PartitionId,
     chunk: Chunk,
-    runs: &[Run],
+    runs: &Runs,
 )
     requires partition { HasRow (M.state memory.old).memory p }
     requires room { part_count chunk runs.now ≤ M.room memory.old }
@@ -325,7 +325,7 @@ pub(crate) fn invalidate_parts<M: TableMem>(
         (M.state memory.old) (M.state memory.new) }
     ensures room { M.room memory.old ≡ M.room memory.new + part_count chunk runs.now }
 {
-    for run in runs {
+    for run in runs.list() {
         if let Some(part) = part_in(*run, chunk) {
             memory.invalidate(p, part);
         }

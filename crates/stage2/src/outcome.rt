@@ -34,7 +34,7 @@ pub(crate) fn is_alike(a: &Option<Access>, b: &Option<Access>) -> bool
 pub(crate) fn is_alike_in_block(edit: &ChunkEdit, entry: &Slot) -> bool
     ensures { (before : ℕ → View)
         → ((n : ℕ) → n / 512 ≡ edit.now.chunk → before n ≡ block_answer entry.now)
-        → IsOutcome edit.now.chunk (edited edit.now.runs.now edit.now.access before)
+        → IsOutcome edit.now.chunk (edited edit.now.runs edit.now.access before)
         (tells result edit.now.access) }
 {
     edit.pieces.pages == CHUNK_PAGES || is_alike(&block_of(entry), &edit.access)

@@ -11,7 +11,7 @@ ghost use Rattle.std.specs.Prelude.{◌≡◌, [], ◌∷◌, ℕ, ◌+◌, ◌*
 
 use crate::place::{Chunk, Gigabyte, Span, whole_chunks};
 use base::limits::{CHUNK_PAGES, GIGABYTE_PAGES, TABLE_WORDS};
-use base::{Page, Run, Segment};
+use base::{Page, Run, Runs, Segment};
 
 /// How many runs are looked at one by one before they are halved: from chunk to chunk mostly one ends, or none.
 const LOOKS: usize = 2;
@@ -45,65 +45,66 @@ fn begun(runs: &[Run], end: u32) -> usize
 }
 
 /// Those of the runs that end behind a page: whoever goes upward needs no others.
-pub(crate) fn runs_past(runs: &[Run], first: u32) -> &[Run]
-    requires { are_normal runs.now ≡ true }
-    ensures same { result.now ≡ parts.runs_past first runs.now }
-    ensures normal { are_normal result.now ≡ true }
+pub(crate) fn runs_past<'a>(runs: &Runs<'a>, first: u32) -> Runs<'a>
+    ensures { result ≡ parts.runs_past first runs.now }
 {
-    &runs[ended(runs, first)..]
+    let list = runs.list();
+    Runs::of(&list[ended(list, first)..])
 }
 
 /// The same, where mostly the first of the runs ends behind the page.
 #[inline(always)]
-fn runs_on(runs: &[Run], first: u32) -> &[Run]
-    requires { are_normal runs.now ≡ true }
-    ensures same { result.now ≡ parts.runs_past first runs.now }
-    ensures normal { are_normal result.now ≡ true }
+fn runs_on<'a>(runs: &Runs<'a>, first: u32) -> Runs<'a>
+    ensures { result ≡ parts.runs_past first runs.now }
 {
-    match runs.first() {
-        Some(run) if first < run.end() => runs,
+    let list = runs.list();
+    match list.first() {
+        Some(run) if first < run.end() => Runs::of(list),
         _ => runs_past(runs, first),
     }
 }
 
-/// Those of the runs that have a page from one up to another, of whatever runs.
-fn runs_among(runs: &[Run], first: u32, end: u32) -> &[Run]
-    requires { are_normal runs.now ≡ true }
-    ensures same { result.now ≡ parts.runs_between first end runs.now }
-    ensures normal { are_normal result.now ≡ true }
+/// Those of the runs that begin before a page.
+fn runs_before<'a>(runs: &Runs<'a>, end: u32) -> Runs<'a>
+    ensures { result ≡ parts.runs_before end runs.now }
 {
-    let rest = runs_past(runs, first);
-    &rest[..begun(rest, end)]
+    let list = runs.list();
+    Runs::of(&list[..begun(list, end)])
+}
+
+/// Those of the runs that have a page from one up to another, of whatever runs.
+fn runs_among<'a>(runs: &Runs<'a>, first: u32, end: u32) -> Runs<'a>
+    ensures { result ≡ parts.runs_between first end runs.now }
+{
+    runs_before(&runs_past(runs, first), end)
 }
 
 /// The same. One run alone is told by its bounds, without a call.
 #[inline(always)]
-pub(crate) fn runs_between(runs: &[Run], first: u32, end: u32) -> &[Run]
-    requires { are_normal runs.now ≡ true }
-    ensures same { result.now ≡ parts.runs_between first end runs.now }
-    ensures normal { are_normal result.now ≡ true }
+pub(crate) fn runs_between<'a>(runs: &Runs<'a>, first: u32, end: u32) -> Runs<'a>
+    ensures { result ≡ parts.runs_between first end runs.now }
 {
-    if runs.len() == 1 {
-        let run = runs[0];
+    let list = runs.list();
+    if list.len() == 1 {
+        let run = list[0];
         let is_between = first < run.end() && run.first().number() < end;
-        return &runs[..usize::from(is_between)];
+        return Runs::of(&list[..usize::from(is_between)]);
     }
     runs_among(runs, first, end)
 }
 
 /// Whether a page is in one of the runs. Where the first of them does not end before it, that one
 /// tells.
-pub(crate) fn is_covered(runs: &[Run], page: Page) -> bool
-    requires normal { are_normal runs.now ≡ true }
+pub(crate) fn is_covered(runs: &Runs, page: Page) -> bool
     ensures { result ≡ covers runs.now page }
 {
     let n = page.number();
-    match runs.first() {
+    match runs.list().first() {
         Some(run) => {
             if n < run.end() {
                 run.first().number() <= n
             } else {
-                !runs_between(runs, n, n + 1).is_empty()
+                !runs_between(runs, n, n + 1).list().is_empty()
             }
         }
         None => false,
@@ -112,27 +113,19 @@ pub(crate) fn is_covered(runs: &[Run], page: Page) -> bool
 
 /// The runs without the first, if that ends before a page: whoever goes along with the pages has the
 /// run of a page, or the next one, always first.
-pub(crate) fn runs_from(runs: &[Run], page: Page) -> &[Run]
-    requires normal { are_normal runs.now ≡ true }
-    ensures same { (n : ℕ) → page ≤ n → covers result.now n ≡ covers runs.now n }
-    ensures normal { are_normal result.now ≡ true }
+pub(crate) fn runs_from<'a>(runs: &Runs<'a>, page: Page) -> Runs<'a>
+    ensures { (n : ℕ) → page ≤ n → covers result n ≡ covers runs.now n }
 {
-    match runs.first() {
-        Some(run) => {
-            if run.end() <= page.number() {
-                &runs[1..]
-            } else {
-                runs
-            }
-        }
-        None => runs,
+    let list = runs.list();
+    match list.first() {
+        Some(run) if run.end() <= page.number() => Runs::of(&list[1..]),
+        _ => Runs::of(list),
     }
 }
 
 /// Whether the runs have a page of a chunk, and up to which page they have those behind it alike, up to a limit. Pages are
 /// counted from the chunk's first.
-pub(crate) fn stretch_at(runs: &[Run], chunk: Chunk, index: u32, limit: u32) -> Segment<bool>
-    requires normal { are_normal runs.now ≡ true }
+pub(crate) fn stretch_at(runs: &Runs, chunk: Chunk, index: u32, limit: u32) -> Segment<bool>
     requires index { index < limit }
     requires limit { limit ≤ 512 }
     ensures behind { index < result.end }
@@ -143,7 +136,7 @@ pub(crate) fn stretch_at(runs: &[Run], chunk: Chunk, index: u32, limit: u32) -> 
     let start = chunk.first().number();
     let page = chunk.page(index);
     let n = page.number();
-    match runs.first() {
+    match runs.list().first() {
         Some(run) => {
             if n < run.first().number() {
                 Segment {
@@ -170,20 +163,16 @@ pub(crate) fn stretch_at(runs: &[Run], chunk: Chunk, index: u32, limit: u32) -> 
 }
 
 /// Those of the runs that have a page in a chunk, of whatever runs that end behind its first page.
-pub(crate) fn chunk_runs(runs: &[Run], chunk: Chunk) -> &[Run]
-    requires normal { are_normal runs.now ≡ true }
+pub(crate) fn chunk_runs<'a>(runs: &Runs<'a>, chunk: Chunk) -> Runs<'a>
     requires past { parts.runs_past (512 * chunk) runs.now ≡ runs.now }
-    ensures same { result.now ≡ parts.chunk_runs chunk runs.now }
-    ensures normal { are_normal result.now ≡ true }
+    ensures { result ≡ parts.chunk_runs chunk runs.now }
 {
-    &runs[..begun(runs, chunk.end())]
+    runs_before(runs, chunk.end())
 }
 
 /// Those of the runs that have a page in a gigabyte.
-pub(crate) fn gigabyte_runs(runs: &[Run], gigabyte: Gigabyte) -> &[Run]
-    requires normal { are_normal runs.now ≡ true }
-    ensures same { result.now ≡ parts.gigabyte_runs gigabyte runs.now }
-    ensures normal { are_normal result.now ≡ true }
+pub(crate) fn gigabyte_runs<'a>(runs: &Runs<'a>, gigabyte: Gigabyte) -> Runs<'a>
+    ensures { result ≡ parts.gigabyte_runs gigabyte runs.now }
 {
     runs_between(runs, gigabyte.first().number(), gigabyte.end())
 }
@@ -226,18 +215,18 @@ fn piece_of(run: Run, chunk: Chunk) -> Pieces
 }
 
 /// The pieces of runs in a chunk.
-pub(crate) fn count_pieces(runs: &[Run], chunk: Chunk) -> Pieces
-    requires normal { are_normal runs.now ≡ true }
+pub(crate) fn count_pieces(runs: &Runs, chunk: Chunk) -> Pieces
     ensures pages { result.pages ≡ pages_in runs.now chunk }
     ensures runs { result.runs ≡ part_count chunk runs.now }
     ensures few { result.runs ≤ result.pages }
     ensures most { result.pages ≤ 512 }
 {
-    if let [run] = runs {
+    let list = runs.list();
+    if let [run] = list {
         return piece_of(*run, chunk);
     }
     let mut pieces = Pieces { pages: 0, runs: 0 };
-    for run in runs {
+    for run in list {
         let piece = piece_of(*run, chunk);
         pieces.pages += piece.pages;
         pieces.runs += piece.runs;
@@ -246,13 +235,14 @@ pub(crate) fn count_pieces(runs: &[Run], chunk: Chunk) -> Pieces
 }
 
 /// The pages from the first of the first run to the last of the last one.
-pub(crate) fn bounds(runs: &[Run]) -> Span
-    requires { are_normal runs.now ≡ true }
+pub(crate) fn bounds(runs: &Runs) -> Span
     ensures ordered { result.first ≤ result.end }
     ensures most { result.end ≤ 2 ^ 27 }
     ensures within { lie_within result.first result.end runs.now ≡ true }
+    ensures normal { are_normal runs.now ≡ true }
+    ensures few { length runs.now ≤ result.end + 1 }
 {
-    match runs.first() {
+    match runs.list().first() {
         Some(first) => Span {
             first: first.first().number(),
             end: end_of_last(runs),
@@ -262,20 +252,18 @@ pub(crate) fn bounds(runs: &[Run]) -> Span
 }
 
 /// The number of the page after the last of the runs; 0 where there is none.
-fn end_of_last(runs: &[Run]) -> u32
-    requires { are_normal runs.now ≡ true }
+fn end_of_last(runs: &Runs) -> u32
     ensures same { result ≡ end_from 0 runs.now }
     ensures most { result ≤ 2 ^ 27 }
 {
-    match runs.last() {
+    match runs.list().last() {
         Some(last) => last.end(),
         None => 0,
     }
 }
 
 /// The gigabytes from the first that the runs touch to the last.
-pub(crate) fn gigabyte_span(runs: &[Run]) -> Span
-    requires normal { are_normal runs.now ≡ true }
+pub(crate) fn gigabyte_span(runs: &Runs) -> Span
     ensures ordered { result.first ≤ result.end }
     ensures most { result.end ≤ 512 }
     ensures within { (n : ℕ) → covers runs.now n ≡ true
@@ -290,8 +278,7 @@ pub(crate) fn gigabyte_span(runs: &[Run]) -> Span
 
 /// The chunks of a gigabyte, counted from its first, from the first that the runs touch to the
 /// last.
-pub(crate) fn chunk_span(runs: &[Run], gigabyte: Gigabyte) -> Span
-    requires normal { are_normal runs.now ≡ true }
+pub(crate) fn chunk_span(runs: &Runs, gigabyte: Gigabyte) -> Span
     ensures ordered { result.first ≤ result.end }
     ensures most { result.end ≤ 512 }
     ensures within { (x : ℕ) → x < 512 → touches_chunk (512 * gigabyte + x) runs.now ≡ true
@@ -314,8 +301,7 @@ pub(crate) fn chunk_span(runs: &[Run], gigabyte: Gigabyte) -> Span
 
 /// The first chunk of a gigabyte from this one on, counted from its first, that is not known to be
 /// filled by the first of the runs. Chunks from the last one's end on are not asked for.
-pub(crate) fn first_unfilled(runs: &[Run], gigabyte: Gigabyte, index: u32, end: u32) -> u32
-    requires normal { are_normal runs.now ≡ true }
+pub(crate) fn first_unfilled(runs: &Runs, gigabyte: Gigabyte, index: u32, end: u32) -> u32
     requires index { index ≤ 512 }
     requires end { end ≤ 512 }
     ensures from { index ≤ result }
@@ -327,7 +313,7 @@ pub(crate) fn first_unfilled(runs: &[Run], gigabyte: Gigabyte, index: u32, end: 
         return index;
     }
     let next = gigabyte.chunk(index).first().number();
-    match runs.first() {
+    match runs.list().first() {
         Some(run) if run.first().number() <= next && next < run.end() => {
             whole_chunks(run.end().min(gigabyte.end())) - gigabyte.chunks().first
         }
@@ -336,21 +322,20 @@ pub(crate) fn first_unfilled(runs: &[Run], gigabyte: Gigabyte, index: u32, end: 
 }
 
 /// What comes next of a gigabyte, upward: a chunk that runs may have pages of, and chunks from it on that one run fills.
-#[derive(Clone, Copy)]
+#[derive(Drop)]
 pub(crate) struct Piece<'a> {
     /// The chunk, counted from the gigabyte's first.
     pub(crate) first: u32,
     /// The chunk after the last of those that are filled; none is, where it is not behind the first.
     pub(crate) filled: u32,
     /// The runs that end behind its first page.
-    pub(crate) runs: &'a [Run],
+    pub(crate) runs: Runs<'a>,
 }
 
 /// The first piece of a gigabyte from one of its chunks on. Chunks of which no run has a page are passed over without a look
 /// at each.
 #[inline(always)]
-pub(crate) fn next_piece(runs: &[Run], gigabyte: Gigabyte, index: u32) -> Option<Piece<'_>>
-    requires normal { are_normal runs.now ≡ true }
+pub(crate) fn next_piece<'a>(runs: &Runs<'a>, gigabyte: Gigabyte, index: u32) -> Option<Piece<'a>>
     ensures some { IfSome result (IsNextPiece gigabyte index runs.now) }
     ensures none { result ≡ None → (x : ℕ) → index ≤ x → x < 512
         → touches_chunk (512 * gigabyte + x) runs.now ≡ false }
@@ -361,7 +346,7 @@ pub(crate) fn next_piece(runs: &[Run], gigabyte: Gigabyte, index: u32) -> Option
     }
     let start = gigabyte.chunk(index).first().number();
     let rest = runs_past(runs, start);
-    let pages = bounds(rest);
+    let pages = bounds(&rest);
     if pages.first >= pages.end {
         return None;
     }
@@ -370,10 +355,10 @@ pub(crate) fn next_piece(runs: &[Run], gigabyte: Gigabyte, index: u32) -> Option
         return None;
     }
     let first = chunk.index();
-    let rest = runs_on(rest, chunk.first().number());
+    let rest = runs_on(&rest, chunk.first().number());
     Some(Piece {
         first,
-        filled: first_unfilled(rest, gigabyte, first, TABLE_WORDS),
+        filled: first_unfilled(&rest, gigabyte, first, TABLE_WORDS),
         runs: rest,
     })
 }

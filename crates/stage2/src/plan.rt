@@ -3,7 +3,7 @@
 ghost use Rattle.base.specs.Access.{View};
 ghost use Rattle.base.specs.Manifest.{page_count};
 ghost use Rattle.base.specs.Need.{is_mixed, grow};
-ghost use Rattle.base.specs.Pages.{PageRun, are_normal};
+ghost use Rattle.base.specs.Pages.{PageRun};
 ghost use Rattle.pool.specs.Pool.{pages_of, taken_of};
 ghost use Rattle.stage2.specs.inner.Chunks.{block_answer};
 ghost use Rattle.stage2.specs.Edits.{edited};
@@ -29,7 +29,7 @@ use crate::site::{ChunkEdit, RowPlan};
 use crate::table_page::{Row, TablePage};
 use crate::walked::Slot;
 use base::limits::CHUNK_PAGES;
-use base::{Access, Run};
+use base::{Access, Runs};
 use pool::TableMem;
 
 /// How many operations more than an edit makes in a chunk it may ask for. Where a table that stays needs no more than these beside one that goes, or
@@ -120,15 +120,15 @@ fn plan_block(edit: &ChunkEdit, entry: &Slot) -> Plan
     ensures tables { (before : ℕ → View)
         → ((n : ℕ) → n / 512 ≡ edit.now.chunk → before n ≡ block_answer entry.now)
         → result.tables
-        ≡ (if is_mixed (edited edit.now.runs.now edit.now.access before) edit.now.chunk then 1 else 0) }
+        ≡ (if is_mixed (edited edit.now.runs edit.now.access before) edit.now.chunk then 1 else 0) }
     ensures operations { (before : ℕ → View)
         → ((n : ℕ) → n / 512 ≡ edit.now.chunk → before n ≡ block_answer entry.now)
-        → 3 + table_operations edit.now.runs.now edit.now.access before edit.now.chunk
+        → 3 + table_operations edit.now.runs edit.now.access before edit.now.chunk
         ≤ result.operations }
     ensures close { (before : ℕ → View)
         → ((n : ℕ) → n / 512 ≡ edit.now.chunk → before n ≡ block_answer entry.now)
         → result.operations
-        ≤ 7 + table_operations edit.now.runs.now edit.now.access before edit.now.chunk }
+        ≤ 7 + table_operations edit.now.runs edit.now.access before edit.now.chunk }
     ensures most { result.operations ≤ 1027 }
 {
     if is_alike_in_block(edit, entry) {
@@ -161,11 +161,11 @@ fn plan_table<M: TableMem>(memory: &M, edit: &ChunkEdit, third: TablePage, looks
         ≡ true }
     ensures tables { result.tables ≡ 0 }
     ensures operations { let before = read_before edit.now (Next third) (M.state memory.now) in
-        3 + table_operations edit.now.runs.now edit.now.access before edit.now.chunk
+        3 + table_operations edit.now.runs edit.now.access before edit.now.chunk
         ≤ result.operations }
     ensures close { looks ≡ true → let before = read_before edit.now (Next third) (M.state memory.now) in
         result.operations
-        ≤ 7 + table_operations edit.now.runs.now edit.now.access before edit.now.chunk }
+        ≤ 7 + table_operations edit.now.runs edit.now.access before edit.now.chunk }
     ensures most { result.operations ≤ 1027 }
 {
     let kept = operations_kept(edit);
@@ -200,11 +200,11 @@ fn plan_chunk<M: TableMem>(memory: &M, edit: &ChunkEdit, entry: &Slot, looks: bo
         result.tables
         ≡ (if is_mixed after edit.now.chunk && not (is_some (next_page entry.now)) then 1 else 0) }
     ensures operations { let before = read_before edit.now entry.now (M.state memory.now) in
-        3 + table_operations edit.now.runs.now edit.now.access before edit.now.chunk
+        3 + table_operations edit.now.runs edit.now.access before edit.now.chunk
         ≤ result.operations }
     ensures close { looks ≡ true → let before = read_before edit.now entry.now (M.state memory.now) in
         result.operations
-        ≤ 7 + table_operations edit.now.runs.now edit.now.access before edit.now.chunk }
+        ≤ 7 + table_operations edit.now.runs edit.now.access before edit.now.chunk }
     ensures most { result.operations ≤ 1027 }
 {
     match table_of(entry) {
@@ -226,10 +226,10 @@ fn plan_in<M: TableMem>(
     requires in_range { edit.now.chunk < 2 ^ 18 }
     requires table { second_in row.now.layout.now row.now.row (edit.now.chunk / 512) (M.state memory.now) ≡ second.now }
     ensures tables { let before = view_in row.now.layout.now row.now.row (M.state memory.now) in
-        let after = edited edit.now.runs.now edit.now.access before in
+        let after = edited edit.now.runs edit.now.access before in
         result.tables ≡ (if grows_at before after edit.now.chunk then 1 else 0) }
     ensures operations { let before = view_in row.now.layout.now row.now.row (M.state memory.now) in
-        chunk_operations edit.now.runs.now edit.now.access before edit.now.chunk
+        chunk_operations edit.now.runs edit.now.access before edit.now.chunk
         ≤ result.operations }
     ensures most { result.operations ≤ 1027 }
 {
@@ -243,10 +243,9 @@ fn plan_at<M: TableMem>(
     edit: &RowPlan,
     second: &Option<TablePage>,
     chunk: Chunk,
-    runs: &[Run],
+    runs: &Runs,
 ) -> Plan
     requires canonical { IsCanonical edit.now.layout.now (pages_of (M.state memory.now).memory) }
-    requires normal { are_normal runs.now ≡ true }
     requires past { runs_past (512 * chunk) runs.now ≡ runs.now }
     requires in_range { chunk < 2 ^ 18 }
     requires table { second_in edit.now.layout.now edit.now.row (chunk / 512) (M.state memory.now) ≡ second.now }
@@ -285,24 +284,23 @@ fn plan_each_chunk<M: TableMem>(
     edit: &RowPlan,
     second: &Option<TablePage>,
     gigabyte: Gigabyte,
-    runs: &[Run],
+    runs: &Runs,
 ) -> Plan
     requires canonical { IsCanonical edit.now.layout.now (pages_of (M.state memory.now).memory) }
-    requires normal { are_normal runs.now ≡ true }
     requires table { second_in edit.now.layout.now edit.now.row gigabyte (M.state memory.now) ≡ second.now }
     ensures { ArePlanned edit.now gigabyte runs.now (M.state memory.now) result }
 {
     let mut plan = Plan::new(0, 0);
-    let mut rest = runs;
+    let mut rest = runs.again();
     let mut index = 0;
-    while let Some(piece) = next_piece(rest, gigabyte, index) {
+    while let Some(piece) = next_piece(&rest, gigabyte, index) {
         rest = piece.runs;
         let plain = plain_from(memory, second, piece.first, piece.filled);
         if piece.first < plain {
             plan.operations += 3 * (plain - piece.first);
             index = plain;
         } else {
-            let more = plan_at(memory, edit, second, gigabyte.chunk(piece.first), rest);
+            let more = plan_at(memory, edit, second, gigabyte.chunk(piece.first), &rest);
             plan.tables += more.tables;
             plan.operations += more.operations;
             index = piece.first + 1;
@@ -317,10 +315,9 @@ fn plan_chunks<M: TableMem>(
     edit: &RowPlan,
     second: &Option<TablePage>,
     gigabyte: Gigabyte,
-    runs: &[Run],
+    runs: &Runs,
 ) -> Plan
     requires canonical { IsCanonical edit.now.layout.now (pages_of (M.state memory.now).memory) }
-    requires normal { are_normal runs.now ≡ true }
     requires table { second_in edit.now.layout.now edit.now.row gigabyte (M.state memory.now) ≡ second.now }
     ensures { ArePlanned edit.now gigabyte runs.now (M.state memory.now) result }
 {
@@ -331,10 +328,9 @@ fn plan_chunks<M: TableMem>(
 }
 
 /// What an edit needs for a gigabyte, its level 2 table with it.
-fn plan_gigabyte<M: TableMem>(memory: &M, edit: &RowPlan, gigabyte: Gigabyte, runs: &[Run]) -> Plan
+fn plan_gigabyte<M: TableMem>(memory: &M, edit: &RowPlan, gigabyte: Gigabyte, runs: &Runs) -> Plan
     requires canonical { IsCanonical edit.now.layout.now (pages_of (M.state memory.now).memory) }
     requires touched { Touches runs.now gigabyte }
-    requires normal { are_normal runs.now ≡ true }
     ensures tables { let before = view_in edit.now.layout.now edit.now.row (M.state memory.now) in
         result.tables ≡ gigabyte_growth before (edited runs.now edit.now.access before) gigabyte }
     ensures operations { let before = view_in edit.now.layout.now edit.now.row (M.state memory.now) in
@@ -359,9 +355,8 @@ fn plan_gigabyte<M: TableMem>(memory: &M, edit: &RowPlan, gigabyte: Gigabyte, ru
 }
 
 /// What an edit needs: the tables after it at places where there is none before it, and its operations.
-pub(crate) fn plan_row<M: TableMem>(memory: &M, edit: &RowPlan, runs: &[Run]) -> Plan
+pub(crate) fn plan_row<M: TableMem>(memory: &M, edit: &RowPlan, runs: &Runs) -> Plan
     requires canonical { IsCanonical edit.now.layout.now (pages_of (M.state memory.now).memory) }
-    requires normal { are_normal runs.now ≡ true }
     ensures tables { let before = view_in edit.now.layout.now edit.now.row (M.state memory.now) in
         result.tables ≡ grow before (edited runs.now edit.now.access before) }
     ensures operations { let before = view_in edit.now.layout.now edit.now.row (M.state memory.now) in
@@ -373,8 +368,8 @@ pub(crate) fn plan_row<M: TableMem>(memory: &M, edit: &RowPlan, runs: &[Run]) ->
     for number in span.first..span.end {
         let gigabyte = Gigabyte::new(number);
         let part = gigabyte_runs(runs, gigabyte);
-        if touches(part) {
-            let more = plan_gigabyte(memory, edit, gigabyte, part);
+        if touches(&part) {
+            let more = plan_gigabyte(memory, edit, gigabyte, &part);
             plan.tables += more.tables;
             plan.operations += more.operations;
         }

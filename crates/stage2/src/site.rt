@@ -11,7 +11,7 @@ use crate::layout::Layout;
 use crate::parts::{Pieces, bounds, chunk_runs, count_pieces};
 use crate::place::{Chunk, Gigabyte};
 use crate::table_page::{Row, TablePage};
-use base::{Access, Page, PartitionId, Run};
+use base::{Access, Page, PartitionId, Runs};
 
 /// The edit of a partition's pages: those that are edited are reached with this access, or not at all.
 #[derive(Drop)]
@@ -29,12 +29,12 @@ pub(crate) struct RowEdit<'a> {
 pub(crate) struct ChunkEdit<'a, 'b> {
     pub(crate) layout: &'a Layout,
     pub(crate) chunk: Chunk,
-    pub(crate) runs: &'b [Run],
+    pub(crate) runs: Runs<'b>,
     pub(crate) pieces: Pieces,
     pub(crate) access: Option<Access>,
-    pub(crate) ghost normal: { are_normal runs.now ≡ true },
-    pub(crate) ghost pages: { pieces.pages ≡ pages_in runs.now chunk },
-    pub(crate) ghost count: { pieces.runs ≡ part_count chunk runs.now },
+    pub(crate) ghost normal: { are_normal runs ≡ true },
+    pub(crate) ghost pages: { pieces.pages ≡ pages_in runs chunk },
+    pub(crate) ghost count: { pieces.runs ≡ part_count chunk runs },
     pub(crate) ghost few: { pieces.runs ≤ pieces.pages },
     pub(crate) ghost most: { pieces.pages ≤ 512 },
     pub(crate) ghost touched: { 0 < pieces.pages },
@@ -45,30 +45,28 @@ impl<'a, 'b> ChunkEdit<'a, 'b> {
     #[inline(always)]
     pub(crate) fn new(
         layout: &'a Layout,
-        runs: &'b [Run],
+        runs: &Runs<'b>,
         chunk: Chunk,
         access: &Option<Access>,
     ) -> Option<Self>
-        requires normal { are_normal runs.now ≡ true }
         requires past { runs_past (512 * chunk) runs.now ≡ runs.now }
         ensures some { IfSome result (λ edit. (edit.layout.now ≡ layout.now) × (edit.chunk ≡ chunk)
-            × (edit.runs.now ≡ chunk_runs chunk runs.now) × (edit.access ≡ access.now)) }
+            × (edit.runs ≡ chunk_runs chunk runs.now) × (edit.access ≡ access.now)) }
         ensures none { result ≡ None → touches_chunk chunk runs.now ≡ false }
     {
-        Self::of_own(layout, chunk_runs(runs, chunk), chunk, access)
+        Self::of_own(layout, &chunk_runs(runs, chunk), chunk, access)
     }
 
     /// The edit of a chunk of a gigabyte by all of the runs, if they have pages there and nowhere else.
     #[inline(always)]
     pub(crate) fn alone(
         layout: &'a Layout,
-        runs: &'b [Run],
+        runs: &Runs<'b>,
         gigabyte: Gigabyte,
         access: &Option<Access>,
     ) -> Option<Self>
-        requires normal { are_normal runs.now ≡ true }
         ensures some { IfSome result (λ edit. (edit.layout.now ≡ layout.now) × (edit.chunk / 512 ≡ gigabyte)
-            × (edit.runs.now ≡ runs.now) × (edit.access ≡ access.now)
+            × (edit.runs ≡ runs.now) × (edit.access ≡ access.now)
             × ((c : ℕ) → c ≢ edit.chunk → touches_chunk c runs.now ≡ false) × (gigabyte < 512)) }
     {
         let pages = bounds(runs);
@@ -86,13 +84,12 @@ impl<'a, 'b> ChunkEdit<'a, 'b> {
     #[inline(always)]
     fn of_own(
         layout: &'a Layout,
-        runs: &'b [Run],
+        runs: &Runs<'b>,
         chunk: Chunk,
         access: &Option<Access>,
     ) -> Option<Self>
-        requires normal { are_normal runs.now ≡ true }
         ensures some { IfSome result (λ edit. (edit.layout.now ≡ layout.now) × (edit.chunk ≡ chunk)
-            × (edit.runs.now ≡ runs.now) × (edit.access ≡ access.now)) }
+            × (edit.runs ≡ runs.now) × (edit.access ≡ access.now)) }
         ensures none { result ≡ None → touches_chunk chunk runs.now ≡ false }
     {
         let pieces = count_pieces(runs, chunk);
@@ -102,7 +99,7 @@ impl<'a, 'b> ChunkEdit<'a, 'b> {
         Some(ChunkEdit {
             layout,
             chunk,
-            runs,
+            runs: runs.again(),
             pieces,
             access: *access,
         })

@@ -1,11 +1,10 @@
 //! Tables to edit, edits of them, and their words by the rules.
 
-ghost use Rattle.std.specs.Prelude.{◌≡◌, IfOk, true};
-ghost use Rattle.base.specs.Pages.{are_normal};
+ghost use Rattle.std.specs.Prelude.{◌≡◌, IfOk};
 ghost use Rattle.manifest.specs.Common.{common_rows};
 ghost use Rattle.stage2.specs.Slot.{layout_of};
 
-use base::{Access, OutOfMemory, Page, PartitionId, Rights, Run};
+use base::{Access, OutOfMemory, Page, PartitionId, Rights, Run, Runs};
 use manifest::common_manifest;
 use pool::{Op, TableMem};
 use stage2::Tables;
@@ -64,7 +63,7 @@ pub(crate) fn edit<M: TableMem + Drop>(
     ensures { tables.new.layout ≡ tables.old.layout }
 {
     let runs = [run];
-    edit_runs(rt, tables, p, &runs, &access)
+    edit_runs(rt, tables, p, &Runs::of(&runs), &access)
 }
 
 /// Edits the pages of runs in one call, after the list of operations is emptied.
@@ -72,10 +71,9 @@ pub(crate) fn edit_runs<M: TableMem + Drop>(
     rt: &impl Abort,
     tables: &mut Tables<M>,
     p: PartitionId,
-    runs: &[Run],
+    runs: &Runs,
     access: &Option<Access>,
 ) -> Result<(), OutOfMemory>
-    requires normal { are_normal runs.now ≡ true }
     ensures layout { tables.new.layout ≡ tables.old.layout }
 {
     tables.begin();

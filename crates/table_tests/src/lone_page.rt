@@ -3,7 +3,7 @@
 use crate::fixture::{
     block_word, data, edit, edit_runs, empty_tables, page_word, run_of, table_word,
 };
-use base::{Access, OutOfMemory, Page, PartitionId, gather};
+use base::{Access, OutOfMemory, Page, PartitionId, Runs, gather};
 use pool::{ListPool, RawPool, TableMem};
 use stage2::{Level, TableEntry, Tables};
 use std::alloc::Global;
@@ -124,7 +124,7 @@ fn edit_others<M: TableMem + Drop>(
     let above = run_of(rt, page + 1, END - 1 - page);
     let mut runs = vec![in alloc; below, above]?;
     gather(&mut runs);
-    edit_runs(rt, tables, partition(), &runs, &access)
+    edit_runs(rt, tables, partition(), &Runs::of(&runs), &access)
 }
 
 /// The gigabyte is mapped in one run, as 512 blocks, and then all but a page of it is unmapped.

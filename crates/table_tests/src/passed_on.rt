@@ -6,7 +6,7 @@
 use crate::fixture::{
     SMALL, block_word, data, edit, edit_runs, page_word, run_of, set, table_word,
 };
-use base::{OutOfMemory, Page, PartitionId, Run};
+use base::{OutOfMemory, Page, PartitionId, Run, Runs};
 use manifest::{Manifest, read};
 use pool::{ListPool, Op, RawPool, TableMem};
 use stage2::Tables;
@@ -63,10 +63,11 @@ fn unmap_both<M: TableMem + Drop>(
     tables: &mut Tables<M>,
     third: u32,
 ) -> Result<(), OutOfMemory> {
-    let runs = [
+    let list = [
         Run::new(Page::new(0x8_0005), 1),
         Run::new(Page::new(0x8_0200), 1),
     ];
+    let runs = Runs::of(&list);
     assert_eq!(rt; tables.grow(partition(), &runs, None), 1);
     edit_runs(rt, tables, partition(), &runs, &None)?;
     let ops = tables.memory().ops();
@@ -122,10 +123,11 @@ fn map_passes_on<M: TableMem + Drop>(
     let mut tables: Tables<M> = Tables::empty(alloc, manifest)?;
     map(rt, &mut tables, LOWER, 511)?;
     check_counts(rt, &tables, 2, 1);
-    let runs = [
+    let list = [
         Run::new(Page::new(0x8_01ff), 1),
         Run::new(Page::new(0x8_0201), 1),
     ];
+    let runs = Runs::of(&list);
     assert_eq!(rt; tables.grow(partition(), &runs, Some(data())), 1);
     edit_runs(rt, &mut tables, partition(), &runs, &Some(data()))?;
     let ops = tables.memory().ops();

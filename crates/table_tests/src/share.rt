@@ -3,7 +3,7 @@
 ghost use Rattle.std.specs.Prelude.{◌<◌};
 
 use crate::fixture::{LARGE, data, edit, page_word, run_of, set, table_word};
-use base::{OutOfMemory, Page, PartitionId, Run};
+use base::{OutOfMemory, Page, PartitionId, Run, Runs};
 use manifest::{Manifest, read};
 use pool::{ListPool, Op, RawPool, TableMem};
 use stage2::Tables;
@@ -191,7 +191,7 @@ fn check_counts<M: TableMem + Drop>(rt: &impl Abort, tables: &Tables<M>, used: u
 fn check_full<M: TableMem + Drop>(rt: &impl Abort, tables: &Tables<M>) {
     check_counts(rt, tables, 1_024, 0);
     let page = [Run::new(Page::new(0x8_0200), 1)];
-    assert_eq!(rt; tables.grow(partition(), &page, Some(data())), 1);
+    assert_eq!(rt; tables.grow(partition(), &Runs::of(&page), Some(data())), 1);
 }
 
 /// Every seventh place in turn until half of them are unmapped, and the same ones from the last to the first.

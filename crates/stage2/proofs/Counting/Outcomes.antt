@@ -69,26 +69,26 @@ no-other which i lt all out =
 
 module _ (e : ChunkEdit) where
   -- a page of the runs
-  pub one : (i : ℕ) × (i < 512) × (covers e.runs.now (512 * e.chunk + i) ≡ true)
-  one = page-among (λ i. covers e.runs.now (512 * e.chunk + i)) (let pages = e.pages in let some = e.touched in omega (arith, pages, some))
+  pub one : (i : ℕ) × (i < 512) × (covers e.runs (512 * e.chunk + i) ≡ true)
+  one = page-among (λ i. covers e.runs (512 * e.chunk + i)) (let pages = e.pages in let some = e.touched in omega (arith, pages, some))
 
   -- runs that have all pages of the chunk
-  pub told-filled : (before : ℕ → View) → e.pieces.pages ≡ 512 → IsOutcome e.chunk (edited e.runs.now e.access before) (Some e.access)
-  told-filled before all = outcome-others e.runs.now e.access before e.chunk (λ n at out.
+  pub told-filled : (before : ℕ → View) → e.pieces.pages ≡ 512 → IsOutcome e.chunk (edited e.runs e.access before) (Some e.access)
+  told-filled before all = outcome-others e.runs e.access before e.chunk (λ n at out.
       let page : 512 * e.chunk + n % 512 ≡ n = omega (arith, at) in
-      let beside : covers e.runs.now (512 * e.chunk + n % 512) ≡ false = ap (covers e.runs.now) page ∙ out in
-      absurd (no-other (λ i. covers e.runs.now (512 * e.chunk + i)) (n % 512) (omega arith) (sym e.pages ∙ all) beside))
+      let beside : covers e.runs (512 * e.chunk + n % 512) ≡ false = ap (covers e.runs) page ∙ out in
+      absurd (no-other (λ i. covers e.runs (512 * e.chunk + i)) (n % 512) (omega arith) (sym e.pages ∙ all) beside))
 
   -- pages that answered all the same before
   pub told-block : (before : ℕ → View) (one_answer : View) (b : Bool) → b ≡ is_alike one_answer e.access → ((n : ℕ) → n / 512 ≡ e.chunk → before n ≡ one_answer) → (e.pieces.pages ≡ 512 → ⊥)
-      → IsOutcome e.chunk (edited e.runs.now e.access before) (tells b e.access)
-  told-block before one_answer true is same few = outcome-others e.runs.now e.access before e.chunk (λ n at out. same n at ∙ alike-same one_answer e.access (sym is))
+      → IsOutcome e.chunk (edited e.runs e.access before) (tells b e.access)
+  told-block before one_answer true is same few = outcome-others e.runs e.access before e.chunk (λ n at out. same n at ∙ alike-same one_answer e.access (sym is))
   told-block before one_answer false is same few =
-      let y = page-beside (λ i. covers e.runs.now (512 * e.chunk + i)) (let pages = e.pages in let most = e.most in omega (arith, pages, most, few)) in
+      let y = page-beside (λ i. covers e.runs (512 * e.chunk + i)) (let pages = e.pages in let most = e.most in omega (arith, pages, most, few)) in
       let lt = one.1 in
       let small = y.1 in
       let at : (512 * e.chunk + y.0) / 512 ≡ e.chunk = omega (arith, small) in
-      outcome-stray e.runs.now e.access before e.chunk (512 * e.chunk + one.0) (512 * e.chunk + y.0) (omega (arith, lt)) one.2 at y.2
+      outcome-stray e.runs e.access before e.chunk (512 * e.chunk + one.0) (512 * e.chunk + y.0) (omega (arith, lt)) one.2 at y.2
       (λ alike. let is_one : one_answer ≡ e.access = sym (same (512 * e.chunk + y.0) at) ∙ alike in
       let bad : false ≡ true = is ∙ ap (λ a. is_alike a e.access) is_one ∙ alike-refl e.access in cc)
 
@@ -102,5 +102,5 @@ module _ (e : ChunkEdit) where
       let at : y / 512 ≡ e.chunk = omega (arith, small) in
       let before : ℕ → View = answers_at e.layout.now (words_of pool.memory.words) (Next k) in
       let word : IsWordFor y (before y) (words_of pool.memory.words k stray.index) = subst (λ x. IsWordFor y (before y) (words_of pool.memory.words k x)) index (spelled y at) in
-      outcome-stray e.runs.now e.access before e.chunk (512 * e.chunk + one.0) y (omega (arith, lt)) one.2 at stray.out
+      outcome-stray e.runs e.access before e.chunk (512 * e.chunk + one.0) y (omega (arith, lt)) one.2 at stray.out
       (λ alike. stray.other (subst (λ a. IsWordFor y a (words_of pool.memory.words k stray.index)) alike word))

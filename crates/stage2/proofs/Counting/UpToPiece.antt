@@ -1,8 +1,8 @@
 -- What an edit needs for the chunks of a gigabyte before one, and which runs are left for the others: one piece after another.
-use Rattle.std.proofs.Common.{◌≡◌, ℕ, ◌+◌, ◌-◌, ◌*◌, ◌<◌, ◌≤◌, Bool, true, false, cond, List, sym, ap, ◌∙◌, arith}
+use Rattle.std.proofs.Common.{◌≡◌, ℕ, ◌+◌, ◌-◌, ◌*◌, ◌<◌, ◌≤◌, Bool, false, cond, List, sym, ap, ◌∙◌, arith}
 use Rattle.base.specs.Access.{View}
 use Rattle.base.specs.Counts.{count_below}
-use Rattle.base.specs.Pages.{PageRun, are_normal}
+use Rattle.base.specs.Pages.{PageRun}
 use Rattle.pool.proofs.Count.{count_below-none, count_below-tail, count_below-more}
 use Rattle.stage2.specs.Edits.{edited, touches_chunk}
 use Rattle.stage2.specs.Room.{sum_below, table_operations, chunk_operations}
@@ -23,7 +23,6 @@ pub record IsPlanned (g : ℕ) (runs : List PageRun) (access : View) (v : ℕ �
   pub few : plan.tables ≤ i
   pub most : plan.operations ≤ 1027 * i
   pub left : AreLeft (512 * g + i) rest runs
-  pub normal : are_normal rest ≡ true
   pub last : i ≤ 512
 
 abbrev grows : ℕ → List PageRun → View → (ℕ → View) → ℕ → Bool
@@ -33,14 +32,13 @@ abbrev cost : ℕ → List PageRun → View → (ℕ → View) → ℕ → ℕ
 cost g runs access v x = chunk_operations runs access v (512 * g + x)
 
 module _ {g : ℕ} {runs : List PageRun} {access : View} {v : ℕ → View} where
-  pub planned-start : {plan : Plan} → plan ≡ record { tables = 0; operations = 0 } → are_normal runs ≡ true → IsPlanned g runs access v 0 runs plan
-  planned-start is normal = rw is record {
+  pub planned-start : {plan : Plan} → plan ≡ record { tables = 0; operations = 0 } → IsPlanned g runs access v 0 runs plan
+  planned-start is = rw is record {
     tables = sym (count_below-none (grows g runs access v) 0 (λ k lt. absurd (omega (arith, lt))));
     operations = let none = sum_below-none (cost g runs access v) 0 (λ k lt. absurd (omega (arith, lt))) in omega (arith, none);
     few = omega arith;
     most = omega arith;
     left = left-all (512 * g + 0) runs;
-    normal = normal;
     last = omega arith;
   }
 
@@ -49,8 +47,8 @@ module _ {g : ℕ} {runs : List PageRun} {access : View} {v : ℕ → View} wher
     spare x from none = sym (left-touches (512 * g + x) rest runs (left-later (512 * g + i) (512 * g + x) rest runs (omega (arith, from)) so.left)) ∙ none
 
     -- chunks that no run touches need nothing
-    gap : (k : ℕ) → i ≤ k → k ≤ 512 → ((x : ℕ) → i ≤ x → x < k → touches_chunk (512 * g + x) rest ≡ false) → (later : List PageRun) → AreLeft (512 * g + k) later runs → are_normal later ≡ true → IsPlanned g runs access v k later plan
-    gap k from most apart later left normal =
+    gap : (k : ℕ) → i ≤ k → k ≤ 512 → ((x : ℕ) → i ≤ x → x < k → touches_chunk (512 * g + x) rest ≡ false) → (later : List PageRun) → AreLeft (512 * g + k) later runs → IsPlanned g runs access v k later plan
+    gap k from most apart later left =
         let none = count_below-tail (grows g runs access v) i k from (λ x low lt. grows-nothing runs access v (512 * g + x) (λ n at. untouched (512 * g + x) runs n (spare x low (apart x low lt)) at)) in
         let all : i + (k - i) ≡ k = omega (arith, from) in
         let nothing = sum_below-tail (cost g runs access v) (k - i) i (λ x low lt. ap (λ t. cond t (3 + table_operations runs access v (512 * g + x)) 0) (spare x low (apart x low (omega (arith, lt, from))))) in
@@ -64,18 +62,16 @@ module _ {g : ℕ} {runs : List PageRun} {access : View} {v : ℕ → View} wher
           few = omega (arith, few, from);
           most = omega (arith, many, from);
           left = left;
-          normal = normal;
           last = most;
         }
 
-    pub planned-piece : {piece : Piece} → IsNextPiece g i rest piece → IsPlanned g runs access v piece.first piece.runs.now plan
+    pub planned-piece : {piece : Piece} → IsNextPiece g i rest piece → IsPlanned g runs access v piece.first piece.runs plan
     planned-piece {piece} next =
-        gap piece.first next.from (omega (arith, next.small)) next.apart piece.runs.now
-        (left-past (512 * g + piece.first) (512 * (512 * g + piece.first)) rest piece.runs.now runs (λ _. 512 * (512 * g + piece.first)) next.past (left-later (512 * g + i) (512 * g + piece.first) rest runs (omega (arith, next.from)) so.left))
-        next.normal
+        gap piece.first next.from (omega (arith, next.small)) next.apart piece.runs
+        (left-past (512 * g + piece.first) (512 * (512 * g + piece.first)) rest piece.runs runs (λ _. 512 * (512 * g + piece.first)) next.past (left-later (512 * g + i) (512 * g + piece.first) rest runs (omega (arith, next.from)) so.left))
 
     pub planned-end : ((x : ℕ) → i ≤ x → x < 512 → touches_chunk (512 * g + x) rest ≡ false) → IsPlanned g runs access v 512 rest plan
-    planned-end none = gap 512 so.last (omega arith) none rest (left-later (512 * g + i) (512 * g + 512) rest runs (omega (arith, so.last)) so.left) so.normal
+    planned-end none = gap 512 so.last (omega arith) none rest (left-later (512 * g + i) (512 * g + 512) rest runs (omega (arith, so.last)) so.left)
 
     -- chunks that take no table, and three operations each
     pub planned-filled : {end : ℕ} → i < end → end ≤ 512 → ((x : ℕ) → i ≤ x → x < end → grows_at v (edited runs access v) (512 * g + x) ≡ false) → ((x : ℕ) → i ≤ x → x < end → chunk_operations runs access v (512 * g + x) ≡ 3)
@@ -94,7 +90,6 @@ module _ {g : ℕ} {runs : List PageRun} {access : View} {v : ℕ → View} wher
           few = omega (arith, few, ahead);
           most = omega (arith, many, ahead);
           left = left-later (512 * g + i) (512 * g + end) rest runs (omega (arith, ahead)) so.left;
-          normal = so.normal;
           last = most;
         }
 
@@ -114,7 +109,6 @@ module _ {g : ℕ} {runs : List PageRun} {access : View} {v : ℕ → View} wher
           few = let few = so.few in omega (arith, few, grown, bit_most);
           most = let many = so.most in omega (arith, many, most);
           left = left-later (512 * g + i) (512 * g + (i + 1)) rest runs (omega arith) so.left;
-          normal = so.normal;
           last = omega (arith, lt);
         }
       where

@@ -28,7 +28,7 @@ pub record Sets (s : Site) (e : ChunkEdit) (pool : Pool) : Type 0 where
 
 -- a table goes
 pub record Drops (s : Site) (e : ChunkEdit) (pool : Pool) (k : ℕ) : Type 0 where
-  pub left : OthersAnswer k e.chunk e.runs.now e.access pool
+  pub left : OthersAnswer k e.chunk e.runs e.access pool
   pub words : operations_in_table s e pool ≡ words_left k e pool
 
 -- one stays
@@ -43,19 +43,19 @@ pub record Hangs (s : Site) (e : ChunkEdit) (pool : Pool) (before : View) : Type
   pub all : AnswersAll s e before pool
   pub grows : IsGrowing (chunk_view s e pool) (chunk_after s e pool) e.chunk
   pub some : (is_some before || is_some e.access) ≡ true
-  pub words : operations_in_table s e pool ≡ reached_in (edited e.runs.now e.access (λ n. before)) e.chunk
+  pub words : operations_in_table s e pool ≡ reached_in (edited e.runs e.access (λ n. before)) e.chunk
 
 module _ (s : Site) (e : ChunkEdit) (pool : Pool) (at : IsAt s e pool) {read : Slot} (is : read ≡ slot_at s e pool) {b : Bool} (told : IsOutcome e.chunk (read_after e read pool) (tells b e.access)) where
   alike : b ≡ true → IsOutcome e.chunk (chunk_after s e pool) (Some e.access)
-  alike t = outcome-read e.layout.now s.row e.chunk s.second (pages_of pool.memory) at e.runs.now e.access read (tells b e.access) (Some e.access) is (ap (λ x. tells x e.access) t) told
+  alike t = outcome-read e.layout.now s.row e.chunk s.second (pages_of pool.memory) at e.runs e.access read (tells b e.access) (Some e.access) is (ap (λ x. tells x e.access) t) told
 
   mixed : b ≡ false → IsOutcome e.chunk (chunk_after s e pool) None
-  mixed f = outcome-read e.layout.now s.row e.chunk s.second (pages_of pool.memory) at e.runs.now e.access read (tells b e.access) None is (ap (λ x. tells x e.access) f) told
+  mixed f = outcome-read e.layout.now s.row e.chunk s.second (pages_of pool.memory) at e.runs e.access read (tells b e.access) None is (ap (λ x. tells x e.access) f) told
 
   pub sets : b ≡ true → Sets s e pool
   sets t = record {
     edits = λ new made. made (chunk_after s e pool) (alike t);
-    steps = λ new made seated free. stays-whole e.layout.now s.row e.chunk e.runs.now e.access (chunk_view s e pool) pool new (unmixed-after e.chunk (chunk_view s e pool) (chunk_after s e pool) e.access (alike t)) (made (chunk_after s e pool) (alike t) seated);
+    steps = λ new made seated free. stays-whole e.layout.now s.row e.chunk e.runs e.access (chunk_view s e pool) pool new (unmixed-after e.chunk (chunk_view s e pool) (chunk_after s e pool) e.access (alike t)) (made (chunk_after s e pool) (alike t) seated);
   }
 
   module _ {table : Option ℕ} (found : table ≡ next_page read) where
@@ -65,26 +65,26 @@ module _ (s : Site) (e : ChunkEdit) (pool : Pool) (at : IsAt s e pool) {read : S
           let n = 512 * e.chunk + i in
           let here : n / 512 ≡ e.chunk = omega (arith, small) in
           let index : n % 512 ≡ i = omega (arith, small) in
-          let answer = others-before e.layout.now s.row e.chunk s.second (pages_of pool.memory) at e.runs.now e.access k (table-read s e pool is found some) (alike t) n here out in
+          let answer = others-before e.layout.now s.row e.chunk s.second (pages_of pool.memory) at e.runs e.access k (table-read s e pool is found some) (alike t) n here out in
           let word = spelled-words e.layout.now s.row e.chunk s.second (pages_of pool.memory) at k (table-read s e pool is found some) n here in
           rw (answer, index) at word;
-      words = dropped-words e.layout.now s.row e.chunk s.second (pages_of pool.memory) at e.runs.now e.access e.access k (table-read s e pool is found some) (alike t);
+      words = dropped-words e.layout.now s.row e.chunk s.second (pages_of pool.memory) at e.runs e.access e.access k (table-read s e pool is found some) (alike t);
     }
 
     pub keeps : b ≡ false → {k : ℕ} → table ≡ Some k → Keeps s e pool
     keeps f {k} some = record {
       edits = λ new made. made (mixed f);
-      words = kept-words e.layout.now s.row e.chunk s.second (pages_of pool.memory) at e.runs.now e.access k (table-read s e pool is found some) (mixed f);
+      words = kept-words e.layout.now s.row e.chunk s.second (pages_of pool.memory) at e.runs e.access k (table-read s e pool is found some) (mixed f);
     }
 
     pub hangs : b ≡ false → table ≡ None → {before : View} → before ≡ block_answer read → Hangs s e pool before
     hangs f none {before} answers = record {
       edits = λ new made. made (mixed f);
-      steps = λ new made seated free. stays-whole e.layout.now s.row e.chunk e.runs.now e.access (chunk_view s e pool) pool new (unmixed-before e.chunk (chunk_view s e pool) (chunk_after s e pool) grown.was) (made (mixed f) seated);
+      steps = λ new made seated free. stays-whole e.layout.now s.row e.chunk e.runs e.access (chunk_view s e pool) pool new (unmixed-before e.chunk (chunk_view s e pool) (chunk_after s e pool) grown.was) (made (mixed f) seated);
       all = all;
       grows = grown;
-      some = hung-some e.layout.now s.row e.chunk s.second (pages_of pool.memory) at e.runs.now e.access before unhung-here (mixed f) all;
-      words = hung-words e.layout.now s.row e.chunk s.second (pages_of pool.memory) at e.runs.now e.access before unhung-here (mixed f) all;
+      some = hung-some e.layout.now s.row e.chunk s.second (pages_of pool.memory) at e.runs e.access before unhung-here (mixed f) all;
+      words = hung-words e.layout.now s.row e.chunk s.second (pages_of pool.memory) at e.runs e.access before unhung-here (mixed f) all;
     }
       where
         unhung-here : next_page (slot_at s e pool) ≡ None

@@ -34,7 +34,6 @@ module _ {e : RowEdit} {j g : ℕ} {runs : List PageRun} {first : Pool} {r0 : �
   tabled-can = record {
     orderly = subst (λ (x : Pages). IsOrderly e.layout.now x) (sym same) can.canonical.orderly;
     second = subst (λ (x : Pages). table_at e.layout.now x.words (Gigabyte e.row g) ≡ Some j) (sym same) table;
-    normal = can.normal;
     fits = fits-tabled e.layout.now e.row g j (pages_of first.memory) can.canonical e.inside below table runs e.access can.fits;
     room = let all = costs in let room = can.room in omega (arith, all, room);
   }

@@ -59,7 +59,6 @@ module _ {e : RowEdit} {g : ℕ} {runs : List PageRun} {first : Pool} {r0 : ℕ}
           subst (λ (x : Pages). IsOrderly e.layout.now (linked e.layout.now e.row g j x)) (sym marked)
           (rooted e.layout.now e.row g (table_word_of (e.layout.now.base + j)) (pages_of first.memory) (linked e.layout.now e.row g j (with_mark j true (pages_of first.memory))) (link-rooted e.layout.now e.row g j (pages_of first.memory) link));
       second = subst (λ (x : Pages). table_at e.layout.now (linked e.layout.now e.row g j x).words (Gigabyte e.row g) ≡ Some j) (sym marked) (link-table e.layout.now e.row g j (pages_of first.memory) link);
-      normal = can.normal;
       fits = subst (λ (x : Pages). Fits e.layout.now e.row g j runs e.access x) (sym marked) (record { fits = link-fits e.layout.now e.row g j runs e.access (pages_of first.memory) can.canonical below link can.touched maps can.fits.fits });
       room = let all = costs in let room = can.room in omega (arith, all, room, kept);
     }

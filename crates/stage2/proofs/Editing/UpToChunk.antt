@@ -2,7 +2,7 @@
 use Rattle.std.proofs.Common.{◌≡◌, ◌≢◌, ℕ, zero, suc, ◌+◌, ◌-◌, ◌*◌, ◌/◌, ◌%◌, ◌<◌, ◌≤◌, eqb, true, false, cond, None, List, sym, ap, subst, ◌∙◌, arith}
 use Rattle.base.specs.Access.{View}
 use Rattle.base.specs.Manifest.{page_count}
-use Rattle.base.specs.Pages.{PageRun, are_normal}
+use Rattle.base.specs.Pages.{PageRun}
 use Rattle.pool.specs.Pool.{Pool, IsWhole, pages_of, words_of, taken_of, after_replaces}
 use Rattle.stage2.specs.Edits.{edited, touches_chunk, AreFree}
 use Rattle.stage2.specs.Moments.{StaysInStep}
@@ -46,7 +46,6 @@ pub record IsUpTo (e : RowEdit) (j g : ℕ) (runs : List PageRun) (first : Pool)
   pub in_step : IsSeated e.layout.now e.row g j (pages_of first.memory) → AreFree (λ n. eqb (n / 512 / 512) g) runs e.access (linked_view e g j first)
       → StaysInStep e.layout.now e.row (disturbed_below g i runs (linked_view e g j first) (after e j g runs first)) (λ n. walked n (after e j g runs first n)) first now
   pub left : AreLeft (512 * g + i) rest runs
-  pub normal : are_normal rest ≡ true
   pub last : i ≤ 512
   pub room : room_first ≤ room_now + sum_below (cost e j g runs first) i
 
@@ -56,7 +55,6 @@ module _ {e : RowEdit} {j g : ℕ} {runs : List PageRun} {first : Pool} {r0 : �
     underway = underway-start e.layout.now e.row g j runs e.access (pages_of first.memory) e.inside below can.orderly can.second;
     in_step = λ seated free. stays-none e.layout.now e.row (disturbed_below g 0 runs (linked_view e g j first) (after e j g runs first)) (λ n. walked n (after e j g runs first n)) first;
     left = left-all (512 * g + 0) runs;
-    normal = can.normal;
     last = omega arith;
     room = omega arith;
   }
@@ -67,8 +65,8 @@ module _ {e : RowEdit} {j g : ℕ} {runs : List PageRun} {first : Pool} {r0 : �
     alone x from none = sym (left-touches (512 * g + x) rest runs (left-later (512 * g + i) (512 * g + x) rest runs (omega (arith, from)) so.left)) ∙ none
 
     -- chunks are passed over that they leave alone
-    gap : (k : ℕ) → i ≤ k → k ≤ 512 → ((x : ℕ) → i ≤ x → x < k → touches_chunk (512 * g + x) rest ≡ false) → (later : List PageRun) → AreLeft (512 * g + k) later runs → are_normal later ≡ true → IsUpTo e j g runs first r0 k later now r
-    gap k from most apart later left normal =
+    gap : (k : ℕ) → i ≤ k → k ≤ 512 → ((x : ℕ) → i ≤ x → x < k → touches_chunk (512 * g + x) rest ≡ false) → (later : List PageRun) → AreLeft (512 * g + k) later runs → IsUpTo e j g runs first r0 k later now r
+    gap k from most apart later left =
         let all : i + (k - i) ≡ k = omega (arith, from) in
         let none : (x : ℕ) → i ≤ x → x < i + (k - i) → touches_chunk (512 * g + x) runs ≡ false = λ x low lt. alone x low (apart x low (omega (arith, lt, from))) in
         let up = sum_below-up (cost e j g runs first) i k from in
@@ -79,26 +77,24 @@ module _ {e : RowEdit} {j g : ℕ} {runs : List PageRun} {first : Pool} {r0 : �
           in_step = λ seated free. subst (λ n. StaysInStep e.layout.now e.row (disturbed_below g n runs (linked_view e g j first) (after e j g runs first)) (λ n. walked n (after e j g runs first n)) first now) all
               (stays-gap e.layout.now e.row g j runs e.access (pages_of first.memory) (pages_of now.memory) e.inside below first now (k - i) i (omega (arith, from, most)) none so.underway (so.in_step seated free));
           left = left;
-          normal = normal;
           last = most;
           room = omega (arith, up, room);
         }
 
-    pub at-piece : {piece : Piece} → IsNextPiece g i rest piece → IsUpTo e j g runs first r0 piece.first piece.runs.now now r
+    pub at-piece : {piece : Piece} → IsNextPiece g i rest piece → IsUpTo e j g runs first r0 piece.first piece.runs now r
     at-piece {piece} next =
-        gap piece.first next.from (omega (arith, next.small)) next.apart piece.runs.now
-        (left-past (512 * g + piece.first) (512 * (512 * g + piece.first)) rest piece.runs.now runs (λ _. 512 * (512 * g + piece.first)) next.past (left-later (512 * g + i) (512 * g + piece.first) rest runs (omega (arith, next.from)) so.left))
-        next.normal
+        gap piece.first next.from (omega (arith, next.small)) next.apart piece.runs
+        (left-past (512 * g + piece.first) (512 * (512 * g + piece.first)) rest piece.runs runs (λ _. 512 * (512 * g + piece.first)) next.past (left-later (512 * g + i) (512 * g + piece.first) rest runs (omega (arith, next.from)) so.left))
 
     pub at-untouched : i < 512 → touches_chunk (512 * g + i) rest ≡ false → IsUpTo e j g runs first r0 (i + 1) rest now r
     at-untouched lt none =
         gap (i + 1) (omega arith) (omega (arith, lt)) (λ x low high. let same : x ≡ i = omega (arith, low, high) in subst (λ y. touches_chunk (512 * g + y) rest ≡ false) (sym same) none) rest
-        (left-later (512 * g + i) (512 * g + (i + 1)) rest runs (omega arith) so.left) so.normal
+        (left-later (512 * g + i) (512 * g + (i + 1)) rest runs (omega arith) so.left)
 
     -- no chunk is left
     module _ (none : (x : ℕ) → i ≤ x → x < 512 → touches_chunk (512 * g + x) rest ≡ false) where
       all : IsUpTo e j g runs first r0 512 rest now r
-      all = gap 512 so.last (omega arith) none rest (left-later (512 * g + i) (512 * g + 512) rest runs (omega (arith, so.last)) so.left) so.normal
+      all = gap 512 so.last (omega arith) none rest (left-later (512 * g + i) (512 * g + 512) rest runs (omega (arith, so.last)) so.left)
 
       pub at-end : AreChunksEdited e g j runs first r0 now r
       at-end = record { edits = all.underway; in_step = all.in_step; room = all.room }
@@ -108,7 +104,7 @@ module _ {e : RowEdit} {j g : ℕ} {runs : List PageRun} {first : Pool} {r0 : �
     own-here {part} own = own-chunk (512 * g + i) runs part (own ∙ so.left.parts (512 * g + i) (omega arith))
 
     -- the next chunk
-    module _ (lt : i < 512) (h : ChunkEdit) (layout : h.layout.now ≡ e.layout.now) (at : h.chunk ≡ 512 * g + i) (own : AreOwn (512 * g + i) h.runs.now runs) (access : h.access ≡ e.access) where
+    module _ (lt : i < 512) (h : ChunkEdit) (layout : h.layout.now ≡ e.layout.now) (at : h.chunk ≡ 512 * g + i) (own : AreOwn (512 * g + i) h.runs runs) (access : h.access ≡ e.access) where
       abbrev v : ℕ → View
       v = answers_in e.layout.now e.row (512 * g + i) j (pages_of now.memory)
 
@@ -118,16 +114,16 @@ module _ {e : RowEdit} {j g : ℕ} {runs : List PageRun} {first : Pool} {r0 : �
       pub here-free : GrowsChunk (record { p = e.p; row = e.row; second = j }) h now → HasFree e.row now
       here-free grows =
           has-free e.layout.now e.row g j runs e.access (pages_of first.memory) e.inside below i lt (pages_of now.memory) so.underway can.fits.fits
-          (chunk-growing (512 * g + i) runs h.runs.now e.access own.covered v (grows-made (record { p = e.p; row = e.row; second = j }) h e.layout.now (512 * g + i) e.access layout at access now now grows))
+          (chunk-growing (512 * g + i) runs h.runs e.access own.covered v (grows-made (record { p = e.p; row = e.row; second = j }) h e.layout.now (512 * g + i) e.access layout at access now now grows))
 
-      touched : touches_chunk (512 * g + i) h.runs.now ≡ true
-      touched = subst (λ x. touches_chunk x h.runs.now ≡ true) at (touches-made h)
+      touched : touches_chunk (512 * g + i) h.runs ≡ true
+      touched = subst (λ x. touches_chunk x h.runs ≡ true) at (touches-made h)
 
       here-cost : cost e j g runs first i ≡ 3 + operations_in_table (record { p = e.p; row = e.row; second = j }) h now
       here-cost =
-          let same = chunk-same runs h.runs.now e.access (linked_view e g j first) v (512 * g + i) own.covered own.count
+          let same = chunk-same runs h.runs e.access (linked_view e g j first) v (512 * g + i) own.covered own.count
           (λ x small. still-answers e.layout.now e.row g j runs e.access (pages_of first.memory) e.inside below i lt (pages_of now.memory) so.underway (512 * (512 * g + i) + x) (omega (arith, small, lt, below)) (omega (arith, small))) own.touches in
-          sym (ap (λ t. cond t (3 + table_operations h.runs.now e.access v (512 * g + i)) 0) (sym touched) ∙ same)
+          sym (ap (λ t. cond t (3 + table_operations h.runs e.access v (512 * g + i)) 0) (sym touched) ∙ same)
           ∙ ap (λ n. 3 + n) (sym (room-made (record { p = e.p; row = e.row; second = j }) h e.layout.now (512 * g + i) e.access layout at access now now))
 
       pub here-room : 3 + operations_in_table (record { p = e.p; row = e.row; second = j }) h now ≤ r
@@ -147,17 +143,16 @@ module _ {e : RowEdit} {j g : ℕ} {runs : List PageRun} {first : Pool} {r0 : �
           let one = here-cost in
           record {
             underway = underway-edit e.layout.now e.row g j runs e.access (pages_of first.memory) e.inside below i lt (pages_of now.memory) so.underway (pages_of new.memory)
-                (chunk-redoes e.layout.now e.row (512 * g + i) runs h.runs.now e.access own.covered j v (pages_of now.memory) (pages_of new.memory)
+                (chunk-redoes e.layout.now e.row (512 * g + i) runs h.runs e.access own.covered j v (pages_of now.memory) (pages_of new.memory)
                 (edits-made (record { p = e.p; row = e.row; second = j }) h e.layout.now (512 * g + i) e.access layout at access now new edits));
             in_step = λ seated free.
                 march-edit e.layout.now e.row g j runs e.access (pages_of first.memory) e.inside below i lt (pages_of now.memory) so.underway first now new (sym own.touches ∙ touched) (so.in_step seated free)
-                (chunk-stays e.layout.now e.row (512 * g + i) runs h.runs.now e.access own.covered v now new
+                (chunk-stays e.layout.now e.row (512 * g + i) runs h.runs e.access own.covered v now new
                 (step-made (record { p = e.p; row = e.row; second = j }) h e.layout.now (512 * g + i) e.access layout at access now new steps
                 (march-seated e.layout.now e.row g j runs e.access (pages_of first.memory) e.inside below i lt (pages_of now.memory) so.underway seated)
-                (chunk-free (512 * g + i) runs h.runs.now e.access own.covered v
+                (chunk-free (512 * g + i) runs h.runs e.access own.covered v
                 (march-free e.layout.now e.row g j runs e.access (pages_of first.memory) e.inside below i lt (pages_of now.memory) so.underway free))));
             left = left-later (512 * g + i) (512 * g + (i + 1)) rest runs (omega arith) so.left;
-            normal = so.normal;
             last = omega (arith, lt);
             room = omega (arith, more, room, one, spent);
           }
@@ -210,25 +205,24 @@ module _ {e : RowEdit} {j g : ℕ} {runs : List PageRun} {first : Pool} {r0 : �
                 (subst (λ n. StaysInStep e.layout.now e.row (disturbed_below g n runs (linked_view e g j first) (after e j g runs first)) (λ n. walked n (after e j g runs first n)) first (after_replaces e.p j i (end - i) blocks.word (block_step e.access) (512 * (512 * g + i)) now)) all
                 (stays-many e.layout.now e.row g j runs e.access (pages_of first.memory) e.inside below e.p e.own first i blocks.word now whole (table-inside (omega (arith, ahead, most))) blocks.block end most fills none so.underway (end - i) (omega (arith, all)) seated (so.in_step seated free)));
             left = left-later (512 * g + i) (512 * g + end) rest runs (omega (arith, ahead)) so.left;
-            normal = so.normal;
             last = most;
             room = omega (arith, room, costs, less, ahead);
           }
 
   -- ---- a chunk that is the only one that runs touch
 
-  module _ (h : ChunkEdit) (layout : h.layout.now ≡ e.layout.now) (here : h.chunk / 512 ≡ g) (own : h.runs.now ≡ runs) (access : h.access ≡ e.access) (others : (k : ℕ) → k ≢ h.chunk → touches_chunk k runs ≡ false) where
+  module _ (h : ChunkEdit) (layout : h.layout.now ≡ e.layout.now) (here : h.chunk / 512 ≡ g) (own : h.runs ≡ runs) (access : h.access ≡ e.access) (others : (k : ℕ) → k ≢ h.chunk → touches_chunk k runs ≡ false) where
     at : h.chunk ≡ 512 * g + h.chunk % 512
     at = omega (arith, here)
 
     apart : (x : ℕ) → x ≢ h.chunk % 512 → touches_chunk (512 * g + x) runs ≡ false
     apart x differs = others (512 * g + x) (λ same. differs (omega (arith, same, at)))
 
-    owns : AreOwn (512 * g + h.chunk % 512) h.runs.now runs
-    owns = own-all (512 * g + h.chunk % 512) runs h.runs.now own
+    owns : AreOwn (512 * g + h.chunk % 512) h.runs runs
+    owns = own-all (512 * g + h.chunk % 512) runs h.runs own
 
     under : IsUpTo e j g runs first r0 (h.chunk % 512) runs first r0
-    under = gap at-start (h.chunk % 512) (omega arith) (omega arith) (λ x from to. apart x (λ same. omega (arith, same, to))) runs (left-all (512 * g + h.chunk % 512) runs) can.normal
+    under = gap at-start (h.chunk % 512) (omega arith) (omega arith) (λ x from to. apart x (λ same. omega (arith, same, to))) runs (left-all (512 * g + h.chunk % 512) runs)
 
     pub alone-site : IsAt (record { p = e.p; row = e.row; second = j }) h first
     alone-site = here-site under (omega arith) h layout at owns access

@@ -1,7 +1,6 @@
 -- The gigabytes of a row before one are edited: one after another.
 use Rattle.std.proofs.Common.{◌≡◌, ℕ, ◌+◌, ◌-◌, ◌/◌, ◌<◌, ◌≤◌, true, false, List, subst, ◌∙◌, arith}
-use Rattle.base.specs.Access.{View}
-use Rattle.base.specs.Pages.{PageRun, covers, are_normal}
+use Rattle.base.specs.Pages.{PageRun, covers}
 use Rattle.pool.specs.Pool.{Pool, pages_of}
 use Rattle.stage2.specs.Edits.{AreFree}
 use Rattle.stage2.specs.Moments.{StaysInStep}
@@ -72,11 +71,10 @@ module _ {e : RowEdit} {runs : List PageRun} {first : Pool} {r0 : ℕ} where
       same-cost : operations_in_gigabyte e i part now ≡ cost e runs first i
       same-cost = gigabyte-operations i runs part is e.access (row_view e.layout.now e.row now) ∙ past-operations e.layout.now e.row runs e.access (pages_of first.memory) e.inside i lt (pages_of now.memory) so.past
 
-      pub row-can : IsCanonical e.layout.now (pages_of first.memory) → FitsInRow e runs first → operations_in_row e runs first ≤ r0 → Touches part i → are_normal part ≡ true → CanEditGigabyte e i part now r
-      row-can canonical fits enough touched normal = record {
+      pub row-can : IsCanonical e.layout.now (pages_of first.memory) → FitsInRow e runs first → operations_in_row e runs first ≤ r0 → Touches part i → CanEditGigabyte e i part now r
+      row-can canonical fits enough touched = record {
         canonical = so.past.canonical;
         touched = touched;
-        normal = normal;
         fits = gigabyte-fits e.layout.now e.row i runs part e.access is (pages_of now.memory) (past-fits e.layout.now e.row runs e.access (pages_of first.memory) e.inside i lt (pages_of now.memory) so.past canonical fits);
         room =
             let more = sum_below-more (cost e runs first) i in

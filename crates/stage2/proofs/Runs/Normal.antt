@@ -112,6 +112,15 @@ normal-within (r ∷ runs) run high normal some is most =
     let rest = rise-within run.first (end_of r) high runs normal (rw is (omega arith)) most in
     rw (here, rest) refl
 
+rise-few : (end : ℕ) (runs : List PageRun) → rise_above end runs ≡ true → end + length runs ≤ end_from end runs
+rise-few end [] rises = omega arith
+rise-few end (r ∷ runs) rises = let parts = rise-parts end r runs rises in let first = parts.0 in let rest = rise-few (end_of r) runs parts.1 in omega (arith, first, rest)
+
+-- there are no more than pages
+pub normal-few : (runs : List PageRun) → are_normal runs ≡ true → length runs ≤ end_from 0 runs + 1
+normal-few [] normal = omega arith
+normal-few (r ∷ runs) normal = let rest = rise-few (end_of r) runs normal in omega (arith, rest)
+
 -- the first begins before the last ends
 pub normal-first : (runs : List PageRun) (run : PageRun) → are_normal runs ≡ true → 0 < length runs → run ≡ get_or runs 0 run → run.first ≤ end_from 0 runs
 normal-first [] run normal some is = absurd (omega arith)

@@ -3,7 +3,7 @@ use Rattle.std.specs.Prelude.{◌≡◌, ◌≢◌, ℕ, ◌+◌, ◌-◌, ◌*�
 use Rattle.base.specs.Access.{View}
 use Rattle.base.specs.Counts.{count_below}
 use Rattle.base.specs.Manifest.{row_of}
-use Rattle.base.specs.Pages.{PageRun, covers, are_normal}
+use Rattle.base.specs.Pages.{PageRun, covers}
 use Rattle.pool.specs.Pool.{Pool, pages_of, words_of, nonzero_in, with_put, with_mark, after_replaces, used_by, row_quota}
 use Rattle.pool.specs.declared.runs.TableWords.{TableWords}
 use Rattle.stage2.specs.declared.site.ChunkEdit.{ChunkEdit}
@@ -50,13 +50,13 @@ pub record AreWordsOf (k c : ℕ) (answer : View) (words : TableWords) : Type 0 
 -- the words for pages in none of the runs are valid exactly where those of pages with this answer are not
 abbrev pub AreTurned : ℕ → ChunkEdit → View → Pool → Type 0
 AreTurned k e answer pool =
-    (i : ℕ) → i < 512 → covers e.runs.now (512 * e.chunk + i) ≡ false
+    (i : ℕ) → i < 512 → covers e.runs (512 * e.chunk + i) ≡ false
     → (words_of pool.memory.words k i == 0) ≡ is_some answer
 
 -- those for the runs' pages are valid exactly where the words that are written are not
 abbrev pub AreRunsTurned : ℕ → ChunkEdit → Pool → Type 0
 AreRunsTurned k e pool =
-    (i : ℕ) → i < 512 → covers e.runs.now (512 * e.chunk + i) ≡ true
+    (i : ℕ) → i < 512 → covers e.runs (512 * e.chunk + i) ≡ true
     → (words_of pool.memory.words k i == 0) ≡ is_some e.access
 
 -- the words of a chunk's pages from one up to another, counted from its first
@@ -101,7 +101,7 @@ read_before e entry pool = answers_at e.layout.now (words_of pool.memory.words) 
 -- and after an edit
 abbrev pub read_after : ChunkEdit → Slot → Pool → ℕ → View
 read_after e entry pool =
-    edited e.runs.now e.access (answers_at e.layout.now (words_of pool.memory.words) entry)
+    edited e.runs e.access (answers_at e.layout.now (words_of pool.memory.words) entry)
 
 -- what its pages answer
 abbrev pub chunk_view : Site → ChunkEdit → Pool → ℕ → View
@@ -109,7 +109,7 @@ chunk_view s e pool = answers_in e.layout.now s.row e.chunk s.second (pages_of p
 
 -- and after an edit
 abbrev pub chunk_after : Site → ChunkEdit → Pool → ℕ → View
-chunk_after s e pool = edited e.runs.now e.access (chunk_view s e pool)
+chunk_after s e pool = edited e.runs e.access (chunk_view s e pool)
 
 -- its pages all answer so
 abbrev pub AnswersAll : Site → ChunkEdit → View → Pool → Type 0
@@ -133,7 +133,7 @@ EditsChunk s e old new =
 -- the operations on its level 3 table
 abbrev pub operations_in_table : Site → ChunkEdit → Pool → ℕ
 operations_in_table s e pool =
-    table_operations e.runs.now e.access (chunk_view s e pool) e.chunk
+    table_operations e.runs e.access (chunk_view s e pool) e.chunk
 
 -- where they don't answer all alike then
 abbrev pub EditsMixed : Site → ChunkEdit → Pool → Pool → Type 0
@@ -144,18 +144,18 @@ EditsMixed s e old new =
 -- the words of pages in none of the runs are 0
 abbrev pub LeavesNone : ℕ → ChunkEdit → Pool → Type 0
 LeavesNone k e pool =
-    (i : ℕ) → i < 512 → covers e.runs.now (512 * e.chunk + i) ≡ false
+    (i : ℕ) → i < 512 → covers e.runs (512 * e.chunk + i) ≡ false
     → words_of pool.memory.words k i ≡ 0
 
 -- the operations of an edit of which it stays: the words of the runs' pages, and an invalidation of each run that is unmapped
 abbrev pub operations_kept : ChunkEdit → ℕ
 operations_kept e =
-    pages_in e.runs.now e.chunk + (if is_some e.access then 0 else part_count e.chunk e.runs.now)
+    pages_in e.runs e.chunk + (if is_some e.access then 0 else part_count e.chunk e.runs)
 
 -- the words that it loses when it is given back: all, or those of the runs' pages
 abbrev pub words_left : ℕ → ChunkEdit → Pool → ℕ
 words_left k e pool =
-    if is_some e.access then nonzero_in (words_of pool.memory.words) k else pages_in e.runs.now e.chunk
+    if is_some e.access then nonzero_in (words_of pool.memory.words) k else pages_in e.runs e.chunk
 
 -- each word of the table is the one for its page's answer
 abbrev pub IsSpelled : ChunkEdit → ℕ → Pool → Type 0
@@ -171,7 +171,7 @@ tells alike access = if alike then Some access else None
 pub record IsStray (k : ℕ) (e : ChunkEdit) (pool : Pool) : Type 0 where
   pub index : ℕ
   pub small : index < 512
-  pub out : covers e.runs.now (512 * e.chunk + index) ≡ false
+  pub out : covers e.runs (512 * e.chunk + index) ≡ false
   pub other : IsWordFor (512 * e.chunk + index) e.access (words_of pool.memory.words k index) → ⊥
 
 -- the words for pages in none of the runs are those of pages with this answer
@@ -208,7 +208,7 @@ MixesInStep s e old new =
 -- of its pages, those of a map are not mapped before
 abbrev pub AreFreeIn : Site → ChunkEdit → Pool → Type 0
 AreFreeIn s e pool =
-    AreFree (λ n. n / 512 == e.chunk) e.runs.now e.access (chunk_view s e pool)
+    AreFree (λ n. n / 512 == e.chunk) e.runs e.access (chunk_view s e pool)
 
 -- its pages of the runs
 abbrev pub covers_in : ℕ → List PageRun → ℕ → Bool
@@ -219,7 +219,7 @@ abbrev pub ChunkInStep : Site → ChunkEdit → Pool → Pool → Type 0
 ChunkInStep s e old new =
     IsSeatedAt s e old → AreFreeIn s e old
     → StaysInStep e.layout.now s.row
-    (λ n. (n / 512 == e.chunk) && disturbs e.runs.now (chunk_view s e old) (chunk_after s e old) n)
+    (λ n. (n / 512 == e.chunk) && disturbs e.runs (chunk_view s e old) (chunk_after s e old) n)
     (λ n. walked n (chunk_after s e old n)) old new
 
 -- the level 2 words of chunks of a gigabyte are replaced by those of blocks, or by 0
@@ -268,7 +268,6 @@ FitsChunks e g j runs pool = Fits e.layout.now e.row g j runs e.access (pages_of
 pub record CanEditChunks (e : RowEdit) (g j : ℕ) (runs : List PageRun) (pool : Pool) (left : ℕ) : Type 0 where
   pub orderly : IsLinkedOrderly e g j pool
   pub second : IsSecond e g j pool
-  pub normal : are_normal runs ≡ true
   pub fits : FitsChunks e g j runs pool
   pub room : operations_in_chunks e g j runs pool ≤ left
 
@@ -361,7 +360,6 @@ GigabyteInStep e g runs old new =
 pub record CanEditGigabyte (e : RowEdit) (g : ℕ) (runs : List PageRun) (pool : Pool) (left : ℕ) : Type 0 where
   pub canonical : IsCanonical e.layout.now (pages_of pool.memory)
   pub touched : Touches runs g
-  pub normal : are_normal runs ≡ true
   pub fits : FitsInGigabyte e g runs pool
   pub room : operations_in_gigabyte e g runs pool ≤ left
 

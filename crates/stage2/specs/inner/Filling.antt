@@ -1,5 +1,5 @@
 -- Tables that are filled upward: the pages that a partition reaches alike are mapped run by run.
-use Rattle.std.specs.Prelude.{◌≡◌, ◌≢◌, ℕ, ◌-◌, ◌^◌, ◌<◌, ◌≤◌, ◌⊎◌, List, [], ◌∷◌, length, Some, None, if◌then◌else◌, nat_lt}
+use Rattle.std.specs.Prelude.{◌≡◌, ◌≢◌, ℕ, ◌-◌, ◌^◌, ◌<◌, ◌≤◌, ◌⊎◌, List, [], ◌∷◌, Some, None, if◌then◌else◌, nat_lt}
 use Rattle.base.specs.Access.{Access, View}
 use Rattle.base.specs.Manifest.{row_of}
 use Rattle.base.specs.Pages.{PageRun}

@@ -23,6 +23,6 @@ told t m e p runs to answer own is same placed said =
 pub returns-in-Some : goal.returns-in-Some
 returns-in-Some g c = λ m placed.
     let orderly = rw c.in-Some.is at c.requires.orderly in
-    let runs = c.deref.ensures.value ∙ ap (λ (e : Edit). e.runs) c.edit.view_is in
+    let runs = c.of.ensures ∙ c.deref.ensures.value ∙ ap (λ (e : Edit). e.runs) c.edit.view_is in
     let to = ap (λ (e : Edit). e.to) c.edit.view_is in
-    rw c.in-Some.is (told c.args.tables.now m c.in-Some.edit c.args.p c.deref.result.now c.edit.inside.to c.fits.result orderly.own runs to placed c.fits.ensures)
+    rw c.in-Some.is (told c.args.tables.now m c.in-Some.edit c.args.p c.of.result c.edit.inside.to c.fits.result orderly.own runs to placed c.fits.ensures)

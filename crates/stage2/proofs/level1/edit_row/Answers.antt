@@ -9,10 +9,10 @@ use Rattle.stage2.proofs.level1.edit_row.Goals.{then-touches, else-touches}
 pub edit_gigabyte-requires : goal.edit_gigabyte-requires
 edit_gigabyte-requires g c =
     let here = c.new-gigabyte.ensures in
-    let touched = c.touches.ensures.yes c.if-touches.true c.new-gigabyte.result c.args.runs.now c.gigabyte_runs-part.ensures.same in
+    let touched = c.touches.ensures.yes c.if-touches.true c.new-gigabyte.result c.args.runs.now c.gigabyte_runs-part.ensures in
     rw here
-    (row-can c.loop-number.invariant.up_to (omega (arith, c.loop-number-test.true, c.gigabyte_span-span.ensures.most)) (rw here at c.gigabyte_runs-part.ensures.same)
-    c.requires.canonical c.requires.free c.requires.room (rw here at touched) c.gigabyte_runs-part.ensures.normal)
+    (row-can c.loop-number.invariant.up_to (omega (arith, c.loop-number-test.true, c.gigabyte_span-span.ensures.most)) (rw here at c.gigabyte_runs-part.ensures)
+    c.requires.canonical c.requires.free c.requires.room (rw here at touched))
 
 pub loop-number-init : goal.loop-number-init
 loop-number-init g c =
@@ -26,7 +26,7 @@ loop-number-init g c =
 pub loop-number-preserved : goal.loop-number-preserved
 loop-number-preserved g c =
     let here = c.new-gigabyte.ensures in
-    let is = rw here at c.gigabyte_runs-part.ensures.same in
+    let is = rw here at c.gigabyte_runs-part.ensures in
     let so = c.loop-number.invariant.up_to in
     elim c.if-touches.branch [
       | then-touches w ↦ rw w.memory-is (record {
@@ -34,7 +34,7 @@ loop-number-preserved g c =
       })
       | else-touches w ↦ rw w.memory-is (record {
         up_to = row-ahead so (c.loop-number.number + 1) (omega arith) (omega (arith, c.loop-number-test.true, c.gigabyte_span-span.ensures.most))
-            (λ n from to. sym (gigabyte-covers c.loop-number.number c.args.runs.now c.gigabyte_runs-part.result.now is n (omega (arith, from, to))) ∙ c.touches.ensures.no w.if-touches.false n);
+            (λ n from to. sym (gigabyte-covers c.loop-number.number c.args.runs.now c.gigabyte_runs-part.result is n (omega (arith, from, to))) ∙ c.touches.ensures.no w.if-touches.false n);
       })
     ]
 

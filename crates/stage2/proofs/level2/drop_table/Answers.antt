@@ -108,7 +108,7 @@ replace_entry-requires-clause-partition g c = has-row c.args.edit.now.layout.now
 
 pub empty_table-requires-clause-room : goal.empty_table-requires-clause-room
 empty_table-requires-clause-room g c =
-    let same = ap (λ n. cond (is_some c.args.edit.now.access) n (pages_in c.args.edit.now.runs.now c.args.edit.now.chunk))
+    let same = ap (λ n. cond (is_some c.args.edit.now.access) n (pages_in c.args.edit.now.runs c.args.edit.now.chunk))
     (left-words c.args.edit.now.layout.now c.args.site.now.row c.args.edit.now.chunk c.args.site.now.second (pages_of (g.M.TableMem.state c.args.memory.now).memory) c.requires.site c.args.third c.block_word.result (pages_of (g.M.TableMem.state c.replace_entry.new.memory).memory) c.requires.table c.replace_entry.ensures.pages) in
     let room = c.requires.room in
     let left = c.replace_entry.ensures.room in
@@ -116,7 +116,7 @@ empty_table-requires-clause-room g c =
 
 pub returns-clause-room : goal.returns-clause-room
 returns-clause-room g c =
-    let same = ap (λ n. cond (is_some c.args.edit.now.access) n (pages_in c.args.edit.now.runs.now c.args.edit.now.chunk))
+    let same = ap (λ n. cond (is_some c.args.edit.now.access) n (pages_in c.args.edit.now.runs c.args.edit.now.chunk))
     (left-words c.args.edit.now.layout.now c.args.site.now.row c.args.edit.now.chunk c.args.site.now.second (pages_of (g.M.TableMem.state c.args.memory.now).memory) c.requires.site c.args.third c.block_word.result (pages_of (g.M.TableMem.state c.replace_entry.new.memory).memory) c.requires.table c.replace_entry.ensures.pages) in
     let first = c.replace_entry.ensures.room in
     let second = c.empty_table.ensures.room in

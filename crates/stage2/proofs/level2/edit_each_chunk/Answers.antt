@@ -8,7 +8,7 @@ use Rattle.stage2.proofs.level2.edit_each_chunk.Goals as goal
 use Rattle.stage2.proofs.level2.edit_each_chunk.Goals.{in-Some-new, in_default-new}
 
 pub loop-piece-init : goal.loop-piece-init
-loop-piece-init g c = record { up_to = λ below. at-start c.requires below }
+loop-piece-init g c = record { up_to = λ below. rw c.again-rest.ensures (at-start c.requires below) }
 
 pub plain_until-plain-requires-clause-page_in : goal.plain_until-plain-requires-clause-page_in
 plain_until-plain-requires-clause-page_in g c =
@@ -54,17 +54,17 @@ loop-piece-preserved-then-piece-plain g c =
           (g.met.M.TableMem.whole c.loop-piece.memory) (λ x from to. c.plain_until-plain.ensures.plain c.args.edit.now.layout.now x from to) c.set_blocks.ensures.replaces c.set_blocks.ensures.room;
     }
 
-pub new-requires-clause-past : goal.new-requires-clause-past
-new-requires-clause-past g c =
+pub new-requires : goal.new-requires
+new-requires g c =
     let next = c.in-Some.ensures.some in
-    past-past (512 * (512 * c.args.gigabyte + c.in-Some.piece.first)) (512 * c.chunk-chunk.result) c.loop-piece.rest.now c.in-Some.piece.runs.now (sym (ap (λ k. 512 * k) c.chunk-chunk.ensures.same)) next.past
+    record { past = past-past (512 * (512 * c.args.gigabyte + c.in-Some.piece.first)) (512 * c.chunk-chunk.result) c.loop-piece.rest c.in-Some.piece.runs (sym (ap (λ k. 512 * k) c.chunk-chunk.ensures.same)) next.past }
 
 pub edit_chunk-requires-clause-site : goal.edit_chunk-requires-clause-site
 edit_chunk-requires-clause-site g c =
     let below = c.in-Some.ensures.in_range in
     let so = at-piece c.requires below (c.loop-piece.invariant.up_to below) c.in-Some.ensures.some in
     let here = c.in-Some-new.ensures.some in
-    let own = own-here c.requires below so (here.2 ∙ ap (λ k. chunk_runs k c.in-Some.piece.runs.now) c.chunk-chunk.ensures.same) in
+    let own = own-here c.requires below so (here.2 ∙ ap (λ k. chunk_runs k c.in-Some.piece.runs) c.chunk-chunk.ensures.same) in
     here-site c.requires below so c.in-Some.ensures.some.small c.in-Some-new.here here.0 (here.1 ∙ c.chunk-chunk.ensures.same) own here.3
 
 pub edit_chunk-requires-clause-free : goal.edit_chunk-requires-clause-free
@@ -72,7 +72,7 @@ edit_chunk-requires-clause-free g c =
     let below = c.in-Some.ensures.in_range in
     let so = at-piece c.requires below (c.loop-piece.invariant.up_to below) c.in-Some.ensures.some in
     let here = c.in-Some-new.ensures.some in
-    let own = own-here c.requires below so (here.2 ∙ ap (λ k. chunk_runs k c.in-Some.piece.runs.now) c.chunk-chunk.ensures.same) in
+    let own = own-here c.requires below so (here.2 ∙ ap (λ k. chunk_runs k c.in-Some.piece.runs) c.chunk-chunk.ensures.same) in
     here-free c.requires below so c.in-Some.ensures.some.small c.in-Some-new.here here.0 (here.1 ∙ c.chunk-chunk.ensures.same) own here.3
 
 pub edit_chunk-requires-clause-room : goal.edit_chunk-requires-clause-room
@@ -80,7 +80,7 @@ edit_chunk-requires-clause-room g c =
     let below = c.in-Some.ensures.in_range in
     let so = at-piece c.requires below (c.loop-piece.invariant.up_to below) c.in-Some.ensures.some in
     let here = c.in-Some-new.ensures.some in
-    let own = own-here c.requires below so (here.2 ∙ ap (λ k. chunk_runs k c.in-Some.piece.runs.now) c.chunk-chunk.ensures.same) in
+    let own = own-here c.requires below so (here.2 ∙ ap (λ k. chunk_runs k c.in-Some.piece.runs) c.chunk-chunk.ensures.same) in
     here-room c.requires below so c.in-Some.ensures.some.small c.in-Some-new.here here.0 (here.1 ∙ c.chunk-chunk.ensures.same) own here.3
 
 pub loop-piece-preserved : goal.loop-piece-preserved
@@ -90,12 +90,12 @@ loop-piece-preserved g c =
     elim c.match-new.branch [
       | in-Some-new w ↦
           let here = w.in-Some-new.ensures.some in
-          let own = own-here c.requires below so (here.2 ∙ ap (λ k. chunk_runs k c.in-Some.piece.runs.now) c.chunk-chunk.ensures.same) in
+          let own = own-here c.requires below so (here.2 ∙ ap (λ k. chunk_runs k c.in-Some.piece.runs) c.chunk-chunk.ensures.same) in
           rw w.memory-is (record {
             up_to = λ _. here-next c.requires below so c.in-Some.ensures.some.small w.in-Some-new.here here.0 (here.1 ∙ c.chunk-chunk.ensures.same) own here.3 w.edit_chunk.ensures.redoes w.edit_chunk.ensures.in_step w.edit_chunk.ensures.room;
           })
       | in_default-new w ↦ rw w.memory-is (record {
-        up_to = λ _. at-untouched c.requires below so c.in-Some.ensures.some.small (subst (λ x. touches_chunk x c.in-Some.piece.runs.now ≡ false) c.chunk-chunk.ensures.same (c.new.ensures.none w.in_default-new.is));
+        up_to = λ _. at-untouched c.requires below so c.in-Some.ensures.some.small (subst (λ x. touches_chunk x c.in-Some.piece.runs ≡ false) c.chunk-chunk.ensures.same (c.new.ensures.none w.in_default-new.is));
       })
     ]
 

@@ -56,8 +56,8 @@ returns-clause-redoes g c = λ outcome.
     let lowest : IsLowestFree m c.args.site.now.row k = subst (λ x. IsLowestFree m x k) is c.take_page-third.ensures.lowest in
     let word : c.table_word.result ≡ table_word_of (c.args.edit.now.layout.now.base + k) = c.table_word.ensures.value ∙ ap table_word_of c.address.ensures in
     does-hang c.args.edit.now.layout.now c.args.site.now.row c.args.edit.now.chunk c.args.site.now.second m c.requires.site
-    c.args.edit.now.runs.now c.args.edit.now.access c.args.before.now k m1 m2 new c.requires.none lowest c.requires.before marked
-    (writes-fresh k c.args.edit.now.chunk c.args.edit.now.runs.now c.args.edit.now.access c.args.before.now m1 m2
+    c.args.edit.now.runs c.args.edit.now.access c.args.before.now k m1 m2 new c.requires.none lowest c.requires.before marked
+    (writes-fresh k c.args.edit.now.chunk c.args.edit.now.runs c.args.edit.now.access c.args.before.now m1 m2
     (λ i. ap (λ (x : Pages). x.words k i) marked ∙ g.met.M.TableMem.free_is_zero c.args.memory.now k i lowest.free)
     c.fill_table.ensures.writes.words)
     (subst (λ x. new ≡ with_put c.args.site.now.second (c.args.edit.now.chunk % 512) x m2) word c.replace_entry.ensures.pages)
@@ -77,7 +77,7 @@ returns-clause-in_step g c = λ outcome seated.
     let m = pages_of x.memory in
     let k = c.take_page-third.result in
     let word = c.table_word.result in
-    let view : ℕ → View = edited c.args.edit.now.runs.now c.args.edit.now.access (answers_in layout row chunk j m) in
+    let view : ℕ → View = edited c.args.edit.now.runs c.args.edit.now.access (answers_in layout row chunk j m) in
     let which : ℕ → Bool = λ n. eqb (n / 512) chunk in
     let answer : ℕ → Walked = λ n. walked n (view n) in
     let free : m.taken k ≡ false = c.take_page-third.ensures.lowest.free in
@@ -86,7 +86,7 @@ returns-clause-in_step g c = λ outcome seated.
     stays-taken layout row which answer x y took (ap (λ (s : Pool). s.operations) c.take_page-third.ensures.state) (ap (λ (s : Pool). s.made) c.take_page-third.ensures.state) in
     let loose : IsUnheld layout (words_of y.memory.words) k = subst (λ (w : Words). IsUnheld layout w k) (sym took) (unheld-free layout row chunk j m site seated k free) in
     let second : StaysInStep layout row which answer y z =
-    stays-filled layout row k chunk 512 (planned c.args.edit.now.runs.now c.args.edit.now.access (filling c.args.before.now)) which answer y z c.fill_table.ensures.writes.made loose in
+    stays-filled layout row k chunk 512 (planned c.args.edit.now.runs c.args.edit.now.access (filling c.args.before.now)) which answer y z c.fill_table.ensures.writes.made loose in
     let hung : IsHung layout (words_of y.memory.words) row chunk j = subst (λ (w : Words). IsHung layout w row chunk j) (sym took) (hung-seen layout row chunk j m site seated) in
     let hung_z : IsHung layout (words_of z.memory.words) row chunk j = hung-outside layout (words_of y.memory.words) (words_of z.memory.words) row chunk j k site.partition site.chunk loose c.fill_table.ensures.writes.words.others hung in
     let loose_z : IsUnheld layout (words_of z.memory.words) k = unheld-outside layout (words_of y.memory.words) (words_of z.memory.words) k loose c.fill_table.ensures.writes.words.others in

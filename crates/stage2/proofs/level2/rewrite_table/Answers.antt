@@ -28,7 +28,7 @@ write_runs-requires-clause-taken g c = third-taken c.args.edit.now.layout.now c.
 pub returns-else-is_none-clause-redoes : goal.returns-else-is_none-clause-redoes
 returns-else-is_none-clause-redoes g c = λ outcome.
     does-rewrite c.args.edit.now.layout.now c.args.site.now.row c.args.edit.now.chunk c.args.site.now.second (pages_of (g.M.TableMem.state c.args.memory.now).memory) c.requires.site
-    c.args.edit.now.runs.now c.args.edit.now.access c.args.third (pages_of (g.M.TableMem.state c.write_runs.new.memory).memory) c.requires.table c.write_runs.ensures.writes.words outcome
+    c.args.edit.now.runs c.args.edit.now.access c.args.third (pages_of (g.M.TableMem.state c.write_runs.new.memory).memory) c.requires.table c.write_runs.ensures.writes.words outcome
 
 -- pages that are mapped were not before
 unmapped : (runs : List PageRun) (access : View) (view : ℕ → View) (n : ℕ) (here : Bool) → is_some access ≡ true → (covers runs n ≡ true → (access ≡ None) ⊎ (view n ≡ None)) → (covers runs n && here) ≡ true → view n ≡ None
@@ -44,7 +44,7 @@ returns-else-is_none-clause-in_step g c = λ seated free.
     let chunk = c.args.edit.now.chunk in
     let j = c.args.site.now.second in
     let k = c.args.third in
-    let runs = c.args.edit.now.runs.now in
+    let runs = c.args.edit.now.runs in
     let access = c.args.edit.now.access in
     let site = c.requires.site in
     let x = g.M.TableMem.state c.args.memory.now in
@@ -74,7 +74,7 @@ unmaps a b k e f = let none : is_some a ≡ false = e ∙ ap not f in rw none re
 pub invalidate_parts-requires-clause-room : goal.invalidate_parts-requires-clause-room
 invalidate_parts-requires-clause-room g c =
     let e = c.args.edit.now in
-    let each = unmaps e.access c.is_none.result (part_count e.chunk e.runs.now) c.is_none.ensures c.if-is_none.true in
+    let each = unmaps e.access c.is_none.result (part_count e.chunk e.runs) c.is_none.ensures c.if-is_none.true in
     let room = c.requires.room in
     let left = c.write_runs.ensures.room in
     omega (arith, each, room, left)
@@ -85,7 +85,7 @@ returns-then-is_none-clause-redoes g c = λ outcome.
     let e = c.args.edit.now in
     let pool = g.M.TableMem.state c.args.memory.now in
     subst (λ (x : Memory). Redoes_in e.layout.now s.row e.chunk s.second (chunk_after s e pool) (pages_of pool.memory) (pages_of x)) (sym c.invalidate_parts.ensures.memory)
-    (does-rewrite e.layout.now s.row e.chunk s.second (pages_of pool.memory) c.requires.site e.runs.now e.access c.args.third (pages_of (g.M.TableMem.state c.write_runs.new.memory).memory) c.requires.table c.write_runs.ensures.writes.words outcome)
+    (does-rewrite e.layout.now s.row e.chunk s.second (pages_of pool.memory) c.requires.site e.runs e.access c.args.third (pages_of (g.M.TableMem.state c.write_runs.new.memory).memory) c.requires.table c.write_runs.ensures.writes.words outcome)
 
 gone : (a : View) (b : Bool) → is_some a ≡ not b → b ≡ true → a ≡ None
 gone None b e f = refl
@@ -98,7 +98,7 @@ returns-then-is_none-clause-in_step g c = λ seated free.
     let chunk = c.args.edit.now.chunk in
     let j = c.args.site.now.second in
     let k = c.args.third in
-    let runs = c.args.edit.now.runs.now in
+    let runs = c.args.edit.now.runs in
     let access = c.args.edit.now.access in
     let site = c.requires.site in
     let x = g.M.TableMem.state c.args.memory.now in
@@ -118,7 +118,7 @@ returns-then-is_none-clause-in_step g c = λ seated free.
 pub returns-then-is_none-clause-room : goal.returns-then-is_none-clause-room
 returns-then-is_none-clause-room g c =
     let e = c.args.edit.now in
-    let each = unmaps e.access c.is_none.result (part_count e.chunk e.runs.now) c.is_none.ensures c.if-is_none.true in
+    let each = unmaps e.access c.is_none.result (part_count e.chunk e.runs) c.is_none.ensures c.if-is_none.true in
     let room = c.write_runs.ensures.room in
     let left = c.invalidate_parts.ensures.room in
     omega (arith, each, room, left)

@@ -40,7 +40,7 @@ returns-then-is_none-clause-writes g c =
     let none = gone c.args.edit.now.access c.is_none.result c.is_none.ensures c.if-is_none.true in
     let k = c.args.third in
     let e = c.args.edit.now in
-    let runs = e.runs.now in
+    let runs = e.runs in
     let start = g.M.TableMem.state c.args.memory.now in
     let end = g.M.TableMem.state c.zero_runs.new.memory in
     let old = pages_of start.memory in
@@ -91,10 +91,10 @@ returns-then-nonzero-edit-eq-CHUNK_PAGES-clause-writes g c =
     let pages = e.pages in
     let left = c.if-nonzero-edit-eq-CHUNK_PAGES.true in
     let some : e.access ≢ None = λ none. let bad : false ≡ true = ap (λ a. is_some a) (sym none) ∙ c.is_none.ensures ∙ ap not c.if-is_none.false in cc in
-    let zero = none-among old.words k (λ i. covers e.runs.now (512 * e.chunk + i)) (omega (arith, nonzero, pages, left)) (λ i small out. word-some (512 * e.chunk + i) e.access (old.words k i) some (c.requires.left i small out)) in
+    let zero = none-among old.words k (λ i. covers e.runs (512 * e.chunk + i)) (omega (arith, nonzero, pages, left)) (λ i small out. word-some (512 * e.chunk + i) e.access (old.words k i) some (c.requires.left i small out)) in
     record {
-      words = writes-zero k e.chunk e.runs.now old new (writes-gaps k e.chunk e.runs.now None old new zero c.write_gaps.ensures.writes.words);
-      made = filled-more k e.chunk 512 (gaps e.runs.now None) plan start end (all-gaps e.runs.now) c.write_gaps.ensures.writes.made;
+      words = writes-zero k e.chunk e.runs old new (writes-gaps k e.chunk e.runs None old new zero c.write_gaps.ensures.writes.words);
+      made = filled-more k e.chunk 512 (gaps e.runs None) plan start end (all-gaps e.runs) c.write_gaps.ensures.writes.made;
     }
 
 -- ---- all words that are not 0

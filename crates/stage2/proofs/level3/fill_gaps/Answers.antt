@@ -11,7 +11,7 @@ write_gaps-requires-clause-turned g c = λ i small out. ap (λ (w : ℕ). w == 0
 
 pub returns-clause-writes : goal.returns-clause-writes
 returns-clause-writes g c =
-    let runs = c.args.edit.now.runs.now in
+    let runs = c.args.edit.now.runs in
     let old = g.M.TableMem.state c.args.memory.now in
     let new = g.M.TableMem.state c.write_gaps.new.memory in
     record {

@@ -8,24 +8,24 @@ turn_runs-requires-clause-turned g c = λ i small covered.
 
 pub fill_gaps-requires-clause-room : goal.fill_gaps-requires-clause-room
 fill_gaps-requires-clause-room g c =
-    let words = new-unmapped c.args.edit.now.runs.now c.args.edit.now.access c.args.before.now c.args.edit.now.chunk c.in-Some-None.is-1 (ap (λ a. is_some a) c.in-Some-None.is-0) in
+    let words = new-unmapped c.args.edit.now.runs c.args.edit.now.access c.args.before.now c.args.edit.now.chunk c.in-Some-None.is-1 (ap (λ a. is_some a) c.in-Some-None.is-0) in
     let room = c.requires.room in
     omega (arith, words, room)
 
 pub returns-in-Some-None-clause-room : goal.returns-in-Some-None-clause-room
 returns-in-Some-None-clause-room g c =
-    let words = new-unmapped c.args.edit.now.runs.now c.args.edit.now.access c.args.before.now c.args.edit.now.chunk c.in-Some-None.is-1 (ap (λ a. is_some a) c.in-Some-None.is-0) in
+    let words = new-unmapped c.args.edit.now.runs c.args.edit.now.access c.args.before.now c.args.edit.now.chunk c.in-Some-None.is-1 (ap (λ a. is_some a) c.in-Some-None.is-0) in
     let room = c.fill_gaps.ensures.room in
     omega (arith, words, room)
 
 pub write_all-requires-clause-room : goal.write_all-requires-clause-room
 write_all-requires-clause-room g c =
-    let words = new-all c.args.edit.now.runs.now c.args.edit.now.access c.args.before.now c.args.edit.now.chunk (ap (λ a. is_some a) c.in-Some-Some.is-1) (ap (λ a. is_some a) c.in-Some-Some.is-0) in
+    let words = new-all c.args.edit.now.runs c.args.edit.now.access c.args.before.now c.args.edit.now.chunk (ap (λ a. is_some a) c.in-Some-Some.is-1) (ap (λ a. is_some a) c.in-Some-Some.is-0) in
     let room = c.requires.room in
     omega (arith, words, room)
 
 pub returns-in-Some-Some-clause-room : goal.returns-in-Some-Some-clause-room
 returns-in-Some-Some-clause-room g c =
-    let words = new-all c.args.edit.now.runs.now c.args.edit.now.access c.args.before.now c.args.edit.now.chunk (ap (λ a. is_some a) c.in-Some-Some.is-1) (ap (λ a. is_some a) c.in-Some-Some.is-0) in
+    let words = new-all c.args.edit.now.runs c.args.edit.now.access c.args.before.now c.args.edit.now.chunk (ap (λ a. is_some a) c.in-Some-Some.is-1) (ap (λ a. is_some a) c.in-Some-Some.is-0) in
     let room = c.write_all.ensures.room in
     omega (arith, words, room)

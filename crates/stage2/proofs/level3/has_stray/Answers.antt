@@ -25,7 +25,7 @@ returns-clause-yes g c = λ e.
     record {
       index = i;
       small = small;
-      out = gaps-out (512 * a.chunk) a.runs.now (512 * a.chunk + i) (rise-normal a.runs.now a.normal) (rw w.start at missing.gap);
+      out = gaps-out (512 * a.chunk) a.runs (512 * a.chunk + i) (rise-normal a.runs a.normal) (rw w.start at missing.gap);
       other = λ is. missing.other (ap (λ k. word k i) w.page ∙ same-word (512 * a.chunk + i) a.access (word c.args.third i) (words.word + words.step * i) is (w.each i small));
     }
 
@@ -35,6 +35,6 @@ returns-clause-no g c = λ e i small out.
     let w = c.chunk_words.ensures in
     let words = c.chunk_words.result in
     let word = word_in (g.M.TableMem.state c.args.memory.now) in
-    let gapped = gaps-in (512 * a.chunk) a.runs.now i (rise-normal a.runs.now a.normal) small out in
+    let gapped = gaps-in (512 * a.chunk) a.runs i (rise-normal a.runs a.normal) small out in
     let is : word words.page i ≡ words.word + words.step * i = c.has_gaps.ensures.yes (kept c.has_gaps.result e) i small (rw w.start gapped) in
     subst (λ v. IsWordFor (512 * a.chunk + i) a.access v) (sym is ∙ ap (λ k. word k i) w.page) (w.each i small)

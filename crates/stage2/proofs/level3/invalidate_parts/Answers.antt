@@ -19,7 +19,9 @@ loop-run-preserved g c =
     let old = g.M.TableMem.state c.args.memory.now in
     let mid = g.M.TableMem.state c.loop-run.memory in
     let count : PageRun → ℕ = λ run. option_map_or (λ (part : PageRun). 1) (part_in c.args.chunk run) 0 in
-    let more = sum-take count runs i run c.loop-run-test.true c.run-item.is in
+    let inside = rw c.list-run-items.ensures.same at c.loop-run-test.true in
+    let item = rw c.list-run-items.ensures.same at c.run-item.is in
+    let more = sum-take count runs i run inside item in
     elim c.match-part_in.branch [
       | in-Some w ↦
           let part = w.in-Some.part in
@@ -31,7 +33,7 @@ loop-run-preserved g c =
           rw w.memory-is (record {
             memory = same ∙ c.loop-run.invariant.memory;
             settles = settles-more c.args.p (λ n. covers (take i runs) n && eqb (n / 512) c.args.chunk) (in_run part) (λ n. covers (take (i + 1) runs) n && eqb (n / 512) c.args.chunk)
-                old mid new c.loop-run.invariant.settles (settles-one c.args.p part mid new same logged) (λ n small. parts-more runs i c.args.chunk run part n c.loop-run-test.true c.run-item.is is);
+                old mid new c.loop-run.invariant.settles (settles-one c.args.p part mid new same logged) (λ n small. parts-more runs i c.args.chunk run part n inside item is);
             room = omega (arith, c.loop-run.invariant.room, w.invalidate.ensures.room, more, here);
           })
       | in_default w ↦
@@ -40,7 +42,7 @@ loop-run-preserved g c =
           rw w.memory-is (record {
             memory = c.loop-run.invariant.memory;
             settles = settles-as c.args.p (λ n. covers (take i runs) n && eqb (n / 512) c.args.chunk) (λ n. covers (take (i + 1) runs) n && eqb (n / 512) c.args.chunk)
-                old mid c.loop-run.invariant.settles (λ n small. parts-same runs i c.args.chunk run n c.loop-run-test.true c.run-item.is is);
+                old mid c.loop-run.invariant.settles (λ n small. parts-same runs i c.args.chunk run n inside item is);
             room = omega (arith, c.loop-run.invariant.room, more, here);
           })
     ]
@@ -48,6 +50,6 @@ loop-run-preserved g c =
 pub returns-clause-settles : goal.returns-clause-settles
 returns-clause-settles g c =
     let runs = c.args.runs.now in
-    let all : take c.loop-run.run-index runs ≡ runs = take-all runs c.loop-run.run-index c.loop-run-test.false c.loop-run.auto.run-index-end in
+    let all : take c.loop-run.run-index runs ≡ runs = take-all runs c.loop-run.run-index (rw c.list-run-items.ensures.same at c.loop-run-test.false) (rw c.list-run-items.ensures.same at c.loop-run.auto.run-index-end) in
     settles-as c.args.p (λ n. covers (take c.loop-run.run-index runs) n && eqb (n / 512) c.args.chunk) (λ n. covers runs n && eqb (n / 512) c.args.chunk)
     (g.M.TableMem.state c.args.memory.now) (g.M.TableMem.state c.loop-run.memory) c.loop-run.invariant.settles (λ n small. ap (λ (rs : List PageRun). covers rs n && eqb (n / 512) c.args.chunk) (sym all))

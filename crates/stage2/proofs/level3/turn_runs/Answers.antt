@@ -7,7 +7,7 @@ use Rattle.stage2.proofs.level3.turn_runs.Goals as goal
 
 pub turn_runs-requires-clause-ready : goal.turn_runs-requires-clause-ready
 turn_runs-requires-clause-ready g c =
-    let words = words-pages c.args.edit.now.chunk c.args.edit.now.runs.now c.args.edit.now.normal in
+    let words = words-pages c.args.edit.now.chunk c.args.edit.now.runs c.args.edit.now.normal in
     let room = c.requires.room in
     rw c.chunk_words-words.ensures.start (omega (arith, words, room))
 
@@ -26,10 +26,10 @@ returns-clause-writes g c =
     let w = c.chunk_words-words.ensures in
     let words = c.chunk_words-words.result in
     rw (c.turn_runs.ensures.state, w.page, w.start)
-    (runs-written c.args.third e.chunk words.word words.step e.access w.each e.runs.now (g.M.TableMem.state c.args.memory.now) (g.met.M.TableMem.whole c.args.memory.now) c.requires.page_in (rise-normal e.runs.now e.normal))
+    (runs-written c.args.third e.chunk words.word words.step e.access w.each e.runs (g.M.TableMem.state c.args.memory.now) (g.met.M.TableMem.whole c.args.memory.now) c.requires.page_in (rise-normal e.runs e.normal))
 
 pub returns-clause-room : goal.returns-clause-room
 returns-clause-room g c =
-    let words = words-pages c.args.edit.now.chunk c.args.edit.now.runs.now c.args.edit.now.normal in
+    let words = words-pages c.args.edit.now.chunk c.args.edit.now.runs c.args.edit.now.normal in
     let room = rw c.chunk_words-words.ensures.start at c.turn_runs.ensures.room in
     omega (arith, words, room)

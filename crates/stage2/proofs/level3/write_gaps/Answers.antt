@@ -10,8 +10,8 @@ use Rattle.stage2.proofs.level3.write_gaps.Goals as goal
 pub set_gaps-requires-clause-ready : goal.set_gaps-requires-clause-ready
 set_gaps-requires-clause-ready g c =
     let e = c.args.edit.now in
-    let words = words-pages e.chunk e.runs.now e.normal in
-    let all = gaps-words (512 * e.chunk) e.runs.now (rise-normal e.runs.now e.normal) in
+    let words = words-pages e.chunk e.runs e.normal in
+    let all = gaps-words (512 * e.chunk) e.runs (rise-normal e.runs e.normal) in
     let room = c.requires.room in
     rw c.chunk_words-words.ensures.start (omega (arith, words, all, room))
 
@@ -23,8 +23,8 @@ set_gaps-requires-clause-turned g c =
     record {
       zeros = w.zeros;
       each = λ i small gapped.
-          let up = rise-normal e.runs.now e.normal in
-          let out = gaps-out (512 * e.chunk) e.runs.now (512 * e.chunk + i) up (rw w.start at gapped) in
+          let up = rise-normal e.runs e.normal in
+          let out = gaps-out (512 * e.chunk) e.runs (512 * e.chunk + i) up (rw w.start at gapped) in
           ap (λ k. word k i == 0) w.page ∙ c.requires.turned i small out ∙ sym w.valid;
     }
 
@@ -34,14 +34,14 @@ returns-clause-writes g c =
     let w = c.chunk_words-words.ensures in
     let words = c.chunk_words-words.result in
     let old = g.M.TableMem.state c.args.memory.now in
-    writes-gap-runs c.args.third e.chunk e.runs.now c.args.answer.now old (g.M.TableMem.state c.set_gaps.new.self) (rise-normal e.runs.now e.normal)
+    writes-gap-runs c.args.third e.chunk e.runs c.args.answer.now old (g.M.TableMem.state c.set_gaps.new.self) (rise-normal e.runs e.normal)
     (rw (c.set_gaps.ensures.state, w.page, w.start)
-    (runs-written c.args.third e.chunk words.word words.step c.args.answer.now w.each (gaps_of (512 * e.chunk) e.runs.now) old (g.met.M.TableMem.whole c.args.memory.now) c.requires.page_in (gaps-rise (512 * e.chunk) e.runs.now)))
+    (runs-written c.args.third e.chunk words.word words.step c.args.answer.now w.each (gaps_of (512 * e.chunk) e.runs) old (g.met.M.TableMem.whole c.args.memory.now) c.requires.page_in (gaps-rise (512 * e.chunk) e.runs)))
 
 pub returns-clause-room : goal.returns-clause-room
 returns-clause-room g c =
     let e = c.args.edit.now in
-    let words = words-pages e.chunk e.runs.now e.normal in
-    let all = gaps-words (512 * e.chunk) e.runs.now (rise-normal e.runs.now e.normal) in
+    let words = words-pages e.chunk e.runs e.normal in
+    let all = gaps-words (512 * e.chunk) e.runs (rise-normal e.runs e.normal) in
     let room = rw c.chunk_words-words.ensures.start at c.set_gaps.ensures.room in
     omega (arith, words, all, room)

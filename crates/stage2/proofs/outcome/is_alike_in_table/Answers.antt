@@ -18,7 +18,7 @@ returns-then-is_emptied g c =
     let pool = g.M.TableMem.state c.args.memory.now in
     let emptied = c.is_emptied.ensures c.if-is_emptied.true in
     subst (λ b. IsOutcome e.chunk (read_after e (Next c.args.third) pool) (tells b e.access)) (sym c.if-is_emptied.true)
-    (emptied-alike e.layout.now pool e.runs.now e.access (Next c.args.third) e.chunk c.args.third refl emptied.0 emptied.1)
+    (emptied-alike e.layout.now pool e.runs e.access (Next c.args.third) e.chunk c.args.third refl emptied.0 emptied.1)
 
 pub returns-else-is_emptied : goal.returns-else-is_emptied
 returns-else-is_emptied g c =
@@ -26,5 +26,5 @@ returns-else-is_emptied g c =
     let pool = g.M.TableMem.state c.args.memory.now in
     elim (cases_Bool c.has_stray.result) [
       | inl t ↦ subst (λ b. IsOutcome e.chunk (read_after e (Next c.args.third) pool) (tells b e.access)) (ap not (sym t)) (stray-mixed e c.args.third pool c.requires.spelled (c.has_stray.ensures.yes t))
-      | inr f ↦ subst (λ b. IsOutcome e.chunk (read_after e (Next c.args.third) pool) (tells b e.access)) (ap not (sym f)) (others-alike e.layout.now pool e.runs.now e.access (Next c.args.third) e.chunk c.args.third refl (c.has_stray.ensures.no f))
+      | inr f ↦ subst (λ b. IsOutcome e.chunk (read_after e (Next c.args.third) pool) (tells b e.access)) (ap not (sym f)) (others-alike e.layout.now pool e.runs e.access (Next c.args.third) e.chunk c.args.third refl (c.has_stray.ensures.no f))
     ]

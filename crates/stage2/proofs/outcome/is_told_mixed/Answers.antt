@@ -27,7 +27,7 @@ returns-in-Some g c = λ fewer.
     let few = ltb-true _ _ fewer in
     let nonzero = counted c.nonzero-nonzero.result c.number.result c.args.third words c.nonzero-nonzero.ensures c.number.ensures in
     let pages = e.pages in
-    let zero = zero-beside words c.args.third (λ i. covers e.runs.now (512 * e.chunk + i)) (omega (arith, pages, nonzero, few)) in
+    let zero = zero-beside words c.args.third (λ i. covers e.runs (512 * e.chunk + i)) (omega (arith, pages, nonzero, few)) in
     record {
       index = zero.0;
       small = zero.1;
@@ -43,7 +43,7 @@ returns-in-None g c = λ more.
     let some = ltb-true _ _ more in
     let nonzero = counted c.nonzero-nonzero.result c.number.result c.args.third words c.nonzero-nonzero.ensures c.number.ensures in
     let pages = e.pages in
-    let found = word-beside words c.args.third (λ i. covers e.runs.now (512 * e.chunk + i)) (omega (arith, pages, nonzero, some)) in
+    let found = word-beside words c.args.third (λ i. covers e.runs (512 * e.chunk + i)) (omega (arith, pages, nonzero, some)) in
     record {
       index = found.0;
       small = found.1;

@@ -10,7 +10,7 @@ use Rattle.stage2.proofs.parts.count_pieces.Goals as goal
 
 pub loop-run-init : goal.loop-run-init
 loop-run-init c = record {
-  pages = sym (pages-none c.args.chunk c.args.runs.now);
+  pages = sym (pages-none c.args.chunk c.list-list.result.now);
   runs = refl;
   few = omega arith;
 }
@@ -18,18 +18,18 @@ loop-run-init c = record {
 pub overflow_add-pieces : goal.overflow_add-pieces
 overflow_add-pieces c =
     let so = c.loop-run.invariant.pages in
-    let first = pages_among-le (λ i. covers (take c.loop-run.run-index c.args.runs.now) (512 * c.args.chunk + i)) in
+    let first = pages_among-le (λ i. covers (take c.loop-run.run-index c.list-list.result.now) (512 * c.args.chunk + i)) in
     let most = c.piece_of-piece.ensures.most in
     omega (arith, so, first, most)
 
 pub loop-run-preserved : goal.loop-run-preserved
 loop-run-preserved c =
-    let runs = c.args.runs.now in
+    let runs = c.list-list.result.now in
     let i = c.loop-run.run-index in
     let run = c.run-item-in-loop-run.result in
     let chunk = c.args.chunk in
     let one = sum-take (λ run. option_map_or (λ (part : PageRun). 1) (part_in chunk run) 0) runs i run c.loop-run-test.true c.run-item-in-loop-run.is in
-    let pages = pages-more runs i chunk run c.requires.normal c.loop-run-test.true c.run-item-in-loop-run.is in
+    let pages = pages-more runs i chunk run c.list-list.ensures.normal c.loop-run-test.true c.run-item-in-loop-run.is in
     let so = c.loop-run.invariant in
     let piece = c.piece_of-piece.ensures in
     let own : part_count chunk (run ∷ []) ≡ option_map_or (λ (part : PageRun). 1) (part_in chunk run) 0 = omega arith in
@@ -41,16 +41,16 @@ loop-run-preserved c =
 
 pub returns-clause-pages : goal.returns-clause-pages
 returns-clause-pages c =
-    let all : take c.loop-run.run-index c.args.runs.now ≡ c.args.runs.now = take-all c.args.runs.now c.loop-run.run-index c.loop-run-test.false c.loop-run.auto.run-index-end in
-    c.loop-run.invariant.pages ∙ ap (λ (rs : List PageRun). pages_in rs c.args.chunk) all
+    let all : take c.loop-run.run-index c.list-list.result.now ≡ c.list-list.result.now = take-all c.list-list.result.now c.loop-run.run-index c.loop-run-test.false c.loop-run.auto.run-index-end in
+    c.loop-run.invariant.pages ∙ ap (λ (rs : List PageRun). pages_in rs c.args.chunk) (all ∙ c.list-list.ensures.same)
 
 pub returns-clause-runs : goal.returns-clause-runs
 returns-clause-runs c =
-    let all : take c.loop-run.run-index c.args.runs.now ≡ c.args.runs.now = take-all c.args.runs.now c.loop-run.run-index c.loop-run-test.false c.loop-run.auto.run-index-end in
-    c.loop-run.invariant.runs ∙ ap (part_count c.args.chunk) all
+    let all : take c.loop-run.run-index c.list-list.result.now ≡ c.list-list.result.now = take-all c.list-list.result.now c.loop-run.run-index c.loop-run-test.false c.loop-run.auto.run-index-end in
+    c.loop-run.invariant.runs ∙ ap (part_count c.args.chunk) (all ∙ c.list-list.ensures.same)
 
 pub returns-clause-most : goal.returns-clause-most
 returns-clause-most c =
     let so = c.loop-run.invariant.pages in
-    let most = pages_among-le (λ i. covers (take c.loop-run.run-index c.args.runs.now) (512 * c.args.chunk + i)) in
+    let most = pages_among-le (λ i. covers (take c.loop-run.run-index c.list-list.result.now) (512 * c.args.chunk + i)) in
     omega (arith, so, most)

@@ -6,7 +6,7 @@ use Rattle.stage2.proofs.parts.count_pieces.Given as goal
 -- the pages of the first runs are counted
 abbrev pub invariant-loop-run : goal.invariant-loop-run
 invariant-loop-run l = record {
-  pages : l.pieces.pages ≡ pages_in (take l.run-index l.runs) l.chunk;
-  runs : l.pieces.runs ≡ part_count l.chunk (take l.run-index l.runs);
+  pages : l.pieces.pages ≡ pages_in (take l.run-index l.list) l.chunk;
+  runs : l.pieces.runs ≡ part_count l.chunk (take l.run-index l.list);
   few : l.pieces.runs ≤ l.pieces.pages;
 }

@@ -7,9 +7,12 @@ use Rattle.stage2.proofs.parts.is_covered.Goals as goal
 
 pub returns-then-n-end : goal.returns-then-n-end
 returns-then-n-end c =
+    let normal = rw c.list.ensures.same at c.list.ensures.normal in
+    let some = rw c.list.ensures.same at (ltb-true _ _ (sym c.in-Some.ensures.item.0)) in
+    let first = rw c.list.ensures.same at c.in-Some.ensures.item.1 in
     let run = c.in-Some.run'.now in
     ap₂ leb (c.number.ensures.same ∙ c.first-then-n-end.ensures.same) c.number-n.ensures.same
-    ∙ sym (first-tells c.args.runs.now run c.args.page c.requires.normal (ltb-true _ _ (sym c.in-Some.ensures.item.0)) c.in-Some.ensures.item.1 (early c.args.page c.number-n.result c.end.result (run.first + run.count) c.number-n.ensures.same c.end.ensures.same c.if-n-end.true))
+    ∙ sym (first-tells c.args.runs.now run c.args.page normal some first (early c.args.page c.number-n.result c.end.result (run.first + run.count) c.number-n.ensures.same c.end.ensures.same c.if-n-end.true))
   where
     early : (page n end to : ℕ) → n ≡ page → end ≡ to → n < end → page < to
     early page n end to a b lt = omega arith
@@ -17,5 +20,5 @@ returns-then-n-end c =
 pub returns-else-n-end : goal.returns-else-n-end
 returns-else-n-end c =
     let runs = c.args.runs.now in
-    ap not (c.is_empty.ensures ∙ ap (λ (part : List PageRun). eqb (length part) 0) c.runs_between.ensures.same)
+    ap not (c.is_empty.ensures ∙ ap (λ (part : List PageRun). eqb (length part) 0) (c.list-else-n-end.ensures.same ∙ c.runs_between.ensures))
     ∙ ap (λ (n : ℕ). not (eqb (length (runs_between n (n + 1) runs)) 0)) c.number-n.ensures.same ∙ sym (covered-between runs c.args.page)

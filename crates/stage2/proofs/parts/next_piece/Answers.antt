@@ -8,7 +8,7 @@ use Rattle.stage2.proofs.parts.next_piece.Goals as goal
 pub returns-then-pages-clause-none : goal.returns-then-pages-clause-none
 returns-then-pages-clause-none c = λ _ x from small.
     let start : c.number-start.result ≡ 512 * (512 * c.args.gigabyte + c.args.index) = c.number-start.ensures.same ∙ c.first.ensures.same ∙ ap (λ k. 512 * k) c.chunk.ensures.same in
-    apart-before c.args.gigabyte c.args.index c.number-start.result c.bounds-pages.result.first c.bounds-pages.result.end c.args.runs.now c.runs_past-rest.result.now start c.runs_past-rest.ensures.same c.bounds-pages.ensures.within x from (inr c.if-pages.true)
+    apart-before c.args.gigabyte c.args.index c.number-start.result c.bounds-pages.result.first c.bounds-pages.result.end c.args.runs.now c.runs_past-rest.result start c.runs_past-rest.ensures c.bounds-pages.ensures.within x from (inr c.if-pages.true)
 
 pub returns-then-not-has-clause-none : goal.returns-then-not-has-clause-none
 returns-then-not-has-clause-none c = λ _ x from small.
@@ -17,7 +17,7 @@ returns-then-not-has-clause-none c = λ _ x from small.
     let other : c.of-chunk.result / 512 ≢ c.args.gigabyte = grind (arith, nat_tests, c.has.ensures.same, c.if-not-has.true) in
     let inside = c.if-index-ge-TABLE_WORDS.false in
     let before : 512 * (512 * c.args.gigabyte + x) + 512 ≤ c.bounds-pages.result.first = omega (arith, start, chunk, c.max.ensures, other, inside, from, small) in
-    apart-before c.args.gigabyte c.args.index c.number-start.result c.bounds-pages.result.first c.bounds-pages.result.end c.args.runs.now c.runs_past-rest.result.now start c.runs_past-rest.ensures.same c.bounds-pages.ensures.within x from (inl before)
+    apart-before c.args.gigabyte c.args.index c.number-start.result c.bounds-pages.result.first c.bounds-pages.result.end c.args.runs.now c.runs_past-rest.result start c.runs_past-rest.ensures c.bounds-pages.ensures.within x from (inl before)
 
 pub returns-clause-some : goal.returns-clause-some
 returns-clause-some c =
@@ -32,10 +32,9 @@ returns-clause-some c =
       from = from;
       small = omega (arith, index);
       most = c.first_unfilled.ensures.most;
-      apart = λ x low lt. apart-before c.args.gigabyte c.args.index c.number-start.result c.bounds-pages.result.first c.bounds-pages.result.end c.args.runs.now c.runs_past-rest.result.now start c.runs_past-rest.ensures.same c.bounds-pages.ensures.within x low
+      apart = λ x low lt. apart-before c.args.gigabyte c.args.index c.number-start.result c.bounds-pages.result.first c.bounds-pages.result.end c.args.runs.now c.runs_past-rest.result start c.runs_past-rest.ensures c.bounds-pages.ensures.within x low
           (inl (omega (arith, start, chunk, c.max.ensures, at, low, lt)));
-      past = c.runs_on-rest.ensures.same ∙ ap (λ rs. runs_past c.number.result rs) c.runs_past-rest.ensures.same
+      past = c.runs_on-rest.ensures ∙ ap (λ rs. runs_past c.number.result rs) c.runs_past-rest.ensures
           ∙ past-later c.number-start.result c.number.result c.args.runs.now (omega (arith, start, page, from)) ∙ ap (λ n. runs_past n c.args.runs.now) page;
-      normal = c.runs_on-rest.ensures.normal;
       filled = c.first_unfilled.ensures.filled;
     }

@@ -1,17 +1,18 @@
-use Rattle.std.proofs.Common.{◌<◌, get_or, ap, arith}
+use Rattle.std.proofs.Common.{◌<◌, get_or, ap, ◌∙◌, arith}
 use Rattle.std.proofs.lemmas.Bool.Decides.{nat_tests}
 use Rattle.std.proofs.lemmas.List.{get_or_read}
+use Rattle.stage2.specs.Parts.{runs_past}
 use Rattle.stage2.proofs.Runs.Between.{past-halved}
 use Rattle.stage2.proofs.Runs.Normal.{end_of, ends-rise}
 use Rattle.stage2.proofs.parts.runs_on.Goals as goal
 
-pub returns-in-Some-clause-same : goal.returns-in-Some-clause-same
-returns-in-Some-clause-same c =
-    let runs = c.args.runs.now in
+pub returns-in-Some : goal.returns-in-Some
+returns-in-Some c =
+    let runs = c.list-list.result.now in
     let run = c.in-Some.run'.now in
-    past-halved c.args.first runs 0 (λ k d lt _. absurd (omega (arith, lt)))
+    c.of.ensures ∙ past-halved c.args.first runs 0 (λ k d lt _. absurd (omega (arith, lt)))
     (λ k d le small.
-    let rises = ends-rise runs c.requires 0 k d le small in
+    let rises = ends-rise runs c.list-list.ensures.normal 0 k d le small in
     let here = ap end_of (get_or_read runs 0 run (omega (arith, small)) c.in-Some.ensures.item.1 d) in
     let behind : c.args.first < end_of (get_or runs k d) = omega (arith, rises, here, c.end.ensures.same, c.if-first-end.true) in
-    grind (arith, nat_tests, behind))
+    grind (arith, nat_tests, behind)) ∙ ap (runs_past c.args.first) c.list-list.ensures.same

@@ -1,8 +1,12 @@
 use Rattle.std.proofs.Common.{ap, ◌∙◌}
 use Rattle.std.proofs.lemmas.List.{take_rest}
 use Rattle.base.specs.Pages.{are_normal}
+use Rattle.stage2.specs.Parts.{runs_past}
 use Rattle.stage2.proofs.Runs.Normal.{normal-drop}
 use Rattle.stage2.proofs.parts.runs_past.Goals as goal
 
-pub returns-clause-normal : goal.returns-clause-normal
-returns-clause-normal c = ap are_normal (take_rest c.args.runs.now c.ended.result) ∙ normal-drop c.ended.result c.args.runs.now c.requires
+pub of-requires : goal.of-requires
+of-requires c = ap are_normal (take_rest c.list-list.result.now c.ended.result) ∙ normal-drop c.ended.result c.list-list.result.now c.list-list.ensures.normal
+
+pub returns : goal.returns
+returns c = c.of.ensures ∙ take_rest c.list-list.result.now c.ended.result ∙ c.ended.ensures.same ∙ ap (runs_past c.args.first) c.list-list.ensures.same

@@ -9,7 +9,10 @@ ends x chunk start page to end limit a b c lt = omega arith
 
 pub returns-then-n-number-clause-alike : goal.returns-then-n-number-clause-alike
 returns-then-n-number-clause-alike c = λ x from lt.
+    let normal = rw c.list.ensures.same at c.list.ensures.normal in
+    let some = rw c.list.ensures.same at (ltb-true _ _ (sym c.in-Some.ensures.item.0)) in
+    let first = rw c.list.ensures.same at c.in-Some.ensures.item.1 in
     let run = c.in-Some.run'.now in
-    before-first c.args.runs.now run (512 * c.args.chunk + x) c.requires.normal (ltb-true _ _ (sym c.in-Some.ensures.item.0)) c.in-Some.ensures.item.1
+    before-first c.args.runs.now run (512 * c.args.chunk + x) normal some first
     (ends x c.args.chunk c.number-start.result c.number-then-n-number.result run.first c.min.result c.args.limit
     (c.number-start.ensures.same ∙ c.first.ensures.same) (c.number-then-n-number.ensures.same ∙ c.first-then-n-number.ensures.same) c.min.ensures lt)

@@ -22,8 +22,8 @@ returns-in-Some-clause-tables g c =
     let chunk = c.args.chunk in
     let before : ℕ → View = answers_of c.args.edit.now.layout.now (pages_of (g.M.TableMem.state c.args.memory.now).memory).words c.args.edit.now.row in
     let is = so.2 in
-    let here : c.plan_in.result.tables ≡ bit (grows_at before (edited h.runs.now access before) chunk) = rw (so.1, so.3) at c.plan_in.ensures.tables in
-    here ∙ ap bit (ap (λ b. b && not (is_mixed before chunk)) (chunk-mixed chunk runs h.runs.now access (chunk-covers chunk runs h.runs.now is) before))
+    let here : c.plan_in.result.tables ≡ bit (grows_at before (edited h.runs access before) chunk) = rw (so.1, so.3) at c.plan_in.ensures.tables in
+    here ∙ ap bit (ap (λ b. b && not (is_mixed before chunk)) (chunk-mixed chunk runs h.runs access (chunk-covers chunk runs h.runs is) before))
 
 pub returns-in-Some-clause-operations : goal.returns-in-Some-clause-operations
 returns-in-Some-clause-operations g c =
@@ -34,8 +34,8 @@ returns-in-Some-clause-operations g c =
     let chunk = c.args.chunk in
     let before : ℕ → View = answers_of c.args.edit.now.layout.now (pages_of (g.M.TableMem.state c.args.memory.now).memory).words c.args.edit.now.row in
     let is = so.2 in
-    let same = chunk-same runs h.runs.now access before before chunk (chunk-covers chunk runs h.runs.now is) (chunk-count chunk runs h.runs.now is) (λ i small. refl) (chunk-touches chunk runs h.runs.now is) in
-    let here : chunk_operations h.runs.now access before chunk ≤ c.plan_in.result.operations = rw (so.1, so.3) at c.plan_in.ensures.operations in
+    let same = chunk-same runs h.runs access before before chunk (chunk-covers chunk runs h.runs is) (chunk-count chunk runs h.runs is) (λ i small. refl) (chunk-touches chunk runs h.runs is) in
+    let here : chunk_operations h.runs access before chunk ≤ c.plan_in.result.operations = rw (so.1, so.3) at c.plan_in.ensures.operations in
     omega (arith, here, same)
 
 pub returns-in-None-clause-tables : goal.returns-in-None-clause-tables

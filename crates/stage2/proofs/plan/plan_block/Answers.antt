@@ -12,8 +12,8 @@ pub returns-then-is_alike_in_block-clause-operations : goal.returns-then-is_alik
 returns-then-is_alike_in_block-clause-operations c = λ before same.
     let e = c.args.edit.now in
     let was = same-unmixed before e.chunk (block_answer c.args.entry.now) same in
-    let outcome = subst (λ b. IsOutcome e.chunk (edited e.runs.now e.access before) (tells b e.access)) c.if-is_alike_in_block.true (c.is_alike_in_block.ensures before same) in
-    let none = plain e.runs.now e.access before e.chunk e.access was outcome in
+    let outcome = subst (λ b. IsOutcome e.chunk (edited e.runs e.access before) (tells b e.access)) c.if-is_alike_in_block.true (c.is_alike_in_block.ensures before same) in
+    let none = plain e.runs e.access before e.chunk e.access was outcome in
     let is = ap (λ (p : Plan). p.operations) c.new.ensures in
     omega (arith, none, is)
 
@@ -21,8 +21,8 @@ pub returns-then-is_alike_in_block-clause-close : goal.returns-then-is_alike_in_
 returns-then-is_alike_in_block-clause-close c = λ before same.
     let e = c.args.edit.now in
     let was = same-unmixed before e.chunk (block_answer c.args.entry.now) same in
-    let outcome = subst (λ b. IsOutcome e.chunk (edited e.runs.now e.access before) (tells b e.access)) c.if-is_alike_in_block.true (c.is_alike_in_block.ensures before same) in
-    let none = plain e.runs.now e.access before e.chunk e.access was outcome in
+    let outcome = subst (λ b. IsOutcome e.chunk (edited e.runs e.access before) (tells b e.access)) c.if-is_alike_in_block.true (c.is_alike_in_block.ensures before same) in
+    let none = plain e.runs e.access before e.chunk e.access was outcome in
     let is = ap (λ (p : Plan). p.operations) c.new.ensures in
     omega (arith, none, is)
 
@@ -31,11 +31,11 @@ pub returns-clause-operations : goal.returns-clause-operations
 returns-clause-operations c = λ before same.
     let e = c.args.edit.now in
     let was = same-unmixed before e.chunk (block_answer c.args.entry.now) same in
-    let outcome = subst (λ b. IsOutcome e.chunk (edited e.runs.now e.access before) (tells b e.access)) c.if-is_alike_in_block.false (c.is_alike_in_block.ensures before same) in
-    let hang = hung e.runs.now e.access before e.chunk was outcome in
-    let new = c.words_of_new-words.ensures.same e.runs.now e.chunk e.pages in
-    let reached = reached-as (edited e.runs.now e.access (λ n. c.block_of.result)) (edited e.runs.now e.access before) e.chunk
-    (λ i lt. ap (λ a. cond (covers e.runs.now (512 * e.chunk + i)) e.access a) (same (512 * e.chunk + i) (omega (arith, lt)) ∙ sym c.block_of.ensures)) in
+    let outcome = subst (λ b. IsOutcome e.chunk (edited e.runs e.access before) (tells b e.access)) c.if-is_alike_in_block.false (c.is_alike_in_block.ensures before same) in
+    let hang = hung e.runs e.access before e.chunk was outcome in
+    let new = c.words_of_new-words.ensures.same e.runs e.chunk e.pages in
+    let reached = reached-as (edited e.runs e.access (λ n. c.block_of.result)) (edited e.runs e.access before) e.chunk
+    (λ i lt. ap (λ a. cond (covers e.runs (512 * e.chunk + i)) e.access a) (same (512 * e.chunk + i) (omega (arith, lt)) ∙ sym c.block_of.ensures)) in
     let is = ap (λ (p : Plan). p.operations) c.new-2.ensures in
     omega (arith, is, new, reached, hang)
 
@@ -43,10 +43,10 @@ pub returns-clause-close : goal.returns-clause-close
 returns-clause-close c = λ before same.
     let e = c.args.edit.now in
     let was = same-unmixed before e.chunk (block_answer c.args.entry.now) same in
-    let outcome = subst (λ b. IsOutcome e.chunk (edited e.runs.now e.access before) (tells b e.access)) c.if-is_alike_in_block.false (c.is_alike_in_block.ensures before same) in
-    let hang = hung e.runs.now e.access before e.chunk was outcome in
-    let new = c.words_of_new-words.ensures.same e.runs.now e.chunk e.pages in
-    let reached = reached-as (edited e.runs.now e.access (λ n. c.block_of.result)) (edited e.runs.now e.access before) e.chunk
-    (λ i lt. ap (λ a. cond (covers e.runs.now (512 * e.chunk + i)) e.access a) (same (512 * e.chunk + i) (omega (arith, lt)) ∙ sym c.block_of.ensures)) in
+    let outcome = subst (λ b. IsOutcome e.chunk (edited e.runs e.access before) (tells b e.access)) c.if-is_alike_in_block.false (c.is_alike_in_block.ensures before same) in
+    let hang = hung e.runs e.access before e.chunk was outcome in
+    let new = c.words_of_new-words.ensures.same e.runs e.chunk e.pages in
+    let reached = reached-as (edited e.runs e.access (λ n. c.block_of.result)) (edited e.runs e.access before) e.chunk
+    (λ i lt. ap (λ a. cond (covers e.runs (512 * e.chunk + i)) e.access a) (same (512 * e.chunk + i) (omega (arith, lt)) ∙ sym c.block_of.ensures)) in
     let is = ap (λ (p : Plan). p.operations) c.new-2.ensures in
     omega (arith, is, new, reached, hang)

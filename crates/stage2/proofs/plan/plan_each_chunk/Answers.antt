@@ -8,7 +8,7 @@ use Rattle.stage2.proofs.plan.plan_each_chunk.Goals as goal
 
 pub loop-piece-init : goal.loop-piece-init
 loop-piece-init g c = record {
-  planned = planned-start c.new-plan.ensures c.requires.normal;
+  planned = rw c.again-rest.ensures (planned-start c.new-plan.ensures);
 }
 
 pub plain_from-plain-requires-clause-page_in : goal.plain_from-plain-requires-clause-page_in
@@ -43,7 +43,7 @@ loop-piece-preserved-then-piece-plain g c =
 pub plan_at-more-requires-clause-past : goal.plan_at-more-requires-clause-past
 plan_at-more-requires-clause-past g c =
     let next = c.in-Some.ensures.some in
-    past-past (512 * (512 * c.args.gigabyte + c.in-Some.piece.first)) (512 * c.chunk.result) c.loop-piece.rest.now c.in-Some.piece.runs.now (sym (ap (λ k. 512 * k) c.chunk.ensures.same)) next.past
+    past-past (512 * (512 * c.args.gigabyte + c.in-Some.piece.first)) (512 * c.chunk.result) c.loop-piece.rest c.in-Some.piece.runs (sym (ap (λ k. 512 * k) c.chunk.ensures.same)) next.past
 
 pub loop-piece-preserved : goal.loop-piece-preserved
 loop-piece-preserved g c =

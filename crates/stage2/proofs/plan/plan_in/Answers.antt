@@ -51,11 +51,11 @@ returns-clause-tables g c =
     let entry = entry_in layout m.words c.args.second.now (chunk % 512) in
     let before : ℕ → View = answers_of layout m.words c.args.row.now.row in
     let at : 512 * (chunk / 512) + chunk % 512 ≡ chunk = omega arith in
-    let grows = grows-entry layout m c.requires.canonical (chunk / 512) (omega (arith, c.requires.in_range)) c.args.row.now.row c.args.row.now.inside h.runs.now h.access c.args.second.now (chunk % 512) (omega arith) c.requires.table in
-    let there : (is_mixed (edited h.runs.now h.access (answers_at layout m.words entry)) chunk && not (is_some (next_page entry))) ≡ grows_at before (edited h.runs.now h.access before) chunk =
-    subst (λ x. (is_mixed (edited h.runs.now h.access (answers_at layout m.words entry)) x && not (is_some (next_page entry))) ≡ grows_at before (edited h.runs.now h.access before) x) at grows in
+    let grows = grows-entry layout m c.requires.canonical (chunk / 512) (omega (arith, c.requires.in_range)) c.args.row.now.row c.args.row.now.inside h.runs h.access c.args.second.now (chunk % 512) (omega arith) c.requires.table in
+    let there : (is_mixed (edited h.runs h.access (answers_at layout m.words entry)) chunk && not (is_some (next_page entry))) ≡ grows_at before (edited h.runs h.access before) chunk =
+    subst (λ x. (is_mixed (edited h.runs h.access (answers_at layout m.words entry)) x && not (is_some (next_page entry))) ≡ grows_at before (edited h.runs h.access before) x) at grows in
     (rw c.requires.layout at c.plan_chunk.ensures.tables)
-    ∙ ap bit (ap (λ (s : Slot). is_mixed (edited h.runs.now h.access (answers_at layout m.words s)) chunk && not (is_some (next_page s))) c.entry_at-entry.ensures.same ∙ there)
+    ∙ ap bit (ap (λ (s : Slot). is_mixed (edited h.runs h.access (answers_at layout m.words s)) chunk && not (is_some (next_page s))) c.entry_at-entry.ensures.same ∙ there)
 
 pub returns-clause-operations : goal.returns-clause-operations
 returns-clause-operations g c =
@@ -65,10 +65,10 @@ returns-clause-operations g c =
     let m = pages_of (g.M.TableMem.state c.args.memory.now).memory in
     let before : ℕ → View = answers_of layout m.words c.args.row.now.row in
     let read : ℕ → View = answers_at layout m.words c.entry_at-entry.result in
-    let same = chunk-same h.runs.now h.runs.now h.access before read chunk (λ n at. refl) refl
+    let same = chunk-same h.runs h.runs h.access before read chunk (λ n at. refl) refl
     (λ i small. ap (λ (s : Slot). answers_at layout m.words s (512 * chunk + i)) c.entry_at-entry.ensures.same
     ∙ entry-view layout m c.requires.canonical (chunk / 512) (omega (arith, c.requires.in_range)) c.args.row.now.row c.args.row.now.inside c.args.second.now (chunk % 512) (512 * chunk + i) (omega arith) c.requires.table (omega (arith, small)))
     refl in
-    let all : 3 + table_operations h.runs.now h.access read chunk ≤ c.plan_chunk.result.operations = rw c.requires.layout at c.plan_chunk.ensures.operations in
-    let so_many : 3 + table_operations h.runs.now h.access read chunk ≡ chunk_operations h.runs.now h.access before chunk = ap (λ t. cond t (3 + table_operations h.runs.now h.access read chunk) 0) (sym (touches-made h)) ∙ same in
+    let all : 3 + table_operations h.runs h.access read chunk ≤ c.plan_chunk.result.operations = rw c.requires.layout at c.plan_chunk.ensures.operations in
+    let so_many : 3 + table_operations h.runs h.access read chunk ≡ chunk_operations h.runs h.access before chunk = ap (λ t. cond t (3 + table_operations h.runs h.access read chunk) 0) (sym (touches-made h)) ∙ same in
     omega (arith, all, so_many)

@@ -17,7 +17,7 @@ use Rattle.stage2.proofs.plan.plan_row.Goals as goal
 use Rattle.stage2.proofs.plan.plan_row.Goals.{then-touches, else-touches}
 
 pub plan_gigabyte-more-requires-clause-touched : goal.plan_gigabyte-more-requires-clause-touched
-plan_gigabyte-more-requires-clause-touched g c = c.touches.ensures.yes c.if-touches.true c.new-gigabyte.result c.args.runs.now c.gigabyte_runs-part.ensures.same
+plan_gigabyte-more-requires-clause-touched g c = c.touches.ensures.yes c.if-touches.true c.new-gigabyte.result c.args.runs.now c.gigabyte_runs-part.ensures
 
 pub loop-number-init : goal.loop-number-init
 loop-number-init g c =
@@ -43,9 +43,9 @@ loop-number-preserved g c =
     let tables = sum_below-more f i in
     let operations = sum_below-more h i in
     let so = c.loop-number.invariant in
-    let part = c.gigabyte_runs-part.result.now in
+    let part = c.gigabyte_runs-part.result in
     let here = c.new-gigabyte.ensures in
-    let is = rw here at c.gigabyte_runs-part.ensures.same in
+    let is = rw here at c.gigabyte_runs-part.ensures in
     elim c.if-touches.branch [
       | then-touches w ↦
           let grown : w.plan_gigabyte-more.result.tables ≡ f i = (rw here at w.plan_gigabyte-more.ensures.tables) ∙ gigabyte-growth i runs part access is v in

@@ -1,9 +1,6 @@
-use Rattle.std.proofs.Common.{◌≡◌, ℕ, ◌^◌, ◌<◌, ◌≤◌, rules, refl, sym, subst, ◌∙◌, arith}
+use Rattle.std.proofs.Common.{◌≡◌, ◌<◌, rules, refl, sym, subst, ◌∙◌, arith}
 use Rattle.std.proofs.lemmas.Result.{on_ok_weaker}
 use Rattle.base.specs.Access.{View}
-use Rattle.base.specs.Need.{need}
-use Rattle.base.specs.Manifest.{row_of}
-use Rattle.pool.specs.Pool.{row_quota}
 use Rattle.stage2.specs.inner.Filling.{in_range, IsFilling}
 use Rattle.stage2.proofs.Editing.FillUpward.{can-map, mapped, others, others-more, others-none, edge-between, edge-last, filling-none, filling-more, filling-next, filled, segment-alike, in-range-fits}
 use Rattle.stage2.proofs.tables.Tables.fill.Goals as goal

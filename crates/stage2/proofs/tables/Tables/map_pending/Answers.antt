@@ -20,5 +20,5 @@ pub map-requires-clause-fits : goal.map-requires-clause-fits
 map-requires-clause-fits g c =
     let can = c.requires.fits c.in-Some.access c.in-Some.is in
     let run : c.new-in-Some.result ≡ record { first = c.args.first; count = c.args.end - c.args.first } = c.new-in-Some.ensures ∙ ap (λ (f : ℕ). record { first = f; count = c.args.end - c.args.first }) c.new.ensures in
-    fits-same c.args.p (c.new-in-Some.result ∷ []) (Some c.in-Some.access) c.args.self.now c.ready.new.self c.ready.ensures.layout c.ready.ensures.pool
-    (subst (λ (r : PageRun). Fits c.args.p (r ∷ []) (Some c.in-Some.access) c.args.self.now) (sym run) can.fits)
+    rw c.of-runs.ensures (fits-same c.args.p (c.new-in-Some.result ∷ []) (Some c.in-Some.access) c.args.self.now c.ready.new.self c.ready.ensures.layout c.ready.ensures.pool
+    (subst (λ (r : PageRun). Fits c.args.p (r ∷ []) (Some c.in-Some.access) c.args.self.now) (sym run) can.fits))

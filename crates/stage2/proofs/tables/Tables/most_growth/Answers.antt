@@ -1,4 +1,4 @@
-use Rattle.std.proofs.Common.{sym, ap, ◌∙◌, arith}
+use Rattle.std.proofs.Common.{ap, arith}
 use Rattle.base.specs.Need.{grow}
 use Rattle.stage2.specs.Edits.{edited}
 use Rattle.stage2.specs.Sound.{TablesView}

@@ -1,0 +1,10 @@
+use Rattle.std.proofs.Common.{ap, ◌∙◌}
+use Rattle.stage2.specs.Parts.{runs_before}
+use Rattle.stage2.proofs.Runs.Normal.{normal-take}
+use Rattle.stage2.proofs.parts.runs_before.Goals as goal
+
+pub of-requires : goal.of-requires
+of-requires c = normal-take c.begun.result c.list-list.result.now c.list-list.ensures.normal
+
+pub returns : goal.returns
+returns c = c.of.ensures ∙ c.begun.ensures.same ∙ ap (runs_before c.args.end) c.list-list.ensures.same
