@@ -16,7 +16,7 @@ use std::alloc::Global;
 /// the partitions' roots, in ascending order of identifier; after all roots come the partitions'
 /// shares in the same order, each as many pages as its partition's quota.
 ///
-/// A page of a share is free or taken, and a free page holds zeros alone. `set_word`, `set_words`,
+/// A page of a share is free or taken, and a free page holds zeros alone. `set_word`,
 /// `set_runs`, `set_gaps`, `turn_runs`, `clear_words` and `replace_words` change words, and nothing else changes any. Each
 /// word that is written, each invalidation and each clear is recorded as an `Op`.
 pub trait TableMem {
@@ -70,19 +70,6 @@ pub trait TableMem {
         requires ready { 0 < room self.old }
         ensures state { state self.new ≡ after_set page index word (state self.old) }
         ensures room { room self.new + 1 ≡ room self.old };
-
-    /// Writes words of a root, or of a page that is taken, from one index up to another. A word that is there is not
-    /// written.
-    fn set_words(&mut self, range: WordRange)
-        requires page_in { range.page < page_count (state self.old).memory.quotas }
-        requires ordered { range.first ≤ range.end }
-        requires index_in { range.end ≤ 512 }
-        requires taken { taken_of (state self.old).memory.taken range.page ≡ true }
-        requires in_range { range.word + range.step * (range.end - range.first) < 2 ^ 64 }
-        requires ready { range.end ≤ room self.old + range.first }
-        ensures state { state self.new ≡ after_sets range.page range.first (range.end - range.first)
-            range.word range.step (state self.old) }
-        ensures room { room self.old + range.first ≤ room self.new + range.end };
 
     /// Writes the words of a root, or of a page that is taken, that stand for the pages of runs. A word that is there
     /// is not written.

@@ -12,7 +12,7 @@ use crate::operation::Op;
 use crate::places::{row_of, share_start, total};
 use crate::replace::{Replacement, replace_words};
 use crate::runs::{TableWords, set_runs, turn_gaps, turn_runs};
-use crate::stretch::{WordAt, clear_page, write_word, write_words};
+use crate::stretch::{WordAt, clear_page, write_word};
 use crate::table_mem::TableMem;
 use crate::word_range::WordRange;
 use crate::word_store::WordStore;
@@ -157,17 +157,6 @@ impl<S: WordStore> TableMem for TablePool<S> {
         let count = self.nonzero[page as usize];
         let count = write_word(&mut self.store, &mut self.operations, count, before, at);
         self.nonzero[page as usize] = count;
-    }
-
-    fn set_words(&mut self, range: WordRange) {
-        let count = self.nonzero[range.page as usize];
-        let log = Log::take(&mut self.operations, count);
-        let Log {
-            operations,
-            nonzero,
-        } = write_words(&mut self.store, log, range);
-        self.operations = operations;
-        self.nonzero[range.page as usize] = nonzero;
     }
 
     fn set_runs(&mut self, words: TableWords, runs: &Runs) {

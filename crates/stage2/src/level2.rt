@@ -5,7 +5,7 @@ ghost use Rattle.pool.specs.Pool.{taken_of, HasRow};
 ghost use Rattle.stage2.specs.inner.Change.{block_step};
 ghost use Rattle.stage2.specs.inner.Chunks.{block_answer, IsEntryFor};
 ghost use Rattle.stage2.specs.Edits.{edited};
-ghost use Rattle.stage2.specs.inner.Clauses.{IsAt, IsRowOf, words_left, operations_in_table, operations_kept, Puts, Breaks, Replaces, slot_at, AnswersAll, HasFree, GrowsChunk, ReplacesBlocks, EditsChunk, EditsMixed, OthersAnswer, SetsChunk, SetsInStep, MixesInStep, ChunkInStep, CanEditChunks, AreChunksEdited, word_in};
+ghost use Rattle.stage2.specs.inner.Clauses.{IsAt, IsRowOf, words_left, operations_in_table, operations_kept, Puts, Replaces, slot_at, AnswersAll, HasFree, GrowsChunk, ReplacesBlocks, EditsChunk, EditsMixed, OthersAnswer, SetsChunk, SetsInStep, MixesInStep, ChunkInStep, CanEditChunks, AreChunksEdited, word_in};
 ghost use Rattle.stage2.specs.Room.{reached_in};
 ghost use Rattle.stage2.specs.Slot.{Layout, slot};
 ghost use Rattle.stage2.specs.Walk.{next_page};
@@ -14,7 +14,7 @@ ghost use Rattle.std.specs.Prelude.{◌≡◌, ℕ, ◌+◌, ◌*◌, ◌%◌, �
 
 use crate::layout::Layout;
 use crate::level3::{empty_table, fill_table, invalidate_parts, write_runs};
-use crate::memory::{give_page, is_empty, put_word, take_page};
+use crate::memory::{give_page, is_empty, take_page};
 use crate::outcome::becomes_alike;
 use crate::parts::next_piece;
 use crate::place::{Chunk, Gigabyte, Span};
@@ -25,23 +25,6 @@ use crate::walked::Slot;
 use base::{Access, PartitionId, Runs};
 use pool::{TableMem, WordRange};
 use words::{leaf_word, table_word};
-
-/// Makes the level 2 word of a chunk invalid, and invalidates the chunk, if the word is valid.
-fn break_entry<M: TableMem>(memory: &mut M, p: PartitionId, second: TablePage, chunk: Chunk)
-    requires page_in { second < page_count (M.state memory.old).memory.quotas }
-    requires taken { taken_of (M.state memory.old).memory.taken second ≡ true }
-    requires partition { HasRow (M.state memory.old).memory p }
-    requires room { 2 ≤ M.room memory.old }
-    ensures pages { Puts second (chunk % 512) 0 (M.state memory.old) (M.state memory.new) }
-    ensures history { Breaks p second chunk (M.state memory.old) (M.state memory.new) }
-    ensures room { M.room memory.old ≤ M.room memory.new + 2 }
-{
-    let index = chunk.index();
-    if read_word(memory, second, index) != 0 {
-        put_word(memory, second, index, 0);
-        memory.invalidate(p, chunk.pages());
-    }
-}
 
 /// Writes the level 2 word of a chunk. A valid word is made invalid before, and the chunk
 /// invalidated.
@@ -60,10 +43,15 @@ fn replace_entry<M: TableMem>(
     ensures history { Replaces p second chunk word (M.state memory.old) (M.state memory.new) }
     ensures room { M.room memory.old ≤ M.room memory.new + 3 }
 {
-    break_entry(memory, p, second, chunk);
-    if word != 0 {
-        put_word(memory, second, chunk.index(), word);
-    }
+    let index = chunk.index();
+    let entry = WordRange {
+        page: second.number(),
+        first: index,
+        end: index + 1,
+        word,
+        step: 0,
+    };
+    memory.replace_words(p, entry, chunk.first());
 }
 
 /// The level 2 word of a chunk whose pages all have this answer: a block, or an invalid word.

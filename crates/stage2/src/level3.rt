@@ -2,53 +2,25 @@
 
 ghost use Rattle.base.specs.Manifest.{page_count};
 ghost use Rattle.base.specs.Pages.{covers};
-ghost use Rattle.pool.specs.Pool.{words_of, taken_of, after_sets, nonzero_in, HasRow};
+ghost use Rattle.pool.specs.Pool.{pages_of, words_of, taken_of, after_sets, nonzero_in, HasRow};
 ghost use Rattle.stage2.specs.inner.Change.{entry_for, step_for};
-ghost use Rattle.stage2.specs.inner.Chunks.{planned, filling};
+ghost use Rattle.stage2.specs.inner.Chunks.{planned, Writes};
 ghost use Rattle.stage2.specs.Edits.{edited};
-ghost use Rattle.stage2.specs.inner.Clauses.{AreWordsOf, AreTurned, AreRunsTurned, LeavesNone, WritesPlan, some_pages, IsEmpty, word_in, words_left, IsStray, OthersAnswer, gaps, covers_in};
+ghost use Rattle.stage2.specs.inner.Clauses.{AreWordsOf, AreTurned, AreRunsTurned, LeavesNone, WritesPlan, IsEmpty, IsUnseen, word_in, words_left, IsStray, OthersAnswer, gaps, covers_in};
 ghost use Rattle.stage2.specs.Moments.{Settles};
 ghost use Rattle.stage2.specs.Parts.{part_count};
 ghost use Rattle.stage2.specs.Room.{pages_in, reached_in};
-ghost use Rattle.std.specs.Prelude.{◌≡◌, ℕ, ◌+◌, ◌-◌, ◌*◌, ◌^◌, ◌<◌, ◌≤◌, true, None, [], ◌||◌, false, Some, is_some, if◌then◌else◌, ◌≢◌};
+ghost use Rattle.std.specs.Prelude.{◌≡◌, ℕ, ◌+◌, ◌-◌, ◌*◌, ◌^◌, ◌<◌, ◌≤◌, true, None, [], ◌||◌, false, Some, is_some, ◌≢◌};
 ghost use Rattle.words.specs.Words.{entry_of};
 
-use crate::parts::{part_in, runs_from, stretch_at};
-use crate::place::{Chunk, Span};
+use crate::parts::part_in;
+use crate::place::Chunk;
 use crate::site::ChunkEdit;
 use crate::table_page::TablePage;
 use base::limits::CHUNK_PAGES;
 use base::{Access, Page, PartitionId, Runs};
-use pool::{TableMem, TableWords, WordRange};
+use pool::{TableMem, TableWords};
 use words::leaf_word;
-
-/// Writes words that follow one another in a root or in a page that is taken, each a step more than
-/// the one before, where they are not there.
-pub(crate) fn put_words<M: TableMem>(
-    memory: &mut M,
-    table: TablePage,
-    indexes: Span,
-    word: u64,
-    step: u64,
-)
-    requires page_in { table < page_count (M.state memory.old).memory.quotas }
-    requires ordered { indexes.first ≤ indexes.end }
-    requires index_in { indexes.end ≤ 512 }
-    requires taken { taken_of (M.state memory.old).memory.taken table ≡ true }
-    requires in_range { word + step * (indexes.end - indexes.first) < 2 ^ 64 }
-    requires room { indexes.end ≤ M.room memory.old + indexes.first }
-    ensures state { M.state memory.new ≡ after_sets table indexes.first
-        (indexes.end - indexes.first) word step (M.state memory.old) }
-    ensures room { M.room memory.old + indexes.first ≤ M.room memory.new + indexes.end }
-{
-    memory.set_words(WordRange {
-        page: table.number(),
-        first: indexes.first,
-        end: indexes.end,
-        word,
-        step,
-    });
-}
 
 /// Writes 0 into each word of a page that is taken that is not 0, upward.
 pub(crate) fn clear_words<M: TableMem>(memory: &mut M, table: TablePage)
@@ -92,30 +64,6 @@ fn chunk_words(third: TablePage, chunk: Chunk, answer: &Option<Access>) -> Table
         start: first.number(),
         word: word_of(first, answer),
         step: step_of(answer),
-    }
-}
-
-/// Writes the words for pages of a chunk that follow one another, counted from its first, into a
-/// table, where they are not there. The pages have one answer.
-pub(crate) fn write_pages<M: TableMem>(
-    memory: &mut M,
-    third: TablePage,
-    chunk: Chunk,
-    pages: Span,
-    answer: Option<Access>,
-)
-    requires page_in { third < page_count (M.state memory.old).memory.quotas }
-    requires taken { taken_of (M.state memory.old).memory.taken third ≡ true }
-    requires ordered { pages.first ≤ pages.end }
-    requires most { pages.end ≤ 512 }
-    requires room { pages.end ≤ M.room memory.old + pages.first }
-    ensures writes { WritesPlan third chunk pages.end (some_pages chunk pages.first pages.end answer)
-        (M.state memory.old) (M.state memory.new) }
-    ensures room { M.room memory.old + pages.first ≤ M.room memory.new + pages.end }
-{
-    if pages.first < pages.end {
-        let word = word_of(chunk.page(pages.first), &answer);
-        put_words(memory, third, pages, word, step_of(&answer));
     }
 }
 
@@ -166,43 +114,8 @@ fn zero_runs<M: TableMem>(memory: &mut M, third: TablePage, edit: &ChunkEdit)
     }
 }
 
-/// What pages answer that the runs have, or that they have not.
-fn answer_of(is_covered: bool, access: &Option<Access>, other: &Option<Access>) -> Option<Access>
-    ensures { result ≡ (if is_covered then access.now else other.now) }
-{
-    if is_covered { *access } else { *other }
-}
-
-/// Writes the words for all pages of a chunk, upward, into a table, where they are not there: pages of
-/// the runs get one answer, and the others another one.
-fn write_all<M: TableMem>(
-    memory: &mut M,
-    third: TablePage,
-    edit: &ChunkEdit,
-    other: &Option<Access>,
-)
-    requires page_in { third < page_count (M.state memory.old).memory.quotas }
-    requires taken { taken_of (M.state memory.old).memory.taken third ≡ true }
-    requires room { 512 ≤ M.room memory.old }
-    ensures writes { WritesPlan third edit.now.chunk 512 (planned edit.now.runs edit.now.access (Some other.now))
-        (M.state memory.old) (M.state memory.new) }
-    ensures room { M.room memory.old ≤ M.room memory.new + 512 }
-{
-    let chunk = edit.chunk;
-    let mut rest = edit.runs.again();
-    let mut first = 0;
-    while first < CHUNK_PAGES {
-        rest = runs_from(&rest, chunk.page(first));
-        let part = stretch_at(&rest, chunk, first, CHUNK_PAGES);
-        let end = part.end;
-        let answer = answer_of(part.value, &edit.access, other);
-        write_pages(memory, third, chunk, Span { first, end }, answer);
-        first = end;
-    }
-}
-
-/// Fills a table whose words are all 0, for a chunk all of whose pages had one answer: those of the runs
-/// get another one. The words for pages that are not to be reached are there.
+/// Fills a table whose words are all 0, and which hangs nowhere, for a chunk all of whose pages had one answer: those of the
+/// runs get another one. The words for pages that are not to be reached are there.
 #[inline(always)]
 pub(crate) fn fill_table<M: TableMem>(
     memory: &mut M,
@@ -216,15 +129,19 @@ pub(crate) fn fill_table<M: TableMem>(
     requires some { (is_some before.now || is_some edit.now.access) ≡ true }
     requires room { reached_in (edited edit.now.runs edit.now.access (λ n. before.now)) edit.now.chunk
         ≤ M.room memory.old }
-    ensures writes { WritesPlan third edit.now.chunk 512 (planned edit.now.runs edit.now.access (filling before.now))
-        (M.state memory.old) (M.state memory.new) }
+    ensures words { Writes third edit.now.chunk (planned edit.now.runs edit.now.access (Some before.now))
+        (pages_of (M.state memory.old).memory) (pages_of (M.state memory.new).memory) }
+    ensures unseen { IsUnseen third (M.state memory.old) (M.state memory.new) }
     ensures room { M.room memory.old ≤ M.room memory.new
         + reached_in (edited edit.now.runs edit.now.access (λ n. before.now)) edit.now.chunk }
 {
     match (before, edit.access) {
         (None, _) => turn_runs(memory, third, edit),
-        (Some(_), None) => fill_gaps(memory, third, edit, before),
-        (Some(_), Some(_)) => write_all(memory, third, edit, before),
+        (Some(_), None) => write_gaps(memory, third, edit, before),
+        (Some(_), Some(_)) => {
+            turn_runs(memory, third, edit);
+            write_gaps(memory, third, edit, before);
+        }
     }
 }
 
@@ -268,26 +185,6 @@ fn write_gaps<M: TableMem>(
 {
     let words = chunk_words(third, edit.chunk, answer);
     memory.set_gaps(words, &edit.runs);
-}
-
-/// Fills a table whose words are all 0, as those of the runs' pages are to stay: the words beside them
-/// are written alone.
-pub(crate) fn fill_gaps<M: TableMem>(
-    memory: &mut M,
-    third: TablePage,
-    edit: &ChunkEdit,
-    other: &Option<Access>,
-)
-    requires page_in { third < page_count (M.state memory.old).memory.quotas }
-    requires taken { taken_of (M.state memory.old).memory.taken third ≡ true }
-    requires empty { IsEmpty third (M.state memory.old) }
-    requires some { is_some other.now ≡ true }
-    requires room { 512 ≤ M.room memory.old + pages_in edit.now.runs edit.now.chunk }
-    ensures writes { WritesPlan third edit.now.chunk 512 (planned edit.now.runs None (Some other.now))
-        (M.state memory.old) (M.state memory.new) }
-    ensures room { M.room memory.old + pages_in edit.now.runs edit.now.chunk ≤ M.room memory.new + 512 }
-{
-    write_gaps(memory, third, edit, other);
 }
 
 /// Whether the word of some page of a chunk beside runs is not that of a page that is reached as theirs are after an edit.

@@ -11,7 +11,7 @@ ghost use Rattle.std.specs.Prelude.{◌≡◌, [], ◌∷◌, ℕ, ◌+◌, ◌*
 
 use crate::place::{Chunk, Gigabyte, Span, whole_chunks};
 use base::limits::{CHUNK_PAGES, GIGABYTE_PAGES, TABLE_WORDS};
-use base::{Page, Run, Runs, Segment};
+use base::{Page, Run, Runs};
 
 /// How many runs are looked at one by one before they are halved: from chunk to chunk mostly one ends, or none.
 const LOOKS: usize = 2;
@@ -91,75 +91,6 @@ pub(crate) fn runs_between<'a>(runs: &Runs<'a>, first: u32, end: u32) -> Runs<'a
         return Runs::of(&list[..usize::from(is_between)]);
     }
     runs_among(runs, first, end)
-}
-
-/// Whether a page is in one of the runs. Where the first of them does not end before it, that one
-/// tells.
-pub(crate) fn is_covered(runs: &Runs, page: Page) -> bool
-    ensures { result ≡ covers runs.now page }
-{
-    let n = page.number();
-    match runs.list().first() {
-        Some(run) => {
-            if n < run.end() {
-                run.first().number() <= n
-            } else {
-                !runs_between(runs, n, n + 1).list().is_empty()
-            }
-        }
-        None => false,
-    }
-}
-
-/// The runs without the first, if that ends before a page: whoever goes along with the pages has the
-/// run of a page, or the next one, always first.
-pub(crate) fn runs_from<'a>(runs: &Runs<'a>, page: Page) -> Runs<'a>
-    ensures { (n : ℕ) → page ≤ n → covers result n ≡ covers runs.now n }
-{
-    let list = runs.list();
-    match list.first() {
-        Some(run) if run.end() <= page.number() => Runs::of(&list[1..]),
-        _ => Runs::of(list),
-    }
-}
-
-/// Whether the runs have a page of a chunk, and up to which page they have those behind it alike, up to a limit. Pages are
-/// counted from the chunk's first.
-pub(crate) fn stretch_at(runs: &Runs, chunk: Chunk, index: u32, limit: u32) -> Segment<bool>
-    requires index { index < limit }
-    requires limit { limit ≤ 512 }
-    ensures behind { index < result.end }
-    ensures most { result.end ≤ limit }
-    ensures alike { (x : ℕ) → index ≤ x → x < result.end
-        → covers runs.now (512 * chunk + x) ≡ result.value }
-{
-    let start = chunk.first().number();
-    let page = chunk.page(index);
-    let n = page.number();
-    match runs.list().first() {
-        Some(run) => {
-            if n < run.first().number() {
-                Segment {
-                    value: false,
-                    end: limit.min(run.first().number() - start),
-                }
-            } else if n < run.end() {
-                Segment {
-                    value: true,
-                    end: limit.min(run.end() - start),
-                }
-            } else {
-                Segment {
-                    value: is_covered(runs, page),
-                    end: index + 1,
-                }
-            }
-        }
-        None => Segment {
-            value: false,
-            end: limit,
-        },
-    }
 }
 
 /// Those of the runs that have a page in a chunk, of whatever runs that end behind its first page.

@@ -122,12 +122,6 @@ writes-rest k c runs access a b left so = record {
         let read : b.words k i ≡ 0 = so.stays i small (rw e refl) ∙ left i small e in
         rw (read, ← none) (record { entry = entry-zero 3; zero = λ same. refl })
 
--- nor do those of a table that is all 0, for pages that are not to be reached
-pub writes-fresh : (k c : ℕ) (runs : List PageRun) (access before : View) (a b : Pages) → ((i : ℕ) → a.words k i ≡ 0)
-    → Writes k c (planned runs access (cond (is_some before) (Some before) None)) a b → Writes k c (planned runs access (Some before)) a b
-writes-fresh k c runs access (Some before) a b fresh so = so
-writes-fresh k c runs access None a b fresh so = writes-rest k c runs access a b (λ i small out. fresh i) so
-
 -- no runs, and all others: all words are 0
 pub writes-zero : (k c : ℕ) (runs : List PageRun) (a b : Pages) → Writes k c (planned runs None (Some None)) a b → Writes k c (planned [] None (Some None)) a b
 writes-zero k c runs a b so = record {

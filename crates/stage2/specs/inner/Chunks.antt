@@ -32,10 +32,6 @@ pub record IsWordFor (n : ℕ) (answer : View) (word : ℕ) : Type 0 where
 abbrev pub planned : List PageRun → View → Option View → ℕ → Option View
 planned runs access others n = if covers runs n then Some access else others
 
--- what is planned, in a table whose words are all 0, for pages that are to be reached so
-abbrev pub filling : View → Option View
-filling before = if is_some before then Some before else None
-
 -- what is planned for the pages below m
 abbrev pub below : ℕ → (ℕ → Option View) → ℕ → Option View
 below m plan n = if nat_lt n m then plan n else None

@@ -17,14 +17,14 @@ use Rattle.stage2.specs.inner.Change.{block_step}
 use Rattle.stage2.specs.Edits.{edited, AreFree, disturbs, disturbed}
 use Rattle.stage2.specs.inner.Chunks.{IsEntryFor, IsWordFor, Writes, answers_at, answers_in, answers_of, second_of, entry_in, IsOutcome, IsGrowing, IsSite, Redoes_in}
 use Rattle.stage2.specs.inner.Gigabytes.{grows_at, Touches, Fits, FitsGigabyte, FitsRow, IsUnderway, EditsGigabyte, EditsRow}
-use Rattle.stage2.specs.inner.History.{Made, Filled, broken, replaced}
+use Rattle.stage2.specs.inner.History.{Made, Filled, replaced}
 use Rattle.stage2.specs.Moments.{StaysInStep}
 use Rattle.stage2.specs.Orderly.{IsOrderly, IsCanonical, answers, linked}
 use Rattle.stage2.specs.Parts.{part_count}
 use Rattle.stage2.specs.Room.{pages_in, table_operations, chunks_operations, gigabyte_operations, row_operations}
 use Rattle.stage2.specs.Slot.{Layout, Slot, Next, slot}
 use Rattle.stage2.specs.inner.Steps.{IsSeated, disturbed_below}
-use Rattle.stage2.specs.Walk.{Gigabyte, table_at, walk, walked, IsForest}
+use Rattle.stage2.specs.Walk.{Place, Gigabyte, IsPlace, table_at, walk, walked, IsForest}
 
 -- ---- words
 
@@ -68,14 +68,17 @@ some_pages c first end answer n =
 abbrev pub gaps : List PageRun → View → ℕ → Option View
 gaps runs answer n = if covers runs n then None else Some answer
 
--- the level 2 word of a chunk is made invalid
-abbrev pub Breaks : ℕ → ℕ → ℕ → Pool → Pool → Type 0
-Breaks who j c old new = Made (broken who j c (words_of old.memory.words j (c % 512))) old new
-
--- and another is written there
+-- the level 2 word of a chunk is broken, and another is written there
 abbrev pub Replaces : ℕ → ℕ → ℕ → ℕ → Pool → Pool → Type 0
 Replaces who j c word old new =
     Made (replaced who j c (words_of old.memory.words j (c % 512)) word) old new
+
+-- no walker sees what is done, as long as this table hangs nowhere
+abbrev pub IsUnseen : ℕ → Pool → Pool → Type 0
+IsUnseen k old new =
+    (layout : Layout) (row : ℕ) (which : ℕ → Bool) (answer : ℕ → Walked)
+    → ((a : Place) → IsPlace layout a → table_at layout (words_of old.memory.words) a ≢ Some k)
+    → StaysInStep layout row which answer old new
 
 -- ---- the edit of a chunk, whose level 2 word stands at a site
 

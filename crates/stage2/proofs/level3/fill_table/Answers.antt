@@ -1,31 +1,93 @@
-use Rattle.std.proofs.Common.{◌==◌, ◌||◌, is_some, sym, ap, ◌∙◌, arith}
+use Rattle.std.proofs.Common.{◌==◌, ◌||◌, None, is_some, sym, ap, ◌∙◌, arith}
+use Rattle.pool.specs.Pool.{pages_of, words_of}
+use Rattle.stage2.specs.inner.Chunks.{planned}
+use Rattle.stage2.specs.inner.Clauses.{gaps}
 use Rattle.stage2.proofs.Counting.Operations.{new-unmapped, new-all}
+use Rattle.stage2.proofs.Editing.Gaps.{writes-gaps, writes-both}
+use Rattle.stage2.proofs.Editing.Level3Words.{writes-rest}
+use Rattle.stage2.proofs.Walkers.SeatedChunks.{unheld-outside}
+use Rattle.stage2.proofs.Walkers.StepLists.{stays-filled}
+use Rattle.stage2.proofs.Walkers.ZeroedTables.{stays-after}
 use Rattle.stage2.proofs.level3.fill_table.Goals as goal
+
+-- ---- nothing was reached
 
 pub turn_runs-requires-clause-turned : goal.turn_runs-requires-clause-turned
 turn_runs-requires-clause-turned g c = λ i small covered.
     ap (λ w. w == 0) (c.requires.empty i small) ∙ sym (ap (λ b. is_some b || is_some c.args.edit.now.access) (sym c.in-None-default.is-0) ∙ c.requires.some)
 
-pub fill_gaps-requires-clause-room : goal.fill_gaps-requires-clause-room
-fill_gaps-requires-clause-room g c =
-    let words = new-unmapped c.args.edit.now.runs c.args.edit.now.access c.args.before.now c.args.edit.now.chunk c.in-Some-None.is-1 (ap (λ a. is_some a) c.in-Some-None.is-0) in
+pub returns-in-None-default-clause-words : goal.returns-in-None-default-clause-words
+returns-in-None-default-clause-words g c =
+    let e = c.args.edit.now in
+    rw c.in-None-default.is-0 (writes-rest c.args.third e.chunk e.runs e.access (pages_of (g.M.TableMem.state c.args.memory.now).memory) (pages_of (g.M.TableMem.state c.turn_runs.new.memory).memory) (λ i small out. c.requires.empty i small) c.turn_runs.ensures.writes.words)
+
+pub returns-in-None-default-clause-unseen : goal.returns-in-None-default-clause-unseen
+returns-in-None-default-clause-unseen g c = λ layout row which answer loose.
+    let e = c.args.edit.now in
+    stays-filled layout row c.args.third e.chunk 512 (planned e.runs e.access None) which answer (g.M.TableMem.state c.args.memory.now) (g.M.TableMem.state c.turn_runs.new.memory) c.turn_runs.ensures.writes.made loose
+
+-- ---- the runs are not to be reached
+
+pub write_gaps-requires-clause-room : goal.write_gaps-requires-clause-room
+write_gaps-requires-clause-room g c =
+    let e = c.args.edit.now in
+    let words = new-unmapped e.runs e.access c.args.before.now e.chunk c.in-Some-None.is-1 (ap (λ a. is_some a) c.in-Some-None.is-0) in
     let room = c.requires.room in
     omega (arith, words, room)
+
+pub returns-in-Some-None-clause-words : goal.returns-in-Some-None-clause-words
+returns-in-Some-None-clause-words g c =
+    let e = c.args.edit.now in
+    rw c.in-Some-None.is-1 (writes-gaps c.args.third e.chunk e.runs c.args.before.now (pages_of (g.M.TableMem.state c.args.memory.now).memory) (pages_of (g.M.TableMem.state c.write_gaps.new.memory).memory) (λ i small covered. c.requires.empty i small) c.write_gaps.ensures.writes.words)
+
+pub returns-in-Some-None-clause-unseen : goal.returns-in-Some-None-clause-unseen
+returns-in-Some-None-clause-unseen g c = λ layout row which answer loose.
+    let e = c.args.edit.now in
+    stays-filled layout row c.args.third e.chunk 512 (gaps e.runs c.args.before.now) which answer (g.M.TableMem.state c.args.memory.now) (g.M.TableMem.state c.write_gaps.new.memory) c.write_gaps.ensures.writes.made loose
 
 pub returns-in-Some-None-clause-room : goal.returns-in-Some-None-clause-room
 returns-in-Some-None-clause-room g c =
-    let words = new-unmapped c.args.edit.now.runs c.args.edit.now.access c.args.before.now c.args.edit.now.chunk c.in-Some-None.is-1 (ap (λ a. is_some a) c.in-Some-None.is-0) in
-    let room = c.fill_gaps.ensures.room in
+    let e = c.args.edit.now in
+    let words = new-unmapped e.runs e.access c.args.before.now e.chunk c.in-Some-None.is-1 (ap (λ a. is_some a) c.in-Some-None.is-0) in
+    let room = c.write_gaps.ensures.room in
     omega (arith, words, room)
 
-pub write_all-requires-clause-room : goal.write_all-requires-clause-room
-write_all-requires-clause-room g c =
-    let words = new-all c.args.edit.now.runs c.args.edit.now.access c.args.before.now c.args.edit.now.chunk (ap (λ a. is_some a) c.in-Some-Some.is-1) (ap (λ a. is_some a) c.in-Some-Some.is-0) in
+-- ---- all are to be reached
+
+pub turn_runs-requires-in-Some-Some-clause-room : goal.turn_runs-requires-in-Some-Some-clause-room
+turn_runs-requires-in-Some-Some-clause-room g c =
+    let e = c.args.edit.now in
+    let words = new-all e.runs e.access c.args.before.now e.chunk (ap (λ a. is_some a) c.in-Some-Some.is-1) (ap (λ a. is_some a) c.in-Some-Some.is-0) in
     let room = c.requires.room in
-    omega (arith, words, room)
+    let pages = e.pages in
+    let most = e.most in
+    omega (arith, words, room, pages, most)
+
+pub write_gaps-requires-in-Some-Some-clause-room : goal.write_gaps-requires-in-Some-Some-clause-room
+write_gaps-requires-in-Some-Some-clause-room g c =
+    let e = c.args.edit.now in
+    let words = new-all e.runs e.access c.args.before.now e.chunk (ap (λ a. is_some a) c.in-Some-Some.is-1) (ap (λ a. is_some a) c.in-Some-Some.is-0) in
+    let room = c.requires.room in
+    let left = c.turn_runs-in-Some-Some.ensures.room in
+    omega (arith, words, room, left)
+
+pub returns-in-Some-Some-clause-unseen : goal.returns-in-Some-Some-clause-unseen
+returns-in-Some-Some-clause-unseen g c = λ layout row which answer loose.
+    let e = c.args.edit.now in
+    let k = c.args.third in
+    let old = g.M.TableMem.state c.args.memory.now in
+    let mid = g.M.TableMem.state c.turn_runs-in-Some-Some.new.memory in
+    let new = g.M.TableMem.state c.write_gaps-in-Some-Some.new.memory in
+    let first = c.turn_runs-in-Some-Some.ensures.writes in
+    stays-after layout row which answer old mid new
+    (stays-filled layout row k e.chunk 512 (planned e.runs e.access None) which answer old mid first.made loose)
+    (stays-filled layout row k e.chunk 512 (gaps e.runs c.args.before.now) which answer mid new c.write_gaps-in-Some-Some.ensures.writes.made
+    (unheld-outside layout (words_of old.memory.words) (words_of mid.memory.words) k loose first.words.others))
 
 pub returns-in-Some-Some-clause-room : goal.returns-in-Some-Some-clause-room
 returns-in-Some-Some-clause-room g c =
-    let words = new-all c.args.edit.now.runs c.args.edit.now.access c.args.before.now c.args.edit.now.chunk (ap (λ a. is_some a) c.in-Some-Some.is-1) (ap (λ a. is_some a) c.in-Some-Some.is-0) in
-    let room = c.write_all.ensures.room in
-    omega (arith, words, room)
+    let e = c.args.edit.now in
+    let words = new-all e.runs e.access c.args.before.now e.chunk (ap (λ a. is_some a) c.in-Some-Some.is-1) (ap (λ a. is_some a) c.in-Some-Some.is-0) in
+    let first = c.turn_runs-in-Some-Some.ensures.room in
+    let second = c.write_gaps-in-Some-Some.ensures.room in
+    omega (arith, words, first, second)
