@@ -6,7 +6,7 @@ ghost use Rattle.pool.specs.Pool.{pages_of, words_of, taken_of, after_sets, nonz
 ghost use Rattle.stage2.specs.inner.Change.{entry_for, step_for};
 ghost use Rattle.stage2.specs.inner.Chunks.{planned, Writes};
 ghost use Rattle.stage2.specs.Edits.{edited};
-ghost use Rattle.stage2.specs.inner.Clauses.{AreWordsOf, AreTurned, AreRunsTurned, LeavesNone, WritesPlan, IsEmpty, IsUnseen, word_in, words_left, IsStray, OthersAnswer, gaps, covers_in};
+ghost use Rattle.stage2.specs.inner.Clauses.{AreWordsOf, AreTurned, AreRunsTurned, WritesPlan, IsEmpty, IsUnseen, word_in, words_left, IsStray, OthersAnswer, gaps, covers_in};
 ghost use Rattle.stage2.specs.Moments.{Settles};
 ghost use Rattle.stage2.specs.Parts.{part_count};
 ghost use Rattle.stage2.specs.Room.{pages_in, reached_in};
@@ -95,25 +95,6 @@ fn turn_runs<M: TableMem>(memory: &mut M, third: TablePage, edit: &ChunkEdit)
     memory.turn_runs(words, &edit.runs);
 }
 
-/// Writes 0 into the words of the runs' pages in a chunk, all others of which are 0. Where as many are not 0 as the runs have
-/// pages, each of theirs is not.
-fn zero_runs<M: TableMem>(memory: &mut M, third: TablePage, edit: &ChunkEdit)
-    requires page_in { third < page_count (M.state memory.old).memory.quotas }
-    requires taken { taken_of (M.state memory.old).memory.taken third ≡ true }
-    requires none { edit.now.access ≡ None }
-    requires left { LeavesNone third edit.now (M.state memory.old) }
-    requires room { pages_in edit.now.runs edit.now.chunk ≤ M.room memory.old }
-    ensures writes { WritesPlan third edit.now.chunk 512 (planned edit.now.runs edit.now.access None)
-        (M.state memory.old) (M.state memory.new) }
-    ensures room { M.room memory.old ≤ M.room memory.new + pages_in edit.now.runs edit.now.chunk }
-{
-    if memory.nonzero(third.number()) == edit.pieces.pages {
-        turn_runs(memory, third, edit);
-    } else {
-        write_runs(memory, third, edit);
-    }
-}
-
 /// Fills a table whose words are all 0, and which hangs nowhere, for a chunk all of whose pages had one answer: those of the
 /// runs get another one. The words for pages that are not to be reached are there.
 #[inline(always)]
@@ -158,9 +139,10 @@ pub(crate) fn empty_table<M: TableMem>(memory: &mut M, third: TablePage, edit: &
     ensures room { M.room memory.old ≤ M.room memory.new
         + words_left third edit.now (M.state memory.old) }
 {
-    if edit.access.is_none() {
-        zero_runs(memory, third, edit);
-    } else if memory.nonzero(third.number()) + edit.pieces.pages == CHUNK_PAGES {
+    let nonzero = memory.nonzero(third.number());
+    if edit.access.is_none() && nonzero == edit.pieces.pages {
+        turn_runs(memory, third, edit);
+    } else if edit.access.is_some() && nonzero + edit.pieces.pages == CHUNK_PAGES {
         write_gaps(memory, third, edit, &None);
     } else {
         clear_words(memory, third);

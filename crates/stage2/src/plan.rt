@@ -8,7 +8,7 @@ ghost use Rattle.pool.specs.Pool.{pages_of, taken_of};
 ghost use Rattle.stage2.specs.inner.Chunks.{block_answer};
 ghost use Rattle.stage2.specs.Edits.{edited};
 ghost use Rattle.stage2.specs.inner.Clauses as clauses;
-ghost use Rattle.stage2.specs.inner.Clauses.{IsSpelled, read_before, read_after, view_in, second_in, entry_read, words_left, ArePlanned};
+ghost use Rattle.stage2.specs.inner.Clauses.{IsSpelled, read_before, read_after, view_in, second_in, entry_read, words_left, IsChunkPlanned, ArePlanned};
 ghost use Rattle.stage2.specs.inner.Gigabytes.{grows_at, gigabyte_growth, Touches};
 ghost use Rattle.stage2.specs.Orderly.{IsCanonical};
 ghost use Rattle.stage2.specs.Parts.{runs_past};
@@ -225,13 +225,8 @@ fn plan_in<M: TableMem>(
     requires layout { edit.now.layout.now ≡ row.now.layout.now }
     requires in_range { edit.now.chunk < 2 ^ 18 }
     requires table { second_in row.now.layout.now row.now.row (edit.now.chunk / 512) (M.state memory.now) ≡ second.now }
-    ensures tables { let before = view_in row.now.layout.now row.now.row (M.state memory.now) in
-        let after = edited edit.now.runs edit.now.access before in
-        result.tables ≡ (if grows_at before after edit.now.chunk then 1 else 0) }
-    ensures operations { let before = view_in row.now.layout.now row.now.row (M.state memory.now) in
-        chunk_operations edit.now.runs edit.now.access before edit.now.chunk
-        ≤ result.operations }
-    ensures most { result.operations ≤ 1027 }
+    ensures { IsChunkPlanned (view_in row.now.layout.now row.now.row (M.state memory.now))
+        edit.now.runs edit.now.access edit.now.chunk result }
 {
     let entry = entry_at(memory, row.layout, second, edit.chunk);
     plan_chunk(memory, edit, &entry, row.looks)
@@ -249,12 +244,8 @@ fn plan_at<M: TableMem>(
     requires past { runs_past (512 * chunk) runs.now ≡ runs.now }
     requires in_range { chunk < 2 ^ 18 }
     requires table { second_in edit.now.layout.now edit.now.row (chunk / 512) (M.state memory.now) ≡ second.now }
-    ensures tables { let before = view_in edit.now.layout.now edit.now.row (M.state memory.now) in
-        let after = edited runs.now edit.now.access before in
-        result.tables ≡ (if grows_at before after chunk then 1 else 0) }
-    ensures operations { let before = view_in edit.now.layout.now edit.now.row (M.state memory.now) in
-        chunk_operations runs.now edit.now.access before chunk ≤ result.operations }
-    ensures most { result.operations ≤ 1027 }
+    ensures { IsChunkPlanned (view_in edit.now.layout.now edit.now.row (M.state memory.now))
+        runs.now edit.now.access chunk result }
 {
     match ChunkEdit::new(edit.layout, runs, chunk, &edit.access) {
         Some(here) => plan_in(memory, edit, second, &here),

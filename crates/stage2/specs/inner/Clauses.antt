@@ -21,7 +21,7 @@ use Rattle.stage2.specs.inner.History.{Made, Filled, replaced}
 use Rattle.stage2.specs.Moments.{StaysInStep}
 use Rattle.stage2.specs.Orderly.{IsOrderly, IsCanonical, answers, linked}
 use Rattle.stage2.specs.Parts.{part_count}
-use Rattle.stage2.specs.Room.{pages_in, table_operations, chunks_operations, gigabyte_operations, row_operations}
+use Rattle.stage2.specs.Room.{pages_in, table_operations, chunk_operations, chunks_operations, gigabyte_operations, row_operations}
 use Rattle.stage2.specs.Slot.{Layout, Slot, Next, slot}
 use Rattle.stage2.specs.inner.Steps.{IsSeated, disturbed_below}
 use Rattle.stage2.specs.Walk.{Place, Gigabyte, IsPlace, table_at, walk, walked, IsForest}
@@ -401,7 +401,13 @@ entry_read layout second i pool = entry_in layout (words_of pool.memory.words) s
 abbrev pub chunks_growth : (ℕ → View) → (ℕ → View) → ℕ → ℕ
 chunks_growth old new g = count_below (λ x. grows_at old new (512 * g + x)) 512
 
--- what the chunks of a gigabyte need: so many tables, and operations at most
+-- what an edit needs for a chunk whose pages had these answers: so many tables, and operations at most
+pub record IsChunkPlanned (before : ℕ → View) (runs : List PageRun) (access : View) (c : ℕ) (plan : Plan) : Type 0 where
+  pub tables : plan.tables ≡ (if grows_at before (edited runs access before) c then 1 else 0)
+  pub operations : chunk_operations runs access before c ≤ plan.operations
+  pub most : plan.operations ≤ 1027
+
+-- the same for the chunks of a gigabyte
 pub record ArePlanned (e : RowPlan) (g : ℕ) (runs : List PageRun) (pool : Pool) (plan : Plan) : Type 0 where
   pub tables : plan.tables ≡ chunks_growth (view_in e.layout.now e.row pool) (edited runs e.access (view_in e.layout.now e.row pool)) g
   pub operations : chunks_operations runs e.access (view_in e.layout.now e.row pool) g ≤ plan.operations

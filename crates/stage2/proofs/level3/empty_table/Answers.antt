@@ -1,21 +1,44 @@
-use Rattle.std.proofs.Common.{◌≡◌, ℕ, ◌+◌, ◌*◌, true, false, [], Bool, List, Option, Some, None, arith, refl, subst, not, ◌≢◌, is_some, sym, ◌∙◌, ap}
+use Rattle.std.proofs.Common.{◌≡◌, ℕ, ◌+◌, ◌*◌, ◌≤◌, ◌==◌, true, false, [], Bool, List, Option, Some, None, arith, refl, subst, ltb, not, ◌≢◌, is_some, sym, ◌∙◌, ap, inl, inr}
+use Rattle.std.proofs.lemmas.Bool.{cases_Bool, ltb-true}
 use Rattle.std.proofs.lemmas.Bool.Decides.{nat_tests}
 use Rattle.base.specs.Access.{View}
 use Rattle.base.specs.Pages.{PageRun, covers}
-use Rattle.pool.specs.Pool.{pages_of, Words, words_of, nonzero_in}
+use Rattle.pool.specs.Pool.{Pool, pages_of, words_of, nonzero_in}
+use Rattle.stage2.specs.Room.{pages_in}
+use Rattle.stage2.specs.declared.site.ChunkEdit.{ChunkEdit}
 use Rattle.stage2.specs.inner.Chunks.{planned}
-use Rattle.stage2.specs.inner.Clauses.{WritesPlan, some_pages, gaps}
+use Rattle.stage2.specs.inner.Clauses.{WritesPlan, OthersAnswer, words_left, some_pages, gaps}
 use Rattle.stage2.proofs.Editing.PlannedWords.{writes-join, filled-join}
 use Rattle.stage2.proofs.Editing.Stretches.{word-zero, word-some, writes-stretch}
 use Rattle.stage2.proofs.Editing.Level3Words.{writes-none, writes-all, writes-rest, writes-zero}
 use Rattle.stage2.proofs.Walkers.Histories.{filled-none, filled-more}
-use Rattle.stage2.proofs.Counting.Pieces.{nonzero-most, none-among}
+use Rattle.stage2.proofs.Counting.Pieces.{nonzero-most, none-among, all-among, word-beside}
 use Rattle.stage2.proofs.Editing.Gaps.{writes-gaps}
 use Rattle.stage2.proofs.level3.empty_table.Goals as goal
 
 -- all words are written
 abbrev plan : ℕ → Option View
 plan = planned [] None (Some None)
+
+gone : (a : View) → is_some a ≡ false → a ≡ None
+gone None none = refl
+gone (Some a) none = absurd (cc)
+
+there : (a : View) → is_some a ≡ true → a ≢ None
+there a some none = let bad : false ≡ true = ap (λ x. is_some x) (sym none) ∙ some in cc
+
+-- ---- the words of the runs' pages, of which there are as many as words that are not 0
+
+pub turn_runs-requires-clause-turned : goal.turn_runs-requires-clause-turned
+turn_runs-requires-clause-turned g c = λ i small covered.
+    let e = c.args.edit.now in
+    let k = c.args.third in
+    let words = words_of (g.M.TableMem.state c.args.memory.now).memory.words in
+    let unmaps = c.is_none.ensures ∙ ap not c.if-is_none.true in
+    let counted = sym (c.nonzero-nonzero.ensures ∙ ap (nonzero_in words) c.number.ensures) ∙ c.if-nonzero-edit.true ∙ e.pages in
+    let other = all-among words k (λ j. covers e.runs (512 * e.chunk + j)) counted (λ j lt out. (c.requires.left j lt out).zero (gone e.access unmaps)) i small covered in
+    let zero : (words k i == 0) ≡ false = grind (arith, nat_tests, other) in
+    zero ∙ sym unmaps
 
 -- what is planned for the pages of the runs is planned for all
 all-none : (runs : List PageRun) (n : ℕ) (answer : View) → planned runs None None n ≡ Some answer → planned [] None (Some None) n ≡ Some answer
@@ -25,41 +48,27 @@ all-none runs n answer given = here (covers runs n) refl given
     here true e given = rw e at given
     here false e given = let bad : None ≡ Some answer = rw e at given in absurd (cc)
 
-gone : (a : View) (b : Bool) → is_some a ≡ not b → b ≡ true → a ≡ None
-gone None b e f = refl
-gone (Some a) b e f = let bad : true ≡ false = e ∙ ap not f in absurd (cc)
-
-pub zero_runs-requires-clause-none : goal.zero_runs-requires-clause-none
-zero_runs-requires-clause-none g c = gone c.args.edit.now.access c.is_none.result c.is_none.ensures c.if-is_none.true
-
-pub zero_runs-requires-clause-left : goal.zero_runs-requires-clause-left
-zero_runs-requires-clause-left g c = λ i small out. (c.requires.left i small out).zero (gone c.args.edit.now.access c.is_none.result c.is_none.ensures c.if-is_none.true)
-
-pub returns-then-is_none-clause-writes : goal.returns-then-is_none-clause-writes
-returns-then-is_none-clause-writes g c =
-    let none = gone c.args.edit.now.access c.is_none.result c.is_none.ensures c.if-is_none.true in
-    let k = c.args.third in
+pub returns-then-nonzero-edit-clause-writes : goal.returns-then-nonzero-edit-clause-writes
+returns-then-nonzero-edit-clause-writes g c =
     let e = c.args.edit.now in
-    let runs = e.runs in
+    let none = gone e.access (c.is_none.ensures ∙ ap not c.if-is_none.true) in
+    let k = c.args.third in
     let start = g.M.TableMem.state c.args.memory.now in
-    let end = g.M.TableMem.state c.zero_runs.new.memory in
+    let end = g.M.TableMem.state c.turn_runs.new.memory in
     let old = pages_of start.memory in
     let new = pages_of end.memory in
-    let zeroed : WritesPlan k e.chunk 512 (planned runs None None) start end = subst (λ (a : View). WritesPlan k e.chunk 512 (planned runs a None) start end) none c.zero_runs.ensures.writes in
+    let zeroed : WritesPlan k e.chunk 512 (planned e.runs None None) start end = subst (λ (a : View). WritesPlan k e.chunk 512 (planned e.runs a None) start end) none c.turn_runs.ensures.writes in
     record {
-      words = writes-zero k e.chunk runs old new (writes-rest k e.chunk runs None old new (λ i small out. (c.requires.left i small out).zero none) zeroed.words);
-      made = filled-more k e.chunk 512 (planned runs None None) plan start end (all-none runs) zeroed.made;
+      words = writes-zero k e.chunk e.runs old new (writes-rest k e.chunk e.runs None old new (λ i small out. (c.requires.left i small out).zero none) zeroed.words);
+      made = filled-more k e.chunk 512 (planned e.runs None None) plan start end (all-none e.runs) zeroed.made;
     }
 
 -- ---- the words beside the runs, of which there are as many as words that are not 0
 
-counted : (n k table : ℕ) (words : Words) → n ≡ nonzero_in words k → k ≡ table → n ≡ nonzero_in words table
-counted n k table words is same = is ∙ ap (nonzero_in words) same
-
 pub overflow_add-nonzero : goal.overflow_add-nonzero
 overflow_add-nonzero g c =
     let words = words_of (g.M.TableMem.state c.args.memory.now).memory.words in
-    let nonzero = counted c.nonzero.result c.number.result c.args.third words c.nonzero.ensures c.number.ensures in
+    let nonzero = c.nonzero-nonzero.ensures ∙ ap (nonzero_in words) c.number.ensures in
     let few = nonzero-most words c.args.third in
     let pages = c.args.edit.now.most in
     omega (arith, nonzero, few, pages)
@@ -67,7 +76,7 @@ overflow_add-nonzero g c =
 pub write_gaps-requires-clause-turned : goal.write_gaps-requires-clause-turned
 write_gaps-requires-clause-turned g c = λ i small out.
     let e = c.args.edit.now in
-    let some : e.access ≢ None = λ none. let bad : false ≡ true = ap (λ a. is_some a) (sym none) ∙ c.is_none.ensures ∙ ap not c.if-is_none.false in cc in
+    let some = there e.access (sym c.is_some.ensures ∙ c.if-is_some.true) in
     let other = word-some (512 * e.chunk + i) e.access (words_of (g.M.TableMem.state c.args.memory.now).memory.words c.args.third i) some (c.requires.left i small out) in
     grind (arith, nat_tests, other)
 
@@ -87,10 +96,10 @@ returns-then-nonzero-edit-eq-CHUNK_PAGES-clause-writes g c =
     let end = g.M.TableMem.state c.write_gaps.new.memory in
     let old = pages_of start.memory in
     let new = pages_of end.memory in
-    let nonzero = counted c.nonzero.result c.number.result k old.words c.nonzero.ensures c.number.ensures in
+    let nonzero = c.nonzero-nonzero.ensures ∙ ap (nonzero_in old.words) c.number.ensures in
     let pages = e.pages in
     let left = c.if-nonzero-edit-eq-CHUNK_PAGES.true in
-    let some : e.access ≢ None = λ none. let bad : false ≡ true = ap (λ a. is_some a) (sym none) ∙ c.is_none.ensures ∙ ap not c.if-is_none.false in cc in
+    let some = there e.access (sym c.is_some.ensures ∙ c.if-is_some.true) in
     let zero = none-among old.words k (λ i. covers e.runs (512 * e.chunk + i)) (omega (arith, nonzero, pages, left)) (λ i small out. word-some (512 * e.chunk + i) e.access (old.words k i) some (c.requires.left i small out)) in
     record {
       words = writes-zero k e.chunk e.runs old new (writes-gaps k e.chunk e.runs None old new zero c.write_gaps.ensures.writes.words);
@@ -99,8 +108,31 @@ returns-then-nonzero-edit-eq-CHUNK_PAGES-clause-writes g c =
 
 -- ---- all words that are not 0
 
-pub returns-else-nonzero-edit-eq-CHUNK_PAGES-clause-writes : goal.returns-else-nonzero-edit-eq-CHUNK_PAGES-clause-writes
-returns-else-nonzero-edit-eq-CHUNK_PAGES-clause-writes g c =
+-- no more are left than go
+few-left : (k : ℕ) (e : ChunkEdit) (pool : Pool) → OthersAnswer k e.chunk e.runs e.access pool → nonzero_in (words_of pool.memory.words) k ≤ words_left k e pool
+few-left k e pool left = either (is_some e.access) refl
+  where
+    either : (b : Bool) → is_some e.access ≡ b → nonzero_in (words_of pool.memory.words) k ≤ words_left k e pool
+    either true some = rw some (omega arith)
+    either false none = rw none (elim (cases_Bool (ltb (pages_in e.runs e.chunk) (nonzero_in (words_of pool.memory.words) k))) [
+      | inl t ↦ let beside = word-beside (words_of pool.memory.words) k (λ i. covers e.runs (512 * e.chunk + i)) (ltb-true _ _ t) in absurd (beside.3 ((left beside.0 beside.1 beside.2).zero (gone e.access none)))
+      | inr f ↦ grind (arith, nat_tests, f)
+    ])
+
+pub clear_words-requires-clause-room : goal.clear_words-requires-clause-room
+clear_words-requires-clause-room g c =
+    let few = few-left c.args.third c.args.edit.now (g.M.TableMem.state c.args.memory.now) c.requires.left in
+    let room = c.requires.room in
+    omega (arith, few, room)
+
+pub returns-else-is_some-clause-room : goal.returns-else-is_some-clause-room
+returns-else-is_some-clause-room g c =
+    let few = few-left c.args.third c.args.edit.now (g.M.TableMem.state c.args.memory.now) c.requires.left in
+    let room = c.clear_words.ensures.room in
+    omega (arith, few, room)
+
+pub returns-else-is_some-clause-writes : goal.returns-else-is_some-clause-writes
+returns-else-is_some-clause-writes g c =
     let start = g.M.TableMem.state c.args.memory.now in
     let end = g.M.TableMem.state c.clear_words.new.memory in
     let old = pages_of start.memory in

@@ -1,4 +1,4 @@
-use Rattle.std.proofs.Common.{◌≡◌, ◌≤◌, ℕ, ◌+◌, ◌*◌, ◌%◌, ◌/◌, not, is_some, ◌&&◌, cond, refl, sym, ap, subst, ◌∙◌, arith}
+use Rattle.std.proofs.Common.{◌≡◌, ◌≤◌, ◌<◌, ℕ, ◌+◌, ◌*◌, ◌%◌, ◌/◌, not, is_some, ◌&&◌, cond, refl, sym, ap, subst, ◌∙◌, arith}
 use Rattle.base.specs.Access.{View}
 use Rattle.pool.specs.Pool.{pages_of}
 use Rattle.stage2.specs.Slot.{Slot}
@@ -42,33 +42,29 @@ plan_chunk-requires-clause-mixed g c =
     let there : is_mixed (answers_at layout m.words entry) chunk ≡ is_some (next_page entry) = subst (λ x. is_mixed (answers_at layout m.words entry) x ≡ is_some (next_page entry)) at read in
     rw (c.requires.layout, c.entry_at-entry.ensures.same) there
 
-pub returns-clause-tables : goal.returns-clause-tables
-returns-clause-tables g c =
+pub returns : goal.returns
+returns g c =
     let h = c.args.edit.now in
     let chunk = h.chunk in
     let layout = c.args.row.now.layout.now in
     let m = pages_of (g.M.TableMem.state c.args.memory.now).memory in
     let entry = entry_in layout m.words c.args.second.now (chunk % 512) in
     let before : ℕ → View = answers_of layout m.words c.args.row.now.row in
+    let read : ℕ → View = answers_at layout m.words c.entry_at-entry.result in
     let at : 512 * (chunk / 512) + chunk % 512 ≡ chunk = omega arith in
-    let grows = grows-entry layout m c.requires.canonical (chunk / 512) (omega (arith, c.requires.in_range)) c.args.row.now.row c.args.row.now.inside h.runs h.access c.args.second.now (chunk % 512) (omega arith) c.requires.table in
+    let below : chunk / 512 < 512 = omega (arith, c.requires.in_range) in
+    let grows = grows-entry layout m c.requires.canonical (chunk / 512) below c.args.row.now.row c.args.row.now.inside h.runs h.access c.args.second.now (chunk % 512) (omega arith) c.requires.table in
     let there : (is_mixed (edited h.runs h.access (answers_at layout m.words entry)) chunk && not (is_some (next_page entry))) ≡ grows_at before (edited h.runs h.access before) chunk =
     subst (λ x. (is_mixed (edited h.runs h.access (answers_at layout m.words entry)) x && not (is_some (next_page entry))) ≡ grows_at before (edited h.runs h.access before) x) at grows in
-    (rw c.requires.layout at c.plan_chunk.ensures.tables)
-    ∙ ap bit (ap (λ (s : Slot). is_mixed (edited h.runs h.access (answers_at layout m.words s)) chunk && not (is_some (next_page s))) c.entry_at-entry.ensures.same ∙ there)
-
-pub returns-clause-operations : goal.returns-clause-operations
-returns-clause-operations g c =
-    let h = c.args.edit.now in
-    let chunk = h.chunk in
-    let layout = c.args.row.now.layout.now in
-    let m = pages_of (g.M.TableMem.state c.args.memory.now).memory in
-    let before : ℕ → View = answers_of layout m.words c.args.row.now.row in
-    let read : ℕ → View = answers_at layout m.words c.entry_at-entry.result in
     let same = chunk-same h.runs h.runs h.access before read chunk (λ n at. refl) refl
     (λ i small. ap (λ (s : Slot). answers_at layout m.words s (512 * chunk + i)) c.entry_at-entry.ensures.same
-    ∙ entry-view layout m c.requires.canonical (chunk / 512) (omega (arith, c.requires.in_range)) c.args.row.now.row c.args.row.now.inside c.args.second.now (chunk % 512) (512 * chunk + i) (omega arith) c.requires.table (omega (arith, small)))
+    ∙ entry-view layout m c.requires.canonical (chunk / 512) below c.args.row.now.row c.args.row.now.inside c.args.second.now (chunk % 512) (512 * chunk + i) (omega arith) c.requires.table (omega (arith, small)))
     refl in
     let all : 3 + table_operations h.runs h.access read chunk ≤ c.plan_chunk.result.operations = rw c.requires.layout at c.plan_chunk.ensures.operations in
     let so_many : 3 + table_operations h.runs h.access read chunk ≡ chunk_operations h.runs h.access before chunk = ap (λ t. cond t (3 + table_operations h.runs h.access read chunk) 0) (sym (touches-made h)) ∙ same in
-    omega (arith, all, so_many)
+    record {
+      tables = (rw c.requires.layout at c.plan_chunk.ensures.tables)
+          ∙ ap bit (ap (λ (s : Slot). is_mixed (edited h.runs h.access (answers_at layout m.words s)) chunk && not (is_some (next_page s))) c.entry_at-entry.ensures.same ∙ there);
+      operations = omega (arith, all, so_many);
+      most = c.plan_chunk.ensures.most;
+    }
