@@ -161,7 +161,13 @@ impl<S: WordStore> TableMem for TablePool<S> {
 
     fn set_runs(&mut self, words: TableWords, runs: &Runs) {
         let count = self.nonzero[words.page as usize];
-        let count = set_runs(&mut self.store, &mut self.operations, count, runs.list(), words);
+        let count = set_runs(
+            &mut self.store,
+            &mut self.operations,
+            count,
+            runs.list(),
+            words,
+        );
         self.nonzero[words.page as usize] = count;
     }
 
@@ -178,7 +184,13 @@ impl<S: WordStore> TableMem for TablePool<S> {
 
     fn turn_runs(&mut self, words: TableWords, runs: &Runs) {
         let count = self.nonzero[words.page as usize];
-        let count = turn_runs(&mut self.store, &mut self.operations, count, runs.list(), words);
+        let count = turn_runs(
+            &mut self.store,
+            &mut self.operations,
+            count,
+            runs.list(),
+            words,
+        );
         self.nonzero[words.page as usize] = count;
     }
 

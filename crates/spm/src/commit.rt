@@ -93,12 +93,7 @@ fn edit_and_apply<M: TableMem + Drop>(
     ensures err_state { OnErr result (state.new ≡ state.old) }
     ensures err_pool { OnErr result (tables.new.pool ≡ tables.old.pool) }
 {
-    tables.ready(
-        edit.who,
-        &Runs::of(&edit.runs),
-        edit.to,
-        clear_count(&edit),
-    )?;
+    tables.ready(edit.who, &Runs::of(&edit.runs), edit.to, clear_count(&edit))?;
     apply(state, p, update)?;
     edit_tables(tables, &edit);
     *spare = edit.runs;

@@ -10,7 +10,7 @@ ghost use Rattle.stage2.specs.inner.Clauses.{is_between, points_at, view_in};
 ghost use Rattle.stage2.specs.inner.Gigabytes.{gigabyte_growth};
 ghost use Rattle.stage2.specs.Orderly.{IsCanonical};
 ghost use Rattle.stage2.specs.Room.{row_operations};
-ghost use Rattle.std.specs.Prelude.{◌≡◌, ℕ, ◌+◌, ◌-◌, ◌*◌, ◌/◌, ◌^◌, ◌<◌, ◌≤◌, ◌&&◌, true, Some, not, length};
+ghost use Rattle.std.specs.Prelude.{◌≡◌, ℕ, ◌+◌, ◌-◌, ◌*◌, ◌/◌, ◌^◌, ◌<◌, ◌≤◌, ◌&&◌, Some, not, length};
 
 use crate::level2::points_at_table;
 use crate::parts::{bounds, chunk_span, gigabyte_span};
@@ -55,12 +55,7 @@ fn count_untabled<M: TableMem>(memory: &M, second: &Option<TablePage>, chunks: S
 }
 
 /// How many tables an edit takes at most in a gigabyte.
-fn most_in_gigabyte<M: TableMem>(
-    memory: &M,
-    edit: &RowPlan,
-    gigabyte: Gigabyte,
-    runs: &Runs,
-) -> u32
+fn most_in_gigabyte<M: TableMem>(memory: &M, edit: &RowPlan, gigabyte: Gigabyte, runs: &Runs) -> u32
     requires canonical { IsCanonical edit.now.layout.now (pages_of (M.state memory.now).memory) }
     ensures most { let before = view_in edit.now.layout.now edit.now.row (M.state memory.now) in
         gigabyte_growth before (edited runs.now edit.now.access before) gigabyte ≤ result }
