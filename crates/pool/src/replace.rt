@@ -67,6 +67,7 @@ fn break_one<S: WordStore>(
 }
 
 /// The same, if the word is not 0.
+#[inline(always)]
 fn break_word<S: WordStore>(
     store: &mut S,
     operations: &mut Vec<Op>,
@@ -90,6 +91,7 @@ fn break_word<S: WordStore>(
 }
 
 /// Writes the first of these words where 0 stands, if it is not 0. It answers how many words of the page are not 0.
+#[inline(always)]
 fn make_word<S: WordStore>(
     store: &mut S,
     operations: &mut Vec<Op>,
@@ -118,6 +120,7 @@ fn make_word<S: WordStore>(
 
 /// Replaces one word, and records the operations behind these. It answers how many words of the page are
 /// not 0.
+#[inline(always)]
 fn replace_one<S: WordStore>(
     store: &mut S,
     operations: &mut Vec<Op>,
@@ -212,6 +215,7 @@ fn replace_all<S: WordStore>(store: &mut S, log: Log, with: Replacement) -> Log
 
 /// Replaces words, and records each operation behind these. It answers how many words of the page are
 /// not 0. For one word alone the list stays where it is.
+#[inline(always)]
 pub(crate) fn replace_words<S: WordStore>(
     store: &mut S,
     operations: &mut Vec<Op>,

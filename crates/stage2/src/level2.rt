@@ -355,6 +355,7 @@ fn edit_each_chunk<M: TableMem>(
 
 /// Edits the pages of runs in the chunks of a gigabyte, upward, whose level 2 table may not be
 /// linked yet.
+#[inline(always)]
 pub(crate) fn edit_chunks<M: TableMem>(
     memory: &mut M,
     edit: &RowEdit,

@@ -102,6 +102,7 @@ pub(crate) fn chunk_runs<'a>(runs: &Runs<'a>, chunk: Chunk) -> Runs<'a>
 }
 
 /// Those of the runs that have a page in a gigabyte.
+#[inline(always)]
 pub(crate) fn gigabyte_runs<'a>(runs: &Runs<'a>, gigabyte: Gigabyte) -> Runs<'a>
     ensures { result ≡ parts.gigabyte_runs gigabyte runs.now }
 {
