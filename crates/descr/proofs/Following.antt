@@ -7,7 +7,7 @@ use Rattle.std.proofs.lemmas.Bool.Decides.{nat_tests}
 use Rattle.std.proofs.lemmas.List.Sorted.{IsPermutation-sym, All-permutation}
 use Rattle.base.specs.Pages.{PageRun, are_apart, are_disjoint}
 use Rattle.base.proofs.Joining.{are_disjoint-IsPermutation}
-use Rattle.descr.specs.Order.{follow, AreAllSome}
+use Rattle.descr.specs.Order.{fall, follow, AreAllSome}
 
 -- each run of the list begins at this page or later
 far : (end e : ℕ) (runs : List PageRun) → end ≤ e → follow e runs ≡ true → follow end runs ≡ true
@@ -28,6 +28,29 @@ disjoint-from_follow end [] h = refl
 disjoint-from_follow end (run ∷ runs) h =
     let parts = and_parts (leb end run.first) (follow (run.first + run.count) runs) h in
     and_from _ _ (apart_from_all run runs parts.1) (disjoint-from_follow (run.first + run.count) runs parts.1)
+
+-- ---- in descending order
+
+below : (start s : ℕ) (runs : List PageRun) → s ≤ start → fall s runs ≡ true → fall start runs ≡ true
+below start s [] le h = refl
+below start s (run ∷ runs) le h =
+    let parts = and_parts (leb (run.first + run.count) s) (fall run.first runs) h in
+    and_from _ _ (let l : run.first + run.count ≤ s = leb-true _ _ parts.0 in grind (arith, nat_tests)) parts.1
+
+apart_from_lower : (run : PageRun) (runs : List PageRun) → fall run.first runs ≡ true → list_all (are_apart run) runs ≡ true
+apart_from_lower run [] h = refl
+apart_from_lower run (next ∷ runs) h =
+    let parts = and_parts (leb (next.first + next.count) run.first) (fall next.first runs) h in
+    let here : next.first + next.count ≤ run.first = leb-true _ _ parts.0 in
+    and_from _ _ (grind (arith, nat_tests)) (apart_from_lower run runs (below run.first next.first runs (omega arith) parts.1))
+
+pub disjoint-from_fall : (start : ℕ) (runs : List PageRun) → fall start runs ≡ true → are_disjoint runs ≡ true
+disjoint-from_fall start [] h = refl
+disjoint-from_fall start (run ∷ runs) h =
+    let parts = and_parts (leb (run.first + run.count) start) (fall run.first runs) h in
+    and_from _ _ (apart_from_lower run runs parts.1) (disjoint-from_fall run.first runs parts.1)
+
+-- ---- a sorted copy
 
 -- each is at or above the first of the list, in ascending order
 rest_ascends : (run : PageRun) (runs : List PageRun) → IsNonDecreasingBy (λ r. r.first) (run ∷ runs) → IsNonDecreasingBy (λ r. r.first) runs

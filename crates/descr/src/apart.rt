@@ -1,21 +1,24 @@
 //! Whether the ranges of a send share no page.
 
-ghost use Rattle.std.specs.Prelude.{◌≡◌};
+ghost use Rattle.std.specs.Prelude.{◌≡◌, ◌^◌};
 ghost use Rattle.std.specs.List.Sorted.{IsPermutation, IsNonDecreasingBy};
 ghost use Rattle.base.specs.Pages.{are_disjoint};
-ghost use Rattle.descr.specs.Order.{AreAllSome, follow};
+ghost use Rattle.descr.specs.Order.{AreAllSome, fall, follow};
 
 use crate::ranges::Ranges;
 use arrayvec::ArrayVec;
-use base::Run;
+use base::{Page, Run};
 use base::limits::MOST_RANGES;
 
-/// Whether no two of the ranges share a page: by one look at each where they stand in ascending order,
-/// and else in a sorted copy, which takes no heap.
+/// Whether no two of the ranges share a page: by one look at each where they stand in ascending order, or in
+/// descending order, and else in a sorted copy, which takes no heap.
 pub(crate) fn are_disjoint(ranges: &Ranges<'_>) -> bool
     ensures { result ≡ are_disjoint ranges.now }
 {
     if ascend(ranges) {
+        return true;
+    }
+    if descend(ranges) {
         return true;
     }
     follow_when_sorted(ranges)
@@ -44,7 +47,21 @@ fn ascend(ranges: &Ranges<'_>) -> bool
     true
 }
 
-/// The same of runs.
+/// Whether each range ends where the one before it begins, or earlier.
+fn descend(ranges: &Ranges<'_>) -> bool
+    ensures { result ≡ fall (2 ^ 27) ranges.now }
+{
+    let mut start = Page::COUNT;
+    for run in ranges.again() {
+        if start < run.end() {
+            return false;
+        }
+        start = run.first().number();
+    }
+    true
+}
+
+/// Whether each run begins where the one before it ends, or later.
 fn follow_each_other(runs: &[Run]) -> bool
     ensures { result ≡ follow 0 runs.now }
 {
