@@ -8,15 +8,15 @@ ghost use Rattle.pool.specs.Pool.{pages_of, taken_of};
 ghost use Rattle.stage2.specs.inner.Chunks.{block_answer};
 ghost use Rattle.stage2.specs.Edits.{edited};
 ghost use Rattle.stage2.specs.inner.Clauses as clauses;
-ghost use Rattle.stage2.specs.inner.Clauses.{IsSpelled, read_before, read_after, view_in, second_in, entry_read, words_left, IsChunkPlanned, ArePlanned};
+ghost use Rattle.stage2.specs.inner.Clauses.{IsSpelled, read_before, read_after, view_in, second_in, entry_read, words_left, IsEditPlanned, IsChunkPlanned, ArePlanned};
 ghost use Rattle.stage2.specs.inner.Gigabytes.{gigabyte_growth, Touches};
 ghost use Rattle.stage2.specs.Orderly.{IsCanonical};
 ghost use Rattle.stage2.specs.Parts.{runs_past};
-ghost use Rattle.stage2.specs.Room.{pages_in, reached_in, table_operations, gigabyte_operations, row_operations};
+ghost use Rattle.stage2.specs.Room.{pages_in, reached_in, gigabyte_operations, row_operations};
 ghost use Rattle.stage2.specs.Slot.{Layout};
 ghost use Rattle.stage2.specs.Walk.{next_page};
 ghost use Rattle.stage2.specs.declared.walked.Slot.TheVariants.{Next};
-ghost use Rattle.std.specs.Prelude.{◌≡◌, ℕ, ◌+◌, ◌-◌, ◌*◌, ◌/◌, ◌%◌, ◌^◌, ◌<◌, ◌≤◌, ◌&&◌, true, Some, None, not, List, length, is_some, if◌then◌else◌};
+ghost use Rattle.std.specs.Prelude.{◌≡◌, ℕ, ◌+◌, ◌-◌, ◌*◌, ◌/◌, ◌%◌, ◌^◌, ◌<◌, ◌≤◌, ◌&&◌, true, false, Some, None, not, List, length, is_some, if◌then◌else◌};
 
 use crate::layout::Layout;
 use crate::level1::{find_table, touches};
@@ -117,19 +117,10 @@ fn operations_kept(edit: &ChunkEdit) -> u32
 
 /// What the edit of a chunk without a table needs.
 fn plan_block(edit: &ChunkEdit, entry: &Slot) -> Plan
-    ensures tables { (before : ℕ → View)
+    ensures { (before : ℕ → View)
         → ((n : ℕ) → n / 512 ≡ edit.now.chunk → before n ≡ block_answer entry.now)
-        → result.tables
-        ≡ (if is_mixed (edited edit.now.runs edit.now.access before) edit.now.chunk then 1 else 0) }
-    ensures operations { (before : ℕ → View)
-        → ((n : ℕ) → n / 512 ≡ edit.now.chunk → before n ≡ block_answer entry.now)
-        → 3 + table_operations edit.now.runs edit.now.access before edit.now.chunk
-        ≤ result.operations }
-    ensures close { (before : ℕ → View)
-        → ((n : ℕ) → n / 512 ≡ edit.now.chunk → before n ≡ block_answer entry.now)
-        → result.operations
-        ≤ 7 + table_operations edit.now.runs edit.now.access before edit.now.chunk }
-    ensures most { result.operations ≤ 1027 }
+        → IsEditPlanned before edit.now
+        (is_mixed (edited edit.now.runs edit.now.access before) edit.now.chunk) true result }
 {
     if is_alike_in_block(edit, entry) {
         return Plan::new(0, 3);
@@ -159,14 +150,8 @@ fn plan_table<M: TableMem>(memory: &M, edit: &ChunkEdit, third: TablePage, looks
     requires spelled { IsSpelled edit.now third (M.state memory.now) }
     requires mixed { is_mixed (read_before edit.now (Next third) (M.state memory.now)) edit.now.chunk
         ≡ true }
-    ensures tables { result.tables ≡ 0 }
-    ensures operations { let before = read_before edit.now (Next third) (M.state memory.now) in
-        3 + table_operations edit.now.runs edit.now.access before edit.now.chunk
-        ≤ result.operations }
-    ensures close { looks ≡ true → let before = read_before edit.now (Next third) (M.state memory.now) in
-        result.operations
-        ≤ 7 + table_operations edit.now.runs edit.now.access before edit.now.chunk }
-    ensures most { result.operations ≤ 1027 }
+    ensures { IsEditPlanned (read_before edit.now (Next third) (M.state memory.now)) edit.now
+        false looks result }
 {
     let kept = operations_kept(edit);
     if is_told_mixed(memory, edit, third) {
@@ -196,16 +181,9 @@ fn plan_chunk<M: TableMem>(memory: &M, edit: &ChunkEdit, entry: &Slot, looks: bo
         → IsSpelled edit.now k (M.state memory.now) }
     requires mixed { is_mixed (read_before edit.now entry.now (M.state memory.now)) edit.now.chunk
         ≡ is_some (next_page entry.now) }
-    ensures tables { let after = read_after edit.now entry.now (M.state memory.now) in
-        result.tables
-        ≡ (if is_mixed after edit.now.chunk && not (is_some (next_page entry.now)) then 1 else 0) }
-    ensures operations { let before = read_before edit.now entry.now (M.state memory.now) in
-        3 + table_operations edit.now.runs edit.now.access before edit.now.chunk
-        ≤ result.operations }
-    ensures close { looks ≡ true → let before = read_before edit.now entry.now (M.state memory.now) in
-        result.operations
-        ≤ 7 + table_operations edit.now.runs edit.now.access before edit.now.chunk }
-    ensures most { result.operations ≤ 1027 }
+    ensures { IsEditPlanned (read_before edit.now entry.now (M.state memory.now)) edit.now
+        (is_mixed (read_after edit.now entry.now (M.state memory.now)) edit.now.chunk
+        && not (is_some (next_page entry.now))) looks result }
 {
     match table_of(entry) {
         Some(third) => plan_table(memory, edit, third, looks),

@@ -401,6 +401,14 @@ entry_read layout second i pool = entry_in layout (words_of pool.memory.words) s
 abbrev pub chunks_growth : (ℕ → View) → (ℕ → View) → ℕ → ℕ
 chunks_growth old new g = count_below (λ x. grows_at old new (512 * g + x)) 512
 
+-- what the edit of a chunk needs that has pages of its runs, and whose pages had these answers: a table, if one is to be hung, and operations at most, of
+-- which few are more than it makes, where words were looked at
+pub record IsEditPlanned (before : ℕ → View) (e : ChunkEdit) (grows looked : Bool) (plan : Plan) : Type 0 where
+  pub tables : plan.tables ≡ (if grows then 1 else 0)
+  pub operations : 3 + table_operations e.runs e.access before e.chunk ≤ plan.operations
+  pub close : looked ≡ true → plan.operations ≤ 7 + table_operations e.runs e.access before e.chunk
+  pub most : plan.operations ≤ 1027
+
 -- what an edit needs for a chunk whose pages had these answers: so many tables, and operations at most
 pub record IsChunkPlanned (before : ℕ → View) (runs : List PageRun) (access : View) (c : ℕ) (plan : Plan) : Type 0 where
   pub tables : plan.tables ≡ (if grows_at before (edited runs access before) c then 1 else 0)

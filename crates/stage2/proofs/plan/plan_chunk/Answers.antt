@@ -1,0 +1,38 @@
+use Rattle.std.proofs.Common.{◌≡◌, Bool, is_some, not, ◌&&◌, None, Some, refl, sym, ap, subst, ◌∙◌}
+use Rattle.std.proofs.Math.Bool.{and-true, and-false}
+use Rattle.base.specs.Need.{is_mixed}
+use Rattle.pool.specs.Pool.{words_of}
+use Rattle.stage2.specs.Slot.{Slot, Next}
+use Rattle.stage2.specs.Walk.{next_page}
+use Rattle.stage2.specs.inner.Clauses.{IsEditPlanned, read_before, read_after}
+use Rattle.stage2.proofs.Counting.Operations.{plain-answer}
+use Rattle.stage2.proofs.Editing.ChunkByChunk.{bit}
+use Rattle.stage2.proofs.Editing.FourChunkEdits.{is-next}
+use Rattle.stage2.proofs.plan.plan_chunk.Goals as goal
+
+pub returns-in-Some : goal.returns-in-Some
+returns-in-Some g c =
+    let e = c.args.edit.now in
+    let pool = g.M.TableMem.state c.args.memory.now in
+    let entry = c.args.entry.now in
+    let k = c.in-Some.third in
+    let looks = c.args.looks in
+    let is = is-next entry k (sym c.table_of.ensures ∙ c.in-Some.is) in
+    let none = and-false (is_mixed (read_after e (Next k) pool) e.chunk) in
+    subst (λ (s : Slot). IsEditPlanned (read_before e s pool) e (is_mixed (read_after e s pool) e.chunk && not (is_some (next_page s))) looks c.plan_table.result) (sym is)
+    (subst (λ b. IsEditPlanned (read_before e (Next k) pool) e b looks c.plan_table.result) (sym none) c.plan_table.ensures)
+
+pub returns-in-None : goal.returns-in-None
+returns-in-None g c =
+    let e = c.args.edit.now in
+    let pool = g.M.TableMem.state c.args.memory.now in
+    let entry = c.args.entry.now in
+    let none = sym c.table_of.ensures ∙ c.in-None.is in
+    let so = c.plan_block.ensures (read_before e entry pool) (λ n at. plain-answer e.layout.now (words_of pool.memory.words) entry n none) in
+    let grows : Bool = is_mixed (read_after e entry pool) e.chunk in
+    record {
+      tables = so.tables ∙ ap bit (sym (ap (λ o. grows && not (is_some o)) none ∙ and-true grows));
+      operations = so.operations;
+      close = λ yes. so.close refl;
+      most = so.most;
+    }
