@@ -5,4 +5,5 @@ pub mod TakenPages
 pub mod EmptyTables
 pub mod Rows
 pub mod PutTwice
+pub mod KnownWords
 pub mod EntryWords

@@ -1,23 +1,22 @@
 //! Level 1: the word of a gigabyte, and its level 2 table.
 
-ghost use Rattle.base.specs.Manifest.{page_count};
 ghost use Rattle.base.specs.Pages.{PageRun, covers};
 ghost use Rattle.pool.specs.Pool.{pages_of, taken_of, row_in, InShare};
-ghost use Rattle.stage2.specs.inner.Clauses.{second_at, IsEmpty, Unlinks, UnlinksInStep, CanEditGigabyte, IsGigabyteEdited, operations_in_row, FitsInRow, EditsInRow, RowInStep};
-ghost use Rattle.stage2.specs.inner.Gigabytes.{Touches};
+ghost use Rattle.stage2.specs.inner.Clauses.{second_at, IsEmpty, Unlinks, UnlinksInStep, CanEditGigabyte, IsGigabyteEdited, CanEditRow, IsRowEdited};
+ghost use Rattle.stage2.specs.inner.Gigabytes.{Touches, LieInGigabyte};
 ghost use Rattle.stage2.specs.Orderly.{IsCanonical};
 ghost use Rattle.stage2.specs.Parts.{gigabyte_runs};
 ghost use Rattle.stage2.specs.Slot.{Layout};
-ghost use Rattle.std.specs.Prelude.{◌≡◌, ℕ, ◌+◌, ◌<◌, ◌≤◌, List, length, true, false, Some, None, is_some};
+ghost use Rattle.std.specs.Prelude.{◌≡◌, ℕ, ◌+◌, ◌<◌, ◌≤◌, List, length, true, false, Some, None, is_some, IfSome};
 
 use crate::layout::Layout;
 use crate::level2::{edit_chunks, table_of};
 use crate::memory::{give_page, is_empty, put_word, take_page};
-use crate::parts::{gigabyte_runs, gigabyte_span};
+use crate::parts::{end_of_last, gigabyte_runs, gigabyte_span};
 use crate::place::Gigabyte;
-use crate::read::read_gigabyte;
+use crate::read::read_slot;
 use crate::site::RowEdit;
-use crate::table_page::{Row, TablePage};
+use crate::table_page::{Level, Row, TablePage};
 use base::{PartitionId, Runs};
 use pool::TableMem;
 use words::table_word;
@@ -30,11 +29,12 @@ pub(crate) fn find_table<M: TableMem>(
     row: Row,
     gigabyte: Gigabyte,
 ) -> Option<TablePage>
-    requires pages { layout.now.pages ≡ page_count (M.state memory.now).memory.quotas }
-    requires row { row < layout.now.pages }
+    requires canonical { IsCanonical layout.now (pages_of (M.state memory.now).memory) }
+    requires row { row < length layout.now.ids }
     ensures { result ≡ second_at layout.now row gigabyte (M.state memory.now) }
 {
-    table_of(&read_gigabyte(memory, layout, row, gigabyte))
+    let root = row.root();
+    table_of(&read_slot(memory, layout, Level::First, root, gigabyte.index()))
 }
 
 /// Takes the link of an empty level 2 table away, and gives the table back.
@@ -130,18 +130,26 @@ pub(crate) fn touches(part: &Runs) -> bool
     }
 }
 
-/// Edits the pages of runs: they are reached with this access, or not at all.
-pub(crate) fn edit_row<M: TableMem>(memory: &mut M, edit: &RowEdit, runs: &Runs)
-    requires canonical { IsCanonical edit.now.layout.now (pages_of (M.state memory.old).memory) }
-    requires free { FitsInRow edit.now runs.now (M.state memory.old) }
-    requires room { operations_in_row edit.now runs.now (M.state memory.old)
-        ≤ M.room memory.old }
-    ensures edits { EditsInRow edit.now runs.now
-        (M.state memory.old) (M.state memory.new) }
-    ensures in_step { RowInStep edit.now runs.now
-        (M.state memory.old) (M.state memory.new) }
-    ensures room { M.room memory.old ≤ M.room memory.new
-        + operations_in_row edit.now runs.now (M.state memory.old) }
+/// The gigabyte that has all pages of the runs, if there is such a one.
+#[inline(always)]
+pub(crate) fn only_gigabyte(runs: &Runs) -> Option<Gigabyte>
+    ensures { IfSome result (LieInGigabyte runs.now) }
+{
+    let run = runs.list().first()?;
+    let gigabyte = Gigabyte::of(run.first());
+    if end_of_last(runs) <= gigabyte.end() {
+        Some(gigabyte)
+    } else {
+        None
+    }
+}
+
+/// Edits the pages of runs gigabyte by gigabyte: they are reached with this access, or not at all.
+#[inline(never)]
+fn edit_each_gigabyte<M: TableMem>(memory: &mut M, edit: &RowEdit, runs: &Runs)
+    requires { CanEditRow edit.now runs.now (M.state memory.old) (M.room memory.old) }
+    ensures { IsRowEdited edit.now runs.now
+        (M.state memory.old) (M.room memory.old) (M.state memory.new) (M.room memory.new) }
 {
     let span = gigabyte_span(runs);
     for number in span.first..span.end {
@@ -150,5 +158,17 @@ pub(crate) fn edit_row<M: TableMem>(memory: &mut M, edit: &RowEdit, runs: &Runs)
         if touches(&part) {
             edit_gigabyte(memory, edit, gigabyte, &part);
         }
+    }
+}
+
+/// Edits the pages of runs: they are reached with this access, or not at all. Mostly one gigabyte has them all.
+pub(crate) fn edit_row<M: TableMem>(memory: &mut M, edit: &RowEdit, runs: &Runs)
+    requires { CanEditRow edit.now runs.now (M.state memory.old) (M.room memory.old) }
+    ensures { IsRowEdited edit.now runs.now
+        (M.state memory.old) (M.room memory.old) (M.state memory.new) (M.room memory.new) }
+{
+    match only_gigabyte(runs) {
+        Some(gigabyte) => edit_gigabyte(memory, edit, gigabyte, runs),
+        None => edit_each_gigabyte(memory, edit, runs),
     }
 }

@@ -184,7 +184,7 @@ pub(crate) fn bounds(runs: &Runs) -> Span
 }
 
 /// The number of the page after the last of the runs; 0 where there is none.
-fn end_of_last(runs: &Runs) -> u32
+pub(crate) fn end_of_last(runs: &Runs) -> u32
     ensures same { result ≡ end_from 0 runs.now }
     ensures most { result ≤ 2 ^ 27 }
 {

@@ -8,18 +8,18 @@ ghost use Rattle.pool.specs.Pool.{pages_of, taken_of};
 ghost use Rattle.stage2.specs.inner.Chunks.{block_answer};
 ghost use Rattle.stage2.specs.Edits.{edited};
 ghost use Rattle.stage2.specs.inner.Clauses as clauses;
-ghost use Rattle.stage2.specs.inner.Clauses.{IsSpelled, read_before, read_after, view_in, second_in, entry_read, words_left, IsEditPlanned, IsChunkPlanned, ArePlanned};
+ghost use Rattle.stage2.specs.inner.Clauses.{IsSpelled, read_before, read_after, view_in, second_in, entry_read, words_left, IsEditPlanned, IsChunkPlanned, ArePlanned, IsRowPlanned};
 ghost use Rattle.stage2.specs.inner.Gigabytes.{gigabyte_growth, Touches};
 ghost use Rattle.stage2.specs.Orderly.{IsCanonical};
 ghost use Rattle.stage2.specs.Parts.{runs_past};
 ghost use Rattle.stage2.specs.Room.{pages_in, reached_in, gigabyte_operations, row_operations};
 ghost use Rattle.stage2.specs.Slot.{Layout};
 ghost use Rattle.stage2.specs.Walk.{next_page};
-ghost use Rattle.stage2.specs.declared.walked.Slot.TheVariants.{Next};
-ghost use Rattle.std.specs.Prelude.{◌≡◌, ℕ, ◌+◌, ◌-◌, ◌*◌, ◌/◌, ◌%◌, ◌^◌, ◌<◌, ◌≤◌, ◌&&◌, true, false, Some, None, not, List, length, is_some, if◌then◌else◌};
+ghost use Rattle.stage2.specs.declared.walked.Slot.TheVariants.{Next, Bad};
+ghost use Rattle.std.specs.Prelude.{◌≡◌, ◌≢◌, ℕ, ◌+◌, ◌-◌, ◌*◌, ◌/◌, ◌%◌, ◌^◌, ◌<◌, ◌≤◌, ◌&&◌, true, false, Some, None, not, List, length, is_some, if◌then◌else◌};
 
 use crate::layout::Layout;
-use crate::level1::{find_table, touches};
+use crate::level1::{find_table, only_gigabyte, touches};
 use crate::level2::{block_of, plain_until, table_of};
 use crate::outcome::{is_alike_in_block, is_alike_in_table, is_told_mixed};
 use crate::parts::{gigabyte_runs, gigabyte_span, next_piece};
@@ -79,6 +79,7 @@ fn entry_at<M: TableMem>(
 ) -> Slot
     requires pages { layout.now.pages ≡ page_count (M.state memory.now).memory.quotas }
     requires table { (j : ℕ) → second.now ≡ Some j → j < layout.now.pages }
+    requires known { entry_read layout.now second.now (chunk % 512) (M.state memory.now) ≢ Bad }
     ensures same { result ≡ entry_read layout.now second.now (chunk % 512) (M.state memory.now) }
     ensures inside { (k : ℕ) → result ≡ Next k → k < layout.now.pages }
 {
@@ -297,6 +298,7 @@ fn plan_chunks<M: TableMem>(
 }
 
 /// What an edit needs for a gigabyte, its level 2 table with it.
+#[inline(always)]
 fn plan_gigabyte<M: TableMem>(memory: &M, edit: &RowPlan, gigabyte: Gigabyte, runs: &Runs) -> Plan
     requires canonical { IsCanonical edit.now.layout.now (pages_of (M.state memory.now).memory) }
     requires touched { Touches runs.now gigabyte }
@@ -323,14 +325,11 @@ fn plan_gigabyte<M: TableMem>(memory: &M, edit: &RowPlan, gigabyte: Gigabyte, ru
     }
 }
 
-/// What an edit needs: the tables after it at places where there is none before it, and its operations.
-pub(crate) fn plan_row<M: TableMem>(memory: &M, edit: &RowPlan, runs: &Runs) -> Plan
+/// What an edit needs, gigabyte by gigabyte.
+#[inline(never)]
+fn plan_each_gigabyte<M: TableMem>(memory: &M, edit: &RowPlan, runs: &Runs) -> Plan
     requires canonical { IsCanonical edit.now.layout.now (pages_of (M.state memory.now).memory) }
-    ensures tables { let before = view_in edit.now.layout.now edit.now.row (M.state memory.now) in
-        result.tables ≡ grow before (edited runs.now edit.now.access before) }
-    ensures operations { let before = view_in edit.now.layout.now edit.now.row (M.state memory.now) in
-        row_operations runs.now edit.now.access before ≤ result.operations }
-    ensures most { result.operations ≤ 2 ^ 29 }
+    ensures { IsRowPlanned edit.now runs.now (M.state memory.now) result }
 {
     let span = gigabyte_span(runs);
     let mut plan = Plan::new(0, 0);
@@ -344,4 +343,16 @@ pub(crate) fn plan_row<M: TableMem>(memory: &M, edit: &RowPlan, runs: &Runs) -> 
         }
     }
     plan
+}
+
+/// What an edit needs: the tables after it at places where there is none before it, and its operations. Mostly one gigabyte has
+/// all its pages.
+pub(crate) fn plan_row<M: TableMem>(memory: &M, edit: &RowPlan, runs: &Runs) -> Plan
+    requires canonical { IsCanonical edit.now.layout.now (pages_of (M.state memory.now).memory) }
+    ensures { IsRowPlanned edit.now runs.now (M.state memory.now) result }
+{
+    match only_gigabyte(runs) {
+        Some(gigabyte) => plan_gigabyte(memory, edit, gigabyte, runs),
+        None => plan_each_gigabyte(memory, edit, runs),
+    }
 }

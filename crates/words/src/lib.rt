@@ -4,4 +4,4 @@
 
 mod word;
 
-pub use word::{Entry, leaf_word, read_entry, table_word};
+pub use word::{Entry, known_entry, leaf_word, read_entry, table_word};

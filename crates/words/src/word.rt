@@ -1,4 +1,4 @@
-ghost use Rattle.std.specs.Prelude.{◌≡◌, ◌<◌, ◌≤◌, ◌*◌, ◌%◌, ◌^◌, ℕ, IsTrue};
+ghost use Rattle.std.specs.Prelude.{◌≡◌, ◌≢◌, ◌<◌, ◌≤◌, ◌*◌, ◌%◌, ◌^◌, ℕ, IsTrue};
 ghost use Rattle.base.specs.Access.{IsLegal};
 ghost use Rattle.words.specs.Words.{leaf_fields, leaf_word_of, table_word_of, leaf_level, page_at, access_at, leaf_at, entry_of, SpellsEntry};
 
@@ -108,6 +108,25 @@ pub fn read_entry(level: u8, word: u64) -> Entry
         3 => read_leaf(word, false),
         _ => Entry::Wrong,
     }
+}
+
+/// The same of a word that is known to have a form of its level, as those that this core has written: its type tells which, and
+/// no other bit is compared.
+#[tactic(auto, using(crate::proofs::Known::known))]
+pub fn known_entry(level: u8, word: u64) -> Entry
+    requires least { 1 ≤ level }
+    requires most { level ≤ 3 }
+    requires known { entry_of level word ≢ Entry.Wrong }
+    ensures { result ≡ entry_of level word }
+{
+    if word & VALID == 0 {
+        return Entry::Invalid;
+    }
+    let page = page_of(word);
+    if level < 3 && word % 4 == TABLE_OR_PAGE {
+        return Entry::Table(page);
+    }
+    Entry::Leaf(page, access_of(word))
 }
 
 /// The leaf that the word is. Some values of its fields are no access's, so the whole word is

@@ -17,6 +17,7 @@ use Rattle.stage2.specs.Edits.{edited}
 use Rattle.stage2.specs.inner.Chunks.{Redoes, Redoes_in, IsWordFor, planned, Writes, answers_at, IsOutcome, IsEntryFor, IsSite, IsGrowing, block_answer}
 use Rattle.stage2.proofs.Tree.WalkFrame.{put-other, put-same, walk-chunk, walk-gigabyte, table_at-root, table_at-chunk_in}
 use Rattle.stage2.proofs.Walkers.Level3Write.{at_3-word}
+use Rattle.stage2.proofs.Tree.KnownWords.{second-known}
 use Rattle.stage2.proofs.Tree.LinkTable.{slot-table}
 use Rattle.base.specs.Need.{is_mixed}
 use Rattle.pool.proofs.Count.{count_below-same}
@@ -79,6 +80,10 @@ module _ (layout : Layout) (row c j : ℕ) (m : Pages) (h : IsSite layout row c 
   -- the chunk's word
   abbrev pub entry : Slot
   entry = slot layout 2 (m.words j (c % 512))
+
+  -- it has a form of its level
+  pub entry-known : entry ≢ Bad
+  entry-known bad = second-known layout (linked layout row (c / 512) j m) h.orderly row (c / 512) (c % 512) j h.partition in_gigabyte.1 (omega arith) h.second (ap (slot layout 2) (second-seen (c % 512)) ∙ bad)
 
   pub table-entry : table_at layout old (Chunk row c) ≡ next_page entry
   table-entry = table_at-chunk_in layout old row c j h.second ∙ ap (λ w. next_page (slot layout 2 w)) (second-seen (c % 512))

@@ -1,5 +1,6 @@
 -- The gigabytes of a row before one are edited: one after another.
-use Rattle.std.proofs.Common.{◌≡◌, ℕ, ◌+◌, ◌-◌, ◌/◌, ◌<◌, ◌≤◌, true, false, List, subst, ◌∙◌, arith}
+use Rattle.std.proofs.Common.{◌≡◌, ◌≢◌, ℕ, ◌+◌, ◌-◌, ◌/◌, ◌<◌, ◌≤◌, true, false, List, subst, sym, ◌∙◌, arith, inl, inr}
+use Rattle.std.proofs.lemmas.Bool.{cases_Bool}
 use Rattle.base.specs.Pages.{PageRun, covers}
 use Rattle.pool.specs.Pool.{Pool, pages_of}
 use Rattle.stage2.specs.Edits.{AreFree}
@@ -9,11 +10,11 @@ use Rattle.stage2.specs.Parts.{gigabyte_runs}
 use Rattle.stage2.specs.Room.{sum_below, gigabyte_operations}
 use Rattle.stage2.specs.Walk.{walked}
 use Rattle.stage2.specs.declared.site.RowEdit.{RowEdit}
-use Rattle.stage2.specs.inner.Clauses.{row_view, row_after, CanEditGigabyte, IsGigabyteEdited, operations_in_gigabyte, FitsInRow, EditsInRow, RowInStep, operations_in_row}
-use Rattle.stage2.specs.inner.Gigabytes.{IsPast, Touches}
+use Rattle.stage2.specs.inner.Clauses.{row_view, row_after, CanEditGigabyte, IsGigabyteEdited, operations_in_gigabyte, CanEditRow, IsRowEdited}
+use Rattle.stage2.specs.inner.Gigabytes.{IsPast, Touches, LieInGigabyte}
 use Rattle.stage2.proofs.Editing.ChunkByChunk.{sum_below-more, sum_below-up}
 use Rattle.stage2.proofs.Editing.GigabyteByGigabyte.{past-none, past-fits, past-operations, past-edit, past-all}
-use Rattle.stage2.proofs.Runs.OwnRuns.{gigabyte-operations, gigabyte-fits, gigabyte-edits, gigabyte-free, gigabyte-stays}
+use Rattle.stage2.proofs.Runs.OwnRuns.{gigabyte-covers, gigabyte-operations, gigabyte-fits, gigabyte-edits, gigabyte-free, gigabyte-stays}
 use Rattle.stage2.proofs.Runs.Spans.{past-gap, cross-gap}
 use Rattle.stage2.proofs.Walkers.GigabyteSteps.{disturbed_before, cross-edit, cross-free, cross-all}
 use Rattle.stage2.proofs.Walkers.ZeroedTables.{stays-none}
@@ -57,46 +58,84 @@ module _ {e : RowEdit} {runs : List PageRun} {first : Pool} {r0 : ℕ} where
       all : IsRowUpTo e runs first r0 512 now r
       all = row-ahead 512 most (omega arith) none
 
-      pub row-edits : EditsInRow e runs first now
-      row-edits = past-all e.layout.now e.row runs e.access (pages_of first.memory) e.inside (pages_of now.memory) all.past
+      pub row-done : IsRowEdited e runs first r0 now r
+      row-done = record {
+        edits = past-all e.layout.now e.row runs e.access (pages_of first.memory) e.inside (pages_of now.memory) all.past;
+        in_step = λ free. cross-all e.layout.now e.row 512 runs (row_view e.layout.now e.row first) (row_after e runs first) first now (omega arith) (all.in_step free);
+        room = all.room;
+      }
 
-      pub row-steps : RowInStep e runs first now
-      row-steps free = cross-all e.layout.now e.row 512 runs (row_view e.layout.now e.row first) (row_after e runs first) first now (omega arith) (all.in_step free)
+    -- the next gigabyte
+    module _ (lt : i < 512) where
+      same-cost : operations_in_gigabyte e i runs now ≡ cost e runs first i
+      same-cost = past-operations e.layout.now e.row runs e.access (pages_of first.memory) e.inside i lt (pages_of now.memory) so.past
 
-      pub row-room : r0 ≤ r + operations_in_row e runs first
-      row-room = all.room
-
-    -- the next gigabyte, by the runs that have pages there
-    module _ (lt : i < 512) {part : List PageRun} (is : part ≡ gigabyte_runs i runs) where
-      same-cost : operations_in_gigabyte e i part now ≡ cost e runs first i
-      same-cost = gigabyte-operations i runs part is e.access (row_view e.layout.now e.row now) ∙ past-operations e.layout.now e.row runs e.access (pages_of first.memory) e.inside i lt (pages_of now.memory) so.past
-
-      pub row-can : IsCanonical e.layout.now (pages_of first.memory) → FitsInRow e runs first → operations_in_row e runs first ≤ r0 → Touches part i → CanEditGigabyte e i part now r
-      row-can canonical fits enough touched = record {
+      pub row-can : CanEditRow e runs first r0 → Touches runs i → CanEditGigabyte e i runs now r
+      row-can can touched = record {
         canonical = so.past.canonical;
         touched = touched;
-        fits = gigabyte-fits e.layout.now e.row i runs part e.access is (pages_of now.memory) (past-fits e.layout.now e.row runs e.access (pages_of first.memory) e.inside i lt (pages_of now.memory) so.past canonical fits);
+        fits = past-fits e.layout.now e.row runs e.access (pages_of first.memory) e.inside i lt (pages_of now.memory) so.past can.canonical can.fits;
         room =
             let more = sum_below-more (cost e runs first) i in
             let up = sum_below-up (cost e runs first) (i + 1) 512 (omega (arith, lt)) in
             let room = so.room in
             let one = same-cost in
+            let enough = can.room in
             omega (arith, more, up, room, one, enough);
       }
 
-      pub row-next : {new : Pool} {r2 : ℕ} → IsGigabyteEdited e i part now r new r2 → IsRowUpTo e runs first r0 (i + 1) new r2
+      pub row-next : {new : Pool} {r2 : ℕ} → IsGigabyteEdited e i runs now r new r2 → IsRowUpTo e runs first r0 (i + 1) new r2
       row-next {new} done =
           let more = sum_below-more (cost e runs first) i in
           let room = so.room in
           let one = same-cost in
           let spent = done.room in
           record {
-            past = past-edit e.layout.now e.row runs e.access (pages_of first.memory) e.inside i lt (pages_of now.memory) so.past (pages_of new.memory)
-                (gigabyte-edits e.layout.now e.row i runs part e.access is (pages_of now.memory) (pages_of new.memory) done.edits);
+            past = past-edit e.layout.now e.row runs e.access (pages_of first.memory) e.inside i lt (pages_of now.memory) so.past (pages_of new.memory) done.edits;
             in_step = λ free.
                 cross-edit e.layout.now e.row runs e.access (pages_of first.memory) e.inside i lt (pages_of now.memory) so.past first now new (so.in_step free)
-                (gigabyte-stays e.layout.now e.row i runs part e.access is (row_view e.layout.now e.row now) now new
-                (done.in_step (gigabyte-free e.layout.now e.row i runs part e.access is (row_view e.layout.now e.row now)
-                (cross-free e.layout.now e.row runs e.access (pages_of first.memory) e.inside i lt (pages_of now.memory) so.past free))));
+                (done.in_step (cross-free e.layout.now e.row runs e.access (pages_of first.memory) e.inside i lt (pages_of now.memory) so.past free));
             room = omega (arith, more, room, one, spent);
           }
+
+-- those of the runs that have pages in a gigabyte edit it as all do
+module _ {g : ℕ} {runs part : List PageRun} (is : part ≡ gigabyte_runs g runs) where
+  pub part-touches : Touches part g → Touches runs g
+  part-touches t = record { page = t.page; small = t.small; covered = sym (gigabyte-covers g runs part is t.page t.here) ∙ t.covered; here = t.here }
+
+  module _ {e : RowEdit} {now : Pool} {r : ℕ} where
+    pub part-can : CanEditGigabyte e g runs now r → Touches part g → CanEditGigabyte e g part now r
+    part-can can touched = record {
+      canonical = can.canonical;
+      touched = touched;
+      fits = gigabyte-fits e.layout.now e.row g runs part e.access is (pages_of now.memory) can.fits;
+      room = let room = can.room in let same = gigabyte-operations g runs part is e.access (row_view e.layout.now e.row now) in omega (arith, room, same);
+    }
+
+    pub part-done : {new : Pool} {r2 : ℕ} → IsGigabyteEdited e g part now r new r2 → IsGigabyteEdited e g runs now r new r2
+    part-done {new} done = record {
+      edits = gigabyte-edits e.layout.now e.row g runs part e.access is (pages_of now.memory) (pages_of new.memory) done.edits;
+      in_step = λ free.
+          gigabyte-stays e.layout.now e.row g runs part e.access is (row_view e.layout.now e.row now) now new
+          (done.in_step (gigabyte-free e.layout.now e.row g runs part e.access is (row_view e.layout.now e.row now) free));
+      room = let room = done.room in let same = gigabyte-operations g runs part is e.access (row_view e.layout.now e.row now) in omega (arith, room, same);
+    }
+
+-- one gigabyte has all pages of the runs
+module _ {e : RowEdit} {runs : List PageRun} {first : Pool} {r0 g : ℕ} (can : CanEditRow e runs first r0) (here : LieInGigabyte runs g) where
+  elsewhere : (n : ℕ) → n / 512 / 512 ≢ g → covers runs n ≡ false
+  elsewhere n differs = elim (cases_Bool (covers runs n)) [
+    | inr f ↦ f
+    | inl t ↦ absurd (differs (here.only n t))
+  ]
+
+  before : IsRowUpTo e runs first r0 g first r0
+  before = let below = here.below in row-ahead (row-start can.canonical) g (omega arith) (omega (arith, below)) (λ n from to. elsewhere n (λ same. omega (arith, same, to)))
+
+  pub only-can : CanEditGigabyte e g runs first r0
+  only-can = row-can before here.below can here.touched
+
+  pub only-edited : {new : Pool} {r : ℕ} → IsGigabyteEdited e g runs first r0 new r → IsRowEdited e runs first r0 new r
+  only-edited done =
+      let below = here.below in
+      row-done (row-next before here.below done) (omega (arith, below)) (λ n from small. elsewhere n (λ same. omega (arith, same, from)))

@@ -1,5 +1,5 @@
 -- The words of tables that hang are those of their entries.
-use Rattle.std.proofs.Common.{◌≡◌, ℕ, ◌+◌, ◌*◌, ◌/◌, ◌%◌, ◌^◌, ◌<◌, IsTrue, Bool, true, false, is_some, Some, length, refl, arith, ap, ap₂, subst, sym, ◌∙◌, ◌-◌, ◌&&◌, leb, ltb, inl, inr}
+use Rattle.std.proofs.Common.{◌≡◌, ◌≢◌, ℕ, ◌+◌, ◌*◌, ◌/◌, ◌%◌, ◌^◌, ◌<◌, IsTrue, Bool, true, false, is_some, Some, length, refl, arith, ap, ap₂, subst, sym, ◌∙◌, ◌-◌, ◌&&◌, leb, ltb, inl, inr}
 use Rattle.std.proofs.lemmas.Bool.{cases_Bool}
 use Rattle.base.specs.Access.{Access}
 use Rattle.words.specs.declared.word.Entry.{Entry}
@@ -13,7 +13,8 @@ use Rattle.stage2.specs.Walk.{index_3, at_1, at_2, at_3, walk, Place, Root, Giga
 use Rattle.stage2.specs.Orderly.{IsOrderly, answer_of}
 use Rattle.stage2.specs.Entries.{leaf_for, entry_for_table, word_at}
 use Rattle.stage2.proofs.Tree.WalkFrame.{table_at-root, table_at-chunk_in, walk-gigabyte, walk-chunk}
-use Rattle.stage2.proofs.Walkers.InStep.{walk-inside, gigabyte-now}
+use Rattle.stage2.proofs.Tree.KnownWords.{wrong-root, root-known, chunk-walk, second-known}
+use Rattle.stage2.proofs.Walkers.InStep.{gigabyte-now}
 use Rattle.stage2.proofs.Editing.Gigabyte.{table-word}
 
 leaf-entry : (layout : Layout) (n : ℕ) (a : Access) (e : Entry) → slot_from layout e ≡ Maps n a → e ≡ Leaf n a
@@ -67,26 +68,13 @@ page-word layout n word a is =
 module _ (layout : Layout) (m : Pages) (h : IsOrderly layout m) where
   -- ---- a root
 
-  wrong-root : (row g : ℕ) → row < length layout.ids → g < 512 → (s : Slot) → slot layout 1 (m.words row g) ≡ s → at_1 layout m.words m.words (262144 * g) s ≡ Wrong → ⊥
-  wrong-root row g inside below s is wrong =
-      let index : 262144 * g / 512 / 512 ≡ g = omega arith in
-      let walk-is : walk layout m.words row (262144 * g) ≡ Wrong = walk-inside layout m.words row (262144 * g) inside ∙ ap (λ x. at_1 layout m.words m.words (262144 * g) (slot layout 1 (m.words row x))) index ∙ ap (at_1 layout m.words m.words (262144 * g)) is ∙ wrong in
-      rw walk-is at (h.tidy row (262144 * g) inside (omega (arith, below)))
-
   root-by : (row g : ℕ) → row < length layout.ids → g < 512 → (s : Slot) → slot layout 1 (m.words row g) ≡ s → m.words row g ≡ entry_for_table layout (next_page s) 0
   root-by row g inside below Empty is = h.clean (Root row) row g inside (table_at-root layout m.words row) below is
   root-by row g inside below (Next k) is = table-word layout 1 (m.words row g) k is
-  root-by row g inside below (Maps p a) is = absurd (wrong-root row g inside below (Maps p a) is refl)
-  root-by row g inside below Bad is = absurd (wrong-root row g inside below Bad is refl)
+  root-by row g inside below (Maps p a) is = absurd (wrong-root layout m h row g inside below (Maps p a) is refl)
+  root-by row g inside below Bad is = absurd (root-known layout m h row g inside below is)
 
   -- ---- a level 2 table
-
-  chunk-walk : (row g i q : ℕ) → row < length layout.ids → i < 512 → table_at layout m.words (Gigabyte row g) ≡ Some q → walk layout m.words row (512 * (512 * g + i)) ≡ at_2 layout m.words (512 * (512 * g + i)) (slot layout 2 (m.words q i))
-  chunk-walk row g i q inside small table =
-      let first : 512 * (512 * g + i) / 512 / 512 ≡ g = omega (arith, small) in
-      let second : 512 * (512 * g + i) / 512 % 512 ≡ i = omega (arith, small) in
-      walk-gigabyte layout m.words row (512 * (512 * g + i)) q inside (ap (λ x. table_at layout m.words (Gigabyte row x)) first ∙ table)
-      ∙ ap (λ x. at_2 layout m.words (512 * (512 * g + i)) (slot layout 2 (m.words q x))) second
 
   chunk-table : (row g i q : ℕ) → i < 512 → table_at layout m.words (Gigabyte row g) ≡ Some q → table_at layout m.words (Chunk row (512 * g + i)) ≡ next_page (slot layout 2 (m.words q i))
   chunk-table row g i q small table =
@@ -100,13 +88,11 @@ module _ (layout : Layout) (m : Pages) (h : IsOrderly layout m) where
   gigabyte-by row g i q inside below small table Empty is = h.clean (Gigabyte row g) q i (inside, below) table small is
   gigabyte-by row g i q inside below small table (Next k) is = table-word layout 2 (m.words q i) k is
   gigabyte-by row g i q inside below small table (Maps p a) is =
-      let walk-is : walk layout m.words row (512 * (512 * g + i)) ≡ Mapped (p + index_3 (512 * (512 * g + i))) a = chunk-walk row g i q inside small table ∙ ap (at_2 layout m.words (512 * (512 * g + i))) is in
+      let walk-is : walk layout m.words row (512 * (512 * g + i)) ≡ Mapped (p + index_3 (512 * (512 * g + i))) a = chunk-walk layout m row g i q inside small table ∙ ap (at_2 layout m.words (512 * (512 * g + i))) is in
       let tidy : p + index_3 (512 * (512 * g + i)) ≡ 512 * (512 * g + i) = rw walk-is at (h.tidy row (512 * (512 * g + i)) inside (omega (arith, below, small))) in
       let page : p ≡ 512 * (512 * g + i) = omega (arith, tidy) in
       block-word layout p (m.words q i) a is ∙ ap (λ x. leaf_word_of true x a) page
-  gigabyte-by row g i q inside below small table Bad is =
-      let walk-is : walk layout m.words row (512 * (512 * g + i)) ≡ Wrong = chunk-walk row g i q inside small table ∙ ap (at_2 layout m.words (512 * (512 * g + i))) is in
-      absurd (rw walk-is at (h.tidy row (512 * (512 * g + i)) inside (omega (arith, below, small))))
+  gigabyte-by row g i q inside below small table Bad is = absurd (second-known layout m h row g i q inside below small table is)
 
   -- a word of a table's kind is that of a table
   pub points-table : (row g i q : ℕ) → row < length layout.ids → g < 512 → i < 512 → table_at layout m.words (Gigabyte row g) ≡ Some q → m.words q i % 4 ≡ 3 → is_some (next_page (slot layout 2 (m.words q i))) ≡ true
@@ -116,9 +102,7 @@ module _ (layout : Layout) (m : Pages) (h : IsOrderly layout m) where
       by-slot Empty is = let zero = h.clean (Gigabyte row g) q i (inside, below) table small is in absurd (omega (arith, zero, points))
       by-slot (Next k) is = rw is refl
       by-slot (Maps p a) is = absurd (block-points layout p (m.words q i) a is points)
-      by-slot Bad is =
-          let walk-is : walk layout m.words row (512 * (512 * g + i)) ≡ Wrong = chunk-walk row g i q inside small table ∙ ap (at_2 layout m.words (512 * (512 * g + i))) is in
-          absurd (rw walk-is at (h.tidy row (512 * (512 * g + i)) inside (omega (arith, below, small))))
+      by-slot Bad is = absurd (second-known layout m h row g i q inside below small table is)
 
   -- ---- a level 3 table
 
@@ -153,7 +137,7 @@ module _ (layout : Layout) (m : Pages) (h : IsOrderly layout m) where
       ∙ ap (λ o. entry_for_table layout o 0) (sym (gigabyte-now layout m.words row i))
   entries (Gigabyte row g) q i inside table small =
       gigabyte-by row g i q inside.0 inside.1 small table (slot layout 2 (m.words q i)) refl
-      ∙ ap₂ (λ o w. entry_for_table layout o (leaf_for true (512 * (512 * g + i)) (answer_of w))) (sym (chunk-table row g i q small table)) (sym (chunk-walk row g i q inside.0 small table))
+      ∙ ap₂ (λ o w. entry_for_table layout o (leaf_for true (512 * (512 * g + i)) (answer_of w))) (sym (chunk-table row g i q small table)) (sym (chunk-walk layout m row g i q inside.0 small table))
   entries (Chunk row c) q i inside table small =
       chunk-by row c i q inside.0 inside.1 small table (slot layout 3 (m.words q i)) refl
       ∙ ap (λ w. leaf_for false (512 * c + i) (answer_of w)) (sym (page-walk row c i q inside.0 small table))

@@ -3,6 +3,7 @@ use Rattle.std.specs.Prelude.{◌≡◌, ◌≢◌, ℕ, ◌+◌, ◌-◌, ◌*�
 use Rattle.base.specs.Access.{View}
 use Rattle.base.specs.Counts.{count_below}
 use Rattle.base.specs.Manifest.{row_of}
+use Rattle.base.specs.Need.{grow}
 use Rattle.base.specs.Pages.{PageRun, covers}
 use Rattle.pool.specs.Pool.{Pool, pages_of, words_of, nonzero_in, with_put, with_mark, after_replaces, used_by, row_quota}
 use Rattle.pool.specs.declared.runs.TableWords.{TableWords}
@@ -385,6 +386,18 @@ RowInStep e runs old new =
     (disturbed runs (row_view e.layout.now e.row old) (row_after e runs old))
     (λ n. walked n (row_after e runs old n)) old new
 
+-- a row can be edited: the tables are canonical, its own fit, and there is room for the operations
+pub record CanEditRow (e : RowEdit) (runs : List PageRun) (pool : Pool) (left : ℕ) : Type 0 where
+  pub canonical : IsCanonical e.layout.now (pages_of pool.memory)
+  pub fits : FitsInRow e runs pool
+  pub room : operations_in_row e runs pool ≤ left
+
+-- it is edited
+pub record IsRowEdited (e : RowEdit) (runs : List PageRun) (old : Pool) (left_old : ℕ) (new : Pool) (left : ℕ) : Type 0 where
+  pub edits : EditsInRow e runs old new
+  pub in_step : RowInStep e runs old new
+  pub room : left_old ≤ left + operations_in_row e runs old
+
 -- ---- a partition that may have no root
 
 abbrev pub view_in : Layout → Option ℕ → Pool → ℕ → View
@@ -421,3 +434,9 @@ pub record ArePlanned (e : RowPlan) (g : ℕ) (runs : List PageRun) (pool : Pool
   pub operations : chunks_operations runs e.access (view_in e.layout.now e.row pool) g ≤ plan.operations
   pub few : plan.tables ≤ 512
   pub most : plan.operations ≤ 1027 * 512
+
+-- and for all runs
+pub record IsRowPlanned (e : RowPlan) (runs : List PageRun) (pool : Pool) (plan : Plan) : Type 0 where
+  pub tables : plan.tables ≡ grow (view_in e.layout.now e.row pool) (edited runs e.access (view_in e.layout.now e.row pool))
+  pub operations : row_operations runs e.access (view_in e.layout.now e.row pool) ≤ plan.operations
+  pub most : plan.operations ≤ 2 ^ 29

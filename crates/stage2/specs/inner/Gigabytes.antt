@@ -62,6 +62,12 @@ pub record Touches (runs : List PageRun) (g : ℕ) : Type 0 where
   pub covered : covers runs page ≡ true
   pub here : page / 512 / 512 ≡ g
 
+-- the runs have pages in the gigabyte, and nowhere else
+pub record LieInGigabyte (runs : List PageRun) (g : ℕ) : Type 0 where
+  pub below : g < 512
+  pub touched : Touches runs g
+  pub only : (n : ℕ) → covers runs n ≡ true → n / 512 / 512 ≡ g
+
 -- ---- all gigabytes of a row
 
 -- the gigabytes before the i-th are edited

@@ -1,49 +1,8 @@
-use Rattle.std.proofs.Common.{◌≡◌, ℕ, ◌+◌, ◌/◌, ◌<◌, ◌≤◌, false, sym, ◌∙◌, inl, inr, arith}
-use Rattle.base.specs.Pages.{covers}
-use Rattle.stage2.proofs.Editing.UpToGigabyte.{row-start, row-ahead, row-edits, row-steps, row-room, row-can, row-next}
-use Rattle.stage2.proofs.Runs.OwnRuns.{gigabyte-covers}
-use Rattle.stage2.proofs.Runs.Spans.{outside-gigabytes}
+use Rattle.stage2.proofs.Editing.UpToGigabyte.{only-can, only-edited}
 use Rattle.stage2.proofs.level1.edit_row.Goals as goal
-use Rattle.stage2.proofs.level1.edit_row.Goals.{then-touches, else-touches}
 
 pub edit_gigabyte-requires : goal.edit_gigabyte-requires
-edit_gigabyte-requires g c =
-    let here = c.new-gigabyte.ensures in
-    let touched = c.touches.ensures.yes c.if-touches.true c.new-gigabyte.result c.args.runs.now c.gigabyte_runs-part.ensures in
-    rw here
-    (row-can c.loop-number.invariant.up_to (omega (arith, c.loop-number-test.true, c.gigabyte_span-span.ensures.most)) (rw here at c.gigabyte_runs-part.ensures)
-    c.requires.canonical c.requires.free c.requires.room (rw here at touched))
+edit_gigabyte-requires g c = only-can c.requires c.in-Some.ensures
 
-pub loop-number-init : goal.loop-number-init
-loop-number-init g c =
-    let most = c.gigabyte_span-span.ensures.most in
-    let ordered = c.gigabyte_span-span.ensures.ordered in
-    record {
-      up_to = row-ahead (row-start c.requires.canonical) c.gigabyte_span-span.result.first (omega arith) (omega (arith, most, ordered))
-          (λ n from to. outside-gigabytes c.args.runs.now c.gigabyte_span-span.result.first c.gigabyte_span-span.result.end n c.gigabyte_span-span.ensures.within (inl to));
-    }
-
-pub loop-number-preserved : goal.loop-number-preserved
-loop-number-preserved g c =
-    let here = c.new-gigabyte.ensures in
-    let is = rw here at c.gigabyte_runs-part.ensures in
-    let so = c.loop-number.invariant.up_to in
-    elim c.if-touches.branch [
-      | then-touches w ↦ rw w.memory-is (record {
-        up_to = row-next so (omega (arith, c.loop-number-test.true, c.gigabyte_span-span.ensures.most)) is (rw here at w.edit_gigabyte.ensures);
-      })
-      | else-touches w ↦ rw w.memory-is (record {
-        up_to = row-ahead so (c.loop-number.number + 1) (omega arith) (omega (arith, c.loop-number-test.true, c.gigabyte_span-span.ensures.most))
-            (λ n from to. sym (gigabyte-covers c.loop-number.number c.args.runs.now c.gigabyte_runs-part.result is n (omega (arith, from, to))) ∙ c.touches.ensures.no w.if-touches.false n);
-      })
-    ]
-
-pub returns : goal.returns
-returns g c =
-    let most = c.gigabyte_span-span.ensures.most in
-    let end = c.loop-number-test.false in
-    let last = c.loop-number.auto.number-end c.gigabyte_span-span.ensures.ordered in
-    let so = c.loop-number.invariant.up_to in
-    let within : c.loop-number.number ≤ 512 = omega (arith, last, most) in
-    let none : (n : ℕ) → c.loop-number.number ≤ n / 512 / 512 → n / 512 / 512 < 512 → covers c.args.runs.now n ≡ false = λ n from small. outside-gigabytes c.args.runs.now c.gigabyte_span-span.result.first c.gigabyte_span-span.result.end n c.gigabyte_span-span.ensures.within (inr (omega (arith, from, end))) in
-    record { edits = row-edits so within none; in_step = row-steps so within none; room = row-room so within none }
+pub returns-in-Some : goal.returns-in-Some
+returns-in-Some g c = only-edited c.requires c.in-Some.ensures c.edit_gigabyte.ensures

@@ -1,6 +1,6 @@
 use Rattle.std.proofs.Common.{◌<◌, arith, sym, subst, ◌∙◌}
 use Rattle.pool.specs.Pool.{pages_of}
-use Rattle.stage2.proofs.Editing.FourChunkEdits.{second-inside, third-taken}
+use Rattle.stage2.proofs.Editing.FourChunkEdits.{second-inside, entry-known, third-taken}
 use Rattle.stage2.proofs.Editing.OneChunk.{spelled-read, sets, drops, keeps, hangs}
 use Rattle.stage2.proofs.level2.edit_chunk.Goals as goal
 
@@ -10,6 +10,12 @@ read_chunk-entry-requires-clause-table g c =
     let e = c.args.edit.now in
     let inside = second-inside e.layout.now s.row e.chunk s.second (pages_of (g.M.TableMem.state c.args.memory.now).memory) c.requires.site in
     subst (λ x. s.second < x) (sym c.requires.site.orderly.pages) inside
+
+pub read_chunk-entry-requires-clause-known : goal.read_chunk-entry-requires-clause-known
+read_chunk-entry-requires-clause-known g c =
+    let s = c.args.site.now in
+    let e = c.args.edit.now in
+    entry-known e.layout.now s.row e.chunk s.second (pages_of (g.M.TableMem.state c.args.memory.now).memory) c.requires.site
 
 pub becomes_alike-requires-clause-taken : goal.becomes_alike-requires-clause-taken
 becomes_alike-requires-clause-taken g c = λ k next.

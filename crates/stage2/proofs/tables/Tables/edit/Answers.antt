@@ -5,21 +5,19 @@ use Rattle.stage2.proofs.Editing.WholeTables.{view, are-canonical, IsEdited, edi
 use Rattle.stage2.proofs.tables.Tables.edit.Given.{Over}
 use Rattle.stage2.proofs.tables.Tables.edit.Goals as goal
 
-pub edit_row-requires-clause-free : goal.edit_row-requires-clause-free
-edit_row-requires-clause-free g c =
+pub edit_row-requires : goal.edit_row-requires
+edit_row-requires g c =
     let layout = c.self.inside.layout in
     let row = row-found layout.ids c.args.p c.in-Some.row (sym c.row.ensures.row ∙ c.in-Some.is) in
     let m = c.self.inside.memory in
-    fits-row (view layout (g.M.TableMem.state m) (g.M.TableMem.room m)) c.args.p c.in-Some.row c.args.runs.now c.args.access.now row
-    (subst (λ (t : TablesView). Fits c.args.p c.args.runs.now c.args.access.now t) (sym c.self.view_is) c.requires.fits)
-
-pub edit_row-requires-clause-room : goal.edit_row-requires-clause-room
-edit_row-requires-clause-room g c =
-    let layout = c.self.inside.layout in
-    let row = row-found layout.ids c.args.p c.in-Some.row (sym c.row.ensures.row ∙ c.in-Some.is) in
-    let m = c.self.inside.memory in
-    room-row (view layout (g.M.TableMem.state m) (g.M.TableMem.room m)) c.args.p c.in-Some.row c.args.runs.now c.args.access.now row
-    (subst (λ (t : TablesView). edit_operations c.args.p c.args.runs.now c.args.access.now t ≤ t.room) (sym c.self.view_is) c.requires.ready)
+    let now = view layout (g.M.TableMem.state m) (g.M.TableMem.room m) in
+    record {
+      canonical = c.self.invariant;
+      fits = fits-row now c.args.p c.in-Some.row c.args.runs.now c.args.access.now row
+          (subst (λ (t : TablesView). Fits c.args.p c.args.runs.now c.args.access.now t) (sym c.self.view_is) c.requires.fits);
+      room = room-row now c.args.p c.in-Some.row c.args.runs.now c.args.access.now row
+          (subst (λ (t : TablesView). edit_operations c.args.p c.args.runs.now c.args.access.now t ≤ t.room) (sym c.self.view_is) c.requires.ready);
+    }
 
 -- the edit, where the partition has a root
 edit : (g : Over) (c : goal.After-edit_row g) → IsEdited c.args.p c.args.runs.now c.args.access.now c.args.self.now (view c.self.inside.layout (g.M.TableMem.state c.edit_row.new.memory) (g.M.TableMem.room c.edit_row.new.memory))

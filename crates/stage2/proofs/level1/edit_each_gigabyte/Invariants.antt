@@ -1,5 +1,5 @@
 use Rattle.stage2.proofs.Editing.UpToGigabyte.{IsRowUpTo}
-use Rattle.stage2.proofs.level1.edit_row.Given as goal
+use Rattle.stage2.proofs.level1.edit_each_gigabyte.Given as goal
 
 -- the gigabytes before this one are edited
 abbrev pub invariant-loop-number : goal.invariant-loop-number

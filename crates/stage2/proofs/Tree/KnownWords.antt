@@ -1,0 +1,33 @@
+-- The words of a root and of a level 2 table that hang have a form of their level.
+use Rattle.std.proofs.Common.{◌≡◌, ◌≢◌, ℕ, ◌+◌, ◌*◌, ◌/◌, ◌%◌, ◌<◌, Some, length, refl, arith, ap, ◌∙◌}
+use Rattle.pool.specs.Pool.{Pages}
+use Rattle.stage2.specs.declared.walked.Walked.TheVariants.{Wrong}
+use Rattle.stage2.specs.Slot.{Layout, Slot, Bad, slot}
+use Rattle.stage2.specs.Walk.{at_1, at_2, walk, Gigabyte, table_at}
+use Rattle.stage2.specs.Orderly.{IsOrderly}
+use Rattle.stage2.proofs.Tree.WalkFrame.{walk-gigabyte}
+use Rattle.stage2.proofs.Walkers.InStep.{walk-inside}
+
+-- the walk of a chunk's first page goes on at the chunk's word
+pub chunk-walk : (layout : Layout) (m : Pages) (row g i q : ℕ) → row < length layout.ids → i < 512 → table_at layout m.words (Gigabyte row g) ≡ Some q
+    → walk layout m.words row (512 * (512 * g + i)) ≡ at_2 layout m.words (512 * (512 * g + i)) (slot layout 2 (m.words q i))
+chunk-walk layout m row g i q inside small table =
+    let first : 512 * (512 * g + i) / 512 / 512 ≡ g = omega (arith, small) in
+    let second : 512 * (512 * g + i) / 512 % 512 ≡ i = omega (arith, small) in
+    walk-gigabyte layout m.words row (512 * (512 * g + i)) q inside (ap (λ x. table_at layout m.words (Gigabyte row x)) first ∙ table)
+    ∙ ap (λ x. at_2 layout m.words (512 * (512 * g + i)) (slot layout 2 (m.words q x))) second
+
+module _ (layout : Layout) (m : Pages) (h : IsOrderly layout m) where
+  pub wrong-root : (row g : ℕ) → row < length layout.ids → g < 512 → (s : Slot) → slot layout 1 (m.words row g) ≡ s → at_1 layout m.words m.words (262144 * g) s ≡ Wrong → ⊥
+  wrong-root row g inside below s is wrong =
+      let index : 262144 * g / 512 / 512 ≡ g = omega arith in
+      let walk-is : walk layout m.words row (262144 * g) ≡ Wrong = walk-inside layout m.words row (262144 * g) inside ∙ ap (λ x. at_1 layout m.words m.words (262144 * g) (slot layout 1 (m.words row x))) index ∙ ap (at_1 layout m.words m.words (262144 * g)) is ∙ wrong in
+      rw walk-is at (h.tidy row (262144 * g) inside (omega (arith, below)))
+
+  pub root-known : (row g : ℕ) → row < length layout.ids → g < 512 → slot layout 1 (m.words row g) ≢ Bad
+  root-known row g inside below bad = wrong-root row g inside below Bad bad refl
+
+  pub second-known : (row g i q : ℕ) → row < length layout.ids → g < 512 → i < 512 → table_at layout m.words (Gigabyte row g) ≡ Some q → slot layout 2 (m.words q i) ≢ Bad
+  second-known row g i q inside below small table bad =
+      let walk-is : walk layout m.words row (512 * (512 * g + i)) ≡ Wrong = chunk-walk layout m row g i q inside small table ∙ ap (at_2 layout m.words (512 * (512 * g + i))) bad in
+      rw walk-is at (h.tidy row (512 * (512 * g + i)) inside (omega (arith, below, small)))

@@ -1,0 +1,35 @@
+use Rattle.std.proofs.Common.{ℕ, ◌≡◌, ◌+◌, ◌/◌, ◌<◌, ◌≤◌, ap, sym, ◌∙◌, arith}
+use Rattle.std.proofs.lemmas.Bool.{ltb-true}
+use Rattle.std.proofs.lemmas.Bool.Decides.{nat_tests}
+use Rattle.base.specs.Pages.{in_run}
+use Rattle.stage2.specs.Parts.{end_from}
+use Rattle.stage2.proofs.Runs.Normal.{any-within, normal-within, normal-first}
+use Rattle.stage2.proofs.Editing.GigabyteByGigabyte.{touched}
+use Rattle.stage2.proofs.level1.only_gigabyte.Goals as goal
+
+pub returns-then-end_of_last-end : goal.returns-then-end_of_last-end
+returns-then-end_of_last-end c =
+    let runs = c.args.runs.now in
+    let run = c.in_ok-run.run'.now in
+    let normal = rw c.list.ensures.same at c.list.ensures.normal in
+    let some = rw c.list.ensures.same at (ltb-true _ _ (sym c.in_ok-run.ensures.item.0)) in
+    let first = rw c.list.ensures.same at c.in_ok-run.ensures.item.1 in
+    let gigabyte = c.of-gigabyte.result in
+    let at : gigabyte ≡ run.first / 512 / 512 = c.of-gigabyte.ensures ∙ ap (λ n. n / 512 / 512) c.first-2.ensures.same in
+    let is = c.first-2.ensures.in_range in
+    let size = is.0 in
+    let most = is.1 in
+    let end = c.if-end_of_last-end.true in
+    let last : end_from 0 runs ≤ c.end_of_last.result = omega (arith, c.end_of_last.ensures.same) in
+    let within = normal-within runs run c.end_of_last.result normal some first last in
+    record {
+      below = omega (arith, at, size, most);
+      touched = touched runs 0 gigabyte run some first is (omega (arith, at)) (omega (arith, at, size));
+      only = λ n covered.
+          let found = any-within (λ r. in_run r n) run.first c.end_of_last.result runs covered within in
+          let low = found.2 in
+          let high = found.3 in
+          let least : found.0.first ≤ n = grind (arith, nat_tests, found.1) in
+          let small : n < found.0.first + found.0.count = grind (arith, nat_tests, found.1) in
+          omega (arith, at, low, high, least, small, end, c.end.ensures.same);
+    }
