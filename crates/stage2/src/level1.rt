@@ -1,8 +1,8 @@
 //! Level 1: the word of a gigabyte, and its level 2 table.
 
 ghost use Rattle.base.specs.Pages.{PageRun, covers};
-ghost use Rattle.pool.specs.Pool.{pages_of, taken_of, row_in, InShare};
-ghost use Rattle.stage2.specs.inner.Clauses.{second_at, IsEmpty, Unlinks, UnlinksInStep, CanEditGigabyte, IsGigabyteEdited, CanEditRow, IsRowEdited};
+ghost use Rattle.pool.specs.Pool.{pages_of};
+ghost use Rattle.stage2.specs.inner.Clauses.{second_at, CanUnlink, Unlinks, UnlinksInStep, CanEditGigabyte, IsGigabyteEdited, CanEditRow, IsRowEdited};
 ghost use Rattle.stage2.specs.inner.Gigabytes.{Touches, LieInGigabyte};
 ghost use Rattle.stage2.specs.Orderly.{IsCanonical};
 ghost use Rattle.stage2.specs.Parts.{gigabyte_runs};
@@ -38,6 +38,7 @@ pub(crate) fn find_table<M: TableMem>(
 }
 
 /// Takes the link of an empty level 2 table away, and gives the table back.
+#[inline(always)]
 fn unlink<M: TableMem>(
     memory: &mut M,
     p: PartitionId,
@@ -45,11 +46,7 @@ fn unlink<M: TableMem>(
     gigabyte: Gigabyte,
     second: TablePage,
 )
-    requires root { row < length (M.state memory.old).memory.quotas }
-    requires row { row_in (M.state memory.old).memory p ≡ row }
-    requires inside { InShare (M.state memory.old).memory.quotas row second }
-    requires taken { taken_of (M.state memory.old).memory.taken second ≡ true }
-    requires empty { IsEmpty second (M.state memory.old) }
+    requires can { CanUnlink p row second (M.state memory.old) }
     requires room { 2 ≤ M.room memory.old }
     ensures pages { Unlinks row gigabyte second (M.state memory.old) (M.state memory.new) }
     ensures in_step { UnlinksInStep p row gigabyte (M.state memory.old) (M.state memory.new) }
@@ -60,61 +57,30 @@ fn unlink<M: TableMem>(
     give_page(memory, p, second);
 }
 
-/// Edits a gigabyte that has its level 2 table, and gives that back where it becomes empty.
-fn edit_tabled<M: TableMem>(
-    memory: &mut M,
-    edit: &RowEdit,
-    second: TablePage,
-    gigabyte: Gigabyte,
-    runs: &Runs,
-)
-    requires table { second_at edit.now.layout.now edit.now.row gigabyte (M.state memory.old) ≡ Some second }
-    requires can { CanEditGigabyte edit.now gigabyte runs.now (M.state memory.old) (M.room memory.old) }
-    ensures { IsGigabyteEdited edit.now gigabyte runs.now
-        (M.state memory.old) (M.room memory.old) (M.state memory.new) (M.room memory.new) }
-{
-    edit_chunks(memory, edit, second, gigabyte, runs);
-    if is_empty(memory, second) {
-        unlink(memory, edit.p, edit.row, gigabyte, second);
-    }
-}
-
-/// Edits a gigabyte that has no level 2 table: one is taken, and linked after its last chunk.
-fn edit_untabled<M: TableMem>(memory: &mut M, edit: &RowEdit, gigabyte: Gigabyte, runs: &Runs)
-    requires none { second_at edit.now.layout.now edit.now.row gigabyte (M.state memory.old) ≡ None }
-    requires maps { is_some edit.now.access ≡ true }
-    requires can { CanEditGigabyte edit.now gigabyte runs.now (M.state memory.old) (M.room memory.old) }
-    ensures { IsGigabyteEdited edit.now gigabyte runs.now
-        (M.state memory.old) (M.room memory.old) (M.state memory.new) (M.room memory.new) }
-{
-    let second = take_page(memory, edit.p);
-    edit_chunks(memory, edit, second, gigabyte, runs);
-    put_word(
-        memory,
-        edit.row.root(),
-        gigabyte.index(),
-        table_word(edit.layout.address(second)),
-    );
-}
-
-/// Edits the pages of runs in a gigabyte: they are reached with this access, or not at all.
-pub(crate) fn edit_gigabyte<M: TableMem>(
-    memory: &mut M,
-    edit: &RowEdit,
-    gigabyte: Gigabyte,
-    runs: &Runs,
-)
+/// Edits the pages of runs in a gigabyte: they are reached with this access, or not at all. A level 2 table that is taken is linked after
+/// its last chunk, and one that becomes empty is given back.
+#[inline(always)]
+fn edit_gigabyte<M: TableMem>(memory: &mut M, edit: &RowEdit, gigabyte: Gigabyte, runs: &Runs)
     requires { CanEditGigabyte edit.now gigabyte runs.now (M.state memory.old) (M.room memory.old) }
     ensures { IsGigabyteEdited edit.now gigabyte runs.now
         (M.state memory.old) (M.room memory.old) (M.state memory.new) (M.room memory.new) }
 {
-    match find_table(memory, edit.layout, edit.row, gigabyte) {
-        Some(second) => edit_tabled(memory, edit, second, gigabyte, runs),
+    let found = find_table(memory, edit.layout, edit.row, gigabyte);
+    let second = match found {
+        Some(second) => second,
         None => {
-            if edit.access.is_some() {
-                edit_untabled(memory, edit, gigabyte, runs);
+            if edit.access.is_none() {
+                return;
             }
+            take_page(memory, edit.p)
         }
+    };
+    edit_chunks(memory, edit, second, gigabyte, runs);
+    if found.is_none() {
+        let link = table_word(edit.layout.address(second));
+        put_word(memory, edit.row.root(), gigabyte.index(), link);
+    } else if is_empty(memory, second) {
+        unlink(memory, edit.p, edit.row, gigabyte, second);
     }
 }
 

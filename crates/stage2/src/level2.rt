@@ -5,7 +5,7 @@ ghost use Rattle.pool.specs.Pool.{taken_of, HasRow};
 ghost use Rattle.stage2.specs.inner.Change.{block_step};
 ghost use Rattle.stage2.specs.inner.Chunks.{block_answer, IsEntryFor};
 ghost use Rattle.stage2.specs.Edits.{edited};
-ghost use Rattle.stage2.specs.inner.Clauses.{IsAt, IsRowOf, words_left, operations_in_table, operations_kept, Puts, Replaces, slot_at, AnswersAll, HasFree, GrowsChunk, ReplacesBlocks, EditsChunk, EditsMixed, OthersAnswer, SetsChunk, SetsInStep, MixesInStep, ChunkInStep, CanEditChunks, AreChunksEdited, word_in};
+ghost use Rattle.stage2.specs.inner.Clauses.{IsAt, IsRowOf, words_left, operations_kept, Puts, Replaces, slot_at, AnswersAll, HasFree, ReplacesBlocks, EditsMixed, OthersAnswer, SetsChunk, SetsInStep, MixesInStep, ChunkInStep, CanEditChunk, IsChunkEdited, CanEditChunks, AreChunksEdited, word_in};
 ghost use Rattle.stage2.specs.Room.{reached_in};
 ghost use Rattle.stage2.specs.Slot.{Layout, slot};
 ghost use Rattle.stage2.specs.Walk.{next_page};
@@ -127,6 +127,7 @@ fn set_block<M: TableMem>(memory: &mut M, site: &Site, edit: &ChunkEdit)
 }
 
 /// Makes a chunk that has a table one block, or invalid, and gives the table back.
+#[inline(always)]
 fn drop_table<M: TableMem>(memory: &mut M, site: &Site, edit: &ChunkEdit, third: TablePage)
     requires site { IsAt site.now edit.now (M.state memory.old) }
     requires row { IsRowOf site.now edit.now }
@@ -154,6 +155,7 @@ fn drop_table<M: TableMem>(memory: &mut M, site: &Site, edit: &ChunkEdit, third:
 }
 
 /// Edits the pages of a chunk whose table stays. Where they are unmapped, they are invalidated run by run.
+#[inline(always)]
 fn rewrite_table<M: TableMem>(memory: &mut M, site: &Site, edit: &ChunkEdit, third: TablePage)
     requires site { IsAt site.now edit.now (M.state memory.old) }
     requires row { IsRowOf site.now edit.now }
@@ -172,6 +174,7 @@ fn rewrite_table<M: TableMem>(memory: &mut M, site: &Site, edit: &ChunkEdit, thi
 }
 
 /// Hangs a table in a chunk that has none, whose pages have this answer before the edit.
+#[inline(always)]
 fn hang_table<M: TableMem>(memory: &mut M, site: &Site, edit: &ChunkEdit, before: &Option<Access>)
     requires site { IsAt site.now edit.now (M.state memory.old) }
     requires row { IsRowOf site.now edit.now }
@@ -229,20 +232,11 @@ pub(crate) fn block_of(entry: &Slot) -> Option<Access>
 }
 
 /// Edits the pages of runs in a chunk: they are reached with this access, or not at all.
-pub(crate) fn edit_chunk<M: TableMem>(memory: &mut M, site: &Site, edit: &ChunkEdit)
-    requires site { IsAt site.now edit.now (M.state memory.old) }
-    requires row { IsRowOf site.now edit.now }
-    requires free { GrowsChunk site.now edit.now (M.state memory.old)
-        → HasFree site.now.row (M.state memory.old) }
-    requires room { 3 + operations_in_table site.now edit.now
-        (M.state memory.old) ≤ M.room memory.old }
-    ensures redoes { EditsChunk site.now edit.now
-        (M.state memory.old) (M.state memory.new) }
-    ensures in_step { ChunkInStep site.now edit.now
-        (M.state memory.old) (M.state memory.new) }
-    ensures room { M.room memory.old ≤ M.room memory.new
-        + (3 + operations_in_table site.now edit.now
-        (M.state memory.old)) }
+#[inline(always)]
+fn edit_chunk<M: TableMem>(memory: &mut M, site: &Site, edit: &ChunkEdit)
+    requires { CanEditChunk site.now edit.now (M.state memory.old) (M.room memory.old) }
+    ensures { IsChunkEdited site.now edit.now
+        (M.state memory.old) (M.room memory.old) (M.state memory.new) (M.room memory.new) }
 {
     let entry = read_chunk(memory, edit.layout, site.second, edit.chunk);
     let table = table_of(&entry);
@@ -260,6 +254,16 @@ pub(crate) fn edit_chunk<M: TableMem>(memory: &mut M, site: &Site, edit: &ChunkE
             hang_table(memory, site, edit, &before)
         }
     }
+}
+
+/// The same, for a loop over chunks, whose values would not stay in registers beside those of the edit.
+#[inline(never)]
+fn edit_one_of_many<M: TableMem>(memory: &mut M, site: &Site, edit: &ChunkEdit)
+    requires { CanEditChunk site.now edit.now (M.state memory.old) (M.room memory.old) }
+    ensures { IsChunkEdited site.now edit.now
+        (M.state memory.old) (M.room memory.old) (M.state memory.new) (M.room memory.new) }
+{
+    edit_chunk(memory, site, edit);
 }
 
 /// Whether none of 64 chunks of a gigabyte that follow one another, from this one on, has a table.
@@ -346,7 +350,7 @@ fn edit_each_chunk<M: TableMem>(
         } else {
             let chunk = gigabyte.chunk(piece.first);
             if let Some(here) = ChunkEdit::new(edit.layout, &rest, chunk, &edit.access) {
-                edit_chunk(memory, &site, &here);
+                edit_one_of_many(memory, &site, &here);
             }
             index = piece.first + 1;
         }

@@ -23,6 +23,7 @@ use pool::{TableMem, TableWords};
 use words::leaf_word;
 
 /// Writes 0 into each word of a page that is taken that is not 0, upward.
+#[inline(always)]
 pub(crate) fn clear_words<M: TableMem>(memory: &mut M, table: TablePage)
     requires page_in { table < page_count (M.state memory.old).memory.quotas }
     requires taken { taken_of (M.state memory.old).memory.taken table ≡ true }
@@ -68,6 +69,7 @@ fn chunk_words(third: TablePage, chunk: Chunk, answer: &Option<Access>) -> Table
 }
 
 /// Writes the words for the pages of the runs in a chunk into a table, where they are not there.
+#[inline(always)]
 pub(crate) fn write_runs<M: TableMem>(memory: &mut M, third: TablePage, edit: &ChunkEdit)
     requires page_in { third < page_count (M.state memory.old).memory.quotas }
     requires taken { taken_of (M.state memory.old).memory.taken third ≡ true }
@@ -82,6 +84,7 @@ pub(crate) fn write_runs<M: TableMem>(memory: &mut M, third: TablePage, edit: &C
 
 /// Writes the words for the pages of the runs in a chunk into a table. None of them is there: they are valid exactly
 /// where these are not.
+#[inline(always)]
 fn turn_runs<M: TableMem>(memory: &mut M, third: TablePage, edit: &ChunkEdit)
     requires page_in { third < page_count (M.state memory.old).memory.quotas }
     requires taken { taken_of (M.state memory.old).memory.taken third ≡ true }
@@ -128,6 +131,7 @@ pub(crate) fn fill_table<M: TableMem>(
 
 /// Writes 0 into all words of a table, whose chunk's pages are all reached alike after an edit. Where they are not reached, the
 /// words beside the runs are 0; where they are, all of those have to go, and mostly no others.
+#[inline(always)]
 pub(crate) fn empty_table<M: TableMem>(memory: &mut M, third: TablePage, edit: &ChunkEdit)
     requires page_in { third < page_count (M.state memory.old).memory.quotas }
     requires taken { taken_of (M.state memory.old).memory.taken third ≡ true }
@@ -151,6 +155,7 @@ pub(crate) fn empty_table<M: TableMem>(memory: &mut M, third: TablePage, edit: &
 
 /// Writes the words for the pages of a chunk beside runs, upward. None of them is there: they are valid exactly where
 /// these are not.
+#[inline(always)]
 fn write_gaps<M: TableMem>(
     memory: &mut M,
     third: TablePage,
@@ -170,6 +175,7 @@ fn write_gaps<M: TableMem>(
 }
 
 /// Whether the word of some page of a chunk beside runs is not that of a page that is reached as theirs are after an edit.
+#[inline(always)]
 pub(crate) fn has_stray<M: TableMem>(memory: &M, third: TablePage, edit: &ChunkEdit) -> bool
     requires page_in { third < page_count (M.state memory.now).memory.quotas }
     requires taken { taken_of (M.state memory.now).memory.taken third ≡ true }
@@ -181,6 +187,7 @@ pub(crate) fn has_stray<M: TableMem>(memory: &M, third: TablePage, edit: &ChunkE
 }
 
 /// Whether no word of the runs' pages in a chunk is 0.
+#[inline(always)]
 pub(crate) fn are_all_mapped<M: TableMem>(memory: &M, edit: &ChunkEdit, third: TablePage) -> bool
     requires page_in { third < page_count (M.state memory.now).memory.quotas }
     requires taken { taken_of (M.state memory.now).memory.taken third ≡ true }

@@ -55,6 +55,7 @@ pub(crate) fn is_told_mixed<M: TableMem>(memory: &M, edit: &ChunkEdit, third: Ta
 
 /// Whether all words of a table that are not 0 are those of runs that are unmapped. The words of the runs are
 /// looked at, as long as they are no more than those beside them.
+#[inline(always)]
 fn is_emptied<M: TableMem>(memory: &M, edit: &ChunkEdit, third: TablePage) -> bool
     requires table { third < page_count (M.state memory.now).memory.quotas }
     requires taken { taken_of (M.state memory.now).memory.taken third ≡ true }
@@ -86,6 +87,7 @@ pub(crate) fn is_alike_in_table<M: TableMem>(memory: &M, edit: &ChunkEdit, third
 }
 
 /// Whether the pages of a chunk are all reached alike after an edit.
+#[inline(always)]
 pub(crate) fn becomes_alike<M: TableMem>(memory: &M, edit: &ChunkEdit, entry: &Slot) -> bool
     requires table { (k : ℕ) → entry.now ≡ Next k
         → k < page_count (M.state memory.now).memory.quotas }

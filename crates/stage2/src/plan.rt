@@ -280,6 +280,7 @@ fn plan_each_chunk<M: TableMem>(
 }
 
 /// What an edit needs for the chunks of a gigabyte.
+#[inline(always)]
 fn plan_chunks<M: TableMem>(
     memory: &M,
     edit: &RowPlan,

@@ -9,7 +9,7 @@ use Rattle.stage2.specs.Orderly.{IsOrderly, answers, linked}
 use Rattle.stage2.specs.Walk.{walked, Gigabyte, table_at}
 use Rattle.stage2.specs.declared.site.RowEdit.{RowEdit}
 use Rattle.stage2.specs.declared.walked.Walked.{Walked}
-use Rattle.stage2.specs.inner.Clauses.{second_at, row_view, row_after, IsEmpty, HasWord, Unlinks, UnlinksInStep, CanEditChunks, AreChunksEdited, CanEditGigabyte, IsGigabyteEdited, GigabyteInStep, operations_in_chunks, operations_in_gigabyte}
+use Rattle.stage2.specs.inner.Clauses.{second_at, row_view, row_after, IsEmpty, HasWord, CanUnlink, Unlinks, UnlinksInStep, CanEditChunks, AreChunksEdited, CanEditGigabyte, IsGigabyteEdited, GigabyteInStep, operations_in_chunks, operations_in_gigabyte}
 use Rattle.stage2.specs.inner.Gigabytes.{IsUnderway}
 use Rattle.stage2.proofs.Editing.Gigabyte.{touched-below, linked-same, tabled-chunks, finish-kept, finish-zero, fits-tabled}
 use Rattle.stage2.proofs.Runs.ChunkCounts.{touched-operations}
@@ -47,20 +47,17 @@ module _ {e : RowEdit} {j g : ℕ} {runs : List PageRun} {first : Pool} {r0 : �
         let within : j < page_count first.memory.quotas = share_inside first.memory.quotas e.row j (can.canonical.orderly.owned (Gigabyte e.row g) j (e.inside, below) table) in
         subst (λ x. j < page_count x) (sym chunks.edits.quotas) within
 
-    pub tabled-root : e.row < length mid.memory.quotas
-    tabled-root = let rows = chunks.edits.orderly.rows in let inside = e.inside in omega (arith, rows, inside)
-
-    pub tabled-row : row_in mid.memory e.p ≡ e.row
-    tabled-row = ap (λ x. row_of x e.p) (chunks.edits.ids ∙ sym can.canonical.orderly.ids) ∙ e.own
-
-    pub tabled-inside : InShare mid.memory.quotas e.row j
-    tabled-inside = chunks.edits.orderly.owned (Gigabyte e.row g) j (e.inside, below) chunks.edits.second
-
-    pub tabled-taken : taken_of mid.memory.taken j ≡ true
-    tabled-taken = chunks.edits.orderly.taken (Gigabyte e.row g) j (e.inside, below) chunks.edits.second
-
     pub tabled-left : 2 ≤ r1
     tabled-left = let all = costs in let room = can.room in let left = chunks.room in omega (arith, all, room, left)
+
+    pub can-unlink : IsEmpty j mid → CanUnlink e.p e.row j mid
+    can-unlink empty = record {
+      root = let rows = chunks.edits.orderly.rows in let inside = e.inside in omega (arith, rows, inside);
+      own = ap (λ x. row_of x e.p) (chunks.edits.ids ∙ sym can.canonical.orderly.ids) ∙ e.own;
+      inside = chunks.edits.orderly.owned (Gigabyte e.row g) j (e.inside, below) chunks.edits.second;
+      taken = chunks.edits.orderly.taken (Gigabyte e.row g) j (e.inside, below) chunks.edits.second;
+      empty = empty;
+    }
 
     steps : GigabyteInStep e g runs first mid
     steps free = stays-tabled e.layout.now e.row g j runs e.access (pages_of first.memory) first mid same chunks.in_step free

@@ -1,21 +1,22 @@
 -- The chunks of a gigabyte before one are edited, and these runs are left for the others: one piece after another.
 use Rattle.std.proofs.Common.{◌≡◌, ◌≢◌, ℕ, zero, suc, ◌+◌, ◌-◌, ◌*◌, ◌/◌, ◌%◌, ◌<◌, ◌≤◌, eqb, true, false, cond, None, List, sym, ap, subst, ◌∙◌, arith}
 use Rattle.base.specs.Access.{View}
-use Rattle.base.specs.Manifest.{page_count}
+use Rattle.base.specs.Manifest.{page_count, row_of}
 use Rattle.base.specs.Pages.{PageRun}
 use Rattle.pool.specs.Pool.{Pool, IsWhole, pages_of, words_of, taken_of, after_replaces}
 use Rattle.stage2.specs.Edits.{edited, touches_chunk, AreFree}
 use Rattle.stage2.specs.Moments.{StaysInStep}
 use Rattle.stage2.specs.Parts.{chunk_runs}
 use Rattle.stage2.specs.Room.{sum_below, table_operations, chunk_operations}
-use Rattle.stage2.specs.Slot.{slot}
+use Rattle.stage2.specs.Slot.{Layout, slot}
 use Rattle.stage2.specs.Walk.{walked, next_page}
 use Rattle.stage2.specs.declared.parts.Piece.{Piece}
 use Rattle.stage2.specs.declared.site.ChunkEdit.{ChunkEdit}
 use Rattle.stage2.specs.declared.site.RowEdit.{RowEdit}
+use Rattle.stage2.specs.declared.site.Site.{Site}
 use Rattle.stage2.specs.inner.Change.{block_step}
 use Rattle.stage2.specs.inner.Chunks.{answers_in, covers_chunk}
-use Rattle.stage2.specs.inner.Clauses.{IsAt, GrowsChunk, HasFree, EditsChunk, ChunkInStep, CanEditChunks, AreChunksEdited, ReplacesBlocks, linked_view, operations_in_table}
+use Rattle.stage2.specs.inner.Clauses.{IsAt, GrowsChunk, HasFree, CanEditChunk, IsChunkEdited, CanEditChunks, AreChunksEdited, ReplacesBlocks, linked_view, operations_in_table}
 use Rattle.stage2.specs.inner.Gigabytes.{IsUnderway}
 use Rattle.stage2.specs.inner.Pieces.{IsNextPiece}
 use Rattle.stage2.specs.inner.Steps.{IsSeated, disturbed_below}
@@ -50,6 +51,10 @@ pub record IsUpTo (e : RowEdit) (j g : ℕ) (runs : List PageRun) (first : Pool)
   pub room : room_first ≤ room_now + sum_below (cost e j g runs first) i
 
 module _ {e : RowEdit} {j g : ℕ} {runs : List PageRun} {first : Pool} {r0 : ℕ} (can : CanEditChunks e g j runs first r0) (below : g < 512) where
+  -- where the words of its chunks stand
+  abbrev pub seat : Site
+  seat = record { p = e.p; row = e.row; second = j }
+
   pub at-start : IsUpTo e j g runs first r0 0 runs first r0
   at-start = record {
     underway = underway-start e.layout.now e.row g j runs e.access (pages_of first.memory) e.inside below can.orderly can.second;
@@ -108,25 +113,25 @@ module _ {e : RowEdit} {j g : ℕ} {runs : List PageRun} {first : Pool} {r0 : �
       abbrev v : ℕ → View
       v = answers_in e.layout.now e.row (512 * g + i) j (pages_of now.memory)
 
-      pub here-site : IsAt (record { p = e.p; row = e.row; second = j }) h now
-      here-site = site-made (record { p = e.p; row = e.row; second = j }) h e.layout.now (512 * g + i) e.access layout at access now now (site e.layout.now e.row g j runs e.access (pages_of first.memory) e.inside below i lt (pages_of now.memory) so.underway)
+      here-site : IsAt seat h now
+      here-site = site-made seat h e.layout.now (512 * g + i) e.access layout at access now now (site e.layout.now e.row g j runs e.access (pages_of first.memory) e.inside below i lt (pages_of now.memory) so.underway)
 
-      pub here-free : GrowsChunk (record { p = e.p; row = e.row; second = j }) h now → HasFree e.row now
+      here-free : GrowsChunk seat h now → HasFree e.row now
       here-free grows =
           has-free e.layout.now e.row g j runs e.access (pages_of first.memory) e.inside below i lt (pages_of now.memory) so.underway can.fits.fits
-          (chunk-growing (512 * g + i) runs h.runs e.access own.covered v (grows-made (record { p = e.p; row = e.row; second = j }) h e.layout.now (512 * g + i) e.access layout at access now now grows))
+          (chunk-growing (512 * g + i) runs h.runs e.access own.covered v (grows-made seat h e.layout.now (512 * g + i) e.access layout at access now now grows))
 
       touched : touches_chunk (512 * g + i) h.runs ≡ true
       touched = subst (λ x. touches_chunk x h.runs ≡ true) at (touches-made h)
 
-      here-cost : cost e j g runs first i ≡ 3 + operations_in_table (record { p = e.p; row = e.row; second = j }) h now
+      here-cost : cost e j g runs first i ≡ 3 + operations_in_table seat h now
       here-cost =
           let same = chunk-same runs h.runs e.access (linked_view e g j first) v (512 * g + i) own.covered own.count
           (λ x small. still-answers e.layout.now e.row g j runs e.access (pages_of first.memory) e.inside below i lt (pages_of now.memory) so.underway (512 * (512 * g + i) + x) (omega (arith, small, lt, below)) (omega (arith, small))) own.touches in
           sym (ap (λ t. cond t (3 + table_operations h.runs e.access v (512 * g + i)) 0) (sym touched) ∙ same)
-          ∙ ap (λ n. 3 + n) (sym (room-made (record { p = e.p; row = e.row; second = j }) h e.layout.now (512 * g + i) e.access layout at access now now))
+          ∙ ap (λ n. 3 + n) (sym (room-made seat h e.layout.now (512 * g + i) e.access layout at access now now))
 
-      pub here-room : 3 + operations_in_table (record { p = e.p; row = e.row; second = j }) h now ≤ r
+      here-room : 3 + operations_in_table seat h now ≤ r
       here-room =
           let enough = can.room in
           let more = sum_below-more (cost e j g runs first) i in
@@ -135,20 +140,23 @@ module _ {e : RowEdit} {j g : ℕ} {runs : List PageRun} {first : Pool} {r0 : �
           let one = here-cost in
           omega (arith, more, up, room, one, enough)
 
-      pub here-next : {new : Pool} {r2 : ℕ} → EditsChunk (record { p = e.p; row = e.row; second = j }) h now new → ChunkInStep (record { p = e.p; row = e.row; second = j }) h now new → r ≤ r2 + (3 + operations_in_table (record { p = e.p; row = e.row; second = j }) h now)
-          → IsUpTo e j g runs first r0 (i + 1) rest new r2
-      here-next {new} edits steps spent =
+      pub here-can : CanEditChunk seat h now r
+      here-can = record { site = here-site; row = ap (λ (l : Layout). row_of l.ids e.p) layout ∙ e.own; free = here-free; room = here-room }
+
+      pub here-next : {new : Pool} {r2 : ℕ} → IsChunkEdited seat h now r new r2 → IsUpTo e j g runs first r0 (i + 1) rest new r2
+      here-next {new} done =
+          let spent = done.room in
           let more = sum_below-more (cost e j g runs first) i in
           let room = so.room in
           let one = here-cost in
           record {
             underway = underway-edit e.layout.now e.row g j runs e.access (pages_of first.memory) e.inside below i lt (pages_of now.memory) so.underway (pages_of new.memory)
                 (chunk-redoes e.layout.now e.row (512 * g + i) runs h.runs e.access own.covered j v (pages_of now.memory) (pages_of new.memory)
-                (edits-made (record { p = e.p; row = e.row; second = j }) h e.layout.now (512 * g + i) e.access layout at access now new edits));
+                (edits-made seat h e.layout.now (512 * g + i) e.access layout at access now new done.edits));
             in_step = λ seated free.
                 march-edit e.layout.now e.row g j runs e.access (pages_of first.memory) e.inside below i lt (pages_of now.memory) so.underway first now new (sym own.touches ∙ touched) (so.in_step seated free)
                 (chunk-stays e.layout.now e.row (512 * g + i) runs h.runs e.access own.covered v now new
-                (step-made (record { p = e.p; row = e.row; second = j }) h e.layout.now (512 * g + i) e.access layout at access now new steps
+                (step-made seat h e.layout.now (512 * g + i) e.access layout at access now new done.in_step
                 (march-seated e.layout.now e.row g j runs e.access (pages_of first.memory) e.inside below i lt (pages_of now.memory) so.underway seated)
                 (chunk-free (512 * g + i) runs h.runs e.access own.covered v
                 (march-free e.layout.now e.row g j runs e.access (pages_of first.memory) e.inside below i lt (pages_of now.memory) so.underway free))));
@@ -224,16 +232,9 @@ module _ {e : RowEdit} {j g : ℕ} {runs : List PageRun} {first : Pool} {r0 : �
     under : IsUpTo e j g runs first r0 (h.chunk % 512) runs first r0
     under = gap at-start (h.chunk % 512) (omega arith) (omega arith) (λ x from to. apart x (λ same. omega (arith, same, to))) runs (left-all (512 * g + h.chunk % 512) runs)
 
-    pub alone-site : IsAt (record { p = e.p; row = e.row; second = j }) h first
-    alone-site = here-site under (omega arith) h layout at owns access
-
-    pub alone-free : GrowsChunk (record { p = e.p; row = e.row; second = j }) h first → HasFree e.row first
-    alone-free = here-free under (omega arith) h layout at owns access
-
-    pub alone-room : 3 + operations_in_table (record { p = e.p; row = e.row; second = j }) h first ≤ r0
-    alone-room = here-room under (omega arith) h layout at owns access
+    pub alone-can : CanEditChunk seat h first r0
+    alone-can = here-can under (omega arith) h layout at owns access
 
     -- with it all are edited
-    pub alone-all : {new : Pool} {r : ℕ} → EditsChunk (record { p = e.p; row = e.row; second = j }) h first new → ChunkInStep (record { p = e.p; row = e.row; second = j }) h first new → r0 ≤ r + (3 + operations_in_table (record { p = e.p; row = e.row; second = j }) h first)
-        → AreChunksEdited e g j runs first r0 new r
-    alone-all edits steps spent = at-end (here-next under (omega arith) h layout at owns access edits steps spent) (λ x from small. apart x (λ same. omega (arith, same, from)))
+    pub alone-all : {new : Pool} {r : ℕ} → IsChunkEdited seat h first r0 new r → AreChunksEdited e g j runs first r0 new r
+    alone-all done = at-end (here-next under (omega arith) h layout at owns access done) (λ x from small. apart x (λ same. omega (arith, same, from)))

@@ -5,7 +5,7 @@ use Rattle.base.specs.Counts.{count_below}
 use Rattle.base.specs.Manifest.{row_of}
 use Rattle.base.specs.Need.{grow}
 use Rattle.base.specs.Pages.{PageRun, covers}
-use Rattle.pool.specs.Pool.{Pool, pages_of, words_of, nonzero_in, with_put, with_mark, after_replaces, used_by, row_quota}
+use Rattle.pool.specs.Pool.{Pool, InShare, pages_of, row_in, words_of, taken_of, nonzero_in, with_put, with_mark, after_replaces, used_by, row_quota}
 use Rattle.pool.specs.declared.runs.TableWords.{TableWords}
 use Rattle.stage2.specs.declared.site.ChunkEdit.{ChunkEdit}
 use Rattle.stage2.specs.declared.plan.Plan.{Plan}
@@ -226,6 +226,19 @@ ChunkInStep s e old new =
     (λ n. (n / 512 == e.chunk) && disturbs e.runs (chunk_view s e old) (chunk_after s e old) n)
     (λ n. walked n (chunk_after s e old n)) old new
 
+-- a chunk can be edited: its word stands there, a table page is free where one is hung, and there is room for the operations
+pub record CanEditChunk (s : Site) (e : ChunkEdit) (pool : Pool) (left : ℕ) : Type 0 where
+  pub site : IsAt s e pool
+  pub row : IsRowOf s e
+  pub free : GrowsChunk s e pool → HasFree s.row pool
+  pub room : 3 + operations_in_table s e pool ≤ left
+
+-- it is edited
+pub record IsChunkEdited (s : Site) (e : ChunkEdit) (old : Pool) (left_old : ℕ) (new : Pool) (left : ℕ) : Type 0 where
+  pub edits : EditsChunk s e old new
+  pub in_step : ChunkInStep s e old new
+  pub room : left_old ≤ left + (3 + operations_in_table s e old)
+
 -- the level 2 words of chunks of a gigabyte are replaced by those of blocks, or by 0
 pub record ReplacesBlocks (who j g first end : ℕ) (answer : View) (old new : Pool) : Type 0 where
   pub word : ℕ
@@ -302,6 +315,14 @@ IsEmpty page pool = (i : ℕ) → i < 512 → words_of pool.memory.words page i 
 -- one of them is not
 abbrev pub HasWord : ℕ → Pool → Type 0
 HasWord page pool = (i : ℕ) × (i < 512) × (words_of pool.memory.words page i ≢ 0)
+
+-- a level 2 table of the partition whose words are all 0 can be unlinked
+pub record CanUnlink (p row j : ℕ) (pool : Pool) : Type 0 where
+  pub root : row < length pool.memory.quotas
+  pub own : row_in pool.memory p ≡ row
+  pub inside : InShare pool.memory.quotas row j
+  pub taken : taken_of pool.memory.taken j ≡ true
+  pub empty : IsEmpty j pool
 
 -- the root's word becomes 0, and the table is given back
 abbrev pub Unlinks : ℕ → ℕ → ℕ → Pool → Pool → Type 0

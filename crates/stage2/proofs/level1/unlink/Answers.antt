@@ -17,17 +17,17 @@ use Rattle.stage2.proofs.level1.unlink.Goals as goal
 pub give_page-requires-clause-empty : goal.give_page-requires-clause-empty
 give_page-requires-clause-empty g c = λ i lt.
     let m = pages_of (g.M.TableMem.state c.args.memory.now).memory in
-    let differs : c.args.second ≢ c.args.row = λ e. root-outside m.quotas c.args.row c.args.row c.requires.root (subst (λ x. InShare m.quotas c.args.row x) e c.requires.inside) in
+    let differs : c.args.second ≢ c.args.row = λ e. root-outside m.quotas c.args.row c.args.row c.requires.can.root (subst (λ x. InShare m.quotas c.args.row x) e c.requires.can.inside) in
     ap (λ (s : Pool). (pages_of s.memory).words c.args.second i) c.invalidate.ensures.state
     ∙ ap (λ (x : Pages). x.words c.args.second i) (rw (c.root.ensures, c.index.ensures.same) at c.put_word.ensures.pages)
-    ∙ put-other m.words c.args.row c.args.gigabyte 0 c.args.second i (λ e _. differs e) ∙ c.requires.empty i lt
+    ∙ put-other m.words c.args.row c.args.gigabyte 0 c.args.second i (λ e _. differs e) ∙ c.requires.can.empty i lt
 
 pub returns-clause-pages : goal.returns-clause-pages
 returns-clause-pages g c =
     let m = pages_of (g.M.TableMem.state c.args.memory.now).memory in
     let put : pages_of (g.M.TableMem.state c.invalidate.new.self).memory ≡ with_put c.args.row c.args.gigabyte 0 m = ap (λ (s : Pool). pages_of s.memory) c.invalidate.ensures.state ∙ (rw (c.root.ensures, c.index.ensures.same) at c.put_word.ensures.pages) in
     pages_of-give (g.M.TableMem.state c.invalidate.new.self) (g.M.TableMem.state c.give_page.new.memory) c.args.second (g.met.M.TableMem.whole c.invalidate.new.self)
-    (subst (λ (x : Pages). c.args.second < page_count x.quotas) (sym put) (share_inside m.quotas c.args.row c.args.second c.requires.inside)) c.give_page.ensures.state
+    (subst (λ (x : Pages). c.args.second < page_count x.quotas) (sym put) (share_inside m.quotas c.args.row c.args.second c.requires.can.inside)) c.give_page.ensures.state
     ∙ ap (with_mark c.args.second false) put
 
 pub returns-clause-in_step : goal.returns-clause-in_step
@@ -50,5 +50,5 @@ returns-clause-in_step g c = λ layout which answer forest partition is unmapped
 pub invalidate-requires-clause-partition : goal.invalidate-requires-clause-partition
 invalidate-requires-clause-partition g c =
     let old = g.M.TableMem.state c.args.memory.now in
-    let inside : row_in old.memory c.args.p < length old.memory.ids = rw ((g.met.M.TableMem.whole c.args.memory.now).ids, c.requires.row) c.requires.root in
+    let inside : row_in old.memory c.args.p < length old.memory.ids = rw ((g.met.M.TableMem.whole c.args.memory.now).ids, c.requires.can.own) c.requires.can.root in
     subst (λ (x : Pages). row_of x.ids c.args.p < length x.ids) (sym c.put_word.ensures.pages) inside

@@ -34,33 +34,33 @@ drop_table-requires-clause-left g c = (drops c.args.site.now c.args.edit.now (g.
 pub drop_table-requires-clause-room : goal.drop_table-requires-clause-room
 drop_table-requires-clause-room g c = let words = (drops c.args.site.now c.args.edit.now (g.M.TableMem.state c.args.memory.now) c.requires.site c.read_chunk-entry.ensures.same c.becomes_alike.ensures c.table_of-table.ensures c.if-becomes_alike.true c.in-Some.is).words in let room = c.requires.room in omega (arith, words, room)
 
-pub returns-in-Some-clause-redoes : goal.returns-in-Some-clause-redoes
-returns-in-Some-clause-redoes g c = (sets c.args.site.now c.args.edit.now (g.M.TableMem.state c.args.memory.now) c.requires.site c.read_chunk-entry.ensures.same c.becomes_alike.ensures c.if-becomes_alike.true).edits (g.M.TableMem.state c.drop_table.new.memory) c.drop_table.ensures.redoes
-
-pub returns-in-Some-clause-in_step : goal.returns-in-Some-clause-in_step
-returns-in-Some-clause-in_step g c = (sets c.args.site.now c.args.edit.now (g.M.TableMem.state c.args.memory.now) c.requires.site c.read_chunk-entry.ensures.same c.becomes_alike.ensures c.if-becomes_alike.true).steps (g.M.TableMem.state c.drop_table.new.memory) c.drop_table.ensures.in_step
-
-pub returns-in-Some-clause-room : goal.returns-in-Some-clause-room
-returns-in-Some-clause-room g c = let words = (drops c.args.site.now c.args.edit.now (g.M.TableMem.state c.args.memory.now) c.requires.site c.read_chunk-entry.ensures.same c.becomes_alike.ensures c.table_of-table.ensures c.if-becomes_alike.true c.in-Some.is).words in let room = c.drop_table.ensures.room in omega (arith, words, room)
+pub returns-in-Some : goal.returns-in-Some
+returns-in-Some g c = record {
+  edits = (sets c.args.site.now c.args.edit.now (g.M.TableMem.state c.args.memory.now) c.requires.site c.read_chunk-entry.ensures.same c.becomes_alike.ensures c.if-becomes_alike.true).edits (g.M.TableMem.state c.drop_table.new.memory) c.drop_table.ensures.redoes;
+  in_step = (sets c.args.site.now c.args.edit.now (g.M.TableMem.state c.args.memory.now) c.requires.site c.read_chunk-entry.ensures.same c.becomes_alike.ensures c.if-becomes_alike.true).steps (g.M.TableMem.state c.drop_table.new.memory) c.drop_table.ensures.in_step;
+  room = let words = (drops c.args.site.now c.args.edit.now (g.M.TableMem.state c.args.memory.now) c.requires.site c.read_chunk-entry.ensures.same c.becomes_alike.ensures c.table_of-table.ensures c.if-becomes_alike.true c.in-Some.is).words in let room = c.drop_table.ensures.room in omega (arith, words, room);
+}
 
 -- ---- there is none, and none is hung
 
-pub returns-in-None-clause-redoes : goal.returns-in-None-clause-redoes
-returns-in-None-clause-redoes g c = (sets c.args.site.now c.args.edit.now (g.M.TableMem.state c.args.memory.now) c.requires.site c.read_chunk-entry.ensures.same c.becomes_alike.ensures c.if-becomes_alike.true).edits (g.M.TableMem.state c.set_block.new.memory) c.set_block.ensures.redoes
-
-pub returns-in-None-clause-in_step : goal.returns-in-None-clause-in_step
-returns-in-None-clause-in_step g c = (sets c.args.site.now c.args.edit.now (g.M.TableMem.state c.args.memory.now) c.requires.site c.read_chunk-entry.ensures.same c.becomes_alike.ensures c.if-becomes_alike.true).steps (g.M.TableMem.state c.set_block.new.memory) c.set_block.ensures.in_step
+pub returns-in-None : goal.returns-in-None
+returns-in-None g c = record {
+  edits = (sets c.args.site.now c.args.edit.now (g.M.TableMem.state c.args.memory.now) c.requires.site c.read_chunk-entry.ensures.same c.becomes_alike.ensures c.if-becomes_alike.true).edits (g.M.TableMem.state c.set_block.new.memory) c.set_block.ensures.redoes;
+  in_step = (sets c.args.site.now c.args.edit.now (g.M.TableMem.state c.args.memory.now) c.requires.site c.read_chunk-entry.ensures.same c.becomes_alike.ensures c.if-becomes_alike.true).steps (g.M.TableMem.state c.set_block.new.memory) c.set_block.ensures.in_step;
+  room = let room = c.set_block.ensures.room in omega (arith, room);
+}
 
 -- ---- a table stays
 
 pub rewrite_table-requires-clause-room : goal.rewrite_table-requires-clause-room
 rewrite_table-requires-clause-room g c = let words = (keeps c.args.site.now c.args.edit.now (g.M.TableMem.state c.args.memory.now) c.requires.site c.read_chunk-entry.ensures.same c.becomes_alike.ensures c.table_of-table.ensures c.if-becomes_alike.false c.in-Some-table.is).words in let room = c.requires.room in omega (arith, words, room)
 
-pub returns-in-Some-table-clause-redoes : goal.returns-in-Some-table-clause-redoes
-returns-in-Some-table-clause-redoes g c = (keeps c.args.site.now c.args.edit.now (g.M.TableMem.state c.args.memory.now) c.requires.site c.read_chunk-entry.ensures.same c.becomes_alike.ensures c.table_of-table.ensures c.if-becomes_alike.false c.in-Some-table.is).edits (g.M.TableMem.state c.rewrite_table.new.memory) c.rewrite_table.ensures.redoes
-
-pub returns-in-Some-table-clause-room : goal.returns-in-Some-table-clause-room
-returns-in-Some-table-clause-room g c = let words = (keeps c.args.site.now c.args.edit.now (g.M.TableMem.state c.args.memory.now) c.requires.site c.read_chunk-entry.ensures.same c.becomes_alike.ensures c.table_of-table.ensures c.if-becomes_alike.false c.in-Some-table.is).words in let room = c.rewrite_table.ensures.room in omega (arith, words, room)
+pub returns-in-Some-table : goal.returns-in-Some-table
+returns-in-Some-table g c = record {
+  edits = (keeps c.args.site.now c.args.edit.now (g.M.TableMem.state c.args.memory.now) c.requires.site c.read_chunk-entry.ensures.same c.becomes_alike.ensures c.table_of-table.ensures c.if-becomes_alike.false c.in-Some-table.is).edits (g.M.TableMem.state c.rewrite_table.new.memory) c.rewrite_table.ensures.redoes;
+  in_step = c.rewrite_table.ensures.in_step;
+  room = let words = (keeps c.args.site.now c.args.edit.now (g.M.TableMem.state c.args.memory.now) c.requires.site c.read_chunk-entry.ensures.same c.becomes_alike.ensures c.table_of-table.ensures c.if-becomes_alike.false c.in-Some-table.is).words in let room = c.rewrite_table.ensures.room in omega (arith, words, room);
+}
 
 -- ---- a table is hung
 
@@ -76,11 +76,10 @@ hang_table-requires-clause-some g c = (hangs c.args.site.now c.args.edit.now (g.
 pub hang_table-requires-clause-room : goal.hang_table-requires-clause-room
 hang_table-requires-clause-room g c = let words = (hangs c.args.site.now c.args.edit.now (g.M.TableMem.state c.args.memory.now) c.requires.site c.read_chunk-entry.ensures.same c.becomes_alike.ensures c.table_of-table.ensures c.if-becomes_alike.false c.in-None-table.is c.block_of-before.ensures).words in let room = c.requires.room in omega (arith, words, room)
 
-pub returns-in-None-table-clause-redoes : goal.returns-in-None-table-clause-redoes
-returns-in-None-table-clause-redoes g c = (hangs c.args.site.now c.args.edit.now (g.M.TableMem.state c.args.memory.now) c.requires.site c.read_chunk-entry.ensures.same c.becomes_alike.ensures c.table_of-table.ensures c.if-becomes_alike.false c.in-None-table.is c.block_of-before.ensures).edits (g.M.TableMem.state c.hang_table.new.memory) c.hang_table.ensures.redoes
+pub returns-in-None-table : goal.returns-in-None-table
+returns-in-None-table g c = record {
+  edits = (hangs c.args.site.now c.args.edit.now (g.M.TableMem.state c.args.memory.now) c.requires.site c.read_chunk-entry.ensures.same c.becomes_alike.ensures c.table_of-table.ensures c.if-becomes_alike.false c.in-None-table.is c.block_of-before.ensures).edits (g.M.TableMem.state c.hang_table.new.memory) c.hang_table.ensures.redoes;
+  in_step = (hangs c.args.site.now c.args.edit.now (g.M.TableMem.state c.args.memory.now) c.requires.site c.read_chunk-entry.ensures.same c.becomes_alike.ensures c.table_of-table.ensures c.if-becomes_alike.false c.in-None-table.is c.block_of-before.ensures).steps (g.M.TableMem.state c.hang_table.new.memory) c.hang_table.ensures.in_step;
+  room = let words = (hangs c.args.site.now c.args.edit.now (g.M.TableMem.state c.args.memory.now) c.requires.site c.read_chunk-entry.ensures.same c.becomes_alike.ensures c.table_of-table.ensures c.if-becomes_alike.false c.in-None-table.is c.block_of-before.ensures).words in let room = c.hang_table.ensures.room in omega (arith, words, room);
+}
 
-pub returns-in-None-table-clause-in_step : goal.returns-in-None-table-clause-in_step
-returns-in-None-table-clause-in_step g c = (hangs c.args.site.now c.args.edit.now (g.M.TableMem.state c.args.memory.now) c.requires.site c.read_chunk-entry.ensures.same c.becomes_alike.ensures c.table_of-table.ensures c.if-becomes_alike.false c.in-None-table.is c.block_of-before.ensures).steps (g.M.TableMem.state c.hang_table.new.memory) c.hang_table.ensures.in_step
-
-pub returns-in-None-table-clause-room : goal.returns-in-None-table-clause-room
-returns-in-None-table-clause-room g c = let words = (hangs c.args.site.now c.args.edit.now (g.M.TableMem.state c.args.memory.now) c.requires.site c.read_chunk-entry.ensures.same c.becomes_alike.ensures c.table_of-table.ensures c.if-becomes_alike.false c.in-None-table.is c.block_of-before.ensures).words in let room = c.hang_table.ensures.room in omega (arith, words, room)

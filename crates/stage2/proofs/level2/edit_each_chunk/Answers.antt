@@ -1,7 +1,7 @@
 use Rattle.std.proofs.Common.{◌≡◌, ◌+◌, ◌*◌, false, refl, sym, ap, subst, ◌∙◌, arith}
 use Rattle.stage2.specs.Edits.{touches_chunk}
 use Rattle.stage2.specs.Parts.{chunk_runs}
-use Rattle.stage2.proofs.Editing.UpToChunk.{at-start, at-piece, at-untouched, at-end, own-here, here-site, here-free, here-room, here-next, table-inside, table-taken, blocks-room, blocks-next}
+use Rattle.stage2.proofs.Editing.UpToChunk.{at-start, at-piece, at-untouched, at-end, own-here, here-can, here-next, table-inside, table-taken, blocks-room, blocks-next}
 use Rattle.stage2.proofs.Runs.Between.{past-past}
 use Rattle.stage2.proofs.Tree.Rows.{has-row}
 use Rattle.stage2.proofs.level2.edit_each_chunk.Goals as goal
@@ -59,29 +59,13 @@ new-requires g c =
     let next = c.in-Some.ensures.some in
     record { past = past-past (512 * (512 * c.args.gigabyte + c.in-Some.piece.first)) (512 * c.chunk-chunk.result) c.loop-piece.rest c.in-Some.piece.runs (sym (ap (λ k. 512 * k) c.chunk-chunk.ensures.same)) next.past }
 
-pub edit_chunk-requires-clause-site : goal.edit_chunk-requires-clause-site
-edit_chunk-requires-clause-site g c =
+pub edit_one_of_many-requires : goal.edit_one_of_many-requires
+edit_one_of_many-requires g c =
     let below = c.in-Some.ensures.in_range in
     let so = at-piece c.requires below (c.loop-piece.invariant.up_to below) c.in-Some.ensures.some in
     let here = c.in-Some-new.ensures.some in
     let own = own-here c.requires below so (here.2 ∙ ap (λ k. chunk_runs k c.in-Some.piece.runs) c.chunk-chunk.ensures.same) in
-    here-site c.requires below so c.in-Some.ensures.some.small c.in-Some-new.here here.0 (here.1 ∙ c.chunk-chunk.ensures.same) own here.3
-
-pub edit_chunk-requires-clause-free : goal.edit_chunk-requires-clause-free
-edit_chunk-requires-clause-free g c =
-    let below = c.in-Some.ensures.in_range in
-    let so = at-piece c.requires below (c.loop-piece.invariant.up_to below) c.in-Some.ensures.some in
-    let here = c.in-Some-new.ensures.some in
-    let own = own-here c.requires below so (here.2 ∙ ap (λ k. chunk_runs k c.in-Some.piece.runs) c.chunk-chunk.ensures.same) in
-    here-free c.requires below so c.in-Some.ensures.some.small c.in-Some-new.here here.0 (here.1 ∙ c.chunk-chunk.ensures.same) own here.3
-
-pub edit_chunk-requires-clause-room : goal.edit_chunk-requires-clause-room
-edit_chunk-requires-clause-room g c =
-    let below = c.in-Some.ensures.in_range in
-    let so = at-piece c.requires below (c.loop-piece.invariant.up_to below) c.in-Some.ensures.some in
-    let here = c.in-Some-new.ensures.some in
-    let own = own-here c.requires below so (here.2 ∙ ap (λ k. chunk_runs k c.in-Some.piece.runs) c.chunk-chunk.ensures.same) in
-    here-room c.requires below so c.in-Some.ensures.some.small c.in-Some-new.here here.0 (here.1 ∙ c.chunk-chunk.ensures.same) own here.3
+    here-can c.requires below so c.in-Some.ensures.some.small c.in-Some-new.here here.0 (here.1 ∙ c.chunk-chunk.ensures.same) own here.3
 
 pub loop-piece-preserved : goal.loop-piece-preserved
 loop-piece-preserved g c =
@@ -92,7 +76,7 @@ loop-piece-preserved g c =
           let here = w.in-Some-new.ensures.some in
           let own = own-here c.requires below so (here.2 ∙ ap (λ k. chunk_runs k c.in-Some.piece.runs) c.chunk-chunk.ensures.same) in
           rw w.memory-is (record {
-            up_to = λ _. here-next c.requires below so c.in-Some.ensures.some.small w.in-Some-new.here here.0 (here.1 ∙ c.chunk-chunk.ensures.same) own here.3 w.edit_chunk.ensures.redoes w.edit_chunk.ensures.in_step w.edit_chunk.ensures.room;
+            up_to = λ _. here-next c.requires below so c.in-Some.ensures.some.small w.in-Some-new.here here.0 (here.1 ∙ c.chunk-chunk.ensures.same) own here.3 w.edit_one_of_many.ensures;
           })
       | in_default-new w ↦ rw w.memory-is (record {
         up_to = λ _. at-untouched c.requires below so c.in-Some.ensures.some.small (subst (λ x. touches_chunk x c.in-Some.piece.runs ≡ false) c.chunk-chunk.ensures.same (c.new.ensures.none w.in_default-new.is));
