@@ -231,22 +231,17 @@ pub(crate) fn chunk_span(runs: &Runs, gigabyte: Gigabyte) -> Span
     }
 }
 
-/// The first chunk of a gigabyte from this one on, counted from its first, that is not known to be
-/// filled by the first of the runs. Chunks from the last one's end on are not asked for.
-pub(crate) fn first_unfilled(runs: &Runs, gigabyte: Gigabyte, index: u32, end: u32) -> u32
-    requires index { index ≤ 512 }
-    requires end { end ≤ 512 }
+/// The first chunk of a gigabyte from this one on, counted from its first, that is not known to be filled by the first of the runs.
+fn first_unfilled(runs: &Runs, gigabyte: Gigabyte, index: u32) -> u32
+    requires { index < 512 }
     ensures from { index ≤ result }
     ensures most { result ≤ 512 }
     ensures filled { (x : ℕ) → index ≤ x → x < result
         → covers_chunk (512 * gigabyte + x) runs.now ≡ true }
 {
-    if end <= index {
-        return index;
-    }
     let next = gigabyte.chunk(index).first().number();
     match runs.list().first() {
-        Some(run) if run.first().number() <= next && next < run.end() => {
+        Some(run) if run.first().number() <= next && next + CHUNK_PAGES <= run.end() => {
             whole_chunks(run.end().min(gigabyte.end())) - gigabyte.chunks().first
         }
         _ => index,
@@ -290,7 +285,7 @@ pub(crate) fn next_piece<'a>(runs: &Runs<'a>, gigabyte: Gigabyte, index: u32) ->
     let rest = runs_on(&rest, chunk.first().number());
     Some(Piece {
         first,
-        filled: first_unfilled(&rest, gigabyte, first, TABLE_WORDS),
+        filled: first_unfilled(&rest, gigabyte, first),
         runs: rest,
     })
 }

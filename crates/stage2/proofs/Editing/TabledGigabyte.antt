@@ -1,8 +1,8 @@
 -- The edit of a gigabyte that has its level 2 table, from that of its chunks.
-use Rattle.std.proofs.Common.{◌≡◌, ℕ, ◌+◌, ◌/◌, ◌<◌, ◌≤◌, Bool, ◌&&◌, eqb, true, Some, length, List, sym, ap, subst, ◌∙◌, arith}
+use Rattle.std.proofs.Common.{◌≡◌, ℕ, ◌+◌, ◌/◌, ◌<◌, ◌≤◌, Bool, ◌&&◌, eqb, Some, List, sym, ap, subst, ◌∙◌, arith}
 use Rattle.base.specs.Manifest.{row_of, page_count}
 use Rattle.base.specs.Pages.{PageRun}
-use Rattle.pool.specs.Pool.{Pages, Pool, InShare, pages_of, taken_of, row_in}
+use Rattle.pool.specs.Pool.{Pages, Pool, pages_of}
 use Rattle.pool.proofs.Shares.{share_inside}
 use Rattle.stage2.specs.Edits.{edited, disturbed}
 use Rattle.stage2.specs.Orderly.{IsOrderly, answers, linked}

@@ -1,5 +1,5 @@
 -- The words of tables that hang are those of their entries.
-use Rattle.std.proofs.Common.{◌≡◌, ◌≢◌, ℕ, ◌+◌, ◌*◌, ◌/◌, ◌%◌, ◌^◌, ◌<◌, IsTrue, Bool, true, false, is_some, Some, length, refl, arith, ap, ap₂, subst, sym, ◌∙◌, ◌-◌, ◌&&◌, leb, ltb, inl, inr}
+use Rattle.std.proofs.Common.{◌≡◌, ℕ, ◌+◌, ◌*◌, ◌/◌, ◌%◌, ◌^◌, ◌<◌, IsTrue, Bool, true, false, is_some, Some, length, refl, arith, ap, ap₂, subst, sym, ◌∙◌, ◌-◌, ◌&&◌, leb, ltb, inl, inr}
 use Rattle.std.proofs.lemmas.Bool.{cases_Bool}
 use Rattle.base.specs.Access.{Access}
 use Rattle.words.specs.declared.word.Entry.{Entry}
@@ -9,10 +9,10 @@ use Rattle.words.proofs.RoundTrip.{word-leaf, type-leaf}
 use Rattle.pool.specs.Pool.{Pages}
 use Rattle.stage2.specs.declared.walked.Walked.TheVariants.{Leaf as Mapped, Wrong}
 use Rattle.stage2.specs.Slot.{Layout, Slot, Empty, Next, Maps, Bad, slot, slot_from}
-use Rattle.stage2.specs.Walk.{index_3, at_1, at_2, at_3, walk, Place, Root, Gigabyte, Chunk, next_page, table_at, IsPlace}
+use Rattle.stage2.specs.Walk.{index_3, at_2, at_3, walk, Place, Root, Gigabyte, Chunk, next_page, table_at, IsPlace}
 use Rattle.stage2.specs.Orderly.{IsOrderly, answer_of}
 use Rattle.stage2.specs.Entries.{leaf_for, entry_for_table, word_at}
-use Rattle.stage2.proofs.Tree.WalkFrame.{table_at-root, table_at-chunk_in, walk-gigabyte, walk-chunk}
+use Rattle.stage2.proofs.Tree.WalkFrame.{table_at-root, table_at-chunk_in, walk-chunk}
 use Rattle.stage2.proofs.Tree.KnownWords.{wrong-root, root-known, chunk-walk, second-known}
 use Rattle.stage2.proofs.Walkers.InStep.{gigabyte-now}
 use Rattle.stage2.proofs.Editing.Gigabyte.{table-word}

@@ -1,5 +1,5 @@
 -- What the edit of a chunk asks, and what it makes of the tables.
-use Rattle.std.specs.Prelude.{◌≡◌, ◌≢◌, ℕ, ◌+◌, ◌*◌, ◌/◌, ◌^◌, ◌<◌, Bool, nat_le, true, false, ◌&&◌, ◌==◌, if◌then◌else◌, nat_lt, Option, Some, None, is_none, is_some, length, List}
+use Rattle.std.specs.Prelude.{◌≡◌, ◌≢◌, ℕ, ◌+◌, ◌*◌, ◌/◌, ◌^◌, ◌<◌, Bool, nat_le, true, false, ◌&&◌, ◌==◌, if◌then◌else◌, nat_lt, Option, Some, None, is_none, length, List}
 use Rattle.std.specs.List.{list_any}
 use Rattle.words.specs.Words.{entry_of}
 use Rattle.stage2.specs.inner.Change.{entry_for}

@@ -1,4 +1,3 @@
-use Rattle.std.proofs.Common.{◌<◌, arith}
 use Rattle.pool.specs.Pool.{pages_of}
 use Rattle.stage2.proofs.Tree.KnownWords.{root-known}
 use Rattle.stage2.proofs.level1.find_table.Goals as goal

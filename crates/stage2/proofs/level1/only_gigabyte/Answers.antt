@@ -1,9 +1,9 @@
-use Rattle.std.proofs.Common.{ℕ, ◌≡◌, ◌+◌, ◌/◌, ◌<◌, ◌≤◌, ap, sym, ◌∙◌, arith}
+use Rattle.std.proofs.Common.{◌≡◌, ◌+◌, ◌/◌, ◌<◌, ◌≤◌, ap, sym, ◌∙◌, arith}
 use Rattle.std.proofs.lemmas.Bool.{ltb-true}
 use Rattle.std.proofs.lemmas.Bool.Decides.{nat_tests}
 use Rattle.base.specs.Pages.{in_run}
 use Rattle.stage2.specs.Parts.{end_from}
-use Rattle.stage2.proofs.Runs.Normal.{any-within, normal-within, normal-first}
+use Rattle.stage2.proofs.Runs.Normal.{any-within, normal-within}
 use Rattle.stage2.proofs.Editing.GigabyteByGigabyte.{touched}
 use Rattle.stage2.proofs.level1.only_gigabyte.Goals as goal
 

@@ -82,4 +82,3 @@ returns-in-None-table g c = record {
   in_step = (hangs c.args.site.now c.args.edit.now (g.M.TableMem.state c.args.memory.now) c.requires.site c.read_chunk-entry.ensures.same c.becomes_alike.ensures c.table_of-table.ensures c.if-becomes_alike.false c.in-None-table.is c.block_of-before.ensures).steps (g.M.TableMem.state c.hang_table.new.memory) c.hang_table.ensures.in_step;
   room = let words = (hangs c.args.site.now c.args.edit.now (g.M.TableMem.state c.args.memory.now) c.requires.site c.read_chunk-entry.ensures.same c.becomes_alike.ensures c.table_of-table.ensures c.if-becomes_alike.false c.in-None-table.is c.block_of-before.ensures).words in let room = c.hang_table.ensures.room in omega (arith, words, room);
 }
-

@@ -3,7 +3,7 @@ use Rattle.pool.specs.Pool.{pages_of, words_of}
 use Rattle.stage2.specs.inner.Chunks.{planned}
 use Rattle.stage2.specs.inner.Clauses.{gaps}
 use Rattle.stage2.proofs.Counting.Operations.{new-unmapped, new-all}
-use Rattle.stage2.proofs.Editing.Gaps.{writes-gaps, writes-both}
+use Rattle.stage2.proofs.Editing.Gaps.{writes-gaps}
 use Rattle.stage2.proofs.Editing.Level3Words.{writes-rest}
 use Rattle.stage2.proofs.Walkers.SeatedChunks.{unheld-outside}
 use Rattle.stage2.proofs.Walkers.StepLists.{stays-filled}

@@ -1,8 +1,8 @@
 use Rattle.base.specs.Need.{is_mixed}
-use Rattle.std.proofs.Common.{◌≡◌, ◌≤◌, ℕ, ◌+◌, false, not, ◌&&◌, cond, refl, sym, ap, ◌∙◌, arith}
+use Rattle.std.proofs.Common.{◌≡◌, ℕ, ◌+◌, false, not, ◌&&◌, cond, refl, sym, ap, ◌∙◌, arith}
 use Rattle.base.specs.Access.{View}
 use Rattle.pool.specs.Pool.{pages_of}
-use Rattle.stage2.specs.Edits.{edited, touches_chunk}
+use Rattle.stage2.specs.Edits.{touches_chunk}
 use Rattle.stage2.specs.inner.Chunks.{answers_of}
 use Rattle.stage2.specs.inner.Clauses.{IsChunkPlanned}
 use Rattle.stage2.specs.Room.{table_operations, chunk_operations}

@@ -1,4 +1,4 @@
-use Rattle.std.proofs.Common.{◌≡◌, ◌+◌, ◌*◌, true, false, cond, refl, sym, ap, subst, ◌∙◌, arith}
+use Rattle.std.proofs.Common.{◌≡◌, ◌+◌, ◌*◌, true, false, cond, sym, ap, subst, ◌∙◌, arith}
 use Rattle.base.specs.Need.{is_mixed}
 use Rattle.base.specs.Pages.{covers}
 use Rattle.stage2.specs.Edits.{edited}
