@@ -118,3 +118,12 @@ first-above words start w place (suc level) height result summed is in_level som
     first-widened result words start (low height (64 * w + place)) (low height (64 * (64 * v + q + 1))) (level_start (suc (level + suc height))) (level_start (suc (suc level + height)))
     (rw next (none-below words (suc level) height (64 * w + place) (64 * w + 64) (subst (λ s. IsSummed s words) is summed) (omega (arith, ends, in_level.to)) (none-in_word words w place 64 (omega arith) none)))
     (low-rises height (64 * w + place) (64 * (64 * v + q + 1)) (omega (arith, next, within))) (ap level_start (omega arith)) found
+
+-- the first bit from a bit of the last level on, where its word has one there
+pub first-here : (words : List ℕ) (start bit lowest : ℕ) → start ≤ bit → IsLowestBit (slice_index words (bit / 64)) (bit % 64) lowest → IsFirstBit words start bit (64 * (bit / 64) + lowest)
+first-here words start bit lowest counts is = record {
+  counts = omega (arith, counts, is.from);
+  behind = omega (arith, is.from);
+  on = bit_in-at words (bit / 64) lowest is.inside ∙ rw is.on refl;
+  before = λ x above below. none-in_word words (bit / 64) (bit % 64) lowest (omega (arith, is.inside)) is.before x (omega (arith, above)) below;
+}

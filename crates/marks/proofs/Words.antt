@@ -1,6 +1,5 @@
 -- One bit of the words is written.
-use Rattle.std.proofs.Common.{◌≡◌, ◌≢◌, ℕ, ◌+◌, ◌-◌, ◌*◌, ◌/◌, ◌%◌, ◌<◌, Bool, true, false, not, ◌==◌, if◌then◌else◌, List, length, slice_index, slice_set, arith, inl, inr, ap, sym, ◌∙◌, refl}
-use mathlib.Core.Bool.{beq}
+use Rattle.std.proofs.Common.{◌≡◌, ◌≢◌, ℕ, ◌+◌, ◌-◌, ◌*◌, ◌/◌, ◌%◌, ◌<◌, Bool, true, false, ◌==◌, if◌then◌else◌, List, length, slice_index, slice_set, arith, inl, inr, ap, sym, ◌∙◌, refl}
 use Rattle.std.proofs.lemmas.Bool.{cases_eq, cases_lt}
 use Rattle.std.proofs.lemmas.Bool.Decides.{nat_tests}
 use Rattle.std.proofs.lemmas.List.{get_or-set_same, get_or-set_other, get_or_past}
@@ -43,12 +42,6 @@ bit_in-at words w i inside =
     let quotient : (64 * w + i) / 64 ≡ w = omega arith in
     let rest : (64 * w + i) % 64 ≡ i = omega arith in
     rw (quotient, rest) refl
-
-same-not : (a b : Bool) → not (beq a b) ≡ false → not b ≡ not a
-same-not true true same = refl
-same-not false false same = refl
-same-not true false same = absurd (cc)
-same-not false true same = absurd (cc)
 
 -- the words after one bit was written
 pub record IsWritten (words : List ℕ) (bit : ℕ) (on : Bool) (after : List ℕ) : Type 0 where
@@ -99,7 +92,18 @@ summed-on start bit on words after is summed right = record {
   ];
 }
 
--- a word is 0 as it was before
-pub has_bits-same : (before after : ℕ) → not (beq (before == 0) (after == 0)) ≡ false → has_bits after ≡ has_bits before
+-- a word that a bit did not turn is 0 as it was before
+pub has_bits-same : (before after place : ℕ) (on : Bool) → ((if on then before else after) == 0) ≡ false → bit_at after place ≡ (if on then 1 else 0) → (on ≡ false → before ≡ 0 → after ≡ 0) → has_bits after ≡ has_bits before
 unfolding has_bits
-has_bits-same before after same = same-not (before == 0) (after == 0) same
+has_bits-same before after place true same here none =
+    let some : after ≢ 0 = λ zero. let at = bit_at-zero place in omega (arith, here, ap (λ w. bit_at w place) zero, at) in
+    grind (arith, nat_tests, same, some)
+has_bits-same before after place false same here none = let zero = none refl in grind (arith, nat_tests, same, zero)
+
+-- and one that it turned has bits where it was set
+pub has_bits-on : (before after place : ℕ) (on : Bool) → ((if on then before else after) == 0) ≡ true → bit_at after place ≡ (if on then 1 else 0) → on ≡ has_bits after
+unfolding has_bits
+has_bits-on before after place true turned here =
+    let some : after ≢ 0 = λ zero. let at = bit_at-zero place in omega (arith, here, ap (λ w. bit_at w place) zero, at) in
+    grind (arith, nat_tests, some)
+has_bits-on before after place false turned here = grind (arith, nat_tests, turned)

@@ -1,5 +1,5 @@
 -- Bits in words of 64, as a tree: bit b says whether word b + 1 is not 0, down to the bits from a start on.
-use Rattle.std.specs.Prelude.{◌≡◌, ◌≢◌, ℕ, zero, suc, ◌+◌, ◌*◌, ◌/◌, ◌%◌, ◌<◌, ◌≤◌, ◌^◌, Bool, true, false, not, ◌==◌, List, length, map, slice_index}
+use Rattle.std.specs.Prelude.{◌≡◌, ◌≢◌, ℕ, zero, suc, ◌+◌, ◌*◌, ◌/◌, ◌%◌, ◌<◌, ◌≤◌, ◌^◌, Bool, true, false, not, ◌==◌, if◌then◌else◌, List, length, map, slice_index}
 use Rattle.std.specs.List.{range_with_len}
 use Rattle.std.specs.Int.{bit_at}
 
@@ -47,6 +47,12 @@ unfoldable pub level_start : ℕ → ℕ
 level_start zero = 0
 level_start (suc level) = 64 * (level_start level + 1)
 
+-- the level that begins with a bit, of the first five
+unfoldable pub depth_of : ℕ → ℕ
+depth_of start =
+    if start == 0 then 0
+    else (if start == 64 then 1 else (if start == 4160 then 2 else (if start == 266304 then 3 else 4)))
+
 pub record IsInLevel (level bit : ℕ) : Type 0 where
   pub from : level_start level ≤ bit
   pub to : bit < level_start (suc level)
@@ -58,14 +64,14 @@ low (suc height) bit = low height (64 * (bit + 1))
 
 -- ---- marks
 
--- the marks of so many numbers, whose bits stand below so many levels: a bit that is set is no mark
+-- the marks of so many numbers, whose bits begin with this one: a bit that is set is no mark
 unfoldable pub marks_in : ℕ → ℕ → List ℕ → List Bool
-marks_in depth count words = map (λ bit. not (bit_in words bit)) (range_with_len (level_start depth) count)
+marks_in start count words = map (λ bit. not (bit_in words bit)) (range_with_len start count)
 
-pub record IsTree (depth count : ℕ) (words : List ℕ) : Type 0 where
-  pub levels : depth ≤ 4
-  pub fits : level_start depth + count ≤ level_start (suc depth)
-  pub room : level_start depth + count ≤ 64 * length words
+pub record IsTree (start count : ℕ) (words : List ℕ) : Type 0 where
+  pub begins : start ≡ level_start (depth_of start)
+  pub fits : start + count ≤ level_start (suc (depth_of start))
+  pub room : start + count ≤ 64 * length words
   pub small : length words ≤ 2 ^ 26
-  pub summed : IsSummed (level_start depth) words
-  pub rest : (x : ℕ) → level_start depth + count ≤ x → bit_in words x ≡ false
+  pub summed : IsSummed start words
+  pub rest : (x : ℕ) → start + count ≤ x → bit_in words x ≡ false

@@ -1,9 +1,9 @@
 ghost use Rattle.std.specs.Prelude.{◌≡◌, ℕ, ◌+◌, ◌*◌, ◌<◌, ◌≤◌, ◌^◌, ◌++◌, suc, length, replicate, slice_index_or, slice_set, true, false, IfOk, MatchOption};
-ghost use Rattle.marks.specs.Tree.{level_start};
+ghost use Rattle.marks.specs.Tree.{level_start, depth_of};
 ghost use Rattle.marks.specs.Marks.{IsFirstUnmarked, AllMarkedFrom};
 
 use crate::tree::{first_from, write};
-use crate::word::BITS;
+use crate::word::{BITS, lowest_from};
 use base::OutOfMemory;
 use std::alloc::Global;
 use std::marker::Model;
@@ -11,17 +11,14 @@ use std::marker::Model;
 #[cfg(test)]
 mod tests;
 
-/// The first bit of each level of a tree: 64 times the number of words of all levels above it.
-const LEVEL_STARTS: [usize; 5] = [0, 64, 4_160, 266_304, 17_043_520];
-
 /// A mark, or none, for each number below a count of at most 2^27.
 ///
-/// The words are a tree (`tree.rt`), `depth` levels of words that tell where others are not 0, and then the
-/// bits of the numbers: a bit that is set is a number without a mark.
+/// The words are a tree (`tree.rt`), levels of words that tell where others are not 0, and then from the bit
+/// `start` on the bits of the numbers: a bit that is set is a number without a mark.
 #[derive(Drop)]
 pub struct Marks {
     count: u32,
-    depth: u32,
+    start: usize,
     words: Vec<u64>,
 }
 
@@ -31,34 +28,26 @@ impl Model for Marks {
 
     ghost Value = { List Bool };
 
-    ghost view = { λ m. marks_in m.depth m.count m.words.items };
+    ghost view = { λ m. marks_in m.start m.count m.words.items };
 
-    ghost invariant = { λ m. IsTree m.depth m.count m.words.items };
+    ghost invariant = { λ m. IsTree m.start m.count m.words.items };
 }
 
-/// How many levels stand above the bits of so many numbers.
-#[tactic(auto, unfolding(crate::specs::Tree::level_start))]
-fn depth_for(count: u32) -> u32
+/// The first bit of the level that has those of so many numbers: 64 times the number of words of all levels above it.
+#[tactic(auto, unfolding(crate::specs::Tree::level_start, crate::specs::Tree::depth_of))]
+fn start_for(count: u32) -> usize
     requires { count ≤ 2 ^ 27 }
-    ensures levels { result ≤ 4 }
-    ensures holds { level_start result + count ≤ level_start (suc result) }
+    ensures begins { result ≡ level_start (depth_of result) }
+    ensures small { result ≤ 17043520 }
+    ensures holds { result + count ≤ level_start (suc (depth_of result)) }
 {
     match count {
         0..=64 => 0,
-        65..=4_096 => 1,
-        4_097..=262_144 => 2,
-        262_145..=16_777_216 => 3,
-        _ => 4,
+        65..=4_096 => 64,
+        4_097..=262_144 => 4_160,
+        262_145..=16_777_216 => 266_304,
+        _ => 17_043_520,
     }
-}
-
-/// The first bit of the level below so many others.
-#[tactic(auto, unfolding(crate::specs::Tree::level_start))]
-fn start_of(depth: u32) -> usize
-    requires { depth ≤ 4 }
-    ensures { result ≡ level_start depth }
-{
-    LEVEL_STARTS[depth as usize]
 }
 
 /// So many words, all of them 0.
@@ -86,11 +75,11 @@ impl Marks {
         requires { count ≤ 2 ^ 27 }
         ensures { IfOk result (λ marks. marks ≡ replicate count true) }
     {
-        let depth = depth_for(count);
-        let words = start_of(depth) / BITS + (count as usize).div_ceil(BITS);
+        let start = start_for(count);
+        let words = start / BITS + (count as usize).div_ceil(BITS);
         Ok(Marks {
             count,
-            depth,
+            start,
             words: zeros(alloc, words)?,
         })
     }
@@ -100,7 +89,7 @@ impl Marks {
         requires { n < length self.old }
         ensures { self.new ≡ slice_set self.old n true }
     {
-        let bit = start_of(self.depth) + n as usize;
+        let bit = self.start + n as usize;
         write(&mut self.words, bit, false);
     }
 
@@ -109,7 +98,7 @@ impl Marks {
         requires { n < length self.old }
         ensures { self.new ≡ slice_set self.old n false }
     {
-        let bit = start_of(self.depth) + n as usize;
+        let bit = self.start + n as usize;
         write(&mut self.words, bit, true);
     }
 
@@ -118,7 +107,7 @@ impl Marks {
         requires { n < length self.now }
         ensures { result ≡ slice_index_or self.now n false }
     {
-        let bit = start_of(self.depth) + n as usize;
+        let bit = self.start + n as usize;
         self.words[bit / BITS] >> (bit % BITS) & 1 == 0
     }
 
@@ -131,9 +120,23 @@ impl Marks {
         if n >= self.count {
             return None;
         }
-        let start = start_of(self.depth);
-        let bit = start + n as usize;
-        let found = first_from(&self.words, start, bit / BITS, (bit % BITS) as u32)?;
-        Some((found - start) as u32)
+        let bit = self.start + n as usize;
+        let found = first_from(&self.words, self.start, bit / BITS, (bit % BITS) as u32)?;
+        Some((found - self.start) as u32)
+    }
+
+    /// The lowest number at or above this one that has no mark, where there is one. Mostly its bit stands in the word
+    /// of this one: then no other is looked at.
+    #[inline(always)]
+    pub fn next_unmarked(&self, n: u32) -> u32
+        requires { ¬ AllMarkedFrom self.now n }
+        ensures { IsFirstUnmarked self.now n result }
+    {
+        let bit = self.start + n as usize;
+        let place = (bit % BITS) as u32;
+        match lowest_from(self.words[bit / BITS], place) {
+            Some(lowest) => n + (lowest - place),
+            None => self.first_unmarked_from(n).unwrap(),
+        }
     }
 }

@@ -4,7 +4,7 @@
 ghost use Rattle.std.specs.Prelude.{◌≡◌, ◌≢◌, ℕ, ◌+◌, ◌*◌, ◌/◌, ◌<◌, ◌≤◌, ◌^◌, suc, length, slice_index, true, MatchOption};
 ghost use Rattle.marks.specs.Tree.{bit_in, has_bits, IsSummed, IsSummedBut, IsInLevel, IsFirstBit, NoneBetween, level_start, low};
 
-use crate::word::{BITS, lowest_from, with_bit};
+use crate::word::{BITS, is_turned, lowest_from, with_bit};
 
 /// Writes a bit, and above it each bit that now says something else of its word.
 pub(crate) fn write(words: &mut [u64], bit: usize, on: bool)
@@ -20,8 +20,8 @@ pub(crate) fn write(words: &mut [u64], bit: usize, on: bool)
     let before = words[word];
     let after = with_bit(before, (bit % BITS) as u32, on);
     words[word] = after;
-    if word > 0 && (before == 0) != (after == 0) {
-        write(words, word - 1, after != 0);
+    if word > 0 && is_turned(before, after, on) {
+        write(words, word - 1, on);
     }
 }
 

@@ -1,5 +1,6 @@
-use Rattle.std.proofs.Common.{◌≡◌, ℕ, suc, ◌+◌, ◌*◌, ◌/◌, ◌%◌, ◌<◌, length, arith, sym, ◌∙◌, ap, subst, add-zero}
-use Rattle.marks.specs.Tree.{IsFirstBit, NoneBetween, IsInLevel, level_start, low}
+use Rattle.std.proofs.Common.{◌≡◌, ℕ, suc, ◌+◌, ◌*◌, ◌/◌, ◌%◌, ◌<◌, List, length, Option, Some, None, arith, sym, ap, ◌∙◌, add-zero}
+use Rattle.std.specs.Prelude.{MatchOption}
+use Rattle.marks.specs.Tree.{IsFirstBit, IsInLevel, IsTree, NoneBetween, depth_of, level_start, low}
 use Rattle.marks.proofs.Listed.{length-marks_in, word-in_level, found-unmarked, none-unmarked}
 use Rattle.marks.proofs.marks.Marks.first_unmarked_from.Goals as goal
 
@@ -8,44 +9,45 @@ same-from : (bit : ℕ) → low 0 (64 * (bit / 64) + bit % 64) ≡ bit
 unfolding low
 same-from bit = omega arith
 
+-- what was found, from the bit of a number on
+found-from : (start count n : ℕ) (words : List ℕ) (result : Option ℕ) → IsTree start count words → n < count
+    → ((level height : ℕ) → start ≡ level_start (level + height) → IsInLevel level (64 * ((start + n) / 64)) → MatchOption result
+    (NoneBetween words (low height (64 * ((start + n) / 64) + (start + n) % 64)) (level_start (suc (level + height))))
+    (λ found. IsFirstBit words start (low height (64 * ((start + n) / 64) + (start + n) % 64)) found))
+    → MatchOption result (NoneBetween words (start + n) (level_start (suc (depth_of start)))) (λ found. IsFirstBit words start (start + n) found)
+found-from start count n words result tree below search-by =
+    let depth = depth_of start in
+    let zero : depth + 0 ≡ depth = add-zero depth in
+    let found = search-by depth 0 (tree.begins ∙ ap level_start (sym zero)) (word-in_level start count words n tree below) in
+    rw (same-from (start + n), zero) at found
+
 pub returns-then-n-self : goal.returns-then-n-self
 returns-then-n-self c = λ k from inside.
     let m = c.self.inside in
-    absurd (omega (arith, from, inside, c.if-n-self.true, ap length c.self.view_is, length-marks_in m.depth m.count m.words.items))
+    absurd (omega (arith, from, inside, c.if-n-self.true, ap length c.self.view_is, length-marks_in m.start m.count m.words.items))
 
 pub returns-in_err-found : goal.returns-in_err-found
 returns-in_err-found c =
     let m = c.self.inside in
-    let start = c.start_of-start.result in
-    let below : c.args.n < m.count = omega (arith, c.if-n-self.false) in
-    let level : IsInLevel m.depth (64 * ((start + c.args.n) / 64)) = rw c.start_of-start.ensures (word-in_level m.depth m.count m.words.items c.args.n c.self.invariant below) in
-    let none = c.in_err-found.ensures m.depth 0 (c.start_of-start.ensures ∙ ap level_start (sym (add-zero m.depth))) level in
-    let same = same-from (start + c.args.n) in
-    let behind : NoneBetween m.words.items (level_start m.depth + c.args.n) (level_start (suc m.depth)) =
-    rw (← c.deref.ensures.value, ← c.start_of-start.ensures) (λ x from to. none x (omega (arith, same, from)) (let end : level_start (suc (m.depth + 0)) ≡ level_start (suc m.depth) = ap (λ d. level_start (suc d)) (add-zero m.depth) in omega (arith, to, end))) in
-    rw (c.from_residual.ensures, ← c.self.view_is) (none-unmarked m.depth m.count c.args.n m.words.items c.self.invariant behind)
-
--- what was found
-first-bit : (c : goal.In_ok-found) → IsFirstBit c.self.inside.words.items (level_start c.self.inside.depth) (level_start c.self.inside.depth + c.args.n) c.in_ok-found.found
-first-bit c =
-    let m = c.self.inside in
-    let start = c.start_of-start.result in
-    let below : c.args.n < m.count = omega (arith, c.if-n-self.false) in
-    let level : IsInLevel m.depth (64 * ((start + c.args.n) / 64)) = rw c.start_of-start.ensures (word-in_level m.depth m.count m.words.items c.args.n c.self.invariant below) in
-    let first = c.in_ok-found.ensures m.depth 0 (c.start_of-start.ensures ∙ ap level_start (sym (add-zero m.depth))) level in
-    rw (← c.deref.ensures.value, ← c.start_of-start.ensures) (subst (λ b. IsFirstBit c.deref.result.now start b c.in_ok-found.found) (same-from (start + c.args.n)) first)
+    let none = found-from m.start m.count c.args.n m.words.items None c.self.invariant (omega (arith, c.if-n-self.false)) (rw c.deref.ensures.value at c.in_err-found.ensures) in
+    rw (c.from_residual.ensures, ← c.self.view_is) (none-unmarked m.start m.count c.args.n m.words.items c.self.invariant none)
 
 pub overflow_sub-result : goal.overflow_sub-result
-overflow_sub-result c = let first = first-bit c in omega (arith, first.counts, c.start_of-start.ensures)
+overflow_sub-result c =
+    let m = c.self.inside in
+    let first = found-from m.start m.count c.args.n m.words.items (Some c.in_ok-found.found) c.self.invariant (omega (arith, c.if-n-self.false)) (rw c.deref.ensures.value at c.in_ok-found.ensures) in
+    omega (arith, first.counts)
 
 pub overflow_cast-result : goal.overflow_cast-result
 overflow_cast-result c =
     let m = c.self.inside in
-    let lowest = found-unmarked m.depth m.count c.args.n c.in_ok-found.found m.words.items c.self.invariant (first-bit c) in
     let tree = c.self.invariant in
-    omega (arith, lowest.inside, length-marks_in m.depth m.count m.words.items, tree.room, tree.small, c.start_of-start.ensures)
+    let first = found-from m.start m.count c.args.n m.words.items (Some c.in_ok-found.found) tree (omega (arith, c.if-n-self.false)) (rw c.deref.ensures.value at c.in_ok-found.ensures) in
+    let lowest = found-unmarked m.start m.count c.args.n c.in_ok-found.found m.words.items tree first in
+    omega (arith, lowest.inside, length-marks_in m.start m.count m.words.items, tree.room, tree.small)
 
 pub returns : goal.returns
 returns c =
     let m = c.self.inside in
-    rw (← c.self.view_is, c.start_of-start.ensures) (found-unmarked m.depth m.count c.args.n c.in_ok-found.found m.words.items c.self.invariant (first-bit c))
+    let first = found-from m.start m.count c.args.n m.words.items (Some c.in_ok-found.found) c.self.invariant (omega (arith, c.if-n-self.false)) (rw c.deref.ensures.value at c.in_ok-found.ensures) in
+    rw (← c.self.view_is) (found-unmarked m.start m.count c.args.n c.in_ok-found.found m.words.items c.self.invariant first)

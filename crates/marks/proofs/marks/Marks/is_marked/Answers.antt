@@ -19,18 +19,16 @@ bit-read words bit = rw shr_and_one (one-bit (bit_at (slice_index words (bit / 6
 pub index-requires : goal.index-requires
 index-requires c =
     let m = c.self.inside in
-    let below : c.args.n < m.count = omega (arith, c.requires, ap length c.self.view_is, length-marks_in m.depth m.count m.words.items) in
-    let inside = bit-inside m.depth m.count m.words.items c.args.n c.self.invariant below in
-    let start = c.start_of.ensures in
+    let below : c.args.n < m.count = omega (arith, c.requires, ap length c.self.view_is, length-marks_in m.start m.count m.words.items) in
+    let inside = bit-inside m.start m.count m.words.items c.args.n c.self.invariant below in
     let whole = m.words.ok.0 in
-    omega (arith, inside, start, whole)
+    omega (arith, inside, whole)
 
 pub returns : goal.returns
 returns c =
     let m = c.self.inside in
-    let below : c.args.n < m.count = omega (arith, c.requires, ap length c.self.view_is, length-marks_in m.depth m.count m.words.items) in
-    let inside = bit-inside m.depth m.count m.words.items c.args.n c.self.invariant below in
-    let start = c.start_of.ensures in
-    let bit = c.start_of.result + c.args.n in
-    let read : c.index.result.now ≡ slice_index m.words.items (bit / 64) = get_or_read m.words.items (bit / 64) _ (omega (arith, inside, start)) c.index.ensures 0 in
-    rw (read, ← c.self.view_is) (bit-read m.words.items bit ∙ ap (λ s. not (bit_in m.words.items (s + c.args.n))) start ∙ sym (marks_in-at m.depth m.count m.words.items c.args.n false below))
+    let below : c.args.n < m.count = omega (arith, c.requires, ap length c.self.view_is, length-marks_in m.start m.count m.words.items) in
+    let inside = bit-inside m.start m.count m.words.items c.args.n c.self.invariant below in
+    let bit = m.start + c.args.n in
+    let read : c.index.result.now ≡ slice_index m.words.items (bit / 64) = get_or_read m.words.items (bit / 64) _ (omega (arith, inside)) c.index.ensures 0 in
+    rw (read, ← c.self.view_is) (bit-read m.words.items bit ∙ sym (marks_in-at m.start m.count m.words.items c.args.n false below))
