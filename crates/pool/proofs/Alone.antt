@@ -1,6 +1,6 @@
 -- A page alone, whose word stands at an index.
-use Rattle.std.proofs.Common.{◌≡◌, ◌≢◌, ℕ, ◌+◌, ◌-◌, ◌*◌, ◌<◌, ◌≤◌, ◌⊎◌, arith, [], ◌∷◌, length, slice_index, refl, sym, ap, ◌∙◌, inl, inr}
-use Rattle.pool.specs.Pool.{Pool, after_run, after_set, after_sets, words_set, index_from, words_in}
+use Rattle.std.proofs.Common.{◌≡◌, ◌≢◌, ℕ, ◌+◌, ◌*◌, ◌<◌, ◌≤◌, ◌⊎◌, arith, [], ◌∷◌, length, slice_index, refl, sym, ap, ◌∙◌, inl, inr}
+use Rattle.pool.specs.Pool.{Pool, after_set, after_sets, words_set, index_from, words_in}
 use Rattle.pool.specs.Writing.{page_alone, runs_set}
 use Rattle.pool.specs.declared.runs.TableWords.{TableWords}
 use Rattle.pool.proofs.RunWords.{after_run-outside, page-alone, sets-none}

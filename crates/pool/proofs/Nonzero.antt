@@ -8,7 +8,7 @@ use Rattle.base.specs.Counts.{count_below}
 use Rattle.base.specs.Manifest.{page_count}
 use Rattle.pool.specs.Pool.{Words, words_of, put, nonzero_in, CountsNonzero}
 use Rattle.pool.proofs.Count.{count_below-same, count_below-one, count_below-some, count_below-none, count_below-le, count_below-full, count_below-witness}
-use Rattle.pool.proofs.Words.{put-same, put-other_index, put-other_page, words_of-set, words_of-set_at, words_of-zeros}
+use Rattle.pool.proofs.Words.{put-same, put-other_index, words_of-set_at, words_of-zeros}
 
 -- a test that has another answer at one number
 count_below-at : (passes others : ℕ → Bool) (n x : ℕ) → x < n → ((k : ℕ) → k < n → k ≢ x → others k ≡ passes k)

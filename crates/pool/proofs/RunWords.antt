@@ -1,13 +1,10 @@
 -- The words for the pages of runs, and what else is kept.
-use Rattle.std.proofs.Common.{◌≡◌, ◌≢◌, ℕ, ◌+◌, ◌-◌, ◌*◌, ◌%◌, ◌^◌, ◌<◌, ◌≤◌, arith, List, [], ◌∷◌, ◌++◌, length, get_or, drop, reverse, slice_index, slice_set, refl, sym, subst, ap, ap₂, ◌∙◌}
+use Rattle.std.proofs.Common.{◌≡◌, ℕ, ◌+◌, ◌-◌, ◌*◌, ◌%◌, ◌^◌, ◌<◌, ◌≤◌, arith, List, [], ◌∷◌, ◌++◌, length, get_or, drop, refl, sym, ap, ap₂, ◌∙◌}
 use Rattle.std.proofs.Math.Nat.{mul-le-mul_left}
-use Rattle.std.proofs.lemmas.List.{length-append, reverse-append, at_drop_more, at_drop_all}
+use Rattle.std.proofs.lemmas.List.{length-append, at_drop_more}
 use Rattle.base.specs.Pages.{PageRun}
-use Rattle.pool.specs.Pool.{Pool, words_of, words_set, sets_of, counted, after_sets, index_from, words_in, after_run, after_runs}
-use Rattle.pool.specs.Shown.{IsShown}
-use Rattle.pool.specs.declared.operation.Op.{Op}
-use Rattle.pool.specs.declared.operation.Op.TheVariants.{Set}
-use Rattle.pool.proofs.Stretches.{length-words_set, words_set-other, words_set-none, words_set-next, sets_of-none, sets_of-write, sets_of-pass, set-same, counted-length}
+use Rattle.pool.specs.Pool.{Pool, words_set, sets_of, counted, after_sets, index_from, words_in, after_run, after_runs}
+use Rattle.pool.proofs.Stretches.{length-words_set, words_set-other, counted-length}
 use Rattle.pool.proofs.Replaced.{Keeps, keeps-self, keeps-more}
 
 -- ---- none, and one run more

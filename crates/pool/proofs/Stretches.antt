@@ -1,16 +1,15 @@
 -- Words of a page that follow one another, and the operations that write them.
-use Rattle.std.proofs.Common.{◌≡◌, ◌≢◌, ℕ, zero, suc, ◌+◌, ◌-◌, ◌*◌, ◌%◌, ◌^◌, ◌<◌, ◌≤◌, ◌==◌, arith, Bool, true, false, cond, List, [], ◌∷◌, ◌++◌, length, reverse, slice_index, slice_set, true≢false, refl, sym, ap, ◌∙◌, ◌⊎◌, inl, inr, add-one, Vec, Global, vec_len}
+use Rattle.std.proofs.Common.{◌≡◌, ◌≢◌, ℕ, zero, suc, ◌+◌, ◌-◌, ◌*◌, ◌%◌, ◌^◌, ◌<◌, ◌≤◌, ◌==◌, arith, true, false, cond, List, [], ◌∷◌, ◌++◌, length, reverse, slice_index, slice_set, refl, sym, ap, ◌∙◌, ◌⊎◌, inl, inr, add-one, Vec, Global, vec_len}
 use Rattle.std.proofs.Math.Nat.{mul-le-mul_left}
 use Rattle.std.proofs.lemmas.Bool.{cases_eq, cases_Bool}
 use Rattle.std.proofs.lemmas.Bool.Decides.{nat_tests}
 use Rattle.std.proofs.lemmas.List.{length-set, length-append, length-reverse, append_assoc}
-use Rattle.base.specs.Manifest.{page_count}
-use Rattle.pool.specs.Pool.{Words, put, words_of, taken_of, nonzero_in, CountsNonzero, words_set, sets_of, counted}
+use Rattle.pool.specs.Pool.{Words, put, words_of, nonzero_in, words_set, sets_of, counted}
 use Rattle.pool.specs.declared.operation.Op.{Op}
 use Rattle.pool.specs.declared.operation.Op.TheVariants.{Set}
 use Rattle.pool.proofs.Words.{words_of-set_at, put-same, put-other_index, put-other_page}
 use Rattle.pool.specs.Shown.{AllDiffer}
-use Rattle.pool.proofs.Nonzero.{word-read, nonzero-put, nonzero-zeros, nonzero-none, counts_nonzero-page}
+use Rattle.pool.proofs.Nonzero.{word-read, nonzero-put, nonzero-zeros, nonzero-none}
 
 -- their number stays
 pub length-words_set : (words : List ℕ) (page first n word step : ℕ) → length (words_set words page first n word step) ≡ length words

@@ -1,12 +1,11 @@
 -- What is written of a page, step by step.
-use Rattle.std.proofs.Common.{◌≡◌, ◌≢◌, ℕ, zero, suc, ◌+◌, ◌-◌, ◌*◌, ◌%◌, ◌^◌, ◌<◌, ◌≤◌, ◌==◌, true, false, arith, List, [], ◌∷◌, ◌++◌, length, reverse, slice_index, slice_set, vec_len, vec_capacity, refl, sym, subst, ap, ap₂, ◌∙◌, inr, add-one}
-use Rattle.std.proofs.lemmas.Bool.{cases_eq}
+use Rattle.std.proofs.Common.{◌≡◌, ◌≢◌, ℕ, ◌+◌, ◌-◌, ◌*◌, ◌%◌, ◌^◌, ◌<◌, ◌≤◌, ◌==◌, true, false, arith, List, [], ◌∷◌, ◌++◌, length, reverse, slice_index, slice_set, vec_len, vec_capacity, refl, sym, subst, ap, ap₂, ◌∙◌, inr, add-one}
 use Rattle.std.proofs.lemmas.Bool.Decides.{nat_tests}
 use Rattle.std.proofs.lemmas.List.{length-set, reverse-append}
 use Rattle.base.specs.Pages.{PageRun, covers}
 use Rattle.pool.specs.Pool.{Pool, words_of, words_set, sets_of, nonzero_in, counted, after_set, after_sets, after_run, after_invalidate, index_from, words_in, gap}
 use Rattle.pool.specs.Shown.{IsShown}
-use Rattle.pool.specs.Writing.{HasRoom, Grows, IsReady, Wrote, IsHeld, Records, TurnRuns, with_range, writes_of, range_set, runs_set, indexes_set}
+use Rattle.pool.specs.Writing.{HasRoom, Grows, IsReady, Wrote, Records, TurnRuns, with_range, writes_of, range_set, runs_set, indexes_set}
 use Rattle.pool.specs.declared.log.Log.{Log}
 use Rattle.pool.specs.declared.operation.Op.{Op}
 use Rattle.pool.specs.declared.operation.Op.TheVariants.{Set, Invalidate}

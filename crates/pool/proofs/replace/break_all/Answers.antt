@@ -1,4 +1,4 @@
-use Rattle.std.proofs.Common.{◌≡◌, ◌≢◌, ◌+◌, ◌-◌, ◌*◌, ◌<◌, ◌≤◌, refl, sym, ap, ap₂, ◌∙◌, arith, rules}
+use Rattle.std.proofs.Common.{◌≡◌, ◌+◌, ◌-◌, ◌*◌, ◌<◌, refl, sym, ap, ap₂, ◌∙◌, arith, rules}
 use Rattle.pool.specs.Pool.{words_of}
 use Rattle.pool.specs.Writing.{replaces}
 use Rattle.pool.proofs.Nonzero.{nonzero-full}

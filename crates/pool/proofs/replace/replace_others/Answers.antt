@@ -1,4 +1,4 @@
-use Rattle.std.proofs.Common.{◌≡◌, ◌+◌, ◌-◌, ◌*◌, ◌<◌, ◌^◌, ◌≤◌, refl, sym, ◌∙◌, arith, rules}
+use Rattle.std.proofs.Common.{◌≡◌, ◌+◌, ◌-◌, ◌*◌, refl, sym, ◌∙◌, arith, rules}
 use Rattle.pool.specs.Writing.{replaces}
 use Rattle.pool.proofs.Replaced.{replaces-none, replaces-then}
 use Rattle.pool.proofs.Stretches.{part-in_range}

@@ -1,4 +1,4 @@
-use Rattle.std.proofs.Common.{◌≡◌, ◌≢◌, ◌+◌, ◌-◌, ◌*◌, ◌<◌, [], ◌∷◌, length, slice_index, ap, sym, ◌∙◌, refl, arith}
+use Rattle.std.proofs.Common.{◌≡◌, ◌≢◌, ◌+◌, ◌*◌, ◌<◌, [], ◌∷◌, length, slice_index, ap, sym, ◌∙◌, arith}
 use Rattle.pool.specs.Writing.{log_of, page_alone, runs_set}
 use Rattle.pool.proofs.Alone.{alone-outside, alone-words, alone-set, alone-stays}
 use Rattle.pool.proofs.Nonzero.{read-test}

@@ -1,8 +1,8 @@
-use Rattle.std.proofs.Common.{◌≡◌, [], ◌∷◌, ap, sym, subst, ◌∙◌}
+use Rattle.std.proofs.Common.{sym, subst, ◌∙◌}
 use Rattle.base.specs.Pages.{PageRun}
 use Rattle.std.proofs.Common.{List}
 use Rattle.pool.specs.Pool.{words_in}
-use Rattle.pool.specs.Writing.{IsReady, Wrote, log_of, page_alone, runs_set}
+use Rattle.pool.specs.Writing.{IsReady, Wrote, log_of, runs_set}
 use Rattle.pool.proofs.RunWords.{runs-one}
 use Rattle.pool.proofs.runs.set_runs.Goals as goal
 

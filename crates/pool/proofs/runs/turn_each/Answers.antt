@@ -1,6 +1,5 @@
-use Rattle.std.proofs.Common.{◌+◌, ◌<◌, ◌≤◌, [], ◌∷◌, drop, refl, sym, ap, ◌∙◌, arith, rules, inl, inr}
+use Rattle.std.proofs.Common.{◌+◌, [], ◌∷◌, drop, refl, ◌∙◌, arith, rules, inl, inr}
 use Rattle.std.proofs.lemmas.Bool.{cases_lt}
-use Rattle.pool.specs.Pool.{index_from}
 use Rattle.pool.proofs.Gaps.{above, before-rise, rise-lower, rise-normal}
 use Rattle.pool.proofs.Turned.{runs-left, runs-done}
 use Rattle.pool.proofs.Wrote.{left-all, left-ready, left-less, left-none, turned-part, turned-rest, run-beside}

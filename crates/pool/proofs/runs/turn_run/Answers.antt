@@ -1,4 +1,4 @@
-use Rattle.std.proofs.Common.{◌≡◌, ◌≤◌, [], ◌∷◌, ap, sym, subst, ◌∙◌, refl, arith}
+use Rattle.std.proofs.Common.{[], ◌∷◌, ap, sym, subst, ◌∙◌, refl, arith}
 use Rattle.base.specs.Pages.{PageRun}
 use Rattle.pool.specs.Pool.{index_from, words_in}
 use Rattle.pool.specs.Writing.{IsReady, Wrote, TurnRuns, log_of, runs_set}

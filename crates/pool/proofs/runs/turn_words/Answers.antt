@@ -1,4 +1,4 @@
-use Rattle.std.proofs.Common.{◌≡◌, ◌-◌, ◌*◌, ◌+◌, ◌∙◌, arith}
+use Rattle.std.proofs.Common.{◌≡◌, ◌-◌, ◌*◌, ◌+◌, arith}
 use Rattle.pool.specs.Writing.{indexes_set}
 use Rattle.pool.proofs.RunWords.{sets-none, words-in_range}
 use Rattle.pool.proofs.Turned.{turned-range}

@@ -1,7 +1,7 @@
-use Rattle.std.proofs.Common.{◌≡◌, ◌≤◌, [], ◌∷◌, ap, sym, subst, ◌∙◌, arith}
+use Rattle.std.proofs.Common.{◌≤◌, [], ◌∷◌, ap, sym, subst, ◌∙◌, arith}
 use Rattle.base.specs.Pages.{PageRun}
 use Rattle.pool.specs.Pool.{index_from, words_in}
-use Rattle.pool.specs.Writing.{IsReady, Wrote, log_of, runs_set, page_alone}
+use Rattle.pool.specs.Writing.{IsReady, Wrote, log_of, runs_set}
 use Rattle.pool.proofs.RunWords.{words-in_range, run-alone}
 use Rattle.pool.proofs.Wrote.{wrote-run}
 use Rattle.pool.proofs.runs.write_run.Goals as goal

@@ -1,4 +1,4 @@
-use Rattle.std.proofs.Common.{◌≡◌, ◌+◌, ◌-◌, ◌*◌, ◌≤◌, length, refl, sym, ap, ◌∙◌, arith, rules}
+use Rattle.std.proofs.Common.{◌≡◌, ◌+◌, ◌-◌, ◌*◌, ◌≤◌, length, refl, ap, ◌∙◌, arith, rules}
 use Rattle.pool.specs.Pool.{words_of, nonzero_in, after_sets}
 use Rattle.pool.proofs.RunWords.{sets-none}
 use Rattle.pool.proofs.Stretches.{nonzero-sets_of, emptied-part}
