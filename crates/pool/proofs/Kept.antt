@@ -1,20 +1,19 @@
 -- What a table memory keeps at each write, and what its searches find.
-use Rattle.std.proofs.Common.{◌≡◌, ℕ, ◌+◌, ◌<◌, ◌≤◌, ◌^◌, Bool, true, false, List, length, slice_index, slice_set, sym, ◌∙◌, ap, ap₂, ◌*◌, replicate, ◌++◌, refl, arith, inl, inr, IsTrue, IsSome, Some, None, Option, ◌==◌}
+use Rattle.std.proofs.Common.{◌≡◌, ℕ, ◌+◌, ◌<◌, ◌≤◌, ◌^◌, Bool, true, false, List, length, slice_index, slice_set, ◌∙◌, ap, ap₂, replicate, ◌++◌, refl, arith, inl, inr, IsTrue, IsSome, Some, ◌==◌, ◌≢◌, min}
 use Rattle.std.specs.List.{position}
-use Rattle.std.specs.Prelude.{MatchOption}
 use Rattle.std.proofs.lemmas.Grind.{common_steps}
 use Rattle.std.proofs.lemmas.Bool.{cases_eq, cases_lt}
 use Rattle.std.proofs.lemmas.Bool.Decides.{nat_tests}
 use Rattle.std.proofs.lemmas.List.{length-map}
 use Rattle.base.specs.Manifest.{PartitionRow, ManifestRows, row_of, quotas_of, page_count}
 use Rattle.manifest.specs.Valid.{is_valid}
-use Rattle.pool.specs.Pool.{Memory, Pages, InShare, IsLowestFreeOf, row_in, words_of, taken_of, put, mark, with_mark, share_start, row_quota, pages_of, free_of, CountsFree, new_memory, used_by, used_of}
+use Rattle.pool.specs.Pool.{Memory, Pages, InShare, IsLowestFreeOf, row_in, words_of, taken_of, mark, with_mark, share_start, row_quota, pages_of, free_of, CountsFree, NoneFreeBelow, new_memory, used_by, used_of}
 use Rattle.pool.specs.declared.table_pool.TablePool.{TablePool}
 use Rattle.pool.specs.declared.word_store.WordStore.{Ghosts}
 use Rattle.marks.specs.Marks.{IsFirstUnmarked, AllMarkedFrom}
-use Rattle.pool.proofs.Words.{words_of-set, taken_of-set}
+use Rattle.pool.proofs.Words.{taken_of-set}
 use Rattle.std.proofs.lemmas.List.{length-set, get_or-set_same, get_or-set_other}
-use Rattle.pool.proofs.Shares.{row_quota-none, share_at, share_inside, used_by-new, used_by-take, used_by-give, used_by-other}
+use Rattle.pool.proofs.Shares.{row_quota-none, share_at, share_inside, share_unique, used_by-new, used_by-take, used_by-give, used_by-other}
 use Rattle.pool.proofs.Count.{count_below-all}
 
 -- ---- free pages hold zeros
@@ -94,39 +93,87 @@ free-some m p free held =
     let all = count_below-all (λ k. m.taken (share_start m.quotas row + k)) (row_quota m.quotas row) (λ k short. held (share_start m.quotas row + k) (share_at m.quotas row k short)) in
     omega (arith, free, all)
 
--- the first page of its share that is not taken is found
-pub found-some : (m : Memory) (p : ℕ) (result : Option ℕ) → length m.taken ≡ page_count m.quotas → 0 < free_of (pages_of m) p
-    → MatchOption result (AllMarkedFrom m.taken (share_start m.quotas (row_in m p))) (λ found. IsFirstUnmarked m.taken (share_start m.quotas (row_in m p)) found) → IsSome result
+-- nor are all from the page on below which none is free
+pub some-unmarked : (m : Memory) (lowest : List ℕ) (p : ℕ) → NoneFreeBelow m.quotas m.taken lowest → length m.taken ≡ page_count m.quotas → 0 < free_of (pages_of m) p → ¬ AllMarkedFrom m.taken (slice_index lowest (row_in m p))
 unfolding taken_of
-found-some m p None whole free held =
-    absurd (free-some (pages_of m) p free (λ q inside. held q inside.from (omega (arith, whole, share_inside m.quotas (row_in m p) q inside))))
-found-some m p (Some found) whole free first = refl
+some-unmarked m lowest p below whole free held =
+    free-some (pages_of m) p free (λ q inside. elim (cases_lt q (slice_index lowest (row_in m p))) [
+      | inl under ↦ below.below (row_in m p) q inside under
+      | inr on ↦ held q on (omega (arith, whole, share_inside m.quotas (row_in m p) q inside))
+    ])
 
--- and it is the lowest free one
-pub found-lowest : (m : Memory) (p found : ℕ) → 0 < free_of (pages_of m) p → IsFirstUnmarked m.taken (share_start m.quotas (row_in m p)) found → IsLowestFreeOf m p found
+-- the next one that is not taken is the lowest free one
+pub found-lowest : (m : Memory) (lowest : List ℕ) (p found : ℕ) → NoneFreeBelow m.quotas m.taken lowest → 0 < free_of (pages_of m) p → IsFirstUnmarked m.taken (slice_index lowest (row_in m p)) found → IsLowestFreeOf m p found
 unfolding taken_of
-found-lowest m p found free first =
+found-lowest m lowest p found below free first =
     let row = row_in m p in
+    let inside = share_at m.quotas row 0 (omega (arith, free)) in
+    let before : (q : ℕ) → InShare m.quotas row q → q < found → taken_of m.taken q ≡ true = λ q in_share early. elim (cases_lt q (slice_index lowest row)) [
+      | inl under ↦ below.below row q in_share under
+      | inr on ↦ first.before q on early
+    ] in
     record {
       inside = record {
-        partition = (share_at m.quotas row 0 (omega (arith, free))).partition;
-        from = first.from;
+        partition = inside.partition;
+        from = omega (arith, first.from, below.from row inside.partition);
         to = elim (cases_lt found (share_start m.quotas row + row_quota m.quotas row)) [
           | inl within ↦ within
-          | inr beyond ↦ absurd (free-some (pages_of m) p free (λ q inside. first.before q inside.from (omega (arith, beyond, inside.to))))
+          | inr beyond ↦ absurd (free-some (pages_of m) p free (λ q in_share. before q in_share (omega (arith, beyond, in_share.to))))
         ];
       };
       free = first.free;
-      lowest = λ q inside before. first.before q inside.from before;
+      lowest = before;
     }
 
--- what a search from where a row's share begins finds, for a partition of that row
-pub found-page : (m : Memory) (p row start page : ℕ) (result : Option ℕ) → 0 < free_of (pages_of m) p → position (λ id. id == p) m.ids ≡ Some row → start ≡ share_start m.quotas row → result ≡ Some page
-    → MatchOption result (AllMarkedFrom m.taken start) (λ found. IsFirstUnmarked m.taken start found) → IsLowestFreeOf m p page
-found-page m p row start page result free placed begins is found =
-    let first : IsFirstUnmarked m.taken start page = (rw is at found) in
-    let here : start ≡ share_start m.quotas (row_in m p) = begins ∙ ap (share_start m.quotas) (sym ((row_of-found m.ids p row placed).0)) in
-    found-lowest m p page free (rw (← here) first)
+-- ---- the page below which none is free
+
+-- a page of a row's share gets another mark, and the row another such page
+below-set : (quotas lowest : List ℕ) (taken : List Bool) (row page n : ℕ) (is : Bool) → NoneFreeBelow quotas taken lowest → InShare quotas row page → page < length taken → share_start quotas row ≤ n
+    → ((q : ℕ) → InShare quotas row q → q < n → mark page is (taken_of taken) q ≡ true)
+    → NoneFreeBelow quotas (slice_set taken page is) (slice_set lowest row n)
+unfolding mark
+below-set quotas lowest taken row page n is old inside small from right = record {
+  rows = length-set lowest row n ∙ old.rows;
+  from = λ r below. elim (cases_eq r row) [
+    | inl same ↦ rw same (omega (arith, from, get_or-set_same lowest row n 0 (omega (arith, old.rows, inside.partition))))
+    | inr differs ↦ omega (arith, old.from r below, get_or-set_other lowest row r n 0 differs)
+  ];
+  below = λ r q in_share under. rw (taken_of-set taken page is small) (elim (cases_eq r row) [
+    | inl same ↦
+        let at = get_or-set_same lowest row n 0 (omega (arith, old.rows, inside.partition)) in
+        let here : q < slice_index (slice_set lowest row n) row = rw same at under in
+        right q (rw same at in_share) (omega (arith, at, here))
+    | inr differs ↦
+        let at = get_or-set_other lowest row r n 0 differs in
+        let apart : q ≢ page = λ equal. differs (share_unique quotas r row q in_share (rw (← equal) at inside)) in
+        let held = old.below r q in_share (omega (arith, at, under)) in
+        grind (arith, nat_tests, apart, held)
+  ]);
+}
+
+-- it is the one behind a page that was the lowest free one, once that is taken
+pub below-take : (quotas lowest : List ℕ) (taken : List Bool) (row page : ℕ) → NoneFreeBelow quotas taken lowest → InShare quotas row page → page < length taken
+    → ((q : ℕ) → InShare quotas row q → q < page → taken_of taken q ≡ true)
+    → NoneFreeBelow quotas (slice_set taken page true) (slice_set lowest row (page + 1))
+unfolding mark
+below-take quotas lowest taken row page old inside small before =
+    below-set quotas lowest taken row page (page + 1) true old inside small (omega (arith, inside.from))
+    (λ q in_share under. elim (cases_eq q page) [
+      | inl same ↦ grind (arith, nat_tests, same)
+      | inr differs ↦ let held = before q in_share (omega (arith, under, differs)) in grind (arith, nat_tests, differs, held)
+    ])
+
+-- and a page that is given back, where that is lower
+pub below-give : (quotas lowest : List ℕ) (taken : List Bool) (row page : ℕ) → NoneFreeBelow quotas taken lowest → InShare quotas row page → page < length taken
+    → NoneFreeBelow quotas (slice_set taken page false) (slice_set lowest row (min (slice_index lowest row) page))
+unfolding mark
+below-give quotas lowest taken row page old inside small =
+    below-set quotas lowest taken row page (min (slice_index lowest row) page) false old inside small
+    (let from = old.from row inside.partition in omega (arith, from, inside.from))
+    (λ q in_share under.
+    let held = old.below row q in_share (omega (arith, under)) in
+    let differs : q ≢ page = λ same. omega (arith, under, same) in
+    grind (arith, nat_tests, differs, held))
 
 -- ---- the pages of a share that are free
 

@@ -3,11 +3,10 @@ use Rattle.std.proofs.Common.{◌≡◌, ◌≢◌, ℕ, ◌+◌, ◌*◌, ◌%�
 use Rattle.std.specs.List.{list_all}
 use Rattle.std.proofs.lemmas.List.{length-reverse}
 use Rattle.base.specs.Manifest.{page_count}
-use Rattle.pool.specs.Pool.{Pool, words_of, taken_of, nonzero_in, lies_in, CountsFree, CountsNonzero}
+use Rattle.pool.specs.Pool.{Pool, words_of, taken_of, lies_in, CountsFree, CountsNonzero, NoneFreeBelow}
 use Rattle.pool.specs.Shown.{IsShown}
 use Rattle.pool.specs.Writing.{Wrote, log_of}
 use Rattle.pool.specs.declared.log.Log.{Log}
-use Rattle.pool.specs.declared.operation.Op.{Op}
 use Rattle.pool.specs.declared.table_pool.TablePool.{TablePool}
 use Rattle.pool.specs.declared.word_store.WordStore.{Ghosts}
 use Rattle.pool.proofs.Kept.{memory_in}
@@ -25,6 +24,7 @@ Holds old page new stands after = record {
   words_whole : length new ≡ 512 * page_count old.quotas.items;
   taken_whole : length old.taken ≡ page_count old.quotas.items;
   free_counted : CountsFree old.quotas.items old.taken old.free.items;
+  none_free_below : NoneFreeBelow old.quotas.items old.taken old.lowest.items;
   nonzero_counted : CountsNonzero old.quotas.items new (slice_set old.nonzero.items page after.nonzero);
   fits : page_count old.quotas.items ≤ 2 ^ 27;
   roots : (row : ℕ) → row < length old.quotas.items → taken_of old.taken row ≡ true;
@@ -50,6 +50,7 @@ module _ {S : Type 0} {g : Ghosts S} (old : TablePool S g) (page : ℕ) (inside 
         words_whole = wrote.whole ∙ old.words_whole;
         taken_whole = old.taken_whole;
         free_counted = old.free_counted;
+        none_free_below = old.none_free_below;
         nonzero_counted = counts_nonzero-page old.quotas.items (g.words old.store) new old.nonzero.items page after.nonzero old.nonzero_counted inside others wrote.counted;
         fits = old.fits;
         roots = old.roots;

@@ -97,6 +97,17 @@ pub record CountsFree (quotas : List ℕ) (taken : List Bool) (free : List ℕ) 
   pub each : (row : ℕ) → row < length quotas
       → slice_index free row + used_of quotas (taken_of taken) row ≡ row_quota quotas row
 
+-- the first page of each row's share
+pub record AreShareStarts (quotas starts : List ℕ) : Type 0 where
+  pub rows : length starts ≡ length quotas
+  pub each : (row : ℕ) → row < length quotas → slice_index starts row ≡ share_start quotas row
+
+-- for each row a page, from the first of its share on, below which no page of the share is free
+pub record NoneFreeBelow (quotas : List ℕ) (taken : List Bool) (lowest : List ℕ) : Type 0 where
+  pub rows : length lowest ≡ length quotas
+  pub from : (row : ℕ) → row < length quotas → share_start quotas row ≤ slice_index lowest row
+  pub below : (row page : ℕ) → InShare quotas row page → page < slice_index lowest row → taken_of taken page ≡ true
+
 -- how many pages of a partition's share are free
 abbrev pub free_of : Pages → ℕ → ℕ
 free_of m p = row_quota m.quotas (row_of m.ids p) - used_by m (row_of m.ids p)

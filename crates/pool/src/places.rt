@@ -1,12 +1,13 @@
 //! Where things lie in the table pool. Its first pages are the partitions' roots, in ascending order of
 //! identifier; behind all roots lie their shares, in the same order, each of as many pages as its quota.
 
-ghost use Rattle.std.specs.Prelude.{◌≡◌, ◌+◌, ◌-◌, ◌<◌, ◌≤◌, ◌^◌, ◌==◌, ◌&&◌, length, position, sum, Some, None, nat_le, nat_lt, if◌then◌else◌};
+ghost use Rattle.std.specs.Prelude.{◌≡◌, ◌+◌, ◌-◌, ◌<◌, ◌≤◌, ◌^◌, ◌==◌, ◌&&◌, length, position, sum, Some, None, IfOk, nat_le, nat_lt, if◌then◌else◌};
 ghost use Rattle.base.specs.Manifest.{ids_of, page_count};
-ghost use Rattle.pool.specs.Pool as shares;
+ghost use Rattle.pool.specs.Pool.{AreShareStarts};
 
-use base::{Page, PartitionId};
+use base::{OutOfMemory, Page, PartitionId};
 use manifest::Partition;
+use std::alloc::Global;
 
 /// The row of a partition among these, which is also the pool page of its root.
 pub fn row_of(ids: &[PartitionId], p: PartitionId) -> Option<usize>
@@ -36,13 +37,18 @@ pub(crate) fn total(quotas: &[u32]) -> u32
     quotas.iter().sum()
 }
 
-/// The first page of a row's share.
-pub(crate) fn share_start(quotas: &[u32], row: usize) -> u32
-    requires partition { row ≤ length quotas.now }
-    requires fits { page_count quotas.now ≤ 2 ^ 27 }
-    ensures { result ≡ shares.share_start quotas.now row }
+/// The first page of each row's share.
+pub(crate) fn share_starts(alloc: Global, quotas: &[u32]) -> Result<Vec<u32>, OutOfMemory>
+    requires { page_count quotas.now ≤ 2 ^ 27 }
+    ensures { IfOk result (λ starts. AreShareStarts quotas.now starts.items) }
 {
-    quotas.len() as u32 + total(&quotas[..row])
+    let mut starts = Vec::with_capacity(alloc, quotas.len())?;
+    let mut start = quotas.len() as u32;
+    for quota in quotas {
+        starts.push(start)?;
+        start += quota;
+    }
+    Ok(starts)
 }
 
 /// The page of memory of a pool page, in a pool that begins at this page of memory.

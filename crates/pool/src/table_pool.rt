@@ -1,7 +1,7 @@
 ghost use Rattle.std.specs.Prelude.{◌≡◌, ℕ, ◌+◌, ◌-◌, ◌*◌, ◌<◌, ◌≤◌, ◌^◌, length, replicate, reverse, vec_len, vec_capacity, true, false, IfOk};
 ghost use Rattle.base.specs.Manifest.{page_count};
 ghost use Rattle.base.specs.Manifest as rows;
-ghost use Rattle.pool.specs.Pool.{CountsFree, CountsNonzero, lies_in, words_of, taken_of};
+ghost use Rattle.pool.specs.Pool.{CountsFree, CountsNonzero, NoneFreeBelow, lies_in, words_of, taken_of};
 ghost use Rattle.std.specs.List.{list_all};
 ghost use Rattle.pool.specs.Pool as shares;
 
@@ -9,7 +9,7 @@ use crate::image::Image;
 use crate::log::Log;
 use crate::looks::{are_filled, are_gaps_there};
 use crate::operation::Op;
-use crate::places::{row_of, share_start, total};
+use crate::places::{row_of, share_starts, total};
 use crate::replace::{Replacement, replace_words};
 use crate::runs::{TableWords, set_runs, turn_gaps, turn_runs};
 use crate::stretch::{WordAt, clear_page, write_word};
@@ -26,9 +26,9 @@ use std::alloc::Global;
 mod tests;
 
 /// Table memory whose words stand in a store, 512 for each page, page by page. `taken` has a mark for
-/// each page, `free` says for each row how many pages of its share are free, `nonzero` for each page how
-/// many of its words are not 0, and `made_before` how many operations were made before those that are
-/// listed, modulo 2^64. Each root, and each page that is taken, stands in memory.
+/// each page, `free` says for each row how many pages of its share are free, `lowest` below which page none of
+/// them is, `nonzero` for each page how many of its words are not 0, and `made_before` how many operations were
+/// made before those that are listed, modulo 2^64. Each root, and each page that is taken, stands in memory.
 #[derive(Drop)]
 pub struct TablePool<S: WordStore> {
     ids: Vec<PartitionId>,
@@ -36,6 +36,7 @@ pub struct TablePool<S: WordStore> {
     pub(crate) store: S,
     taken: Marks,
     free: Vec<u32>,
+    lowest: Vec<u32>,
     nonzero: Vec<u32>,
     operations: Vec<Op>,
     made_before: u64,
@@ -43,6 +44,7 @@ pub struct TablePool<S: WordStore> {
     ghost words_whole: { length (S.words store) ≡ 512 * page_count quotas.items },
     ghost taken_whole: { length taken ≡ page_count quotas.items },
     ghost free_counted: { CountsFree quotas.items taken free.items },
+    ghost none_free_below: { NoneFreeBelow quotas.items taken lowest.items },
     ghost nonzero_counted: { CountsNonzero quotas.items (S.words store) nonzero.items },
     ghost fits: { page_count quotas.items ≤ 2 ^ 27 },
     ghost roots: { (row : ℕ) → row < length quotas.items → taken_of taken row ≡ true },
@@ -123,12 +125,14 @@ impl<S: WordStore> TableMem for TablePool<S> {
         let roots = partitions.len();
         let shares = total(&quotas);
         let pages = roots + shares as usize;
+        let lowest = share_starts(alloc, &quotas)?;
         Ok(TablePool {
             ids,
             quotas,
             store: filled(alloc, pages, roots)?,
             taken: Marks::new(alloc, roots as u32, shares)?,
             free: quotas_of(alloc, partitions)?,
+            lowest,
             nonzero: zeros(alloc, pages)?,
             operations: Vec::new(alloc),
             made_before: 0,
@@ -227,11 +231,11 @@ impl<S: WordStore> TableMem for TablePool<S> {
 
     fn take_page(&mut self, p: PartitionId) -> u32 {
         let row = row_of(&self.ids, p).unwrap();
-        let start = share_start(&self.quotas, row);
-        let page = self.taken.first_unmarked_from(start).unwrap();
+        let page = self.taken.next_unmarked(self.lowest[row]);
         self.store.fill(page);
         self.taken.mark(page);
         self.free[row] -= 1;
+        self.lowest[row] = page + 1;
         page
     }
 
@@ -239,6 +243,7 @@ impl<S: WordStore> TableMem for TablePool<S> {
         let row = row_of(&self.ids, p).unwrap();
         self.taken.unmark(page);
         self.free[row] += 1;
+        self.lowest[row] = self.lowest[row].min(page);
     }
 
     fn free(&self, p: PartitionId) -> u32 {

@@ -1,7 +1,7 @@
-use Rattle.std.proofs.Common.{◌+◌, ◌-◌, ◌≤◌, length, reverse, arith}
+use Rattle.std.proofs.Common.{◌+◌, ◌≤◌, reverse, arith}
 use Rattle.pool.proofs.RunWords.{keeps-sets}
 use Rattle.pool.proofs.Within.{within-behind}
-use Rattle.pool.proofs.Written.{stays, state, pool_in}
+use Rattle.pool.proofs.Written.{stays, state}
 use Rattle.pool.proofs.table_pool.TablePoolTableMem.clear_words.Goals as goal
 
 pub invariant_of-self : goal.invariant_of-self

@@ -1,11 +1,11 @@
-use Rattle.std.proofs.Common.{◌≡◌, ◌+◌, ◌-◌, [], ◌∷◌, arith}
+use Rattle.std.proofs.Common.{[], ◌∷◌, arith}
 use Rattle.pool.specs.declared.operation.Op.TheVariants.{Set}
 use Rattle.pool.proofs.Nonzero.{read-test}
 use Rattle.pool.proofs.Replaced.{keeps-set}
 use Rattle.pool.proofs.Stretches.{vec_len-made}
 use Rattle.pool.proofs.Wrote.{wrote-is}
 use Rattle.pool.proofs.Within.{set-within}
-use Rattle.pool.proofs.Written.{stays, state, pool_in}
+use Rattle.pool.proofs.Written.{stays, state}
 use Rattle.pool.proofs.table_pool.TablePoolTableMem.set_word.Goals as goal
 
 pub invariant_of-self : goal.invariant_of-self

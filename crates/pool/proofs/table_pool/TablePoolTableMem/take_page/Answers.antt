@@ -1,11 +1,13 @@
-use Rattle.std.proofs.Common.{◌≡◌, ◌==◌, ◌-◌, ◌<◌, ◌∙◌, sym, subst, arith, length, slice_index, Some, ap, true}
+use Rattle.std.proofs.Common.{◌≡◌, ℕ, ◌==◌, ◌-◌, ◌<◌, ◌∙◌, sym, subst, arith, length, slice_index, get_or, Some, ap, true}
 use Rattle.std.proofs.lemmas.List.{get_or_read}
 use Rattle.std.proofs.Math.ListN.{length-set}
 use Rattle.std.specs.List.{position}
 use Rattle.base.specs.Manifest.{row_of}
-use Rattle.pool.specs.Pool.{InShare, share_start}
+use Rattle.pool.specs.Pool.{InShare, taken_of}
+use Rattle.pool.specs.declared.table_pool.TablePool.{TablePool}
+use Rattle.pool.specs.declared.word_store.WordStore.{Ghosts}
 use Rattle.pool.proofs.Shares.{share_inside}
-use Rattle.pool.proofs.Kept.{memory_in, pages_in, free_zero-mark, roots-mark, standing-mark, found-some, found-page, position-found, row_of-within, row_of-found, counts-take, counts-free}
+use Rattle.pool.proofs.Kept.{memory_in, pages_in, free_zero-mark, roots-mark, standing-mark, some-unmarked, found-lowest, position-found, row_of-within, row_of-found, counts-take, counts-free, below-take}
 use Rattle.pool.proofs.table_pool.TablePoolTableMem.take_page.Goals as goal
 
 pub unwrap-row-requires : goal.unwrap-row-requires
@@ -13,22 +15,25 @@ unwrap-row-requires g c =
     let old = c.args.self.now in
     rw (c.row_of.ensures, c.deref.ensures.value) (position-found old.ids.items c.args.p (row_of-within (pages_in old) c.args.p old.ids_whole c.requires.free))
 
-pub unwrap-page-requires : goal.unwrap-page-requires
-unwrap-page-requires g c =
+-- the page from which on is looked is that of the partition's row
+begins : {S : Type 0} {g : Ghosts S} (old : TablePool S g) (p row start : ℕ) → position (λ id. id == p) old.ids.items ≡ Some row → start ≡ get_or old.lowest.items row start → start ≡ slice_index old.lowest.items (row_of old.ids.items p)
+begins old p row start placed read =
+    let is = row_of-found old.ids.items p row placed in
+    get_or_read old.lowest.items row start (omega (arith, is.1, old.ids_whole, old.none_free_below.rows)) read 0 ∙ ap (slice_index old.lowest.items) (sym is.0)
+
+pub next_unmarked-page-requires : goal.next_unmarked-page-requires
+next_unmarked-page-requires g c =
     let old = c.args.self.now in
     let placed : position (λ id. id == c.args.p) old.ids.items ≡ Some c.unwrap-row.result = rw (← c.deref.ensures.value) (sym c.row_of.ensures ∙ c.unwrap-row.ensures) in
-    let begins : c.share_start-start.result ≡ share_start old.quotas.items c.unwrap-row.result = rw (← c.deref-2.ensures.value) c.share_start-start.ensures in
-    let here : c.share_start-start.result ≡ share_start old.quotas.items (row_of old.ids.items c.args.p) = begins ∙ ap (share_start old.quotas.items) (sym ((row_of-found old.ids.items c.args.p c.unwrap-row.result placed).0)) in
-    found-some (memory_in old) c.args.p c.first_unmarked_from.result old.taken_whole c.requires.free (rw (← here) c.first_unmarked_from.ensures)
+    rw (begins old c.args.p c.unwrap-row.result c.index.result.now placed c.index.ensures) (some-unmarked (memory_in old) old.lowest.items c.args.p old.none_free_below old.taken_whole c.requires.free)
 
 pub mark-requires : goal.mark-requires
 mark-requires g c =
     let old = c.args.self.now in
     let memory = memory_in old in
     let placed : position (λ id. id == c.args.p) old.ids.items ≡ Some c.unwrap-row.result = rw (← c.deref.ensures.value) (sym c.row_of.ensures ∙ c.unwrap-row.ensures) in
-    let begins : c.share_start-start.result ≡ share_start old.quotas.items c.unwrap-row.result = rw (← c.deref-2.ensures.value) c.share_start-start.ensures in
-    let lowest = found-page memory c.args.p c.unwrap-row.result c.share_start-start.result c.unwrap-page.result c.first_unmarked_from.result c.requires.free placed begins c.unwrap-page.ensures c.first_unmarked_from.ensures in
-    let inside : c.unwrap-page.result < length old.taken = omega (arith, old.taken_whole, share_inside old.quotas.items (row_of old.ids.items c.args.p) c.unwrap-page.result lowest.inside) in
+    let lowest = found-lowest memory old.lowest.items c.args.p c.next_unmarked-page.result old.none_free_below c.requires.free (rw (begins old c.args.p c.unwrap-row.result c.index.result.now placed c.index.ensures) at c.next_unmarked-page.ensures) in
+    let inside : c.next_unmarked-page.result < length old.taken = omega (arith, old.taken_whole, share_inside old.quotas.items (row_of old.ids.items c.args.p) c.next_unmarked-page.result lowest.inside) in
     inside
 
 pub returns-clause-lowest : goal.returns-clause-lowest
@@ -36,8 +41,7 @@ returns-clause-lowest g c =
     let old = c.args.self.now in
     let memory = memory_in old in
     let placed : position (λ id. id == c.args.p) old.ids.items ≡ Some c.unwrap-row.result = rw (← c.deref.ensures.value) (sym c.row_of.ensures ∙ c.unwrap-row.ensures) in
-    let begins : c.share_start-start.result ≡ share_start old.quotas.items c.unwrap-row.result = rw (← c.deref-2.ensures.value) c.share_start-start.ensures in
-    let lowest = found-page memory c.args.p c.unwrap-row.result c.share_start-start.result c.unwrap-page.result c.first_unmarked_from.result c.requires.free placed begins c.unwrap-page.ensures c.first_unmarked_from.ensures in
+    let lowest = found-lowest memory old.lowest.items c.args.p c.next_unmarked-page.result old.none_free_below c.requires.free (rw (begins old c.args.p c.unwrap-row.result c.index.result.now placed c.index.ensures) at c.next_unmarked-page.ensures) in
     lowest
 
 pub overflow_sub-index_mut : goal.overflow_sub-index_mut
@@ -57,9 +61,8 @@ invariant_of-self g c =
     let old = c.args.self.now in
     let memory = memory_in old in
     let placed : position (λ id. id == c.args.p) old.ids.items ≡ Some c.unwrap-row.result = rw (← c.deref.ensures.value) (sym c.row_of.ensures ∙ c.unwrap-row.ensures) in
-    let begins : c.share_start-start.result ≡ share_start old.quotas.items c.unwrap-row.result = rw (← c.deref-2.ensures.value) c.share_start-start.ensures in
-    let lowest = found-page memory c.args.p c.unwrap-row.result c.share_start-start.result c.unwrap-page.result c.first_unmarked_from.result c.requires.free placed begins c.unwrap-page.ensures c.first_unmarked_from.ensures in
-    let page = c.unwrap-page.result in
+    let lowest = found-lowest memory old.lowest.items c.args.p c.next_unmarked-page.result old.none_free_below c.requires.free (rw (begins old c.args.p c.unwrap-row.result c.index.result.now placed c.index.ensures) at c.next_unmarked-page.ensures) in
+    let page = c.next_unmarked-page.result in
     let inside : page < length old.taken = omega (arith, old.taken_whole, share_inside old.quotas.items (row_of old.ids.items c.args.p) page lowest.inside) in
     let row = row_of-found old.ids.items c.args.p c.unwrap-row.result placed in
     let rows = old.free_counted.rows in
@@ -72,6 +75,8 @@ invariant_of-self g c =
       taken_whole = rw c.mark.ensures (length-set old.taken _ _ ∙ old.taken_whole);
       free_counted = rw c.mark.ensures (counts-take memory old.free.items c.unwrap-row.result page (c.index_mut.result.now - 1) old.free_counted
           (subst (λ r. InShare old.quotas.items r page) row.0 lowest.inside) inside lowest.free (omega (arith, here, counted, some)));
+      none_free_below = rw c.mark.ensures (below-take old.quotas.items old.lowest.items old.taken c.unwrap-row.result page old.none_free_below
+          (subst (λ r. InShare old.quotas.items r page) row.0 lowest.inside) inside (subst (λ r. (q : ℕ) → InShare old.quotas.items r q → q < page → taken_of old.taken q ≡ true) row.0 lowest.lowest));
       nonzero_counted = rw c.fill.ensures.words old.nonzero_counted;
       fits = old.fits;
       roots = rw c.mark.ensures (roots-mark old.taken (length old.quotas.items) page true inside (omega (arith, lowest.inside.from)) old.roots);
