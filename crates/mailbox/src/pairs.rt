@@ -4,7 +4,7 @@ ghost use Rattle.std.specs.Option.{option_map};
 ghost use Rattle.base.specs.Alike.{IsAlikeUntil};
 ghost use Rattle.base.specs.Buffers as spec;
 ghost use Rattle.base.specs.Refusals.{NoneRefuses, RefusesWith};
-ghost use Rattle.mailbox.specs.Buffers.{has_buffer_at};
+ghost use Rattle.mailbox.specs.Buffers.{has_buffer_at, pair_fill_tests};
 
 use crate::pair::{Pair, named_pair};
 use arrayvec::ArrayVec;
@@ -127,21 +127,13 @@ impl Pairs {
     /// Gives RX to partition `p`, as a call that fills it does: the partition holds it from now on.
     /// It is refused as `InvalidParameters` where the partition has no pair, and as `Busy` where it
     /// holds RX already, and changes nothing then.
-    #[tactic(auto, unfolding(base::specs::Buffers::has_pair, base::specs::Buffers::holds_rx))]
     pub fn fill(&mut self, p: PartitionId) -> Result<(), Status>
         ensures refused { IfErr result (RefusesWith (spec.fill_tests self.old p)) }
         ensures err { OnErr result (self.new ≡ self.old) }
         ensures passed { OnOk result (NoneRefuses (spec.fill_tests self.old p)) }
         ensures ok { OnOk result (self.new ≡ spec.with_rx p true self.old) }
     {
-        let Some(pair) = self.pair_of(p) else {
-            return Err(Status::InvalidParameters);
-        };
-        if pair.held {
-            return Err(Status::Busy);
-        }
-        set_held(&mut self.mailboxes, p, true);
-        Ok(())
+        fill_rx(&mut self.mailboxes, p)
     }
 
     /// The pair of partition `p`, where one is registered.
@@ -228,6 +220,46 @@ fn set_held(mailboxes: &mut [Mailbox], p: PartitionId, held: bool)
         if mailbox.partition == p {
             mailbox.pair = with_held(mailbox.pair, held);
             return;
+        }
+    }
+}
+
+/// Gives RX to a partition, where it has a pair and does not hold it.
+#[tactic(auto, unfolding(base::specs::Buffers::has_pair, base::specs::Buffers::holds_rx))]
+fn fill_rx(mailboxes: &mut [Mailbox], p: PartitionId) -> Result<(), Status>
+    ensures refused { IfErr result (RefusesWith (spec.fill_tests mailboxes.old p)) }
+    ensures err { OnErr result (mailboxes.new ≡ mailboxes.old) }
+    ensures passed { OnOk result (NoneRefuses (spec.fill_tests mailboxes.old p)) }
+    ensures ok { OnOk result (mailboxes.new ≡ spec.with_rx p true mailboxes.old) }
+{
+    for mailbox in mailboxes.iter_mut() {
+        if mailbox.partition == p {
+            return match filled(mailbox.pair) {
+                Ok(pair) => {
+                    mailbox.pair = Some(pair);
+                    Ok(())
+                }
+                Err(status) => Err(status),
+            };
+        }
+    }
+    Err(Status::InvalidParameters)
+}
+
+/// The pair with RX held, where there is one whose RX is not held yet.
+fn filled(pair: Option<Pair>) -> Result<Pair, Status>
+    ensures refused { IfErr result (RefusesWith (pair_fill_tests pair)) }
+    ensures passed { OnOk result (NoneRefuses (pair_fill_tests pair)) }
+    ensures held { IfOk result (λ filled. Some filled ≡ option_map (spec.holding true) pair) }
+{
+    match pair {
+        None => Err(Status::InvalidParameters),
+        Some(pair) => {
+            if pair.held {
+                Err(Status::Busy)
+            } else {
+                Ok(pair.holding(true))
+            }
         }
     }
 }

@@ -6,7 +6,8 @@ use Rattle.base.specs.Descriptors.Retrieve as descriptors
 use Rattle.base.specs.Descriptors.Send as descriptor
 use Rattle.base.specs.Refusals.{first_refusal, NoneRefuses}
 use Rattle.base.specs.Transactions.{Live}
-use Rattle.base.specs.State.{State, sends_of, common_home}
+use Rattle.base.specs.Buffers.{pair_of}
+use Rattle.base.specs.State.{State, sends_of, version_of, common_home}
 use Rattle.wire.specs.declared.request.Transfer.{Transfer}
 use Rattle.rules.specs.Call.{CallWords}
 use Rattle.rules.specs.Calls.Send.{send_tests, sent}
@@ -14,6 +15,7 @@ use Rattle.rules.specs.Calls.Reclaim.{reclaim_tests, sent_with}
 use Rattle.rules.specs.Calls.Relinquish.{given_up, relinquish_tests}
 use Rattle.rules.specs.Calls.Retrieve.{asked, granted, request_tests, retrieve_tests}
 use Rattle.rules.specs.Receivers.{received_with}
+use Rattle.spm.specs.declared.calls.retrieve.Caller.{Caller}
 
 -- the tests pass, and this is what the descriptor says, the home of its pages, and how many of the caller's sends were accepted
 pub record IsChecked (s : State) (c : CallWords) (kind : Kind) (t : Transfer) (desc : descriptor.Send) (home : Access) (sends : ℕ) : Type 0 where
@@ -33,6 +35,12 @@ pub record IsRelinquished (s : State) (c : CallWords) (t : Live) (clears : Bool)
   pub passed : NoneRefuses (relinquish_tests s c)
   pub ordered : clears ≡ (given_up c).clears
   pub found : received_with s c.caller (given_up c).handle ≡ Some t
+
+-- this is what is kept for a partition that has registered its buffers
+pub record IsCaller (s : State) (p : ℕ) (caller : Caller) : Type 0 where
+  pub partition : caller.partition ≡ p
+  pub version : caller.version ≡ version_of s.partitions p
+  pub pair : pair_of s.mailboxes p ≡ Some caller.pair
 
 -- the tests of a retrieve request itself pass, and this is what it says, and the transaction that it names
 pub record IsNamed (s : State) (c : CallWords) (x : Transfer) (request : descriptors.Retrieve) (t : Live) : Type 0 where

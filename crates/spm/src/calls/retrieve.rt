@@ -1,11 +1,13 @@
 //! FFA_MEM_RETRIEVE_REQ.
 
-ghost use Rattle.std.specs.Prelude.{◌≡◌, ◌≤◌, ◌<◌, ◌+◌, ◌*◌, true, length, Some, None, IfOk, IfErr, OnOk, OnErr};
+ghost use Rattle.std.specs.Prelude.{◌≡◌, ℕ, ◌≤◌, ◌<◌, ◌+◌, ◌*◌, true, length, Some, None, IfOk, IfErr, OnOk, OnErr};
 ghost use Rattle.base.specs.Refusals.{NoneRefuses, RefusesWith};
+ghost use Rattle.base.specs.State as spec;
 ghost use Rattle.rules.specs.Calls.Retrieve as rules;
 ghost use Rattle.rules.specs.Laws.SentPages.{IsWithinLimits};
 ghost use Rattle.rules.specs.Run.{IsReached};
-ghost use Rattle.spm.specs.Checked.{IsNamed, IsRetrieved};
+ghost use Rattle.rules.specs.Transfers.{caller_version};
+ghost use Rattle.spm.specs.Checked.{IsCaller, IsNamed, IsRetrieved};
 ghost use Rattle.spm.specs.Granted.{IsGranted, IsStopped, CanRetrieve, after_retrieval};
 
 use crate::call::LentCall;
@@ -25,11 +27,28 @@ use mailbox::Pair;
 use std::alloc::Global;
 use wire::{Reply, Transfer};
 
-/// What a retrieve request says, and the transaction that it names.
+/// The partition that asks, its version of FF-A, and its buffers: they are looked up once.
+#[derive(Clone, Copy)]
+pub(crate) struct Caller {
+    pub(crate) partition: PartitionId,
+    pub(crate) version: Version,
+    pub(crate) pair: Pair,
+}
+
+/// Who asks, what its request says, and the transaction that it names.
 #[derive(Clone, Copy)]
 struct Named<'a> {
+    caller: Caller,
     request: RetrieveDesc,
     transaction: &'a Live,
+}
+
+/// The transaction that passes all tests, what is granted of it, and the version in which the response is written.
+#[derive(Clone, Copy)]
+struct Retrieval<'a> {
+    transaction: &'a Live,
+    access: Access,
+    version: Version,
 }
 
 /// The caller retrieves the transaction that its descriptor in TX names. It reaches the pages with what
@@ -47,12 +66,10 @@ pub(crate) fn retrieve(
         (rules.retrieve_rule state.now call.now transfer) true stop) }
 {
     match check(state, call, transfer) {
-        Ok((transaction, access)) => {
-            match change(state, call, transfer, transaction, access, spare) {
-                Ok(change) => Ok(change),
-                Err(error) => Err(Stop::NoMemory(error)),
-            }
-        }
+        Ok(granted) => match change(state, call, transfer, granted, spare) {
+            Ok(change) => Ok(change),
+            Err(error) => Err(Stop::NoMemory(error)),
+        },
         Err(status) => Err(Stop::Refused(status)),
     }
 }
@@ -64,20 +81,24 @@ fn check<'a>(
     state: &'a State,
     call: &LentCall<'_>,
     transfer: Transfer,
-) -> Result<(&'a Live, Access), Status>
+) -> Result<Retrieval<'a>, Status>
     requires { IsReached state.now }
     ensures refused { IfErr result (RefusesWith
         (rules.retrieve_tests state.now call.now transfer)) }
     ensures passed { IfOk result (λ r. IsRetrieved state.now call.now transfer
-        r.0.now r.1) }
+        r.transaction.now r.access) }
+    ensures version { IfOk result (λ r. r.version
+        ≡ caller_version state.now call.now) }
 {
     match check_request(state, call, transfer) {
-        Ok(named) => {
-            match check_transaction(state, call.partition(), &named.request, named.transaction) {
-                Ok(access) => Ok((named.transaction, access)),
-                Err(status) => Err(status),
-            }
-        }
+        Ok(named) => match check_transaction(&named.caller, &named.request, named.transaction) {
+            Ok(access) => Ok(Retrieval {
+                transaction: named.transaction,
+                access,
+                version: named.caller.version,
+            }),
+            Err(status) => Err(status),
+        },
         Err(status) => Err(status),
     }
 }
@@ -94,6 +115,7 @@ fn check_request<'a>(
         (rules.request_tests state.now call.now transfer)) }
     ensures passed { IfOk result (λ named. IsNamed state.now call.now transfer
         named.request named.transaction.now) }
+    ensures caller { IfOk result (λ named. IsCaller state.now call.now.caller named.caller) }
 {
     let p = call.partition();
     let Some(pair) = state.pairs.pair_of(p) else {
@@ -103,7 +125,8 @@ fn check_request<'a>(
         return Err(Status::InvalidParameters);
     }
     let bytes = &call.tx[..transfer.total as usize];
-    let Some(request) = read_retrieve(bytes, state.row(p).version) else {
+    let version = state.row(p).version;
+    let Some(request) = read_retrieve(bytes, version) else {
         return Err(Status::InvalidParameters);
     };
     if request.endpoint.partition != p {
@@ -113,26 +136,32 @@ fn check_request<'a>(
         return Err(Status::InvalidParameters);
     };
     Ok(Named {
+        caller: Caller {
+            partition: p,
+            version,
+            pair,
+        },
         request,
         transaction,
     })
 }
 
 /// The tests of the transaction that a request names, in order, and what they grant.
+#[tactic(auto, unfolding(base::specs::Buffers::holds_rx))]
 fn check_transaction(
-    state: &State,
-    p: PartitionId,
+    caller: &Caller,
     request: &RetrieveDesc,
     transaction: &Live,
 ) -> Result<Access, Status>
     requires { IsWithinLimits transaction.now }
-    ensures refused { IfErr result (RefusesWith
-        (rules.transaction_tests state.now p request.now transaction.now)) }
-    ensures passed { IfOk result (λ access. NoneRefuses
-        (rules.transaction_tests state.now p request.now transaction.now)) }
-    ensures granted { IfOk result (λ access. rules.granted request.now.endpoint.permissions p
-        transaction.now ≡ Some access) }
+    ensures refused { IfErr result (λ status. (s : spec.State) → (p : ℕ) → IsCaller s p caller.now
+        → RefusesWith (rules.transaction_tests s p request.now transaction.now) status) }
+    ensures passed { IfOk result (λ access. (s : spec.State) → (p : ℕ) → IsCaller s p caller.now
+        → NoneRefuses (rules.transaction_tests s p request.now transaction.now)) }
+    ensures granted { IfOk result (λ access. rules.granted request.now.endpoint.permissions
+        caller.now.partition transaction.now ≡ Some access) }
 {
+    let p = caller.partition;
     if !is_asked_rightly(request, transaction) {
         return Err(Status::InvalidParameters);
     }
@@ -142,10 +171,10 @@ fn check_transaction(
     let Some(access) = granted(request.endpoint.permissions, p, transaction) else {
         return Err(Status::Denied);
     };
-    if state.pairs.holds_rx(p) {
+    if caller.pair.held {
         return Err(Status::Busy);
     }
-    if !fits_rx(state, p, transaction) {
+    if !fits_rx(caller, transaction) {
         return Err(Status::NoMemory);
     }
     Ok(access)
@@ -246,24 +275,15 @@ fn response_length(version: Version, transaction: &Live) -> u32
     header + 32 + 16 * transaction.terms.ranges.len() as u32
 }
 
-/// The size of the RX buffer in bytes; 0 without a pair.
-fn rx_size(state: &State, p: PartitionId) -> u64
-    ensures { result ≡ rules.rx_size state.now p }
-{
-    match state.pairs.pair_of(p) {
-        Some(pair) => PAGE_SIZE * u64::from(pair.rx.count()),
-        None => 0,
-    }
-}
-
 /// Whether the response is not longer than the RX buffer.
 #[tactic(auto, unfolding(rules::specs::Calls::Retrieve::fits_rx))]
-fn fits_rx(state: &State, p: PartitionId, transaction: &Live) -> bool
+fn fits_rx(caller: &Caller, transaction: &Live) -> bool
     requires { length transaction.now.ranges ≤ 512 }
-    ensures { result ≡ rules.fits_rx state.now p transaction.now }
+    ensures { (s : spec.State) → (p : ℕ) → IsCaller s p caller.now
+        → result ≡ rules.fits_rx s p transaction.now }
 {
-    let length = response_length(state.row(p).version, transaction);
-    u64::from(length) <= rx_size(state, p)
+    let length = response_length(caller.version, transaction);
+    u64::from(length) <= PAGE_SIZE * u64::from(caller.pair.rx.count())
 }
 
 /// The permissions that a response tells of.
@@ -316,17 +336,22 @@ fn change(
     state: &State,
     call: &LentCall<'_>,
     transfer: Transfer,
-    transaction: &Live,
-    access: Access,
+    granted: Retrieval<'_>,
     spare: &mut Vec<Run>,
 ) -> Result<Change, OutOfMemory>
     requires reached { IsReached state.now }
-    requires retrieved { IsRetrieved state.now call.now transfer transaction.now access }
+    requires retrieved { IsRetrieved state.now call.now transfer
+        granted.transaction.now granted.access }
+    requires version { granted.version ≡ caller_version state.now call.now }
     ensures { IfOk result (λ change. IsGranted state.now call.now.caller
         (rules.retrieve_rule state.now call.now transfer) true change) }
 {
     let p = call.partition();
-    let version = state.row(p).version;
+    let Retrieval {
+        transaction,
+        access,
+        version,
+    } = granted;
     let reply = respond(state.alloc, version, p, transaction, access)?;
     let edit = receiver_edit(state.alloc, spare, p, transaction, Some(access), false)?;
     Ok(Change {
