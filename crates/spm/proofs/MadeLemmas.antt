@@ -11,7 +11,7 @@ use Rattle.rules.specs.Run.{rule_of, rule, answer, refusal, step}
 use Rattle.rules.specs.Laws.EditsTheView.{Passes}
 use Rattle.rules.proofs.Reached.{step_is, rule_is}
 use Rattle.spm.specs.declared.change.Change.{Change}
-use Rattle.spm.specs.Granted.{updated, AreSameEdits, AreOrderly, IsGrantedCall}
+use Rattle.spm.specs.Granted.{updated, replied, AreSameEdits, AreOrderly, IsGrantedCall}
 use Rattle.spm.specs.Machine.{Machine, IsConsistent, fits_in}
 use Rattle.spm.proofs.ConsistencyLemmas.{unfit_answer, unfit_step, unfit_is, granted_answer, not_refused, no_edit}
 use Rattle.spm.proofs.QuotaLemmas.{all_passes, unfits}
@@ -22,7 +22,7 @@ pub record IsMade (now : Machine) (s : State) (call : CallWords) (change : Chang
   pub passes : Passes s call request
   pub same : AreSameEdits (rule_of s call request).edit change.edit
   pub next : updated s call.caller change.update ≡ (rule_of s call request).next
-  pub reply : change.reply ≡ answer now.state call
+  pub reply : replied change.answer ≡ answer now.state call
   pub state : updated s call.caller change.update ≡ step now.state call
   pub accepted : refusal now.state call ≡ None
   pub still : (rule now.state call).edit ≡ None → change.edit ≡ None

@@ -11,7 +11,7 @@ use Rattle.base.specs.Descriptors.Send as descriptor
 use Rattle.base.specs.Transactions.{Live}
 use Rattle.base.specs.State.{State, sends_of, common_home}
 use Rattle.wire.specs.declared.request.Transfer.{Transfer}
-use Rattle.wire.specs.Replies.{ReplyWords, success}
+use Rattle.wire.specs.Replies.{success}
 use Rattle.ledger.specs.Ledger.{found}
 use Rattle.rules.specs.Call.{CallWords}
 use Rattle.rules.specs.Calls.Send.{opened, next_handle, sent, sender_edit, send_rule, with_transaction}
@@ -21,7 +21,8 @@ use Rattle.rules.specs.Laws.Handles.{IsCounted}
 use Rattle.rules.proofs.Laws.Handles.{other_handle, handles_used_once}
 use Rattle.rules.proofs.FreePages.{common_at}
 use Rattle.spm.specs.declared.change.Update.TheVariants.{Open}
-use Rattle.spm.specs.Granted.{CanOpen, AreSameEdits, AreOrderly, IsGranted}
+use Rattle.spm.specs.declared.change.Answer.{Answer}
+use Rattle.spm.specs.Granted.{replied, CanOpen, AreSameEdits, AreOrderly, IsGranted}
 use Rattle.spm.specs.Checked.{IsChecked}
 
 none_has : (s : State) (p : ℕ) → ((q : ℕ) → sends_of s.partitions q < 2 ^ 32) → sends_of s.partitions p + 1 < 2 ^ 32 → (ts : List Live) → AllByRecursion (IsCounted s) ts → found ts (next_handle s p) ≡ None
@@ -51,10 +52,10 @@ can_open s c kind transfer desc home sends reached checked =
     }
 
 -- the change of a send that passes its tests is its rule's
-pub send_granted : (s : State) (c : CallWords) (kind : Kind) (transfer : Transfer) (desc : descriptor.Send) (home : Access) (sends : ℕ) (t : Live) (edit : Option Edit) (reply : ReplyWords) → IsReached s → IsChecked s c kind transfer desc home sends
-    → t ≡ opened s c.caller kind desc home → AreSameEdits (sender_edit kind c.caller t.ranges desc.clears) edit → AreOrderly c.caller edit → reply ≡ success (low_half t.handle) (high_half t.handle)
-    → IsGranted s c.caller (send_rule s c kind transfer) true (record { edit = edit; update = Open t; reply = reply })
-send_granted s c kind transfer desc home sends t edit reply reached checked is same orderly replied =
+pub send_granted : (s : State) (c : CallWords) (kind : Kind) (transfer : Transfer) (desc : descriptor.Send) (home : Access) (sends : ℕ) (t : Live) (edit : Option Edit) (answer : Answer) → IsReached s → IsChecked s c kind transfer desc home sends
+    → t ≡ opened s c.caller kind desc home → AreSameEdits (sender_edit kind c.caller t.ranges desc.clears) edit → AreOrderly c.caller edit → replied answer ≡ success (low_half t.handle) (high_half t.handle)
+    → IsGranted s c.caller (send_rule s c kind transfer) true (record { edit = edit; update = Open t; answer = answer })
+send_granted s c kind transfer desc home sends t edit answer reached checked is same orderly replied =
     let v = sent s c transfer in
     let ranges : t.ranges ≡ v.ranges = ap (λ (u : Live). u.ranges) is ∙ ap (λ (d : descriptor.Send). d.ranges) checked.said in
     let common : common_home s c.caller v.ranges ≡ Some home = ap (λ (d : descriptor.Send). common_home s c.caller d.ranges) (sym checked.said) ∙ checked.common in

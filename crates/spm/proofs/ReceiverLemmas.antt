@@ -17,7 +17,7 @@ use Rattle.base.specs.Manifest.{ManifestRows}
 use Rattle.base.specs.State.{State, PartitionState}
 use Rattle.ledger.specs.Ledger.{found, LedgerView}
 use Rattle.ledger.specs.Changes.{donations_after_kind, donations_after, live_after_kind, live_after}
-use Rattle.wire.specs.Replies.{ReplyWords, success, error}
+use Rattle.wire.specs.Replies.{success, error}
 use Rattle.wire.specs.declared.request.Transfer.{Transfer}
 use Rattle.rules.specs.Call.{CallWords}
 use Rattle.rules.specs.Calls.Relinquish.{given_up, given_back_by, relinquish_rule}
@@ -34,7 +34,8 @@ use Rattle.rules.proofs.Laws.Handles.{handles_used_once}
 use Rattle.rules.proofs.Laws.SentPages.{transactions_kept}
 use Rattle.spm.specs.declared.change.Update.TheVariants.{Retrieve, Relinquish}
 use Rattle.spm.specs.Checked.{IsRelinquished, IsNamed, IsRetrieved}
-use Rattle.spm.specs.Granted.{IsGranted, AreSameEdits, AreOrderly, CanRetrieve, after_retrieval}
+use Rattle.spm.specs.declared.change.Answer.{Answer}
+use Rattle.spm.specs.Granted.{replied, IsGranted, AreSameEdits, AreOrderly, CanRetrieve, after_retrieval}
 use Rattle.std.proofs.lemmas.Bool.{eqb-true}
 
 -- the receivers of the transaction with the handle decide
@@ -55,9 +56,9 @@ module _ (s : State) (p handle : ℕ) (t : Live) (reached : IsReached s) (receiv
 
 -- ---- a relinquish
 
-pub relinquish_granted : (s : State) (c : CallWords) (p : ℕ) (t : Live) (clears : Bool) (handle : ℕ) (edit : Option Edit) (reply : ReplyWords) → IsRelinquished s c t clears → p ≡ c.caller → handle ≡ t.handle → AreSameEdits (Some (record { who = p; runs = t.ranges; to = None; clears = clears })) edit → AreOrderly p edit → reply ≡ success 0 0
-    → IsGranted s c.caller (relinquish_rule s c) true (record { edit = edit; update = Relinquish handle; reply = reply })
-relinquish_granted s c p t clears handle edit reply k who is same orderly replies =
+pub relinquish_granted : (s : State) (c : CallWords) (p : ℕ) (t : Live) (clears : Bool) (handle : ℕ) (edit : Option Edit) (answer : Answer) → IsRelinquished s c t clears → p ≡ c.caller → handle ≡ t.handle → AreSameEdits (Some (record { who = p; runs = t.ranges; to = None; clears = clears })) edit → AreOrderly p edit → replied answer ≡ success 0 0
+    → IsGranted s c.caller (relinquish_rule s c) true (record { edit = edit; update = Relinquish handle; answer = answer })
+relinquish_granted s c p t clears handle edit answer k who is same orderly replies =
     let own : t.handle ≡ (given_up c).handle = (receiver_is s c.caller (given_up c).handle t k.found).0 in
     record {
       passed = k.passed;
@@ -116,10 +117,10 @@ fills s c x t access k =
     let free = is_not (holds_rx s.mailboxes c.caller) (all_pass (transaction_tests s c.caller v t) none).1.1.1.0 in
     rw (pair, free) refl
 
-pub retrieve_granted : (s : State) (c : CallWords) (x : Transfer) (p : ℕ) (t : Live) (access : Access) (handle : ℕ) (edit : Option Edit) (reply : ReplyWords) → IsReached s → IsRetrieved s c x t access → p ≡ c.caller → handle ≡ t.handle
-    → AreSameEdits (Some (record { who = p; runs = t.ranges; to = Some access; clears = false })) edit → AreOrderly p edit → reply ≡ responding (caller_version s c) p (record { transaction = t; access = access })
-    → IsGranted s c.caller (retrieve_rule s c x) true (record { edit = edit; update = Retrieve handle access; reply = reply })
-retrieve_granted s c x p t access handle edit reply reached k who is same orderly replies =
+pub retrieve_granted : (s : State) (c : CallWords) (x : Transfer) (p : ℕ) (t : Live) (access : Access) (handle : ℕ) (edit : Option Edit) (answer : Answer) → IsReached s → IsRetrieved s c x t access → p ≡ c.caller → handle ≡ t.handle
+    → AreSameEdits (Some (record { who = p; runs = t.ranges; to = Some access; clears = false })) edit → AreOrderly p edit → replied answer ≡ responding (caller_version s c) p (record { transaction = t; access = access })
+    → IsGranted s c.caller (retrieve_rule s c x) true (record { edit = edit; update = Retrieve handle access; answer = answer })
+retrieve_granted s c x p t access handle edit answer reached k who is same orderly replies =
     let one = is_one s c x t access k in
     let own : t.handle ≡ (asked s c x).handle = (receiver_is s c.caller (asked s c x).handle t k.found).0 in
     let live : found s.live handle ≡ Some t = ap (found s.live) (is ∙ own) ∙ its_handle s c.caller (asked s c x).handle t reached k.found in

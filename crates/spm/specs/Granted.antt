@@ -12,6 +12,7 @@ use Rattle.ledger.specs.Ledger.{found, NamesItsSender}
 use Rattle.wire.specs.declared.request.Request.{Request}
 use Rattle.base.specs.Manifest.{is_partition}
 use Rattle.wire.specs.Requests.{request_of}
+use Rattle.wire.specs.Replies.{ReplyWords, success, version, response}
 use Rattle.rules.specs.Call.{CallWords}
 use Rattle.rules.specs.Rule.{Edit, Rule}
 use Rattle.rules.specs.Run.{rule_of}
@@ -23,6 +24,8 @@ use Rattle.rules.specs.Calls.Retrieve.{after_retrieve}
 use Rattle.rules.specs.Receivers.{with_retrieval_by}
 use Rattle.spm.specs.declared.change.Update.{Update}
 use Rattle.spm.specs.declared.change.Update.TheVariants.{Nothing, SetVersion, MapBuffers, UnmapBuffers, ReleaseRx, Open, Close, Retrieve, Relinquish}
+use Rattle.spm.specs.declared.change.Answer.{Answer}
+use Rattle.spm.specs.declared.change.Answer.TheVariants.{Success, Version, Response}
 use Rattle.spm.specs.declared.change.Change.{Change}
 use Rattle.spm.specs.declared.change.Stop.{Stop}
 use Rattle.spm.specs.Machine.{takes_memory}
@@ -109,6 +112,12 @@ AreSameEdits (Some a) (Some b) = IsSameEdit a b
 
 -- ---- the change
 
+-- what a call is answered, as words
+abbrev pub replied : Answer → ReplyWords
+replied (Success w2 w3) = success w2 w3
+replied (Version word) = version word
+replied (Response length bytes) = record (response length) { rx = Some bytes.items }
+
 -- making the change takes memory
 abbrev pub wants_memory : Change → Bool
 wants_memory change = is_some change.edit || needs_room change.update
@@ -120,7 +129,7 @@ pub record IsGranted (s : State) (p : ℕ) (rule : Rule) (memory : Bool) (change
   pub orderly : AreOrderly p change.edit
   pub next : updated s p change.update ≡ rule.next
   pub can : CanUpdate s p change.update
-  pub reply : change.reply ≡ rule.reply
+  pub reply : replied change.answer ≡ rule.reply
   pub memory_taken : wants_memory change ≡ true → memory ≡ true
 
 -- the request of a partition that a call decodes to, and its change

@@ -1,6 +1,7 @@
 //! What a call changes that has passed its tests.
 
 ghost use Rattle.std.specs.Prelude.{◌≡◌, None};
+ghost use Rattle.spm.specs.Granted.{replied};
 
 use base::{Access, Handle, OutOfMemory, PartitionId, Run, Status};
 use ledger::Live;
@@ -54,31 +55,62 @@ pub(crate) enum Update {
     Relinquish(Handle),
 }
 
+/// What a call is answered that passes its tests. Its registers are made when all is done: these few words are
+/// less to hand on.
+#[derive(Drop)]
+pub(crate) enum Answer {
+    /// FFA_SUCCESS, with these words in w2 and w3.
+    Success(u32, u32),
+    /// What FFA_VERSION answers.
+    Version(u32),
+    /// FFA_MEM_RETRIEVE_RESP, with the length of the response, which RX is filled with.
+    Response(u32, Vec<u8>),
+}
+
+impl Answer {
+    /// The registers, and what RX is filled with.
+    pub(crate) fn into_reply(self) -> Reply
+        ensures { result ≡ replied self }
+    {
+        match self {
+            Answer::Success(w2, w3) => Reply::success(w2, w3),
+            Answer::Version(word) => Reply::version(word),
+            Answer::Response(length, bytes) => {
+                let regs = Reply::response(length).regs;
+                Reply {
+                    regs,
+                    rx: Some(bytes),
+                }
+            }
+        }
+    }
+}
+
 /// What a call changes, and what it is answered. It has taken the memory that it needs but for the
 /// room in the lists of the tables and of the ledger.
 #[derive(Drop)]
 pub(crate) struct Change {
     pub(crate) edit: Option<Edit>,
     pub(crate) update: Update,
-    pub(crate) reply: Reply,
+    pub(crate) answer: Answer,
 }
 
 impl Change {
     /// The call changes nothing.
-    pub(crate) fn nothing(reply: Reply) -> Self
-        ensures { result ≡ record { edit = None; update = Update.Nothing; reply = reply } }
+    pub(crate) fn nothing(answer: Answer) -> Self
+        ensures { result ≡ record { edit = None; update = Update.Nothing; answer = answer } }
     {
-        Change::of_state(Update::Nothing, reply)
+        Change::of_state(Update::Nothing, answer)
     }
 
     /// The call changes the state, and nothing of what is reached.
-    pub(crate) fn of_state(update: Update, reply: Reply) -> Self
-        ensures { result ≡ record { edit = None; update = update; reply = reply } }
+    pub(crate) fn of_state(update: Update, answer: Answer) -> Self
+        ensures { result ≡ record { edit = None; update = update; answer = answer } }
     {
         Change {
             edit: None,
             update,
-            reply,
+            answer,
         }
     }
 }

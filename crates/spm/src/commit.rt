@@ -7,7 +7,7 @@ ghost use Rattle.stage2.specs.Slot.{layout_of};
 ghost use Rattle.stage2.specs.Tables.{Fits, ReachSo, edit_operations, has_root};
 ghost use Rattle.pool.specs.Pool.{all_lie_in};
 ghost use Rattle.spm.specs.Clearing.{clears_of, AreRowsOfPartitions, ClearsInCall, ShowsOne};
-ghost use Rattle.spm.specs.Granted.{updated, CanUpdate, needs_room, AreOrderly, IsOrderly, wants_memory};
+ghost use Rattle.spm.specs.Granted.{replied, updated, CanUpdate, needs_room, AreOrderly, IsOrderly, wants_memory};
 ghost use Rattle.spm.specs.Machine.{AreEditedBy, ShowsEdit, fits_in};
 
 use crate::calls::{buffers, reclaim, relinquish, retrieve, send, version};
@@ -49,7 +49,7 @@ pub(crate) fn commit<M: TableMem + Drop>(
     requires can { CanUpdate state.old p change.update }
     requires orderly { AreOrderly p change.edit }
     requires fits { fits_in state.old.manifest tables.old change.edit ≡ true }
-    ensures reply { IfOk result (λ reply. reply ≡ change.reply) }
+    ensures reply { IfOk result (λ reply. reply ≡ replied change.answer) }
     ensures state { OnOk result (state.new ≡ updated state.old p change.update) }
     ensures layout { tables.new.layout ≡ tables.old.layout }
     ensures edited { OnOk result (AreEditedBy change.edit tables.old tables.new) }
@@ -62,13 +62,13 @@ pub(crate) fn commit<M: TableMem + Drop>(
     let Change {
         edit,
         update,
-        reply,
+        answer,
     } = change;
     match edit {
         Some(edit) => edit_and_apply(state, tables, spare, p, edit, update)?,
         None => apply(state, p, update)?,
     }
-    Ok(reply)
+    Ok(answer.into_reply())
 }
 
 /// Edits the tables, and changes the state. The memory of the edit's runs is spare then.

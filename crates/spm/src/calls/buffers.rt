@@ -10,11 +10,10 @@ ghost use Rattle.rules.specs.Run.{IsReached};
 ghost use Rattle.spm.specs.Granted.{IsGranted, IsStopped};
 
 use crate::call::LentCall;
-use crate::change::{Change, Stop, Update};
+use crate::change::{Answer, Change, Stop, Update};
 use crate::state::State;
 use base::{Access, Page, PartitionId, Rights, Run, Status};
 use mailbox::Pair;
-use wire::Reply;
 
 // ---- FFA_RXTX_MAP
 
@@ -33,7 +32,7 @@ pub(crate) fn map(
         (rules.map_rule state.now call.now tx rx pages) false stop) }
 {
     match check_map(state, call.partition(), tx, rx, pages) {
-        Ok(pair) => Ok(Change::of_state(Update::MapBuffers(pair), Reply::success(0, 0))),
+        Ok(pair) => Ok(Change::of_state(Update::MapBuffers(pair), Answer::Success(0, 0))),
         Err(status) => Err(Stop::Refused(status)),
     }
 }
@@ -97,7 +96,7 @@ pub(crate) fn unmap(state: &State, call: &LentCall<'_>, word: u32) -> Result<Cha
         (rules.unmap_rule state.now call.now word) false stop) }
 {
     if word == 0 && state.pairs.has_pair(call.partition()) {
-        Ok(Change::of_state(Update::UnmapBuffers, Reply::success(0, 0)))
+        Ok(Change::of_state(Update::UnmapBuffers, Answer::Success(0, 0)))
     } else {
         Err(Stop::Refused(Status::InvalidParameters))
     }
@@ -122,7 +121,7 @@ pub(crate) fn release_rx(state: &State, call: &LentCall<'_>) -> Result<Change, S
         (rules.release_rule state.now call.now) false stop) }
 {
     if state.pairs.holds_rx(call.partition()) {
-        Ok(Change::of_state(Update::ReleaseRx, Reply::success(0, 0)))
+        Ok(Change::of_state(Update::ReleaseRx, Answer::Success(0, 0)))
     } else {
         Err(Stop::Refused(Status::Denied))
     }

@@ -5,9 +5,9 @@ ghost use Rattle.base.specs.State as spec;
 ghost use Rattle.rules.specs.Calls.Features.{features_rule};
 ghost use Rattle.spm.specs.Granted.{IsGranted, IsStopped};
 
-use crate::change::{Change, Stop};
+use crate::change::{Answer, Change, Stop};
 use base::Status;
-use wire::{Reply, is_feature};
+use wire::is_feature;
 
 /// The caller asks for the feature or the interface with this identifier.
 pub(crate) fn features(identifier: u32) -> Result<Change, Stop>
@@ -17,7 +17,7 @@ pub(crate) fn features(identifier: u32) -> Result<Change, Stop>
         (λ stop. IsStopped (features_rule s identifier) false stop) }
 {
     if is_feature(identifier) {
-        Ok(Change::nothing(Reply::success(0, 0)))
+        Ok(Change::nothing(Answer::Success(0, 0)))
     } else {
         Err(Stop::Refused(Status::NotSupported))
     }

@@ -12,13 +12,12 @@ ghost use Rattle.spm.specs.Granted.{IsGranted, IsStopped, AreSameEdits, AreOrder
 
 use crate::call::LentCall;
 use crate::calls::clearing::may_clear_returned;
-use crate::change::{Change, Edit, Stop, Update};
+use crate::change::{Answer, Change, Edit, Stop, Update};
 use crate::state::State;
 use base::{Handle, Kind, OutOfMemory, PartitionId, Run, Status, normal};
 use descr::{are_clear_flags, orders_clear};
 use ledger::Live;
 use std::alloc::Global;
-use wire::Reply;
 
 /// The caller ends a transaction that it has sent and that no receiver has any more, and reaches its
 /// pages as before.
@@ -47,7 +46,7 @@ pub(crate) fn reclaim(
             Ok(edit) => Ok(Change {
                 edit,
                 update: Update::Close(handle),
-                reply: Reply::success(0, 0),
+                answer: Answer::Success(0, 0),
             }),
             Err(error) => Err(Stop::NoMemory(error)),
         },

@@ -11,12 +11,11 @@ ghost use Rattle.spm.specs.Granted.{IsGranted, IsStopped};
 use crate::call::LentCall;
 use crate::calls::clearing::may_clear_lent;
 use crate::calls::receiver::{received_with, receiver_edit};
-use crate::change::{Change, Stop, Update};
+use crate::change::{Answer, Change, Stop, Update};
 use crate::state::State;
 use base::{Handle, PartitionId, Run, Status};
 use descr::read_relinquish;
 use ledger::Live;
-use wire::Reply;
 
 /// What the tests of a relinquish found: the transaction, and whether its pages are to be cleared.
 #[derive(Clone, Copy)]
@@ -46,7 +45,7 @@ pub(crate) fn relinquish(
                 Ok(edit) => Ok(Change {
                     edit,
                     update: Update::Relinquish(transaction.handle),
-                    reply: Reply::success(0, 0),
+                    answer: Answer::Success(0, 0),
                 }),
                 Err(error) => Err(Stop::NoMemory(error)),
             }

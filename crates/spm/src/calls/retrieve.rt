@@ -8,12 +8,12 @@ ghost use Rattle.rules.specs.Laws.SentPages.{IsWithinLimits};
 ghost use Rattle.rules.specs.Run.{IsReached};
 ghost use Rattle.rules.specs.Transfers.{caller_version};
 ghost use Rattle.spm.specs.Checked.{IsCaller, IsNamed, IsRetrieved};
-ghost use Rattle.spm.specs.Granted.{IsGranted, IsStopped, CanRetrieve, after_retrieval};
+ghost use Rattle.spm.specs.Granted.{IsGranted, IsStopped, CanRetrieve, after_retrieval, replied};
 
 use crate::call::LentCall;
 use crate::calls::receiver::{received_with, receiver_edit};
 use crate::calls::transfer::{are_lengths, names_tx};
-use crate::change::{Change, Stop, Update};
+use crate::change::{Answer, Change, Stop, Update};
 use crate::state::State;
 use base::limits::PAGE_SIZE;
 use base::{
@@ -25,7 +25,7 @@ use descw::{ResponseFields, write_response};
 use ledger::Live;
 use mailbox::Pair;
 use std::alloc::Global;
-use wire::{Reply, Transfer};
+use wire::Transfer;
 
 /// The partition that asks, its version of FF-A, and its buffers: they are looked up once.
 #[derive(Clone, Copy)]
@@ -298,16 +298,16 @@ fn permissions_of(access: Access) -> Permissions
     Permissions::new(data + 4 * instruction)
 }
 
-/// The response in RX, and its length in the registers.
+/// The response, and its length.
 fn respond(
     alloc: Global,
     version: Version,
     p: PartitionId,
     transaction: &Live,
     access: Access,
-) -> Result<Reply, OutOfMemory>
+) -> Result<Answer, OutOfMemory>
     requires { IsWithinLimits transaction.now }
-    ensures { IfOk result (λ reply. reply ≡ rules.responding version p
+    ensures { IfOk result (λ answer. replied answer ≡ rules.responding version p
         (record { transaction = transaction.now; access = access })) }
 {
     let fields = ResponseFields {
@@ -322,11 +322,7 @@ fn respond(
         ranges: &transaction.terms.ranges,
     };
     let bytes = write_response(alloc, version, &fields)?;
-    let regs = Reply::response(response_length(version, transaction)).regs;
-    Ok(Reply {
-        regs,
-        rx: Some(bytes),
-    })
+    Ok(Answer::Response(response_length(version, transaction), bytes))
 }
 
 // ---- the change
@@ -352,12 +348,12 @@ fn change(
         access,
         version,
     } = granted;
-    let reply = respond(state.alloc, version, p, transaction, access)?;
+    let answer = respond(state.alloc, version, p, transaction, access)?;
     let edit = receiver_edit(state.alloc, spare, p, transaction, Some(access), false)?;
     Ok(Change {
         edit,
         update: Update::Retrieve(transaction.handle, access),
-        reply,
+        answer,
     })
 }
 

@@ -14,7 +14,7 @@ ghost use Rattle.spm.specs.Checked.{IsChecked};
 use crate::call::LentCall;
 use crate::calls::clearing::may_clear_sent;
 use crate::calls::transfer::{are_lengths, names_tx};
-use crate::change::{Change, Edit, Stop, Update};
+use crate::change::{Answer, Change, Edit, Stop, Update};
 use crate::partitions::PartitionState;
 use crate::state::State;
 use arrayvec::ArrayVec;
@@ -26,7 +26,7 @@ use base::{
 use descr::{Endpoint, SendDesc, read_send};
 use ledger::{Live, Receiver, Terms};
 use std::alloc::Global;
-use wire::{Reply, Transfer};
+use wire::Transfer;
 
 /// What the tests of a send found: what its descriptor says, the home of its pages, and how many of its
 /// sender's sends were accepted.
@@ -267,7 +267,7 @@ fn change(
     Ok(Change {
         edit,
         update: Update::Open(transaction),
-        reply: Reply::success(handle.low(), handle.high()),
+        answer: Answer::Success(handle.low(), handle.high()),
     })
 }
 

@@ -6,11 +6,10 @@ ghost use Rattle.rules.specs.Call.{CallWords};
 ghost use Rattle.rules.specs.Calls.Version as rules;
 ghost use Rattle.spm.specs.Granted.{IsGranted};
 
-use crate::change::{Change, Update};
+use crate::change::{Answer, Change, Update};
 use crate::partitions::PartitionState;
 use crate::state::State;
 use base::{PartitionId, Version};
-use wire::Reply;
 
 /// Version 1.1 of FF-A, which the manager speaks.
 const VERSION_1_1: u32 = 0x1_0001;
@@ -29,7 +28,7 @@ pub(crate) fn version(word: u32) -> Change
     } else {
         NOT_SUPPORTED
     };
-    Change::of_state(Update::SetVersion(word), Reply::version(reply))
+    Change::of_state(Update::SetVersion(word), Answer::Version(reply))
 }
 
 /// Keeps the version that a partition named.

@@ -1,4 +1,4 @@
-use Rattle.std.proofs.Common.{ap}
+use Rattle.std.proofs.Common.{refl, ap}
 use Rattle.base.specs.Transactions.{Live}
 use Rattle.rules.specs.Calls.Relinquish.{given_up}
 use Rattle.spm.proofs.ReceiverLemmas.{its_ranges, relinquish_granted}
@@ -13,5 +13,5 @@ receiver_edit-requires c =
 pub returns-in-Ok-receiver_edit-clause-granted : goal.returns-in-Ok-receiver_edit-clause-granted
 returns-in-Ok-receiver_edit-clause-granted c =
     let edit = c.in-Ok-receiver_edit in
-    relinquish_granted c.args.state.now c.args.call.now c.partition-p.result c.in-Ok.given.transaction.now _ _ edit.edit c.success.result
-    c.in-Ok.ensures.passed c.partition-p.ensures.same (ap (λ (t : Live). t.handle) c.transaction.view_is) edit.ensures.same edit.ensures.orderly c.success.ensures
+    relinquish_granted c.args.state.now c.args.call.now c.partition-p.result c.in-Ok.given.transaction.now _ _ edit.edit _
+    c.in-Ok.ensures.passed c.partition-p.ensures.same (ap (λ (t : Live). t.handle) c.transaction.view_is) edit.ensures.same edit.ensures.orderly refl

@@ -20,6 +20,6 @@ pub returns : goal.returns
 returns c =
     let granted = c.args.granted in
     let edit = c.in_ok-edit in
-    retrieve_granted c.args.state.now c.args.call.now c.args.transfer c.partition-p.result granted.transaction.now granted.access _ edit.edit c.in_ok-reply.reply
+    retrieve_granted c.args.state.now c.args.call.now c.args.transfer c.partition-p.result granted.transaction.now granted.access _ edit.edit c.in_ok-answer.answer
     c.requires.reached c.requires.retrieved c.partition-p.ensures.same (ap (λ (t : Live). t.handle) c.transaction.view_is) edit.ensures.same edit.ensures.orderly
-    (c.in_ok-reply.ensures ∙ ap (λ v. responding v c.partition-p.result (record { transaction = granted.transaction.now; access = granted.access })) c.requires.version)
+    (c.in_ok-answer.ensures ∙ ap (λ v. responding v c.partition-p.result (record { transaction = granted.transaction.now; access = granted.access })) c.requires.version)

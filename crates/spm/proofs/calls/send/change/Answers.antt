@@ -34,6 +34,6 @@ returns c =
     (subst (λ (b : Bool). AreSameEdits (edit_of c.args.kind c.partition-p.result c.deref-2.result.now b) c.in_ok-edit.edit) clears c.in_ok-edit.ensures.same) in
     let orderly = subst (λ p. AreOrderly p c.in_ok-edit.edit) c.partition-p.ensures.same c.in_ok-edit.ensures.orderly in
     let handle = ap (λ (u : Live). u.handle) c.transaction-2.view_is in
-    let reply : c.success.result ≡ success (low_half t.handle) (high_half t.handle) = c.success.ensures ∙ rw (c.low.ensures, c.high.ensures, handle) refl in
-    send_granted s call c.args.kind c.args.transfer desc home c.args.checked.now.sends t c.in_ok-edit.edit c.success.result c.requires.reached c.requires.checked opens
+    let reply : success c.low.result c.high.result ≡ success (low_half t.handle) (high_half t.handle) = rw (c.low.ensures, c.high.ensures, handle) refl in
+    send_granted s call c.args.kind c.args.transfer desc home c.args.checked.now.sends t c.in_ok-edit.edit _ c.requires.reached c.requires.checked opens
     (subst (λ (rs : List PageRun). AreSameEdits (edit_of c.args.kind call.caller rs desc.clears) c.in_ok-edit.edit) ranges same) orderly reply
