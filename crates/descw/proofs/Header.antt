@@ -1,5 +1,5 @@
 -- The header's fields are read back.
-use Rattle.std.proofs.Common.{◌≡◌, ℕ, ◌^◌, ◌<◌, true, List, [], ◌++◌, length, drop, refl, arith}
+use Rattle.std.proofs.Common.{◌≡◌, ℕ, ◌+◌, ◌-◌, ◌^◌, ◌<◌, true, List, [], ◌++◌, length, drop, refl, arith}
 use Rattle.std.proofs.lemmas.Bool.Decides.{nat_tests}
 use Rattle.byteorder.specs.Numbers.{little_number-reads_back}
 use Rattle.base.specs.declared.partition.Version.{Version}
@@ -59,3 +59,8 @@ attributes_small a h = grind (arith, nat_tests)
 -- and so do flags that may order a clear
 pub clear_flags_small : (flags : ℕ) → are_clear_flags flags ≡ true → flags < 2 ^ 32
 clear_flags_small flags h = grind (arith, nat_tests)
+
+-- a header goes on behind its first 16 bytes
+pub header_size-rest : (version : Version) → 16 + (header_size version - 16) ≡ header_size version
+header_size-rest V10 = refl
+header_size-rest V11 = refl

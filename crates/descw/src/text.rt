@@ -1,20 +1,19 @@
 //! Writes the parts of a descriptor behind the bytes that are there (FF-A 1.1 and 1.0, "Memory
 //! transaction descriptor", "Endpoint memory access descriptor", "Composite memory region descriptor",
-//! "Constituent memory region descriptor"). After an error a part may have been begun.
+//! "Constituent memory region descriptor"). Whoever calls has made room for the whole part.
 
-ghost use Rattle.std.specs.Prelude.{◌≡◌, ◌^◌, ◌<◌, ◌≤◌, ◌++◌, IfOk};
+ghost use Rattle.std.specs.Prelude.{◌≡◌, ◌+◌, ◌-◌, ◌*◌, ◌^◌, ◌<◌, ◌≤◌, ◌++◌, length, vec_len, vec_capacity};
 ghost use Rattle.byteorder.specs.Endian.{little_bytes};
 ghost use Rattle.base.specs.Descriptors.Send as send;
 ghost use Rattle.base.specs.Descriptors.Response as response;
 ghost use Rattle.base.specs.Descriptors.Encoding as texts;
 ghost use Rattle.base.specs.Pages.{IsRun};
-ghost use Rattle.descw.specs.Inside.{FitsHeader, AreIdentifiers, AreRuns};
+ghost use Rattle.descw.specs.Inside.{Appends, FitsHeader, AreIdentifiers, AreRuns};
 
 use crate::fields::{HeaderFields, RangeFields};
 use base::limits::PAGE_SIZE;
 use base::{Kind, Run, Version};
 use descr::Endpoint;
-use std::alloc::AllocError;
 
 /// The size of a header of FF-A 1.0, in bytes.
 const HEADER_1_0: u32 = 32;
@@ -35,48 +34,48 @@ pub(crate) fn header_size(version: Version) -> u32
     }
 }
 
-/// Appends a number of 2 bytes.
-pub(crate) fn write_u16(out: &mut Vec<u8>, number: u16) -> Result<(), AllocError>
-    ensures { IfOk result (λ _. out.new.items ≡ out.old.items ++ little_bytes 2 number) }
+/// Appends bytes, for which there is room.
+#[inline(always)]
+fn write_bytes(out: &mut Vec<u8>, bytes: &[u8])
+    requires { vec_len out.old + length bytes.now ≤ vec_capacity out.old }
+    ensures { Appends out.old bytes.now (length bytes.now) out.new }
 {
-    out.extend_from_slice(&number.to_le_bytes())
+    for byte in bytes {
+        out.push_reserved(*byte);
+    }
+}
+
+/// Appends a number of 2 bytes.
+pub(crate) fn write_u16(out: &mut Vec<u8>, number: u16)
+    requires { vec_len out.old + 2 ≤ vec_capacity out.old }
+    ensures { Appends out.old (little_bytes 2 number) 2 out.new }
+{
+    write_bytes(out, &number.to_le_bytes());
 }
 
 /// Appends a number of 4 bytes.
-pub(crate) fn write_u32(out: &mut Vec<u8>, number: u32) -> Result<(), AllocError>
-    ensures { IfOk result (λ _. out.new.items ≡ out.old.items ++ little_bytes 4 number) }
+pub(crate) fn write_u32(out: &mut Vec<u8>, number: u32)
+    requires { vec_len out.old + 4 ≤ vec_capacity out.old }
+    ensures { Appends out.old (little_bytes 4 number) 4 out.new }
 {
-    out.extend_from_slice(&number.to_le_bytes())
+    write_bytes(out, &number.to_le_bytes());
 }
 
 /// Appends a number of 8 bytes.
-pub(crate) fn write_u64(out: &mut Vec<u8>, number: u64) -> Result<(), AllocError>
-    ensures { IfOk result (λ _. out.new.items ≡ out.old.items ++ little_bytes 8 number) }
+pub(crate) fn write_u64(out: &mut Vec<u8>, number: u64)
+    requires { vec_len out.old + 8 ≤ vec_capacity out.old }
+    ensures { Appends out.old (little_bytes 8 number) 8 out.new }
 {
-    out.extend_from_slice(&number.to_le_bytes())
+    write_bytes(out, &number.to_le_bytes());
 }
 
-/// Appends a number of 16 bytes.
-fn write_u128(out: &mut Vec<u8>, number: u128) -> Result<(), AllocError>
-    ensures { IfOk result (λ _. out.new.items ≡ out.old.items ++ little_bytes 16 number) }
+/// Appends two numbers of 8 bytes. The parts of a descriptor are put together of such pairs.
+fn write_pair(out: &mut Vec<u8>, first: u64, second: u64)
+    requires { vec_len out.old + 16 ≤ vec_capacity out.old }
+    ensures { Appends out.old (little_bytes 8 first ++ little_bytes 8 second) 16 out.new }
 {
-    out.extend_from_slice(&number.to_le_bytes())
-}
-
-/// Appends two numbers of 8 bytes. The parts of a descriptor are put together of such pairs, so that
-/// room is looked for once in 16 bytes.
-fn write_pair(out: &mut Vec<u8>, first: u64, second: u64) -> Result<(), AllocError>
-    ensures { IfOk result (λ _.
-        out.new.items ≡ out.old.items ++ (little_bytes 8 first ++ little_bytes 8 second)) }
-{
-    write_u128(out, join_longs(first, second))
-}
-
-/// Two numbers of 8 bytes as one of 16.
-fn join_longs(low: u64, high: u64) -> u128
-    ensures { little_bytes 16 result ≡ little_bytes 8 low ++ little_bytes 8 high }
-{
-    u128::from(low) + u128::from(high) * 0x1_0000_0000_0000_0000
+    write_u64(out, first);
+    write_u64(out, second);
 }
 
 /// Two numbers of 4 bytes as one of 8.
@@ -95,95 +94,79 @@ fn join_halves(low: u16, high: u16) -> u32
 
 /// Appends the header from byte 16 on: the tag, the count of access descriptors, and in FF-A 1.1 their
 /// size and offset.
-fn write_header_end(
-    out: &mut Vec<u8>,
-    version: Version,
-    tag: u64,
-    count: u32,
-) -> Result<(), AllocError>
-    ensures { IfOk result (λ _.
-        out.new.items ≡ out.old.items ++ (little_bytes 8 tag ++ texts.header_end version count)) }
+fn write_header_end(out: &mut Vec<u8>, version: Version, tag: u64, count: u32)
+    requires { vec_len out.old + send.header_size version ≤ vec_capacity out.old + 16 }
+    ensures { Appends out.old (little_bytes 8 tag ++ texts.header_end version count)
+        (send.header_size version - 16) out.new }
 {
     match version {
         Version::V10 => write_pair(out, tag, join_words(0, count)),
         Version::V11 => {
-            write_pair(out, tag, join_words(PART_SIZE, count))?;
-            write_pair(out, u64::from(HEADER_1_1), 0)
+            write_pair(out, tag, join_words(PART_SIZE, count));
+            write_pair(out, u64::from(HEADER_1_1), 0);
         }
     }
 }
 
 /// Appends a header.
-pub(crate) fn write_header(
-    out: &mut Vec<u8>,
-    version: Version,
-    header: HeaderFields,
-    count: u32,
-) -> Result<(), AllocError>
-    ensures text { IfOk result (λ _.
-        out.new.items ≡ out.old.items ++ texts.header_text version header count) }
-    ensures fits { IfOk result (λ _. FitsHeader header) }
+pub(crate) fn write_header(out: &mut Vec<u8>, version: Version, header: HeaderFields, count: u32)
+    requires { vec_len out.old + send.header_size version ≤ vec_capacity out.old }
+    ensures text { Appends out.old (texts.header_text version header count)
+        (send.header_size version) out.new }
+    ensures fits { FitsHeader header }
 {
     let head = join_halves(header.sender.number(), header.attributes.bits());
-    write_pair(out, join_words(head, header.flags), header.handle.bits())?;
-    write_header_end(out, version, header.tag, count)
+    write_pair(out, join_words(head, header.flags), header.handle.bits());
+    write_header_end(out, version, header.tag, count);
 }
 
 /// Appends an access descriptor that points at this composite descriptor.
-pub(crate) fn write_access(
-    out: &mut Vec<u8>,
-    composite: u32,
-    endpoint: Endpoint,
-) -> Result<(), AllocError>
-    ensures text { IfOk result (λ _.
-        out.new.items ≡ out.old.items ++ texts.access_text composite endpoint) }
-    ensures fits { IfOk result (λ _. endpoint.partition < 2 ^ 16) }
+pub(crate) fn write_access(out: &mut Vec<u8>, composite: u32, endpoint: Endpoint)
+    requires { vec_len out.old + 16 ≤ vec_capacity out.old }
+    ensures text { Appends out.old (texts.access_text composite endpoint) 16 out.new }
+    ensures fits { endpoint.partition < 2 ^ 16 }
 {
     let permissions = u16::from(endpoint.permissions.byte());
     let head = join_halves(endpoint.partition.number(), permissions);
-    write_pair(out, join_words(head, composite), 0)
+    write_pair(out, join_words(head, composite), 0);
 }
 
 /// Appends the access descriptors of these receivers.
-pub(crate) fn write_accesses(
-    out: &mut Vec<u8>,
-    composite: u32,
-    receivers: &[Endpoint],
-) -> Result<(), AllocError>
-    ensures text { IfOk result (λ _.
-        out.new.items ≡ out.old.items ++ texts.accesses_text composite receivers.now) }
-    ensures fits { IfOk result (λ _. AreIdentifiers receivers.now) }
+pub(crate) fn write_accesses(out: &mut Vec<u8>, composite: u32, receivers: &[Endpoint])
+    requires { vec_len out.old + 16 * length receivers.now ≤ vec_capacity out.old }
+    ensures text { Appends out.old (texts.accesses_text composite receivers.now)
+        (16 * length receivers.now) out.new }
+    ensures fits { AreIdentifiers receivers.now }
 {
     for endpoint in receivers {
-        write_access(out, composite, *endpoint)?;
+        write_access(out, composite, *endpoint);
     }
-    Ok(())
 }
 
 /// Appends a composite descriptor.
-pub(crate) fn write_composite(out: &mut Vec<u8>, total: u32, count: u32) -> Result<(), AllocError>
-    ensures { IfOk result (λ _.
-        out.new.items ≡ out.old.items ++ texts.composite_text total count) }
+pub(crate) fn write_composite(out: &mut Vec<u8>, total: u32, count: u32)
+    requires { vec_len out.old + 16 ≤ vec_capacity out.old }
+    ensures { Appends out.old (texts.composite_text total count) 16 out.new }
 {
-    write_pair(out, join_words(total, count), 0)
+    write_pair(out, join_words(total, count), 0);
 }
 
 /// Appends a range.
-fn write_range(out: &mut Vec<u8>, range: RangeFields) -> Result<(), AllocError>
-    ensures { IfOk result (λ _. out.new.items ≡ out.old.items ++ texts.range_text range) }
+fn write_range(out: &mut Vec<u8>, range: RangeFields)
+    requires { vec_len out.old + 16 ≤ vec_capacity out.old }
+    ensures { Appends out.old (texts.range_text range) 16 out.new }
 {
-    write_pair(out, range.address, join_words(range.count, 0))
+    write_pair(out, range.address, join_words(range.count, 0));
 }
 
 /// Appends these ranges.
-pub(crate) fn write_ranges(out: &mut Vec<u8>, ranges: &[RangeFields]) -> Result<(), AllocError>
-    ensures { IfOk result (λ _.
-        out.new.items ≡ out.old.items ++ texts.ranges_text ranges.now) }
+pub(crate) fn write_ranges(out: &mut Vec<u8>, ranges: &[RangeFields])
+    requires { vec_len out.old + 16 * length ranges.now ≤ vec_capacity out.old }
+    ensures { Appends out.old (texts.ranges_text ranges.now) (16 * length ranges.now) out.new }
 {
     for range in ranges {
-        write_range(out, *range)?;
+        write_range(out, *range);
     }
-    Ok(())
 }
 
 /// The range of these pages.
@@ -198,14 +181,14 @@ fn range_of(run: Run) -> RangeFields
 }
 
 /// Appends the ranges of these pages.
-pub(crate) fn write_runs(out: &mut Vec<u8>, runs: &[Run]) -> Result<(), AllocError>
-    ensures text { IfOk result (λ _. out.new.items ≡ out.old.items ++ texts.runs_text runs.now) }
-    ensures in_range { IfOk result (λ _. AreRuns runs.now) }
+pub(crate) fn write_runs(out: &mut Vec<u8>, runs: &[Run])
+    requires { vec_len out.old + 16 * length runs.now ≤ vec_capacity out.old }
+    ensures text { Appends out.old (texts.runs_text runs.now) (16 * length runs.now) out.new }
+    ensures in_range { AreRuns runs.now }
 {
     for run in runs {
-        write_range(out, range_of(*run))?;
+        write_range(out, range_of(*run));
     }
-    Ok(())
 }
 
 /// How many pages there are together.

@@ -46,10 +46,10 @@ pub fn write_send(
     let composite = header_size(version) + PART_SIZE * receivers;
     let size = composite + PART_SIZE + PART_SIZE * ranges;
     let mut out = Vec::with_capacity(alloc, size as usize)?;
-    write_header(&mut out, version, fields.header, receivers)?;
-    write_accesses(&mut out, composite, fields.receivers)?;
-    write_composite(&mut out, fields.total, ranges)?;
-    write_ranges(&mut out, fields.ranges)?;
+    write_header(&mut out, version, fields.header, receivers);
+    write_accesses(&mut out, composite, fields.receivers);
+    write_composite(&mut out, fields.total, ranges);
+    write_ranges(&mut out, fields.ranges);
     Ok(out)
 }
 
@@ -72,8 +72,8 @@ pub fn write_retrieve(
 {
     let size = header_size(version) + PART_SIZE;
     let mut out = Vec::with_capacity(alloc, size as usize)?;
-    write_header(&mut out, version, fields.header, 1)?;
-    write_access(&mut out, 0, fields.endpoint)?;
+    write_header(&mut out, version, fields.header, 1);
+    write_access(&mut out, 0, fields.endpoint);
     Ok(out)
 }
 
@@ -90,10 +90,10 @@ pub fn write_relinquish(alloc: Global, fields: &RelinquishFields) -> Result<Vec<
         → SpellsRelinquish bytes.items (given_up_by fields.now)) }
 {
     let mut out = Vec::with_capacity(alloc, RELINQUISH_SIZE)?;
-    write_u64(&mut out, fields.handle.bits())?;
-    write_u32(&mut out, fields.flags)?;
-    write_u32(&mut out, 1)?;
-    write_u16(&mut out, fields.endpoint.number())?;
+    write_u64(&mut out, fields.handle.bits());
+    write_u32(&mut out, fields.flags);
+    write_u32(&mut out, 1);
+    write_u16(&mut out, fields.endpoint.number());
     Ok(out)
 }
 
@@ -127,9 +127,9 @@ pub fn write_response(
     let composite = header_size(version) + PART_SIZE;
     let size = composite + PART_SIZE + PART_SIZE * ranges;
     let mut out = Vec::with_capacity(alloc, size as usize)?;
-    write_header(&mut out, version, header, 1)?;
-    write_access(&mut out, composite, fields.endpoint)?;
-    write_composite(&mut out, page_count(fields.ranges), ranges)?;
-    write_runs(&mut out, fields.ranges)?;
+    write_header(&mut out, version, header, 1);
+    write_access(&mut out, composite, fields.endpoint);
+    write_composite(&mut out, page_count(fields.ranges), ranges);
+    write_runs(&mut out, fields.ranges);
     Ok(out)
 }
