@@ -288,7 +288,7 @@ fn transaction(
         kind,
         sender: p,
         tag: checked.desc.tag,
-        ranges: checked.desc.ranges().collect(state.alloc)?,
+        ranges: ranges_of(state.alloc, &checked.desc)?,
         receivers: receivers_of(kind, checked.home, &checked.desc.receivers),
         home: checked.home,
     };
@@ -296,6 +296,18 @@ fn transaction(
         handle: Handle::new(p, checked.sends + 1),
         terms: Box::new(state.alloc, terms)?,
     })
+}
+
+/// A copy of the ranges of a send, in as much memory as they need.
+fn ranges_of(alloc: Global, desc: &SendDesc<'_>) -> Result<Vec<Run>, OutOfMemory>
+    ensures same { IfOk result (λ ranges. ranges.items ≡ desc.now.ranges) }
+    ensures few { IfOk result (λ ranges. length ranges.items ≤ 512) }
+{
+    let mut ranges = Vec::with_capacity(alloc, desc.ranges().count())?;
+    for run in desc.ranges() {
+        ranges.push_reserved(run);
+    }
+    Ok(ranges)
 }
 
 /// The receivers of a transaction that nobody has retrieved.
