@@ -3,7 +3,7 @@ use Rattle.std.proofs.Common.{◌≡◌, ◌≢◌, ℕ, ◌+◌, ◌*◌, ◌%�
 use Rattle.std.specs.List.{list_all}
 use Rattle.std.proofs.lemmas.List.{length-reverse}
 use Rattle.base.specs.Manifest.{page_count}
-use Rattle.pool.specs.Pool.{Pool, words_of, taken_of, lies_in, CountsFree, CountsNonzero, NoneFreeBelow}
+use Rattle.pool.specs.Pool.{StandOnce, Pool, words_of, taken_of, lies_in, CountsFree, CountsNonzero, NoneFreeBelow}
 use Rattle.pool.specs.Shown.{IsShown}
 use Rattle.pool.specs.Writing.{Wrote, log_of}
 use Rattle.pool.specs.declared.log.Log.{Log}
@@ -21,6 +21,7 @@ pool_in m made = record { memory = memory_in m; operations = reverse m.operation
 abbrev pub Holds : {S : Type 0} {g : Ghosts S} → TablePool S g → ℕ → List ℕ → (ℕ → Bool) → Log → Type 0
 Holds old page new stands after = record {
   ids_whole : length old.ids.items ≡ length old.quotas.items;
+  ids_once : StandOnce old.ids.items;
   words_whole : length new ≡ 512 * page_count old.quotas.items;
   taken_whole : length old.taken ≡ page_count old.quotas.items;
   free_counted : CountsFree old.quotas.items old.taken old.free.items;
@@ -47,6 +48,7 @@ module _ {S : Type 0} {g : Ghosts S} (old : TablePool S g) (page : ℕ) (inside 
       let others : (q i : ℕ) → q ≢ page → words_of new q i ≡ words_of (g.words old.store) q i = λ q i other. ap (λ w. words_of w q i) (shown 0).words ∙ (keeps (pool_in old 0) whole).others q i other in
       record {
         ids_whole = old.ids_whole;
+        ids_once = old.ids_once;
         words_whole = wrote.whole ∙ old.words_whole;
         taken_whole = old.taken_whole;
         free_counted = old.free_counted;

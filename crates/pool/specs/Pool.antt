@@ -1,5 +1,5 @@
 -- What a table memory holds, and what its calls make of it.
-use Rattle.std.specs.Prelude.{◌≡◌, ℕ, zero, suc, ◌+◌, ◌-◌, ◌*◌, ◌%◌, ◌^◌, ◌<◌, ◌≤◌, Bool, true, false, not, ◌==◌, ◌&&◌, if◌then◌else◌, nat_lt, nat_le, min, max, List, [], ◌∷◌, ◌++◌, length, sum, take, replicate, slice_index, slice_index_or, slice_set}
+use Rattle.std.specs.Prelude.{◌≡◌, ℕ, zero, suc, ◌+◌, ◌-◌, ◌*◌, ◌%◌, ◌^◌, ◌<◌, ◌≤◌, Bool, true, false, not, ◌==◌, ◌&&◌, if◌then◌else◌, nat_lt, nat_le, min, max, List, [], ◌∷◌, ◌++◌, length, sum, take, replicate, get_or, slice_index, slice_index_or, slice_set}
 use Rattle.std.specs.List.{list_all}
 use Rattle.base.specs.Counts.{count_below}
 use Rattle.base.specs.Pages.{PageRun}
@@ -66,6 +66,10 @@ with_mark page is m = record m { taken = mark page is m.taken }
 -- the row of a partition, which is also the page of its root; for one that has no row, the number of rows
 abbrev pub row_in : Memory → ℕ → ℕ
 row_in m p = row_of m.ids p
+
+-- no identifier stands twice
+abbrev pub StandOnce : List ℕ → Type 0
+StandOnce ids = (i : ℕ) → i < length ids → row_of ids (get_or ids i 0) ≡ i
 
 -- the partition has a row
 abbrev pub HasRow : Memory → ℕ → Type 0

@@ -21,7 +21,7 @@ mod word_store;
 pub use image::Image;
 pub use list_pool::ListPool;
 pub use operation::Op;
-pub use places::{address_of, page_at, row_in, row_of};
+pub use places::{address_of, ids_of, page_at, quotas_of, row_in, row_of};
 pub use raw_pool::RawPool;
 pub use runs::TableWords;
 pub use table_mem::TableMem;

@@ -1,7 +1,6 @@
 ghost use Rattle.std.specs.Prelude.{◌≡◌, ℕ, ◌+◌, ◌-◌, ◌*◌, ◌<◌, ◌≤◌, ◌^◌, length, replicate, reverse, vec_len, vec_capacity, true, false, IfOk};
 ghost use Rattle.base.specs.Manifest.{page_count};
-ghost use Rattle.base.specs.Manifest as rows;
-ghost use Rattle.pool.specs.Pool.{CountsFree, CountsNonzero, NoneFreeBelow, lies_in, words_of, taken_of};
+ghost use Rattle.pool.specs.Pool.{CountsFree, CountsNonzero, NoneFreeBelow, StandOnce, lies_in, words_of, taken_of};
 ghost use Rattle.std.specs.List.{list_all};
 ghost use Rattle.pool.specs.Pool as shares;
 
@@ -9,7 +8,7 @@ use crate::image::Image;
 use crate::log::Log;
 use crate::looks::{are_filled, are_gaps_there};
 use crate::operation::Op;
-use crate::places::{row_of, share_starts, total};
+use crate::places::{ids_of, quotas_of, row_of, share_starts, total};
 use crate::replace::{Replacement, replace_words};
 use crate::runs::{TableWords, set_runs, turn_gaps, turn_runs};
 use crate::stretch::{WordAt, clear_page, write_word};
@@ -41,6 +40,7 @@ pub struct TablePool<S: WordStore> {
     operations: Vec<Op>,
     made_before: u64,
     ghost ids_whole: { length ids.items ≡ length quotas.items },
+    ghost ids_once: { StandOnce ids.items },
     ghost words_whole: { length (S.words store) ≡ 512 * page_count quotas.items },
     ghost taken_whole: { length taken ≡ page_count quotas.items },
     ghost free_counted: { CountsFree quotas.items taken free.items },
@@ -53,20 +53,6 @@ pub struct TablePool<S: WordStore> {
     ghost within: { list_all (lies_in ids.items quotas.items) (reverse operations.items) ≡ true },
     ghost standing: { (page : ℕ) → taken_of taken page ≡ true
         → S.stands store page ≡ true },
-}
-
-/// The identifiers of the partitions.
-fn ids_of(alloc: Global, partitions: &[Partition]) -> Result<Vec<PartitionId>, OutOfMemory>
-    ensures { IfOk result (λ ids. ids.items ≡ rows.ids_of partitions.now) }
-{
-    Ok(partitions.iter().map(|row| row.id).collect(alloc)?)
-}
-
-/// The quotas of the partitions.
-fn quotas_of(alloc: Global, partitions: &[Partition]) -> Result<Vec<u32>, OutOfMemory>
-    ensures { IfOk result (λ quotas. quotas.items ≡ rows.quotas_of partitions.now) }
-{
-    Ok(partitions.iter().map(|row| row.quota).collect(alloc)?)
 }
 
 /// So many counts, all of them 0.

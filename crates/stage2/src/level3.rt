@@ -14,7 +14,8 @@ ghost use Rattle.std.specs.Prelude.{◌≡◌, ℕ, ◌+◌, ◌-◌, ◌*◌, �
 ghost use Rattle.words.specs.Words.{entry_of};
 
 use crate::parts::part_in;
-use crate::place::Chunk;
+use crate::place::{Chunk, page_index};
+use crate::read::read_word;
 use crate::site::ChunkEdit;
 use crate::table_page::TablePage;
 use base::limits::CHUNK_PAGES;
@@ -186,7 +187,7 @@ pub(crate) fn has_stray<M: TableMem>(memory: &M, third: TablePage, edit: &ChunkE
     !memory.has_gaps(chunk_words(third, edit.chunk, &edit.access), &edit.runs)
 }
 
-/// Whether no word of the runs' pages in a chunk is 0.
+/// Whether no word of the runs' pages in a chunk is 0. Mostly there is one run of a page, whose word is looked at here.
 #[inline(always)]
 pub(crate) fn are_all_mapped<M: TableMem>(memory: &M, edit: &ChunkEdit, third: TablePage) -> bool
     requires page_in { third < page_count (M.state memory.now).memory.quotas }
@@ -194,6 +195,11 @@ pub(crate) fn are_all_mapped<M: TableMem>(memory: &M, edit: &ChunkEdit, third: T
     ensures { result ≡ true → (i : ℕ) → i < 512 → covers edit.now.runs (512 * edit.now.chunk + i) ≡ true
         → word_in (M.state memory.now) third i ≢ 0 }
 {
+    if let [run] = edit.runs.list() {
+        if run.count() == 1 {
+            return read_word(memory, third, page_index(run.first())) != 0;
+        }
+    }
     memory.has_all(third.number(), edit.chunk.first().number(), &edit.runs)
 }
 

@@ -43,6 +43,7 @@ invariant_of-self g c =
     let stands = g.S.WordStore.stands old.store in
     record {
       ids_whole = old.ids_whole;
+      ids_once = old.ids_once;
       words_whole = old.words_whole;
       taken_whole = rw c.unmark.ensures (length-set old.taken _ _ ∙ old.taken_whole);
       free_counted = rw c.unmark.ensures (counts-give (memory_in old) old.free.items c.unwrap-row.result page (c.index_mut.result.now + 1) old.free_counted share inside c.requires.taken (omega (arith, here)));

@@ -1,9 +1,11 @@
-use Rattle.std.proofs.Common.{◌≡◌, ◌+◌, ◌*◌, ◌∙◌, ap, arith, true, false, length, replicate, ◌++◌, sum}
-use Rattle.base.specs.Manifest.{quotas_of, page_count}
-use Rattle.std.proofs.lemmas.List.{length-append, length-replicate}
+use Rattle.std.proofs.Common.{◌≡◌, ◌+◌, ◌*◌, ◌∙◌, ap, sym, subst, arith, true, false, length, replicate, ◌++◌, sum}
+use Rattle.base.specs.Manifest.{PartitionRow, ids_of, quotas_of, page_count}
+use Rattle.pool.specs.Pool.{StandOnce}
+use Rattle.std.proofs.lemmas.List.{length-append, length-map, length-replicate}
 use Rattle.pool.proofs.Words.{words_of-zeros}
 use Rattle.pool.proofs.Nonzero.{counts_nonzero-new}
 use Rattle.pool.proofs.Kept.{roots-new, taken_of-new, length-quotas_of, page_count-le, counts-new}
+use Rattle.manifest.proofs.Facts.{facts, row_of-id}
 use Rattle.pool.proofs.table_pool.TablePoolTableMem.make.Goals as goal
 
 pub invariant_of-result-clause-words_whole : goal.invariant_of-result-clause-words_whole
@@ -52,3 +54,10 @@ invariant_of-result-clause-nonzero_counted g c =
     let pages : length c.partitions-partitions.result.now + c.total-shares.result ≡ page_count c.in_ok-quotas.quotas.items = omega (arith, rows, shares) in
     let zeros : c.in_ok-zeros.field-0.items ≡ replicate (page_count c.in_ok-quotas.quotas.items) 0 = c.in_ok-zeros.ensures ∙ ap (λ n. replicate n 0) pages in
     rw (c.in_ok-filled.ensures.0, zeros, pages) (counts_nonzero-new c.in_ok-quotas.quotas.items)
+
+pub invariant_of-result-clause-ids_once : goal.invariant_of-result-clause-ids_once
+invariant_of-result-clause-ids_once g c =
+    let rows = c.args.manifest.now.partitions in
+    let rise = (facts c.args.manifest.now c.partitions-partitions.ensures.valid).rise in
+    subst StandOnce (sym (c.in_ok-ids.ensures ∙ ap ids_of c.partitions-partitions.ensures.same))
+    (λ i below. row_of-id 0 rows i rise (omega (arith, below, length-map rows (λ (row : PartitionRow). row.id))))

@@ -71,6 +71,7 @@ invariant_of-self g c =
     let some = c.requires.free in
     record {
       ids_whole = old.ids_whole;
+      ids_once = old.ids_once;
       words_whole = ap length c.fill.ensures.words ∙ old.words_whole;
       taken_whole = rw c.mark.ensures (length-set old.taken _ _ ∙ old.taken_whole);
       free_counted = rw c.mark.ensures (counts-take memory old.free.items c.unwrap-row.result page (c.index_mut.result.now - 1) old.free_counted
