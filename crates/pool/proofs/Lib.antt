@@ -4,6 +4,7 @@ pub mod Shares
 mod Kept
 pub mod Nonzero
 pub mod Stretches
+mod Recorded
 mod Turned
 mod Wrote
 mod Alone

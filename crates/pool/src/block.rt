@@ -1,9 +1,10 @@
-ghost use Rattle.std.specs.Prelude.{◌≡◌, ◌≢◌, ℕ, ◌+◌, ◌-◌, ◌*◌, ◌/◌, ◌^◌, ◌<◌, ◌≤◌, List, Bool, None, true, false, length, replicate, slice_index, slice_index_or, IfOk};
+ghost use Rattle.std.specs.Prelude.{◌≡◌, ◌≢◌, ℕ, ◌+◌, ◌-◌, ◌*◌, ◌/◌, ◌^◌, ◌<◌, ◌≤◌, List, Bool, None, true, false, length, replicate, slice_index, slice_index_or, slice_set, IfOk};
 ghost use Rattle.pool.specs.Cells.{held, with_zeros, IsPageFilled, IsPageEmpty, AreMarked};
 ghost use Rattle.pool.specs.Pool.{words_of};
-ghost use Rattle.pool.specs.Writing.{with_range};
+ghost use Rattle.pool.specs.Writing.{with_range, HasRoom, NoneThere, Records, Grows};
 
 use crate::cells::{Base, Cells, Deed, allocate, deallocate};
+use crate::operation::Op;
 use crate::word_range::WordRange;
 use crate::word_store::WordStore;
 use base::OutOfMemory;
@@ -80,6 +81,24 @@ fn empty(base: Base<u64>, count: usize, cells: &mut Cells<u64>, marks: &[bool])
     }
 }
 
+/// Writes a word of a page in place of what stands there.
+#[inline(always)]
+fn put_word(base: Base<u64>, cells: &mut Cells<u64>, page: u32, index: u32, word: u64)
+    requires place { base.ptr ≡ cells.old.at }
+    requires filled { IsPageFilled cells.old.slots page }
+    requires index_in { index < 512 }
+    ensures place { cells.new.at ≡ cells.old.at }
+    ensures len { length cells.new.slots ≡ length cells.old.slots }
+    ensures filled { IsPageFilled cells.new.slots page }
+    ensures words { held cells.new.slots ≡ slice_set (held cells.old.slots) (512 * page + index) word }
+    ensures marked { (marks : List Bool)
+        → AreMarked marks cells.old.slots → AreMarked marks cells.new.slots }
+{
+    let place = PAGE * page as usize + index as usize;
+    let _old = cells.read(base, place);
+    cells.write(base, place, word);
+}
+
 /// Writes words of a page, 512 to a page, in place of what stands there. Where the block begins is at hand, whatever
 /// is written.
 #[inline(always)]
@@ -98,11 +117,43 @@ fn put_words(base: Base<u64>, cells: &mut Cells<u64>, range: WordRange)
 {
     let mut next = range.word;
     for index in range.first..range.end {
-        let place = PAGE * range.page as usize + index as usize;
-        let _old = cells.read(base, place);
-        cells.write(base, place, next);
+        put_word(base, cells, range.page, index, next);
         next += range.step;
     }
+}
+
+/// The same, and records each write behind these operations.
+#[inline(always)]
+fn put_and_record(
+    base: Base<u64>,
+    cells: &mut Cells<u64>,
+    mut operations: Vec<Op>,
+    range: WordRange,
+) -> Vec<Op>
+    requires place { base.ptr ≡ cells.old.at }
+    requires filled { IsPageFilled cells.old.slots range.page }
+    requires ordered { range.first ≤ range.end }
+    requires index_in { range.end ≤ 512 }
+    requires inside { 512 * range.page + 512 ≤ length cells.old.slots }
+    requires in_range { range.word + range.step * (range.end - range.first) < 2 ^ 64 }
+    requires ready { HasRoom operations (range.end - range.first) }
+    ensures place { cells.new.at ≡ cells.old.at }
+    ensures len { length cells.new.slots ≡ length cells.old.slots }
+    ensures words { held cells.new.slots ≡ with_range (held cells.old.slots) range }
+    ensures marked { (marks : List Bool)
+        → AreMarked marks cells.old.slots → AreMarked marks cells.new.slots }
+    ensures records { (words : List ℕ) → 512 * range.page + 512 ≤ length words → NoneThere words range
+        → Records words range operations.items result.items }
+    ensures grows { Grows (range.end - range.first) operations result }
+{
+    let page = range.page;
+    let mut word = range.word;
+    for index in range.first..range.end {
+        put_word(base, cells, page, index, word);
+        operations.push_reserved(Op::Set { page, index, word });
+        word += range.step;
+    }
+    operations
 }
 
 impl Block {
@@ -203,13 +254,15 @@ impl WordStore for Block {
     }
 
     fn set_word(&mut self, page: u32, index: u32, word: u64) {
-        let place = PAGE * page as usize + index as usize;
-        let _old = self.cells.read(self.base, place);
-        self.cells.write(self.base, place, word);
+        put_word(self.base, &mut self.cells, page, index, word);
     }
 
     fn set_words(&mut self, range: WordRange) {
         put_words(self.base, &mut self.cells, range);
+    }
+
+    fn set_and_record(&mut self, operations: Vec<Op>, range: WordRange) -> Vec<Op> {
+        put_and_record(self.base, &mut self.cells, operations, range)
     }
 
     fn copy(&self, alloc: Global) -> Result<Vec<u64>, OutOfMemory> {

@@ -1,5 +1,7 @@
 ghost use Rattle.std.specs.Prelude.{true};
 
+use crate::operation::Op;
+use crate::stretch::record_all;
 use crate::table_pool::TablePool;
 use crate::word_range::WordRange;
 use crate::word_store::WordStore;
@@ -39,6 +41,11 @@ impl WordStore for Vec<u64> {
             self[TABLE_WORDS as usize * range.page as usize + index as usize] = next;
             next += range.step;
         }
+    }
+
+    fn set_and_record(&mut self, operations: Vec<Op>, range: WordRange) -> Vec<Op> {
+        self.set_words(range);
+        record_all(operations, range)
     }
 
     fn copy(&self, alloc: Global) -> Result<Vec<u64>, OutOfMemory> {

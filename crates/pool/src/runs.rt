@@ -1,13 +1,13 @@
 //! Words of a page that stand for the pages of runs.
 
-ghost use Rattle.std.specs.Prelude.{◌≡◌, ℕ, ◌+◌, ◌-◌, ◌*◌, ◌^◌, ◌<◌, ◌≤◌, ◌∷◌, [], ◌⊎◌, true};
+ghost use Rattle.std.specs.Prelude.{◌≡◌, ℕ, ◌+◌, ◌-◌, ◌*◌, ◌^◌, ◌<◌, ◌≤◌, ◌∷◌, [], ◌⊎◌, IfSome, true};
 ghost use Rattle.base.specs.Pages.{are_normal};
 ghost use Rattle.pool.specs.Pool.{index_from, words_in, gaps_of};
 ghost use Rattle.pool.specs.Writing.{MayWriteRuns, IsTurned, TurnRuns, TurnGaps, IsReady, Wrote, log_of, page_alone, runs_set, indexes_set};
 
 use crate::log::Log;
 use crate::operation::Op;
-use crate::stretch::{WordAt, put_word, recounted_all, turn_all, write_word, write_words};
+use crate::stretch::{SHORT, WordAt, put_word, recounted_all, write_all, write_word, write_words};
 use crate::word_range::WordRange;
 use crate::word_store::WordStore;
 use base::limits::TABLE_WORDS;
@@ -64,8 +64,53 @@ pub(crate) fn index_at(start: u32, page: Page) -> u32
     requires { start < 2 ^ 27 }
     ensures within { result < 512 → start + result ≡ page }
     ensures beside { 512 ≤ result → (page < start) ⊎ (start + 512 ≤ page) }
+    ensures behind { start ≤ page → start + result ≡ page }
+    ensures before { page < start → 512 < result }
 {
     page.number().wrapping_sub(start)
+}
+
+/// Some of the 512 words, from one index up to another.
+#[derive(Clone, Copy)]
+struct Indexes {
+    first: u32,
+    end: u32,
+}
+
+/// Which of the 512 words stand for the pages of a run, where the first stands for `start`, if each page has one: that is
+/// one comparison.
+#[inline(always)]
+fn all_indexes(start: u32, run: Run) -> Option<Indexes>
+    requires { start < 2 ^ 27 }
+    ensures { IfSome result (λ all. (all.first ≡ index_from start run.first)
+        × (all.end ≡ index_from start (run.first + run.count))) }
+{
+    let first = index_at(start, run.first());
+    let end = u64::from(first) + u64::from(run.count());
+    if end <= u64::from(TABLE_WORDS) {
+        Some(Indexes {
+            first,
+            end: end as u32,
+        })
+    } else {
+        None
+    }
+}
+
+/// Which of them stand for pages of a run.
+#[inline(always)]
+fn indexes_of(start: u32, run: Run) -> Indexes
+    requires { start < 2 ^ 27 }
+    ensures first { result.first ≡ index_from start run.first }
+    ensures end { result.end ≡ index_from start (run.first + run.count) }
+{
+    match all_indexes(start, run) {
+        Some(all) => all,
+        None => Indexes {
+            first: index_from(start, run.first().number()),
+            end: index_from(start, run.end()),
+        },
+    }
 }
 
 /// Writes the word for a page, if it is among them and not there, and records the write behind these
@@ -115,8 +160,7 @@ fn write_run<S: WordStore>(store: &mut S, mut log: Log, run: Run, with: TableWor
         log.nonzero = set_one(store, &mut log.operations, log.nonzero, run.first(), with);
         return log;
     }
-    let first = index_from(with.start, run.first().number());
-    let end = index_from(with.start, run.end());
+    let Indexes { first, end } = indexes_of(with.start, run);
     write_words(store, log, with.range(first, end))
 }
 
@@ -133,6 +177,31 @@ fn write_runs<S: WordStore>(store: &mut S, mut log: Log, runs: &[Run], with: Tab
         log = write_run(store, log, *run, with);
     }
     log
+}
+
+/// The same, and records each write behind these operations. It answers how many words of the page are not 0. It is a function
+/// of its own, so that one page alone needs less of the stack.
+#[inline(never)]
+fn set_many<S: WordStore>(
+    store: &mut S,
+    operations: &mut Vec<Op>,
+    nonzero: u32,
+    runs: &[Run],
+    with: TableWords,
+) -> u32
+    requires may { MayWriteRuns (S.words store.old) (S.stands store.old) with }
+    requires ready { IsReady (S.words store.old) with.page (words_in with.start runs.now) (log_of operations.old nonzero) }
+    ensures wrote { Wrote (runs_set with runs.now) with.page (words_in with.start runs.now)
+        (S.words store.old) (S.words store.new) (log_of operations.old nonzero) (log_of operations.new result) }
+    ensures standing { S.stands store.new ≡ S.stands store.old }
+{
+    let log = Log::take(operations, nonzero);
+    let Log {
+        operations: list,
+        nonzero,
+    } = write_runs(store, log, runs, with);
+    *operations = list;
+    nonzero
 }
 
 /// Writes the words for the pages of runs that are not there, and records each write behind these
@@ -157,25 +226,12 @@ pub(crate) fn set_runs<S: WordStore>(
             return set_one(store, operations, nonzero, run.first(), with);
         }
     }
-    let log = Log::take(operations, nonzero);
-    let Log {
-        operations: list,
-        nonzero,
-    } = write_runs(store, log, runs, with);
-    *operations = list;
-    nonzero
+    set_many(store, operations, nonzero, runs, with)
 }
 
-/// Some of the 512 words, from one index up to another.
-#[derive(Clone, Copy)]
-struct Indexes {
-    first: u32,
-    end: u32,
-}
-
-/// Writes the words of some indexes, none of which is there. It is no part of the loops over runs and gaps: so the
-/// compiler makes two words at once.
-fn turn_words<S: WordStore>(store: &mut S, log: Log, indexes: Indexes, with: TableWords) -> Log
+/// Writes the words of some indexes, none of which is there.
+#[inline(always)]
+fn turn_indexes<S: WordStore>(store: &mut S, log: Log, indexes: Indexes, with: TableWords) -> Log
     requires may { MayWriteRuns (S.words store.old) (S.stands store.old) with }
     requires most { indexes.end ≤ 512 }
     requires zeros { with.word ≡ 0 → with.step ≡ 0 }
@@ -189,7 +245,29 @@ fn turn_words<S: WordStore>(store: &mut S, log: Log, indexes: Indexes, with: Tab
     if first >= end {
         return log;
     }
-    turn_all(store, log, with.range(first, end))
+    let Log {
+        operations,
+        nonzero,
+    } = log;
+    let operations = write_all(store, operations, with.range(first, end));
+    Log {
+        operations,
+        nonzero: recounted_all(nonzero, end - first, with.word),
+    }
+}
+
+/// The same. It is no part of the loops over runs and gaps: so the compiler makes two words at once.
+fn turn_words<S: WordStore>(store: &mut S, log: Log, indexes: Indexes, with: TableWords) -> Log
+    requires may { MayWriteRuns (S.words store.old) (S.stands store.old) with }
+    requires most { indexes.end ≤ 512 }
+    requires zeros { with.word ≡ 0 → with.step ≡ 0 }
+    requires turned { (i : ℕ) → indexes.first ≤ i → i < indexes.end → IsTurned (S.words store.old) with i }
+    requires ready { IsReady (S.words store.old) with.page (indexes.end - indexes.first) log }
+    ensures wrote { Wrote (indexes_set with indexes.first indexes.end) with.page (indexes.end - indexes.first)
+        (S.words store.old) (S.words store.new) log result }
+    ensures standing { S.stands store.new ≡ S.stands store.old }
+{
+    turn_indexes(store, log, indexes, with)
 }
 
 /// Writes the word for a page, if it is among them, which is not there. It answers how many words of the page of words
@@ -237,9 +315,12 @@ fn turn_run<S: WordStore>(store: &mut S, mut log: Log, run: Run, with: TableWord
         log.nonzero = turn_one(store, &mut log.operations, log.nonzero, run.first(), with);
         return log;
     }
-    let first = index_from(with.start, run.first().number());
-    let end = index_from(with.start, run.end());
-    turn_words(store, log, Indexes { first, end }, with)
+    if run.count() <= SHORT
+        && let Some(all) = all_indexes(with.start, run)
+    {
+        return turn_indexes(store, log, all, with);
+    }
+    turn_words(store, log, indexes_of(with.start, run), with)
 }
 
 /// Writes the words for the pages of runs, none of which is there.
@@ -257,6 +338,33 @@ fn turn_each<S: WordStore>(store: &mut S, mut log: Log, runs: &[Run], with: Tabl
         log = turn_run(store, log, *run, with);
     }
     log
+}
+
+/// The same, and records each write behind these operations. It answers how many words of the page are not 0. It is a function
+/// of its own, so that one page alone needs less of the stack.
+#[inline(never)]
+fn turn_many<S: WordStore>(
+    store: &mut S,
+    operations: &mut Vec<Op>,
+    nonzero: u32,
+    runs: &[Run],
+    with: TableWords,
+) -> u32
+    requires may { MayWriteRuns (S.words store.old) (S.stands store.old) with }
+    requires normal { are_normal runs.now ≡ true }
+    requires turned { TurnRuns (S.words store.old) with runs.now }
+    requires ready { IsReady (S.words store.old) with.page (words_in with.start runs.now) (log_of operations.old nonzero) }
+    ensures wrote { Wrote (runs_set with runs.now) with.page (words_in with.start runs.now)
+        (S.words store.old) (S.words store.new) (log_of operations.old nonzero) (log_of operations.new result) }
+    ensures standing { S.stands store.new ≡ S.stands store.old }
+{
+    let log = Log::take(operations, nonzero);
+    let Log {
+        operations: list,
+        nonzero,
+    } = turn_each(store, log, runs, with);
+    *operations = list;
+    nonzero
 }
 
 /// Writes the words for the pages of runs, none of which is there, and records each write behind these operations. It
@@ -282,13 +390,7 @@ pub(crate) fn turn_runs<S: WordStore>(
             return turn_one(store, operations, nonzero, run.first(), with);
         }
     }
-    let log = Log::take(operations, nonzero);
-    let Log {
-        operations: list,
-        nonzero,
-    } = turn_each(store, log, runs, with);
-    *operations = list;
-    nonzero
+    turn_many(store, operations, nonzero, runs, with)
 }
 
 /// Writes the words for pages in none of the runs, gap by gap. None of them is there.

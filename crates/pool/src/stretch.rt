@@ -3,7 +3,7 @@
 ghost use Rattle.std.specs.Prelude.{◌≡◌, ℕ, List, ◌+◌, ◌-◌, ◌*◌, ◌^◌, ◌<◌, ◌≤◌, ◌++◌, ◌∷◌, [], ◌⊎◌, length, slice_set, if◌then◌else◌, ◌==◌};
 ghost use Rattle.pool.specs.Pool.{after_set};
 ghost use Rattle.pool.specs.declared.operation.Op.TheVariants.{Set};
-ghost use Rattle.pool.specs.Writing.{range_set, writes_of, zeros_of, log_of, NoneThere, Turns, IsHeld, MayWrite, MayWriteAt, Records, HasRoom, Grows, IsReady, Wrote};
+ghost use Rattle.pool.specs.Writing.{range_set, with_range, writes_of, zeros_of, log_of, NoneThere, Turns, IsHeld, MayWrite, MayWriteAt, Records, HasRoom, Grows, IsReady, Wrote};
 
 use crate::log::Log;
 use crate::looks::are_all;
@@ -14,6 +14,9 @@ use base::limits::TABLE_WORDS;
 
 /// How many words are looked at, at most, before they are written: 512 bytes, which are close at hand then.
 const MOST: u32 = 64;
+
+/// No more words than these are written beside their operations.
+pub(crate) const SHORT: u32 = 16;
 
 /// Fewer words than these are written one by one: to look at them all before takes longer.
 const FEW: u32 = 4;
@@ -90,7 +93,7 @@ pub(crate) fn write_word<S: WordStore>(
 
 /// Records the writes of all words of a range behind these operations.
 #[inline(always)]
-fn record_all(mut operations: Vec<Op>, range: WordRange) -> Vec<Op>
+pub(crate) fn record_all(mut operations: Vec<Op>, range: WordRange) -> Vec<Op>
     requires ordered { range.first ≤ range.end }
     requires index_in { range.end ≤ 512 }
     requires in_range { range.word + range.step * (range.end - range.first) < 2 ^ 64 }
@@ -111,6 +114,30 @@ fn record_all(mut operations: Vec<Op>, range: WordRange) -> Vec<Op>
     operations
 }
 
+/// Writes words none of which is there, and records each write behind these operations. Few are written beside their
+/// operations: two loops take longer to begin.
+#[inline(always)]
+pub(crate) fn write_all<S: WordStore>(
+    store: &mut S,
+    operations: Vec<Op>,
+    range: WordRange,
+) -> Vec<Op>
+    requires may { MayWrite (S.words store.old) (S.stands store.old) range }
+    requires ready { HasRoom operations (range.end - range.first) }
+    ensures words { S.words store.new ≡ with_range (S.words store.old) range }
+    ensures standing { S.stands store.new ≡ S.stands store.old }
+    ensures records { NoneThere (S.words store.old) range
+        → Records (S.words store.old) range operations.items result.items }
+    ensures grows { Grows (range.end - range.first) operations result }
+{
+    if range.end - range.first <= SHORT {
+        return store.set_and_record(operations, range);
+    }
+    let operations = record_all(operations, range);
+    store.set_words(range);
+    operations
+}
+
 /// Writes words of which it is known that none is there, and which of those in whose place they come are 0.
 #[inline(always)]
 pub(crate) fn turn_all<S: WordStore>(store: &mut S, log: Log, range: WordRange) -> Log
@@ -125,8 +152,7 @@ pub(crate) fn turn_all<S: WordStore>(store: &mut S, log: Log, range: WordRange) 
         operations,
         nonzero,
     } = log;
-    let operations = record_all(operations, range);
-    store.set_words(range);
+    let operations = write_all(store, operations, range);
     let nonzero = recounted_all(nonzero, range.end - range.first, range.word);
     Log {
         operations,

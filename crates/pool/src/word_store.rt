@@ -1,7 +1,8 @@
 ghost use Rattle.std.specs.Prelude.{◌≡◌, ℕ, ◌+◌, ◌-◌, ◌*◌, ◌<◌, ◌≤◌, List, Bool, true, length, replicate, slice_index, slice_set, IfOk};
 ghost use Rattle.pool.specs.Pool.{words_of};
-ghost use Rattle.pool.specs.Writing.{with_range, MayWrite};
+ghost use Rattle.pool.specs.Writing.{with_range, MayWrite, HasRoom, NoneThere, Records, Grows};
 
+use crate::operation::Op;
 use crate::word_range::WordRange;
 use base::OutOfMemory;
 use std::alloc::Global;
@@ -54,6 +55,16 @@ pub trait WordStore: Drop {
         requires may { MayWrite (words self.old) (stands self.old) range }
         ensures words { words self.new ≡ with_range (words self.old) range }
         ensures standing { stands self.new ≡ stands self.old };
+
+    /// The same of words none of which is there. Each write is recorded behind these operations, word by word.
+    fn set_and_record(&mut self, operations: Vec<Op>, range: WordRange) -> Vec<Op>
+        requires may { MayWrite (words self.old) (stands self.old) range }
+        requires ready { HasRoom operations (range.end - range.first) }
+        ensures words { words self.new ≡ with_range (words self.old) range }
+        ensures standing { stands self.new ≡ stands self.old }
+        ensures records { NoneThere (words self.old) range
+            → Records (words self.old) range operations.items result.items }
+        ensures grows { Grows (range.end - range.first) operations result };
 
     /// A copy of all words.
     fn copy(&self, alloc: Global) -> Result<Vec<u64>, OutOfMemory>

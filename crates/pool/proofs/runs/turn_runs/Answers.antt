@@ -23,9 +23,3 @@ turn_one-requires-clause-turned g c =
     let w = c.args.with in
     let one = runs-one c.args.runs.now c.index-runs-0.result c.first.result c.if-runs-eq1.true c.index-runs-0.is c.first.ensures.same (sym c.count.ensures.same ∙ c.if-count-eq1.true) in
     subst (λ (rs : List PageRun). TurnRuns (g.S.WordStore.words c.args.store.now) w rs) one c.requires.turned
-
-pub turn_each-list-requires-clause-ready : goal.turn_each-list-requires-clause-ready
-turn_each-list-requires-clause-ready g c = rw c.take-log.ensures c.requires.ready
-
-pub returns-clause-wrote : goal.returns-clause-wrote
-returns-clause-wrote g c = rw c.take-log.ensures at c.turn_each-list.ensures.wrote

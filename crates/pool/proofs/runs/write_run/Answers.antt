@@ -1,6 +1,6 @@
-use Rattle.std.proofs.Common.{◌≤◌, [], ◌∷◌, ap, sym, subst, ◌∙◌, arith}
+use Rattle.std.proofs.Common.{◌≤◌, [], ◌∷◌, sym, subst, ◌∙◌, arith}
 use Rattle.base.specs.Pages.{PageRun}
-use Rattle.pool.specs.Pool.{index_from, words_in}
+use Rattle.pool.specs.Pool.{words_in}
 use Rattle.pool.specs.Writing.{IsReady, Wrote, log_of, runs_set}
 use Rattle.pool.proofs.RunWords.{words-in_range, run-alone}
 use Rattle.pool.proofs.Wrote.{wrote-run}
@@ -21,22 +21,23 @@ returns-then-count-eq1-clause-wrote g c =
 pub write_words-requires : goal.write_words-requires
 write_words-requires g c =
     let w = c.args.with in
-    let first : c.index_from-first.result ≤ 512 = omega (arith, c.index_from-first.ensures) in
-    let end : c.index_from-end.result ≤ 512 = omega (arith, c.index_from-end.ensures) in
-    let from = c.index_from-first.ensures in
-    let to = c.index_from-end.ensures in
+    let at = c.indexes_of-first in
+    let from = at.ensures.first in
+    let to = at.ensures.end in
+    let first : at.result.first ≤ 512 = omega (arith, from) in
+    let end : at.result.end ≤ 512 = omega (arith, to) in
     rw c.range.ensures record {
       may = record {
-        ordered = omega (arith, from, to, c.number.ensures.same, c.first-2.ensures.same, c.end.ensures.same);
+        ordered = omega (arith, from, to);
         index_in = end;
-        in_range = words-in_range w.word w.step c.index_from-first.result c.index_from-end.result c.requires.may.in_range first end;
+        in_range = words-in_range w.word w.step at.result.first at.result.end c.requires.may.in_range first end;
         page_in = c.requires.may.page_in;
       };
-      ready = record { counted = c.requires.ready.counted; room = omega (arith, from, to, c.number.ensures.same, c.first-2.ensures.same, c.end.ensures.same, c.requires.ready.room) };
+      ready = record { counted = c.requires.ready.counted; room = omega (arith, from, to, c.requires.ready.room) };
     }
 
 pub returns-clause-wrote : goal.returns-clause-wrote
 returns-clause-wrote g c =
-    let start = c.args.with.start in
-    wrote-run c.args.with c.args.run c.index_from-first.result c.index_from-end.result (g.S.WordStore.words c.args.store.now) (g.S.WordStore.words c.write_words.new.store) c.args.log c.write_words.result
-    (c.index_from-first.ensures ∙ ap (index_from start) (c.number.ensures.same ∙ c.first-2.ensures.same)) (c.index_from-end.ensures ∙ ap (index_from start) c.end.ensures.same) (rw c.range.ensures at c.write_words.ensures.wrote)
+    let at = c.indexes_of-first in
+    wrote-run c.args.with c.args.run at.result.first at.result.end (g.S.WordStore.words c.args.store.now) (g.S.WordStore.words c.write_words.new.store) c.args.log c.write_words.result
+    at.ensures.first at.ensures.end (rw c.range.ensures at c.write_words.ensures.wrote)

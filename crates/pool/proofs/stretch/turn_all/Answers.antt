@@ -23,10 +23,11 @@ pub returns-clause-wrote : goal.returns-clause-wrote
 returns-clause-wrote g c =
     let r = c.args.range in
     let old = g.S.WordStore.words c.args.store.now in
-    let new = g.S.WordStore.words c.set_words.new.self in
+    let wrote = c.write_all-operations.ensures in
+    let new = g.S.WordStore.words c.write_all-operations.new.store in
     let small : r.first + (r.end - r.first) ≤ 512 = omega (arith, c.requires.may.ordered, c.requires.may.index_in) in
     let turned = c.requires.turned in
     let differ = turned-differ old r.page r.first (r.end - r.first) r.word r.step turned.zeros turned.each in
     let after = c.recounted_all-nonzero in
-    wrote-range r old new c.args.log (log_of c.record_all-operations.result after.result) c.set_words.ensures.words (c.record_all-operations.ensures.records old c.requires.may.page_in.inside differ) c.record_all-operations.ensures.grows
-    (turned-counted old r.page r.first (r.end - r.first) r.word r.step turned.zeros turned.each c.requires.may.page_in.inside small new c.args.log.nonzero after.result c.set_words.ensures.words c.requires.ready.counted after.ensures.zeros after.ensures.others)
+    wrote-range r old new c.args.log (log_of c.write_all-operations.result after.result) wrote.words (wrote.records differ) wrote.grows
+    (turned-counted old r.page r.first (r.end - r.first) r.word r.step turned.zeros turned.each c.requires.may.page_in.inside small new c.args.log.nonzero after.result wrote.words c.requires.ready.counted after.ensures.zeros after.ensures.others)
