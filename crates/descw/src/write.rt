@@ -1,6 +1,6 @@
 //! Writes whole descriptors.
 
-ghost use Rattle.std.specs.Prelude.{◌≡◌, ◌≤◌, IfOk, IsTrue, length};
+ghost use Rattle.std.specs.Prelude.{◌≡◌, ◌≤◌, [], IfOk, IsTrue, length, vec_len, vec_capacity};
 ghost use Rattle.base.specs.Descriptors.Send as send;
 ghost use Rattle.base.specs.Descriptors.Retrieve.{SpellsRetrieve};
 ghost use Rattle.base.specs.Descriptors.Relinquish.{SpellsRelinquish};
@@ -100,10 +100,11 @@ pub fn write_relinquish(alloc: Global, fields: &RelinquishFields) -> Result<Vec<
 /// The memory transaction descriptor of a retrieve response, in the layout of this version: the header,
 /// with the attributes of normal memory, write-back, inner shareable; one access descriptor; the
 /// composite descriptor, with the total of the pages, at most 262,144 (1 GB); and the ranges, at most
-/// 512. `Err` means that memory is wanting.
+/// 512. It stands in the memory that is given, where that is enough, and else in new memory. `Err` means that memory is
+/// wanting.
 #[tactic(auto, unfolding(base::specs::Descriptors::Encoding::response_text))]
 pub fn write_response(
-    alloc: Global,
+    room: Vec<u8>,
     version: Version,
     fields: &ResponseFields<'_>,
 ) -> Result<Vec<u8>, OutOfMemory>
@@ -126,10 +127,26 @@ pub fn write_response(
     let ranges = fields.ranges.len() as u32;
     let composite = header_size(version) + PART_SIZE;
     let size = composite + PART_SIZE + PART_SIZE * ranges;
-    let mut out = Vec::with_capacity(alloc, size as usize)?;
+    let mut out = emptied(room, size as usize)?;
     write_header(&mut out, version, header, 1);
     write_access(&mut out, composite, fields.endpoint);
     write_composite(&mut out, page_count(fields.ranges), ranges);
     write_runs(&mut out, fields.ranges);
     Ok(out)
+}
+
+/// Room for so many bytes, and none of them written: this memory, where it is enough, and else new memory in its place.
+fn emptied(room: Vec<u8>, size: usize) -> Result<Vec<u8>, OutOfMemory>
+    ensures items { IfOk result (λ out. out.items ≡ []) }
+    ensures len { IfOk result (λ out. vec_len out ≡ 0) }
+    ensures capacity { IfOk result (λ out. size ≤ vec_capacity out) }
+{
+    let mut room = room;
+    room.clear();
+    if room.capacity() < size {
+        let alloc = *room.allocator();
+        drop(room);
+        return Ok(Vec::with_capacity(alloc, size)?);
+    }
+    Ok(room)
 }

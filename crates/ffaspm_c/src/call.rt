@@ -72,16 +72,19 @@ fn copy(bytes: &[u8], room: &mut [u8])
     front.copy_from_slice(bytes);
 }
 
-/// Copies what RX is filled with, and tells how many bytes that is.
-fn fill(bytes: &Option<Vec<u8>>, rx: &mut [u8]) -> usize
-    requires { length (answers.bytes_of (filled bytes.now)) ≤ length rx.old }
-    ensures count { result ≡ length (answers.bytes_of (filled bytes.now)) }
-    ensures bytes { rx.new ≡ in_front (answers.bytes_of (filled bytes.now)) rx.old }
+/// Copies what RX is filled with, and tells how many bytes that is. The manager gets their memory back.
+fn fill(spm: &mut Manager, response: Option<Vec<u8>>, rx: &mut [u8]) -> usize
+    requires { length (answers.bytes_of (filled response)) ≤ length rx.old }
+    ensures count { result ≡ length (answers.bytes_of (filled response)) }
+    ensures bytes { rx.new ≡ in_front (answers.bytes_of (filled response)) rx.old }
+    ensures same { spm.new ≡ spm.old }
 {
-    match bytes {
+    match response {
         Some(bytes) => {
-            copy(bytes, rx);
-            bytes.len()
+            copy(&bytes, rx);
+            let length = bytes.len();
+            spm.give_back(bytes);
+            length
         }
         None => 0,
     }
@@ -129,10 +132,11 @@ fn serve(spm: &mut Manager, call: &CallIn, tx: &[u8], rx: &mut [u8], reply: &mut
     }
     match answered(spm, call, tx) {
         Ok(answer) => {
-            let regs = answer.regs;
+            let Reply { regs, rx: response } = answer;
+            let rx_length = fill(spm, response, rx);
             *reply = ReplyOut {
                 regs,
-                rx_length: fill(&answer.rx, rx),
+                rx_length,
                 operations: spm.last_ops().len(),
             };
             DONE

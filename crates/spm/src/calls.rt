@@ -19,17 +19,17 @@ pub(crate) mod version;
 
 use crate::call::LentCall;
 use crate::change::{Change, Stop};
+use crate::spare::Spare;
 use crate::state::State;
-use base::Run;
 use wire::Request;
 
-/// Tests what a partition asks for, and says what it changes. It changes nothing itself. The runs of an
-/// edit may stand in the memory of the spare list.
+/// Tests what a partition asks for, and says what it changes. It changes nothing itself. The runs of an edit and a
+/// response may stand in spare memory.
 pub(crate) fn check(
     state: &State,
     call: &LentCall<'_>,
     request: Request,
-    spare: &mut Vec<Run>,
+    spare: &mut Spare,
 ) -> Result<Change, Stop>
     requires { IsReached state.now }
     ensures granted { IfOk result (λ change. IsGranted state.now call.now.caller
@@ -44,11 +44,11 @@ pub(crate) fn check(
         Request::RxtxMap { tx, rx, pages } => buffers::map(state, call, tx, rx, pages),
         Request::RxtxUnmap(word) => buffers::unmap(state, call, word),
         Request::IdGet => Ok(id_get::id_get(call)),
-        Request::Send(kind, transfer) => send::send(state, call, kind, transfer, spare),
+        Request::Send(kind, transfer) => send::send(state, call, kind, transfer, &mut spare.runs),
         Request::Retrieve(transfer) => retrieve::retrieve(state, call, transfer, spare),
-        Request::Relinquish => relinquish::relinquish(state, call, spare),
+        Request::Relinquish => relinquish::relinquish(state, call, &mut spare.runs),
         Request::Reclaim { handle, flags } => {
-            reclaim::reclaim(state, call, handle, flags, spare)
+            reclaim::reclaim(state, call, handle, flags, &mut spare.runs)
         }
     }
 }

@@ -17,8 +17,9 @@ use crate::call::{Call, LentCall};
 use crate::calls::check;
 use crate::change::{Change, Stop};
 use crate::commit::{commit, fits};
+use crate::spare::Spare;
 use crate::state::State;
-use base::{Access, OutOfMemory, Page, PartitionId, Run, Status, Version};
+use base::{Access, OutOfMemory, Page, PartitionId, Status, Version};
 use ledger::Ledger;
 use mailbox::Pair;
 use manifest::Manifest;
@@ -34,8 +35,7 @@ use wire::{Reply, Request, decode};
 pub struct Spm<M: TableMem + Drop> {
     state: State,
     tables: Tables<M>,
-    /// The memory of the last edit's runs, for those of the next one.
-    spare: Vec<Run>,
+    spare: Spare,
 }
 
 impl<M: TableMem + Drop> Model for Spm<M> {
@@ -61,7 +61,7 @@ impl<M: TableMem + Drop> Spm<M> {
         Ok(Spm {
             state,
             tables,
-            spare: Vec::new(alloc),
+            spare: Spare::new(alloc),
         })
     }
 
@@ -133,6 +133,13 @@ impl<M: TableMem + Drop> Spm<M> {
         ensures { self.new ≡ unchanged self.old }
     {
         self.tables.begin()
+    }
+
+    /// Takes back what a reply said of RX, once it was read: its memory serves for the next response.
+    pub fn give_back(&mut self, response: Vec<u8>)
+        ensures { self.new ≡ self.old }
+    {
+        self.spare.response = response;
     }
 
     /// How many operations were made on the table memory, those of boot included, modulo 2^64.
@@ -276,7 +283,7 @@ impl<M: TableMem + Drop> Spm<M> {
             commit(
                 &mut self.state,
                 &mut self.tables,
-                &mut self.spare,
+                &mut self.spare.runs,
                 p,
                 change,
             )

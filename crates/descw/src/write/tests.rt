@@ -144,7 +144,7 @@ fn writes_a_response(rt: HostRuntime) {
         (Version::V11, RESPONSE.as_slice()),
         (Version::V10, RESPONSE_1_0.as_slice()),
     ] {
-        let written = write_response(rt.alloc(), version, &fields).expect(&rt, "memory");
+        let written = write_response(Vec::new(rt.alloc()), version, &fields).expect(&rt, "memory");
         assert_eq!(rt; written.as_slice(), bytes);
     }
 }

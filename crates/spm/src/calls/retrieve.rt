@@ -14,17 +14,18 @@ use crate::call::LentCall;
 use crate::calls::receiver::{received_with, receiver_edit};
 use crate::calls::transfer::{are_lengths, names_tx};
 use crate::change::{Answer, Change, Stop, Update};
+use crate::spare::Spare;
 use crate::state::State;
 use base::limits::PAGE_SIZE;
 use base::{
     Access, DataAccess, Handle, InstructionAccess, Kind, OutOfMemory, PartitionId, Permissions,
-    Rights, Run, Status, Version,
+    Rights, Status, Version,
 };
 use descr::{Endpoint, RetrieveDesc, read_retrieve};
 use descw::{ResponseFields, write_response};
 use ledger::Live;
 use mailbox::Pair;
-use std::alloc::Global;
+use std::mem::replace;
 use wire::Transfer;
 
 /// The partition that asks, its version of FF-A, and its buffers: they are looked up once.
@@ -57,7 +58,7 @@ pub(crate) fn retrieve(
     state: &State,
     call: &LentCall<'_>,
     transfer: Transfer,
-    spare: &mut Vec<Run>,
+    spare: &mut Spare,
 ) -> Result<Change, Stop>
     requires { IsReached state.now }
     ensures granted { IfOk result (λ change. IsGranted state.now call.now.caller
@@ -300,7 +301,7 @@ fn permissions_of(access: Access) -> Permissions
 
 /// The response, and its length.
 fn respond(
-    alloc: Global,
+    room: Vec<u8>,
     version: Version,
     p: PartitionId,
     transaction: &Live,
@@ -321,7 +322,7 @@ fn respond(
         },
         ranges: &transaction.terms.ranges,
     };
-    let bytes = write_response(alloc, version, &fields)?;
+    let bytes = write_response(room, version, &fields)?;
     Ok(Answer::Response(response_length(version, transaction), bytes))
 }
 
@@ -333,7 +334,7 @@ fn change(
     call: &LentCall<'_>,
     transfer: Transfer,
     granted: Retrieval<'_>,
-    spare: &mut Vec<Run>,
+    spare: &mut Spare,
 ) -> Result<Change, OutOfMemory>
     requires reached { IsReached state.now }
     requires retrieved { IsRetrieved state.now call.now transfer
@@ -348,8 +349,16 @@ fn change(
         access,
         version,
     } = granted;
-    let answer = respond(state.alloc, version, p, transaction, access)?;
-    let edit = receiver_edit(state.alloc, spare, p, transaction, Some(access), false)?;
+    let room = replace(&mut spare.response, Vec::new(state.alloc));
+    let answer = respond(room, version, p, transaction, access)?;
+    let edit = receiver_edit(
+        state.alloc,
+        &mut spare.runs,
+        p,
+        transaction,
+        Some(access),
+        false,
+    )?;
     Ok(Change {
         edit,
         update: Update::Retrieve(transaction.handle, access),

@@ -5,8 +5,8 @@ use Rattle.ffaspm_c.specs.Answers.{call_from, rx_bytes}
 use Rattle.ffaspm_c.proofs.RxFits.{fits_in_rx}
 use Rattle.ffaspm_c.proofs.call.serve.Goals as goal
 
-pub fill-requires : goal.fill-requires
-fill-requires c =
+pub fill-rx_length-requires : goal.fill-rx_length-requires
+fill-rx_length-requires c =
     let s = c.args.spm.now.state in
     let call = call_from c.args.call.now.caller c.args.call.now.regs c.args.tx.now in
     let same = ap (λ (r : ReplyWords). length (rx_bytes r)) (c.answer.view_is ∙ c.in-Ok.ensures.reply) in
