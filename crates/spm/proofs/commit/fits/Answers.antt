@@ -1,9 +1,8 @@
-use Rattle.std.proofs.Common.{◌≡◌, ℕ, ◌+◌, leb, Bool, List, Some, sym, ap, ◌∙◌}
+use Rattle.std.proofs.Common.{◌≡◌, ℕ, ◌+◌, leb, Bool, List, Some, ap, ◌∙◌}
 use Rattle.base.specs.Access.{View}
 use Rattle.base.specs.Manifest.{ManifestRows, row_of}
 use Rattle.base.specs.Need.{need, grow, reaching}
 use Rattle.base.specs.Pages.{PageRun}
-use Rattle.manifest.specs.Valid.{quota_of}
 use Rattle.pool.specs.Pool.{row_quota}
 use Rattle.rules.specs.Rule.{Edit}
 use Rattle.spm.specs.Machine.{fits_in}

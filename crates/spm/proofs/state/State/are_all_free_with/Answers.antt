@@ -1,4 +1,4 @@
-use Rattle.std.proofs.Common.{◌≡◌, ◌≤◌, ◌<◌, ℕ, true, false, sym, ◌∙◌, arith, inl, inr}
+use Rattle.std.proofs.Common.{◌≡◌, ◌≤◌, ◌<◌, ℕ, true, false, sym, ◌∙◌, inl, inr}
 use Rattle.base.specs.State.{is_free_with}
 use Rattle.spm.proofs.SegmentLemmas.{each_page-known, each_page-done, next-range}
 use Rattle.spm.proofs.state.State.are_all_free_with.Goals as goal

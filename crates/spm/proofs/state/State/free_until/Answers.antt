@@ -1,4 +1,4 @@
-use Rattle.std.proofs.Common.{◌≡◌, ◌<◌, ◌≤◌, ◌∙◌, ℕ, true, refl, sym, ap, arith}
+use Rattle.std.proofs.Common.{◌≡◌, ◌∙◌, refl, sym, ap, arith}
 use Rattle.base.specs.State.{is_free_with}
 use Rattle.spm.proofs.SegmentLemmas.{each_page-over, each_page-fails, each_page-done}
 use Rattle.spm.proofs.state.State.free_until.Goals as goal
