@@ -179,31 +179,6 @@ fn write_runs<S: WordStore>(store: &mut S, mut log: Log, runs: &[Run], with: Tab
     log
 }
 
-/// The same, and records each write behind these operations. It answers how many words of the page are not 0. It is a function
-/// of its own, so that one page alone needs less of the stack.
-#[inline(never)]
-fn set_many<S: WordStore>(
-    store: &mut S,
-    operations: &mut Vec<Op>,
-    nonzero: u32,
-    runs: &[Run],
-    with: TableWords,
-) -> u32
-    requires may { MayWriteRuns (S.words store.old) (S.stands store.old) with }
-    requires ready { IsReady (S.words store.old) with.page (words_in with.start runs.now) (log_of operations.old nonzero) }
-    ensures wrote { Wrote (runs_set with runs.now) with.page (words_in with.start runs.now)
-        (S.words store.old) (S.words store.new) (log_of operations.old nonzero) (log_of operations.new result) }
-    ensures standing { S.stands store.new ≡ S.stands store.old }
-{
-    let log = Log::take(operations, nonzero);
-    let Log {
-        operations: list,
-        nonzero,
-    } = write_runs(store, log, runs, with);
-    *operations = list;
-    nonzero
-}
-
 /// Writes the words for the pages of runs that are not there, and records each write behind these
 /// operations. It answers how many words of the page are not 0. For one page alone the list stays where
 /// it is.
@@ -226,7 +201,13 @@ pub(crate) fn set_runs<S: WordStore>(
             return set_one(store, operations, nonzero, run.first(), with);
         }
     }
-    set_many(store, operations, nonzero, runs, with)
+    let log = Log::take(operations, nonzero);
+    let Log {
+        operations: list,
+        nonzero,
+    } = write_runs(store, log, runs, with);
+    *operations = list;
+    nonzero
 }
 
 /// Writes the words of some indexes, none of which is there.

@@ -17,3 +17,9 @@ returns-then-count-eq1-clause-wrote g c =
     let w = c.args.with in
     let one = runs-one c.args.runs.now c.index-runs-0.result c.first.result c.if-runs-eq1.true c.index-runs-0.is c.first.ensures.same (sym c.count.ensures.same ∙ c.if-count-eq1.true) in
     subst (λ (rs : List PageRun). Wrote (runs_set w rs) w.page (words_in w.start rs) (g.S.WordStore.words c.args.store.now) (g.S.WordStore.words c.set_one.new.store) (log_of c.args.operations.now c.args.nonzero) (log_of c.set_one.new.operations c.set_one.result)) (sym one) c.set_one.ensures.wrote
+
+pub write_runs-list-requires-clause-ready : goal.write_runs-list-requires-clause-ready
+write_runs-list-requires-clause-ready g c = rw c.take-log.ensures c.requires.ready
+
+pub returns-clause-wrote : goal.returns-clause-wrote
+returns-clause-wrote g c = rw c.take-log.ensures at c.write_runs-list.ensures.wrote
