@@ -7,8 +7,8 @@ ghost use Rattle.descr.specs.Order.{AreAllSome, fall, follow};
 
 use crate::ranges::Ranges;
 use arrayvec::ArrayVec;
-use base::{Page, Run};
 use base::limits::MOST_RANGES;
+use base::{Page, Run};
 
 /// Whether no two of the ranges share a page: by one look at each where they stand in ascending order, or in
 /// descending order, and else in a sorted copy, which takes no heap.
