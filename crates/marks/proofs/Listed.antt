@@ -4,7 +4,7 @@ use Rattle.std.proofs.lemmas.Bool.{cases_eq, cases_lt}
 use Rattle.std.proofs.lemmas.Grind.{common_steps}
 use Rattle.std.proofs.lemmas.List.{same_lists, get_or-set_same, get_or-set_other, length-set, length-replicate}
 use Rattle.std.proofs.lemmas.List.FromFn.{length-map-range_with_len, get_or-map-range_with_len}
-use Rattle.marks.specs.Tree.{bit_in, has_bits, IsSummed, IsSummedBut, IsInLevel, IsFirstBit, NoneBetween, IsTree, level_start, depth_of, marks_in}
+use Rattle.marks.specs.Tree.{bit_in, has_bits, IsSummed, IsSummedBut, IsInLevel, IsFirstBit, NoneBetween, IsTree, BeginLevel, level_start, marks_in}
 use Rattle.marks.specs.Marks.{IsFirstUnmarked, AllMarkedFrom}
 use Rattle.marks.proofs.Words.{bit_in-zero}
 use Rattle.marks.proofs.Levels.{level_start-suc, level_start-aligned}
@@ -22,10 +22,10 @@ pub bit-inside : (start count : ℕ) (words : List ℕ) (n : ℕ) → IsTree sta
 bit-inside start count words n tree below = omega (arith, tree.room, below)
 
 -- and in a word of the last level
-pub word-in_level : (start count : ℕ) (words : List ℕ) (n : ℕ) → IsTree start count words → n < count → IsInLevel (depth_of start) (64 * ((start + n) / 64))
+pub word-in_level : (start count : ℕ) (words : List ℕ) (n : ℕ) (tree : IsTree start count words) → n < count → IsInLevel tree.last.level (64 * ((start + n) / 64))
 word-in_level start count words n tree below =
-    let aligned = level_start-aligned (depth_of start) in
-    record { from = omega (arith, aligned, tree.begins); to = omega (arith, tree.fits, below) }
+    let aligned = level_start-aligned tree.last.level in
+    record { from = omega (arith, aligned, tree.last.begins); to = omega (arith, tree.last.fits, below) }
 
 -- one bit of a number is written
 pub tree-write : (start count n : ℕ) (on : Bool) (words after : List ℕ) → IsTree start count words → n < count → length after ≡ length words → bit_in after (start + n) ≡ on
@@ -33,11 +33,10 @@ pub tree-write : (start count n : ℕ) (on : Bool) (words after : List ℕ) → 
     → ((s : ℕ) → IsSummedBut s (start + n) words → (start + n < s → on ≡ has_bits (slice_index words (start + n + 1))) → IsSummed s after)
     → IsTree start count after
 tree-write start count n on words after tree below same here others summed =
-    let ends = level_start-suc (depth_of start) in
-    let above : (start + n) / 64 ≤ start = omega (arith, ends, tree.fits, tree.begins, below) in
+    let ends = level_start-suc tree.last.level in
+    let above : (start + n) / 64 ≤ start = omega (arith, ends, tree.last.fits, tree.last.begins, below) in
     record {
-      begins = tree.begins;
-      fits = tree.fits;
+      last = tree.last;
       room = omega (arith, tree.room, same);
       small = omega (arith, tree.small, same);
       summed = summed start (record { each = λ b lower differs. tree.summed.each b lower }) (λ lower. absurd (omega arith));
@@ -48,8 +47,8 @@ pub marks_in-write : (start count n : ℕ) (on : Bool) (words after : List ℕ) 
     → ((s x : ℕ) → (start + n) / 64 ≤ s → s ≤ x → x ≢ start + n → bit_in after x ≡ bit_in words x)
     → marks_in start count after ≡ slice_set (marks_in start count words) n (not on)
 marks_in-write start count n on words after tree below here others =
-    let ends = level_start-suc (depth_of start) in
-    let above : (start + n) / 64 ≤ start = omega (arith, ends, tree.fits, tree.begins, below) in
+    let ends = level_start-suc tree.last.level in
+    let above : (start + n) / 64 ≤ start = omega (arith, ends, tree.last.fits, tree.last.begins, below) in
     let old = length-marks_in start count words in
     same_lists (marks_in start count after) (slice_set (marks_in start count words) n (not on)) (length-marks_in start count after ∙ sym old ∙ sym (length-set (marks_in start count words) n (not on)))
     (λ k d inside.
@@ -63,11 +62,10 @@ marks_in-write start count n on words after tree below here others =
 pub bit_in-zeros : (n x : ℕ) → bit_in (replicate n 0) x ≡ false
 bit_in-zeros n x = bit_in-zero (replicate n 0) x (grind (arith, common_steps))
 
-pub tree-zeros : (start count n : ℕ) → start ≡ level_start (depth_of start) → start + count ≤ level_start (suc (depth_of start)) → start + count ≤ 64 * n → n ≤ 2 ^ 26 → IsTree start count (replicate n 0)
+pub tree-zeros : (start count n : ℕ) → BeginLevel start count → start + count ≤ 64 * n → n ≤ 2 ^ 26 → IsTree start count (replicate n 0)
 unfolding has_bits
-tree-zeros start count n begins fits room small = record {
-  begins = begins;
-  fits = fits;
+tree-zeros start count n last room small = record {
+  last = last;
   room = simp length-replicate room;
   small = simp length-replicate small;
   summed = record { each = λ b below. let zero : slice_index (replicate n 0) (b + 1) ≡ 0 = grind (arith, common_steps) in rw (bit_in-zeros n b, zero) refl };
@@ -100,10 +98,10 @@ found-unmarked start count n found words tree first =
       before = λ k from below. marks_in-at start count words k false (omega (arith, below, small)) ∙ ap not (first.before (start + k) (omega (arith, from)) (omega (arith, below)));
     }
 
-pub none-unmarked : (start count n : ℕ) (words : List ℕ) → IsTree start count words → NoneBetween words (start + n) (level_start (suc (depth_of start))) → AllMarkedFrom (marks_in start count words) n
+pub none-unmarked : (start count n : ℕ) (words : List ℕ) (tree : IsTree start count words) → NoneBetween words (start + n) (level_start (suc tree.last.level)) → AllMarkedFrom (marks_in start count words) n
 none-unmarked start count n words tree none = λ k from inside.
     let small : k < count = omega (arith, inside, length-marks_in start count words) in
-    marks_in-at start count words k false small ∙ ap not (none (start + k) (omega (arith, from)) (omega (arith, tree.fits, small)))
+    marks_in-at start count words k false small ∙ ap not (none (start + k) (omega (arith, from)) (omega (arith, tree.last.fits, small)))
 
 -- a list of the same length takes the place of another
 pub items-written : (len : ℕ) (after before : List ℕ) → length after ≡ len → take len (after ++ drop (length after) before) ≡ after

@@ -1,5 +1,5 @@
 -- Bits in words of 64, as a tree: bit b says whether word b + 1 is not 0, down to the bits from a start on.
-use Rattle.std.specs.Prelude.{◌≡◌, ◌≢◌, ℕ, zero, suc, ◌+◌, ◌*◌, ◌/◌, ◌%◌, ◌<◌, ◌≤◌, ◌^◌, Bool, true, false, not, ◌==◌, if◌then◌else◌, List, length, map, slice_index}
+use Rattle.std.specs.Prelude.{◌≡◌, ◌≢◌, ℕ, zero, suc, ◌+◌, ◌*◌, ◌/◌, ◌%◌, ◌<◌, ◌≤◌, ◌^◌, Bool, true, false, not, ◌==◌, List, length, map, slice_index}
 use Rattle.std.specs.List.{range_with_len}
 use Rattle.std.specs.Int.{bit_at}
 
@@ -47,11 +47,11 @@ unfoldable pub level_start : ℕ → ℕ
 level_start zero = 0
 level_start (suc level) = 64 * (level_start level + 1)
 
--- the level that begins with a bit, of the first five
-unfoldable pub depth_of : ℕ → ℕ
-depth_of start =
-    if start == 0 then 0
-    else (if start == 64 then 1 else (if start == 4160 then 2 else (if start == 266304 then 3 else 4)))
+-- so many bits from a start on are the first ones of a level
+pub record BeginLevel (start count : ℕ) : Type 0 where
+  pub level : ℕ
+  pub begins : start ≡ level_start level
+  pub fits : start + count ≤ level_start (suc level)
 
 pub record IsInLevel (level bit : ℕ) : Type 0 where
   pub from : level_start level ≤ bit
@@ -69,8 +69,7 @@ unfoldable pub marks_in : ℕ → ℕ → List ℕ → List Bool
 marks_in start count words = map (λ bit. not (bit_in words bit)) (range_with_len start count)
 
 pub record IsTree (start count : ℕ) (words : List ℕ) : Type 0 where
-  pub begins : start ≡ level_start (depth_of start)
-  pub fits : start + count ≤ level_start (suc (depth_of start))
+  pub last : BeginLevel start count
   pub room : start + count ≤ 64 * length words
   pub small : length words ≤ 2 ^ 26
   pub summed : IsSummed start words

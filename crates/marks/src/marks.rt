@@ -1,5 +1,5 @@
 ghost use Rattle.std.specs.Prelude.{◌≡◌, ℕ, ◌+◌, ◌*◌, ◌<◌, ◌≤◌, ◌^◌, ◌++◌, suc, length, replicate, slice_index_or, slice_set, true, false, IfOk, MatchOption};
-ghost use Rattle.marks.specs.Tree.{level_start, depth_of};
+ghost use Rattle.marks.specs.Tree.{BeginLevel};
 ghost use Rattle.marks.specs.Marks.{IsFirstUnmarked, AllMarkedFrom};
 
 use crate::tree::{first_from, write};
@@ -34,12 +34,11 @@ impl Model for Marks {
 }
 
 /// The first bit of the level that has those of so many numbers: 64 times the number of words of all levels above it.
-#[tactic(auto, unfolding(crate::specs::Tree::level_start, crate::specs::Tree::depth_of))]
+#[tactic(auto, unfolding(crate::specs::Tree::level_start))]
 fn start_for(count: u32) -> usize
     requires { count ≤ 2 ^ 27 }
-    ensures begins { result ≡ level_start (depth_of result) }
+    ensures level { BeginLevel result count }
     ensures small { result ≤ 17043520 }
-    ensures holds { result + count ≤ level_start (suc (depth_of result)) }
 {
     match count {
         0..=64 => 0,

@@ -1,6 +1,6 @@
 use Rattle.std.proofs.Common.{◌≡◌, ℕ, suc, ◌+◌, ◌*◌, ◌/◌, ◌%◌, ◌<◌, List, length, Option, Some, None, arith, sym, ap, ◌∙◌, add-zero}
 use Rattle.std.specs.Prelude.{MatchOption}
-use Rattle.marks.specs.Tree.{IsFirstBit, IsInLevel, IsTree, NoneBetween, depth_of, level_start, low}
+use Rattle.marks.specs.Tree.{IsFirstBit, IsInLevel, IsTree, NoneBetween, level_start, low}
 use Rattle.marks.proofs.Listed.{length-marks_in, word-in_level, found-unmarked, none-unmarked}
 use Rattle.marks.proofs.marks.Marks.first_unmarked_from.Goals as goal
 
@@ -10,15 +10,15 @@ unfolding low
 same-from bit = omega arith
 
 -- what was found, from the bit of a number on
-found-from : (start count n : ℕ) (words : List ℕ) (result : Option ℕ) → IsTree start count words → n < count
+found-from : (start count n : ℕ) (words : List ℕ) (result : Option ℕ) (tree : IsTree start count words) → n < count
     → ((level height : ℕ) → start ≡ level_start (level + height) → IsInLevel level (64 * ((start + n) / 64)) → MatchOption result
     (NoneBetween words (low height (64 * ((start + n) / 64) + (start + n) % 64)) (level_start (suc (level + height))))
     (λ found. IsFirstBit words start (low height (64 * ((start + n) / 64) + (start + n) % 64)) found))
-    → MatchOption result (NoneBetween words (start + n) (level_start (suc (depth_of start)))) (λ found. IsFirstBit words start (start + n) found)
+    → MatchOption result (NoneBetween words (start + n) (level_start (suc tree.last.level))) (λ found. IsFirstBit words start (start + n) found)
 found-from start count n words result tree below search-by =
-    let depth = depth_of start in
+    let depth = tree.last.level in
     let zero : depth + 0 ≡ depth = add-zero depth in
-    let found = search-by depth 0 (tree.begins ∙ ap level_start (sym zero)) (word-in_level start count words n tree below) in
+    let found = search-by depth 0 (tree.last.begins ∙ ap level_start (sym zero)) (word-in_level start count words n tree below) in
     rw (same-from (start + n), zero) at found
 
 pub returns-then-n-self : goal.returns-then-n-self
