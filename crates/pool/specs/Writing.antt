@@ -2,7 +2,7 @@
 use Rattle.std.specs.Prelude.{◌≡◌, ◌≢◌, ℕ, ◌+◌, ◌-◌, ◌*◌, ◌<◌, ◌≤◌, ◌^◌, ◌++◌, ◌==◌, not, Bool, true, List, length, reverse, Vec, vec_len, vec_capacity}
 use Rattle.std.specs.declared.alloc.Global.{Global}
 use Rattle.base.specs.Pages.{PageRun, covers}
-use Rattle.pool.specs.Pool.{Pool, words_of, nonzero_in, words_set, sets_of, after_sets, after_runs, gaps_of, after_replaces}
+use Rattle.pool.specs.Pool.{Pool, words_of, words_in, nonzero_in, words_set, sets_of, after_sets, after_runs, gaps_of, after_replaces}
 use Rattle.pool.specs.Shown.{IsShown, AllDiffer}
 use Rattle.pool.specs.declared.log.Log.{Log}
 use Rattle.pool.specs.declared.operation.Op.{Op}
@@ -146,6 +146,12 @@ pub record TurnRuns (words : List ℕ) (with : TableWords) (runs : List PageRun)
 -- all that stand for pages in none of them
 abbrev pub TurnGaps : List ℕ → TableWords → List PageRun → Type 0
 TurnGaps words with runs = TurnRuns words with (gaps_of with.start runs)
+
+-- words for the pages of runs can be turned: they may be written, none is there, and there is room for their operations
+pub record CanTurnRuns (words : List ℕ) (stands : ℕ → Bool) (with : TableWords) (runs : List PageRun) (log : Log) : Type 0 where
+  pub may : MayWriteRuns words stands with
+  pub turned : TurnRuns words with runs
+  pub ready : IsReady words with.page (words_in with.start runs) log
 
 -- what they make of a pool, for the pages of runs
 abbrev pub runs_set : TableWords → List PageRun → Pool → Pool

@@ -3,7 +3,7 @@
 ghost use Rattle.std.specs.Prelude.{◌≡◌, ℕ, ◌+◌, ◌-◌, ◌*◌, ◌^◌, ◌<◌, ◌≤◌, ◌∷◌, [], ◌⊎◌, IfSome, true};
 ghost use Rattle.base.specs.Pages.{are_normal};
 ghost use Rattle.pool.specs.Pool.{index_from, words_in, gaps_of};
-ghost use Rattle.pool.specs.Writing.{MayWriteRuns, IsTurned, TurnRuns, TurnGaps, IsReady, Wrote, log_of, page_alone, runs_set, indexes_set};
+ghost use Rattle.pool.specs.Writing.{MayWriteRuns, IsTurned, CanTurnRuns, IsReady, Wrote, log_of, page_alone, runs_set, indexes_set};
 
 use crate::log::Log;
 use crate::operation::Op;
@@ -261,9 +261,7 @@ fn turn_one<S: WordStore>(
     page: Page,
     with: TableWords,
 ) -> u32
-    requires may { MayWriteRuns (S.words store.old) (S.stands store.old) with }
-    requires turned { TurnRuns (S.words store.old) with (page_alone page ∷ []) }
-    requires ready { IsReady (S.words store.old) with.page (words_in with.start (page_alone page ∷ []))
+    requires { CanTurnRuns (S.words store.old) (S.stands store.old) with (page_alone page ∷ [])
         (log_of operations.old nonzero) }
     ensures wrote { Wrote (runs_set with (page_alone page ∷ [])) with.page (words_in with.start (page_alone page ∷ []))
         (S.words store.old) (S.words store.new) (log_of operations.old nonzero) (log_of operations.new result) }
@@ -285,9 +283,7 @@ fn turn_one<S: WordStore>(
 /// Writes the words for the pages of a run, none of which is there.
 #[inline(always)]
 fn turn_run<S: WordStore>(store: &mut S, mut log: Log, run: Run, with: TableWords) -> Log
-    requires may { MayWriteRuns (S.words store.old) (S.stands store.old) with }
-    requires turned { TurnRuns (S.words store.old) with (run ∷ []) }
-    requires ready { IsReady (S.words store.old) with.page (words_in with.start (run ∷ [])) log }
+    requires { CanTurnRuns (S.words store.old) (S.stands store.old) with (run ∷ []) log }
     ensures wrote { Wrote (runs_set with (run ∷ [])) with.page (words_in with.start (run ∷ []))
         (S.words store.old) (S.words store.new) log result }
     ensures standing { S.stands store.new ≡ S.stands store.old }
@@ -307,10 +303,8 @@ fn turn_run<S: WordStore>(store: &mut S, mut log: Log, run: Run, with: TableWord
 /// Writes the words for the pages of runs, none of which is there.
 #[inline(always)]
 fn turn_each<S: WordStore>(store: &mut S, mut log: Log, runs: &[Run], with: TableWords) -> Log
-    requires may { MayWriteRuns (S.words store.old) (S.stands store.old) with }
     requires normal { are_normal runs.now ≡ true }
-    requires turned { TurnRuns (S.words store.old) with runs.now }
-    requires ready { IsReady (S.words store.old) with.page (words_in with.start runs.now) log }
+    requires can { CanTurnRuns (S.words store.old) (S.stands store.old) with runs.now log }
     ensures wrote { Wrote (runs_set with runs.now) with.page (words_in with.start runs.now)
         (S.words store.old) (S.words store.new) log result }
     ensures standing { S.stands store.new ≡ S.stands store.old }
@@ -331,10 +325,8 @@ fn turn_many<S: WordStore>(
     runs: &[Run],
     with: TableWords,
 ) -> u32
-    requires may { MayWriteRuns (S.words store.old) (S.stands store.old) with }
     requires normal { are_normal runs.now ≡ true }
-    requires turned { TurnRuns (S.words store.old) with runs.now }
-    requires ready { IsReady (S.words store.old) with.page (words_in with.start runs.now) (log_of operations.old nonzero) }
+    requires can { CanTurnRuns (S.words store.old) (S.stands store.old) with runs.now (log_of operations.old nonzero) }
     ensures wrote { Wrote (runs_set with runs.now) with.page (words_in with.start runs.now)
         (S.words store.old) (S.words store.new) (log_of operations.old nonzero) (log_of operations.new result) }
     ensures standing { S.stands store.new ≡ S.stands store.old }
@@ -357,10 +349,8 @@ pub(crate) fn turn_runs<S: WordStore>(
     runs: &[Run],
     with: TableWords,
 ) -> u32
-    requires may { MayWriteRuns (S.words store.old) (S.stands store.old) with }
     requires normal { are_normal runs.now ≡ true }
-    requires turned { TurnRuns (S.words store.old) with runs.now }
-    requires ready { IsReady (S.words store.old) with.page (words_in with.start runs.now) (log_of operations.old nonzero) }
+    requires can { CanTurnRuns (S.words store.old) (S.stands store.old) with runs.now (log_of operations.old nonzero) }
     ensures wrote { Wrote (runs_set with runs.now) with.page (words_in with.start runs.now)
         (S.words store.old) (S.words store.new) (log_of operations.old nonzero) (log_of operations.new result) }
     ensures standing { S.stands store.new ≡ S.stands store.old }
@@ -381,9 +371,7 @@ pub(crate) fn turn_gaps<S: WordStore>(
     runs: &[Run],
     with: TableWords,
 ) -> Log
-    requires may { MayWriteRuns (S.words store.old) (S.stands store.old) with }
-    requires turned { TurnGaps (S.words store.old) with runs.now }
-    requires ready { IsReady (S.words store.old) with.page (words_in with.start (gaps_of with.start runs.now)) log }
+    requires { CanTurnRuns (S.words store.old) (S.stands store.old) with (gaps_of with.start runs.now) log }
     ensures wrote { let gaps = gaps_of with.start runs.now in
         Wrote (runs_set with gaps) with.page (words_in with.start gaps)
         (S.words store.old) (S.words store.new) log result }

@@ -7,9 +7,9 @@ use Rattle.pool.proofs.runs.turn_each.Goals as goal
 
 pub loop-run-init : goal.loop-run-init
 loop-run-init g c = record {
-  left = left-all c.args.with c.args.runs.now (g.S.WordStore.words c.args.store.now) c.args.log c.requires.ready.counted;
+  left = left-all c.args.with c.args.runs.now (g.S.WordStore.words c.args.store.now) c.args.log c.requires.can.ready.counted;
   standing = refl;
-  turned = c.requires.turned;
+  turned = c.requires.can.turned;
   up = rise-normal c.args.runs.now c.requires.normal;
 }
 
@@ -21,12 +21,12 @@ turn_run-log-requires g c =
     let before = c.loop-run.invariant in
     record {
       may = record {
-        start_in = c.requires.may.start_in;
-        in_range = c.requires.may.in_range;
-        page_in = record { inside = omega (arith, before.left.whole, c.requires.may.page_in.inside); standing = search rules };
+        start_in = c.requires.can.may.start_in;
+        in_range = c.requires.can.may.in_range;
+        page_in = record { inside = omega (arith, before.left.whole, c.requires.can.may.page_in.inside); standing = search rules };
       };
       turned = turned-part (g.S.WordStore.words c.loop-run.store) c.args.with (run ∷ []) behind (rw parts at before.turned);
-      ready = left-ready before.left (run ∷ []) behind _ parts (omega arith) c.requires.ready.room;
+      ready = left-ready before.left (run ∷ []) behind _ parts (omega arith) c.requires.can.ready.room;
     }
 
 pub loop-run-preserved : goal.loop-run-preserved
@@ -44,7 +44,7 @@ loop-run-preserved g c =
       standing = c.turn_run-log.ensures.standing ∙ before.standing;
       turned = turned-rest old new w (run ∷ []) behind (rw parts at before.turned) (λ i within. elim (cases_lt (w.start + i) (run.first + run.count)) [
         | inl lt ↦ let none = before-rise behind (run.first + run.count) (w.start + i) up lt in absurd (cc)
-        | inr past ↦ run-beside w run i old new c.loop-run.log c.turn_run-log.result c.turn_run-log.ensures.wrote (omega (arith, before.left.whole, c.requires.may.page_in.inside)) (omega (arith, past))
+        | inr past ↦ run-beside w run i old new c.loop-run.log c.turn_run-log.result c.turn_run-log.ensures.wrote (omega (arith, before.left.whole, c.requires.can.may.page_in.inside)) (omega (arith, past))
       ]);
       up = rise-lower behind (run.first + run.count) 0 (omega arith) up;
     }

@@ -1,7 +1,7 @@
 use Rattle.std.proofs.Common.{[], ◌∷◌, sym, subst, ◌∙◌, refl, arith}
 use Rattle.base.specs.Pages.{PageRun}
 use Rattle.pool.specs.Pool.{words_in}
-use Rattle.pool.specs.Writing.{IsReady, Wrote, TurnRuns, log_of, runs_set}
+use Rattle.pool.specs.Writing.{CanTurnRuns, Wrote, log_of, runs_set}
 use Rattle.pool.proofs.RunWords.{run-alone}
 use Rattle.pool.proofs.Turned.{run-at}
 use Rattle.pool.proofs.Wrote.{wrote-run}
@@ -9,14 +9,8 @@ use Rattle.pool.proofs.runs.turn_run.Goals as goal
 
 pub turn_one-requires : goal.turn_one-requires
 turn_one-requires g c =
-    let w = c.args.with in
-    let words = g.S.WordStore.words c.args.store.now in
     let alone = sym (run-alone c.args.run c.first.result c.first.ensures.same (sym c.count.ensures.same ∙ c.if-count-eq1.true)) in
-    record {
-      may = c.requires.may;
-      turned = subst (λ (r : PageRun). TurnRuns words w (r ∷ [])) alone c.requires.turned;
-      ready = subst (λ (r : PageRun). IsReady words w.page (words_in w.start (r ∷ [])) c.args.log) alone c.requires.ready;
-    }
+    subst (λ (r : PageRun). CanTurnRuns (g.S.WordStore.words c.args.store.now) (g.S.WordStore.stands c.args.store.now) c.args.with (r ∷ []) c.args.log) alone c.requires
 
 pub returns-then-count-eq1-clause-wrote : goal.returns-then-count-eq1-clause-wrote
 returns-then-count-eq1-clause-wrote g c =
