@@ -81,7 +81,7 @@ position-found ids p below = grind (arith, nat_tests, below)
 
 -- what a memory holds, and its pages as functions
 abbrev pub memory_in : {S : Type 0} {g : Ghosts S} → TablePool S g → Memory
-memory_in {g = g} m = record { ids = m.ids.items; quotas = m.quotas.items; words = g.words m.store; taken = m.taken }
+memory_in {g = g} m = record { ids = m.ids; quotas = m.quotas.items; words = g.words m.store; taken = m.taken }
 
 abbrev pub pages_in : {S : Type 0} {g : Ghosts S} → TablePool S g → Pages
 pages_in m = pages_of (memory_in m)

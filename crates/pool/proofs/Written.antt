@@ -3,7 +3,7 @@ use Rattle.std.proofs.Common.{◌≡◌, ◌≢◌, ℕ, ◌+◌, ◌*◌, ◌%�
 use Rattle.std.specs.List.{list_all}
 use Rattle.std.proofs.lemmas.List.{length-reverse}
 use Rattle.base.specs.Manifest.{page_count}
-use Rattle.pool.specs.Pool.{StandOnce, Pool, words_of, taken_of, lies_in, CountsFree, CountsNonzero, NoneFreeBelow}
+use Rattle.pool.specs.Pool.{Pool, words_of, taken_of, lies_in, CountsFree, CountsNonzero, NoneFreeBelow}
 use Rattle.pool.specs.Shown.{IsShown}
 use Rattle.pool.specs.Writing.{Wrote, log_of}
 use Rattle.pool.specs.declared.log.Log.{Log}
@@ -20,8 +20,7 @@ pool_in m made = record { memory = memory_in m; operations = reverse m.operation
 -- what holds of it then
 abbrev pub Holds : {S : Type 0} {g : Ghosts S} → TablePool S g → ℕ → List ℕ → (ℕ → Bool) → Log → Type 0
 Holds old page new stands after = record {
-  ids_whole : length old.ids.items ≡ length old.quotas.items;
-  ids_once : StandOnce old.ids.items;
+  ids_whole : length old.ids ≡ length old.quotas.items;
   words_whole : length new ≡ 512 * page_count old.quotas.items;
   taken_whole : length old.taken ≡ page_count old.quotas.items;
   free_counted : CountsFree old.quotas.items old.taken old.free.items;
@@ -30,7 +29,7 @@ Holds old page new stands after = record {
   fits : page_count old.quotas.items ≤ 2 ^ 27;
   roots : (row : ℕ) → row < length old.quotas.items → taken_of old.taken row ≡ true;
   free_zero : (q i : ℕ) → taken_of old.taken q ≡ false → words_of new q i ≡ 0;
-  within : list_all (lies_in old.ids.items old.quotas.items) (reverse after.operations.items) ≡ true;
+  within : list_all (lies_in old.ids old.quotas.items) (reverse after.operations.items) ≡ true;
   standing : (q : ℕ) → taken_of old.taken q ≡ true → stands q ≡ true;
 }
 
@@ -43,12 +42,11 @@ module _ {S : Type 0} {g : Ghosts S} (old : TablePool S g) (page : ℕ) (inside 
   shown : (made : ℕ) → IsShown new after.operations.items (step (pool_in old made))
   shown made = wrote.shown (pool_in old made) (record { words = refl; operations = refl })
 
-  pub stays : {stands : ℕ → Bool} → stands ≡ g.stands old.store → taken_of old.taken page ≡ true → list_all (lies_in old.ids.items old.quotas.items) (step (pool_in old 0)).operations ≡ true → Holds old page new stands after
+  pub stays : {stands : ℕ → Bool} → stands ≡ g.stands old.store → taken_of old.taken page ≡ true → list_all (lies_in old.ids old.quotas.items) (step (pool_in old 0)).operations ≡ true → Holds old page new stands after
   stays stood held lie =
       let others : (q i : ℕ) → q ≢ page → words_of new q i ≡ words_of (g.words old.store) q i = λ q i other. ap (λ w. words_of w q i) (shown 0).words ∙ (keeps (pool_in old 0) whole).others q i other in
       record {
         ids_whole = old.ids_whole;
-        ids_once = old.ids_once;
         words_whole = wrote.whole ∙ old.words_whole;
         taken_whole = old.taken_whole;
         free_counted = old.free_counted;
@@ -62,7 +60,7 @@ module _ {S : Type 0} {g : Ghosts S} (old : TablePool S g) (page : ℕ) (inside 
       }
 
   -- it shows what the step makes
-  pub state : (let pool : Pool = record { memory = record { ids = old.ids.items; quotas = old.quotas.items; words = new; taken = old.taken }; operations = reverse after.operations.items; made = (old.made_before + length after.operations.items) % 2 ^ 64 } in pool)
+  pub state : (let pool : Pool = record { memory = record { ids = old.ids; quotas = old.quotas.items; words = new; taken = old.taken }; operations = reverse after.operations.items; made = (old.made_before + length after.operations.items) % 2 ^ 64 } in pool)
       ≡ step (pool_in old ((old.made_before + length old.operations.items) % 2 ^ 64))
   state =
       let made = (old.made_before + length old.operations.items) % 2 ^ 64 in
@@ -72,5 +70,5 @@ module _ {S : Type 0} {g : Ghosts S} (old : TablePool S g) (page : ℕ) (inside 
       let was : length (reverse old.operations.items) ≡ length old.operations.items = length-reverse old.operations.items in
       let count = kept.made old.made_before (ap (λ k. (old.made_before + k) % 2 ^ 64) (sym was)) in
       let long : length after.operations.items ≡ length pool.operations = sym (length-reverse after.operations.items) ∙ ap length is.operations in
-      pools-same (record { memory = record { ids = old.ids.items; quotas = old.quotas.items; words = new; taken = old.taken }; operations = reverse after.operations.items; made = (old.made_before + length after.operations.items) % 2 ^ 64 }) pool
+      pools-same (record { memory = record { ids = old.ids; quotas = old.quotas.items; words = new; taken = old.taken }; operations = reverse after.operations.items; made = (old.made_before + length after.operations.items) % 2 ^ 64 }) pool
       (sym kept.ids) (sym kept.quotas) is.words (sym kept.taken) is.operations (ap (λ k. (old.made_before + k) % 2 ^ 64) long ∙ sym count)

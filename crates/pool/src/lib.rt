@@ -3,6 +3,7 @@
 
 mod block;
 mod cells;
+mod identifiers;
 mod image;
 mod list_pool;
 mod log;
@@ -18,10 +19,11 @@ mod table_pool;
 mod word_range;
 mod word_store;
 
+pub use identifiers::Identifiers;
 pub use image::Image;
 pub use list_pool::ListPool;
 pub use operation::Op;
-pub use places::{address_of, ids_of, page_at, quotas_of, row_in, row_of};
+pub use places::{address_of, page_at, quotas_of, row_in, row_of};
 pub use raw_pool::RawPool;
 pub use runs::TableWords;
 pub use table_mem::TableMem;

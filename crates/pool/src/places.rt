@@ -2,20 +2,13 @@
 //! identifier; behind all roots lie their shares, in the same order, each of as many pages as its quota.
 
 ghost use Rattle.std.specs.Prelude.{◌≡◌, ◌+◌, ◌-◌, ◌<◌, ◌≤◌, ◌^◌, ◌==◌, ◌&&◌, length, position, sum, Some, None, IfOk, nat_le, nat_lt, if◌then◌else◌};
-ghost use Rattle.base.specs.Manifest.{page_count};
+ghost use Rattle.base.specs.Manifest.{ids_of, page_count};
 ghost use Rattle.base.specs.Manifest as rows;
-ghost use Rattle.pool.specs.Pool.{AreShareStarts, StandOnce};
+ghost use Rattle.pool.specs.Pool.{AreShareStarts};
 
 use base::{OutOfMemory, Page, PartitionId};
 use manifest::Partition;
 use std::alloc::Global;
-
-/// The identifiers of partitions, in their order.
-pub fn ids_of(alloc: Global, partitions: &[Partition]) -> Result<Vec<PartitionId>, OutOfMemory>
-    ensures { IfOk result (λ ids. ids.items ≡ rows.ids_of partitions.now) }
-{
-    Ok(partitions.iter().map(|row| row.id).collect(alloc)?)
-}
 
 /// The quotas of partitions, in their order.
 pub fn quotas_of(alloc: Global, partitions: &[Partition]) -> Result<Vec<u32>, OutOfMemory>
@@ -24,24 +17,16 @@ pub fn quotas_of(alloc: Global, partitions: &[Partition]) -> Result<Vec<u32>, Ou
     Ok(partitions.iter().map(|row| row.quota).collect(alloc)?)
 }
 
-/// The row of a partition among these, which is also the pool page of its root. Identifiers mostly follow one another: the first tells
-/// then where one stands, and no other is looked at.
+/// The row of a partition among these, which is also the pool page of its root.
 pub fn row_of(ids: &[PartitionId], p: PartitionId) -> Option<usize>
-    requires { StandOnce ids.now }
     ensures { result ≡ position (λ id. id == p) ids.now }
 {
-    if let Some(first) = ids.first() {
-        let place = usize::from(p.number().wrapping_sub(first.number()));
-        if place < ids.len() && ids[place] == p {
-            return Some(place);
-        }
-    }
     ids.iter().position(|id| *id == p)
 }
 
 /// The row of a partition among those of a manifest.
 pub fn row_in(partitions: &[Partition], p: PartitionId) -> Option<usize>
-    ensures { result ≡ position (λ id. id == p) (rows.ids_of partitions.now) }
+    ensures { result ≡ position (λ id. id == p) (ids_of partitions.now) }
 {
     place_of(partitions, p)
 }

@@ -1,14 +1,15 @@
 ghost use Rattle.std.specs.Prelude.{◌≡◌, ℕ, ◌+◌, ◌-◌, ◌*◌, ◌<◌, ◌≤◌, ◌^◌, length, replicate, reverse, vec_len, vec_capacity, true, false, IfOk};
 ghost use Rattle.base.specs.Manifest.{page_count};
-ghost use Rattle.pool.specs.Pool.{CountsFree, CountsNonzero, NoneFreeBelow, StandOnce, lies_in, words_of, taken_of};
+ghost use Rattle.pool.specs.Pool.{CountsFree, CountsNonzero, NoneFreeBelow, lies_in, words_of, taken_of};
 ghost use Rattle.std.specs.List.{list_all};
 ghost use Rattle.pool.specs.Pool as shares;
 
+use crate::identifiers::Identifiers;
 use crate::image::Image;
 use crate::log::Log;
 use crate::looks::{are_filled, are_gaps_there};
 use crate::operation::Op;
-use crate::places::{ids_of, quotas_of, row_of, share_starts, total};
+use crate::places::{quotas_of, share_starts, total};
 use crate::replace::{Replacement, replace_words};
 use crate::runs::{TableWords, set_runs, turn_gaps, turn_runs};
 use crate::stretch::{WordAt, clear_page, write_word};
@@ -30,7 +31,7 @@ mod tests;
 /// made before those that are listed, modulo 2^64. Each root, and each page that is taken, stands in memory.
 #[derive(Drop)]
 pub struct TablePool<S: WordStore> {
-    ids: Vec<PartitionId>,
+    ids: Identifiers,
     quotas: Vec<u32>,
     pub(crate) store: S,
     taken: Marks,
@@ -39,8 +40,7 @@ pub struct TablePool<S: WordStore> {
     nonzero: Vec<u32>,
     operations: Vec<Op>,
     made_before: u64,
-    ghost ids_whole: { length ids.items ≡ length quotas.items },
-    ghost ids_once: { StandOnce ids.items },
+    ghost ids_whole: { length ids ≡ length quotas.items },
     ghost words_whole: { length (S.words store) ≡ 512 * page_count quotas.items },
     ghost taken_whole: { length taken ≡ page_count quotas.items },
     ghost free_counted: { CountsFree quotas.items taken free.items },
@@ -50,7 +50,7 @@ pub struct TablePool<S: WordStore> {
     ghost roots: { (row : ℕ) → row < length quotas.items → taken_of taken row ≡ true },
     ghost free_zero: { (page index : ℕ) → taken_of taken page ≡ false
         → words_of (S.words store) page index ≡ 0 },
-    ghost within: { list_all (lies_in ids.items quotas.items) (reverse operations.items) ≡ true },
+    ghost within: { list_all (lies_in ids quotas.items) (reverse operations.items) ≡ true },
     ghost standing: { (page : ℕ) → taken_of taken page ≡ true
         → S.stands store page ≡ true },
 }
@@ -81,7 +81,7 @@ impl<S: WordStore> TableMem for TablePool<S> {
 
     ghost state = { λ m. record {
       memory = record {
-        ids = m.ids.items;
+        ids = m.ids;
         quotas = m.quotas.items;
         words = S.words m.store;
         taken = m.taken;
@@ -106,7 +106,7 @@ impl<S: WordStore> TableMem for TablePool<S> {
 
     fn make(alloc: Global, manifest: &Manifest) -> Result<Self, OutOfMemory> {
         let partitions = manifest.partitions();
-        let ids = ids_of(alloc, partitions)?;
+        let ids = Identifiers::of(alloc, manifest)?;
         let quotas = quotas_of(alloc, partitions)?;
         let roots = partitions.len();
         let shares = total(&quotas);
@@ -216,7 +216,7 @@ impl<S: WordStore> TableMem for TablePool<S> {
     }
 
     fn take_page(&mut self, p: PartitionId) -> u32 {
-        let row = row_of(&self.ids, p).unwrap();
+        let row = self.ids.row(p).unwrap();
         let page = self.taken.next_unmarked(self.lowest[row]);
         self.store.fill(page);
         self.taken.mark(page);
@@ -226,14 +226,14 @@ impl<S: WordStore> TableMem for TablePool<S> {
     }
 
     fn give_page(&mut self, p: PartitionId, page: u32) {
-        let row = row_of(&self.ids, p).unwrap();
+        let row = self.ids.row(p).unwrap();
         self.taken.unmark(page);
         self.free[row] += 1;
         self.lowest[row] = self.lowest[row].min(page);
     }
 
     fn free(&self, p: PartitionId) -> u32 {
-        match row_of(&self.ids, p) {
+        match self.ids.row(p) {
             Some(row) => self.free[row],
             None => 0,
         }

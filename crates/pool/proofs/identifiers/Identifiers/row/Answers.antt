@@ -1,16 +1,19 @@
-use Rattle.std.proofs.Common.{◌≡◌, true, ltb, length, get_or, refl, sym, ap, ◌∙◌, arith}
+use Rattle.std.proofs.Common.{◌≡◌, true, ltb, length, get_or, refl, sym, ap, subst, ◌∙◌, arith}
 use Rattle.std.proofs.lemmas.Bool.{eqb-true}
 use Rattle.std.proofs.lemmas.Bool.Decides.{nat_tests}
 use Rattle.std.proofs.lemmas.List.{get_or_read}
 use Rattle.base.specs.Manifest.{row_of}
-use Rattle.pool.proofs.places.row_of.Goals as goal
+use Rattle.pool.specs.Pool.{StandOnce}
+use Rattle.pool.proofs.identifiers.Identifiers.row.Goals as goal
 
 pub returns-then-eq : goal.returns-then-eq
 returns-then-eq c =
-    let ids = c.args.ids.now in
+    let ids = c.as_slice-ids.result.now in
+    let own : ids ≡ c.args.self.now = c.as_slice-ids.ensures.value ∙ c.self.view_is in
+    let once : StandOnce ids = subst StandOnce (sym c.as_slice-ids.ensures.value) c.self.invariant in
     let place = c.from-place.result in
     let read : c.index-ids-place.result ≡ get_or ids place 0 = get_or_read ids place c.index-ids-place.result c.if-place-ids.true c.index-ids-place.is 0 in
     let is : c.index-ids-place.result ≡ c.args.p = eqb-true _ _ (sym c.eq.ensures ∙ c.if-eq.true) in
-    let row : row_of ids c.args.p ≡ place = ap (row_of ids) (sym is ∙ read) ∙ c.requires place c.if-place-ids.true in
+    let row : row_of ids c.args.p ≡ place = ap (row_of ids) (sym is ∙ read) ∙ once place c.if-place-ids.true in
     let inside : ltb place (length ids) ≡ true = grind (arith, nat_tests, c.if-place-ids.true) in
-    rw (row, inside) refl
+    rw (← own, row, inside) refl

@@ -9,7 +9,7 @@ invariant_of-self g c =
     let old = c.args.self.now in
     let page = c.args.page in
     let small : 0 + 512 ≤ 512 = omega arith in
-    stays old page c.requires.page_in (rw c.take-log.ensures at c.clear_page-operations.ensures.wrote) (λ a room. keeps-sets page 0 512 0 0 a small room) c.clear_page-operations.ensures.standing c.requires.taken (within-behind old.ids.items old.quotas.items (g.S.WordStore.words old.store) page 0 512 0 0 (reverse old.operations.items) c.requires.page_in small old.within)
+    stays old page c.requires.page_in (rw c.take-log.ensures at c.clear_page-operations.ensures.wrote) (λ a room. keeps-sets page 0 512 0 0 a small room) c.clear_page-operations.ensures.standing c.requires.taken (within-behind old.ids old.quotas.items (g.S.WordStore.words old.store) page 0 512 0 0 (reverse old.operations.items) c.requires.page_in small old.within)
 
 pub returns-clause-state : goal.returns-clause-state
 returns-clause-state g c =

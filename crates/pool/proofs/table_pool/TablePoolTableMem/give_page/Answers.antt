@@ -11,7 +11,7 @@ use Rattle.pool.proofs.table_pool.TablePoolTableMem.give_page.Goals as goal
 pub unwrap-row-requires : goal.unwrap-row-requires
 unwrap-row-requires g c =
     let old = c.args.self.now in
-    rw (c.row_of.ensures, c.deref.ensures.value) (position-found old.ids.items c.args.p (omega (arith, c.requires.inside.partition, old.ids_whole)))
+    rw c.row.ensures (position-found old.ids c.args.p (omega (arith, c.requires.inside.partition, old.ids_whole)))
 
 pub unmark-requires : goal.unmark-requires
 unmark-requires g c = let old = c.args.self.now in omega (arith, old.taken_whole, share_inside _ _ _ c.requires.inside)
@@ -19,8 +19,8 @@ unmark-requires g c = let old = c.args.self.now in omega (arith, old.taken_whole
 pub overflow_add-index_mut : goal.overflow_add-index_mut
 overflow_add-index_mut g c =
     let old = c.args.self.now in
-    let found : position (λ id. id == c.args.p) old.ids.items ≡ Some c.unwrap-row.result = rw (← c.deref.ensures.value) (sym c.row_of.ensures ∙ c.unwrap-row.ensures) in
-    let placed = row_of-found old.ids.items c.args.p c.unwrap-row.result found in
+    let found : position (λ id. id == c.args.p) old.ids ≡ Some c.unwrap-row.result = sym c.row.ensures ∙ c.unwrap-row.ensures in
+    let placed = row_of-found old.ids c.args.p c.unwrap-row.result found in
     let rows = old.free_counted.rows in
     let here = get_or_read old.free.items _ _ (omega (arith, placed.1, old.ids_whole, rows)) c.index_mut.ensures.value 0 in
     let share : InShare old.quotas.items c.unwrap-row.result c.args.page = subst (λ r. InShare old.quotas.items r c.args.page) placed.0 c.requires.inside in
@@ -32,8 +32,8 @@ pub invariant_of-self : goal.invariant_of-self
 invariant_of-self g c =
     let old = c.args.self.now in
     let page = c.args.page in
-    let found : position (λ id. id == c.args.p) old.ids.items ≡ Some c.unwrap-row.result = rw (← c.deref.ensures.value) (sym c.row_of.ensures ∙ c.unwrap-row.ensures) in
-    let placed = row_of-found old.ids.items c.args.p c.unwrap-row.result found in
+    let found : position (λ id. id == c.args.p) old.ids ≡ Some c.unwrap-row.result = sym c.row.ensures ∙ c.unwrap-row.ensures in
+    let placed = row_of-found old.ids c.args.p c.unwrap-row.result found in
     let rows = old.free_counted.rows in
     let here : c.index_mut.result.now ≡ slice_index old.free.items c.unwrap-row.result = get_or_read old.free.items _ _ (omega (arith, placed.1, old.ids_whole, rows)) c.index_mut.ensures.value 0 in
     let share : InShare old.quotas.items c.unwrap-row.result page = subst (λ r. InShare old.quotas.items r page) placed.0 c.requires.inside in
@@ -43,7 +43,6 @@ invariant_of-self g c =
     let stands = g.S.WordStore.stands old.store in
     record {
       ids_whole = old.ids_whole;
-      ids_once = old.ids_once;
       words_whole = old.words_whole;
       taken_whole = rw c.unmark.ensures (length-set old.taken _ _ ∙ old.taken_whole);
       free_counted = rw c.unmark.ensures (counts-give (memory_in old) old.free.items c.unwrap-row.result page (c.index_mut.result.now + 1) old.free_counted share inside c.requires.taken (omega (arith, here)));

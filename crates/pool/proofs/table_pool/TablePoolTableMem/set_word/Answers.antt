@@ -11,7 +11,7 @@ use Rattle.pool.proofs.table_pool.TablePoolTableMem.set_word.Goals as goal
 pub invariant_of-self : goal.invariant_of-self
 invariant_of-self g c =
     let old = c.args.self.now in
-    stays old c.args.page c.requires.page_in c.write_word-count.ensures.wrote (λ a room. keeps-set c.args.page c.args.index c.args.word a c.requires.index_in room) c.write_word-count.ensures.standing c.requires.taken (let here = set-within old.ids.items old.quotas.items c.args.page c.args.index c.args.word c.requires.page_in c.requires.index_in in rw here old.within)
+    stays old c.args.page c.requires.page_in c.write_word-count.ensures.wrote (λ a room. keeps-set c.args.page c.args.index c.args.word a c.requires.index_in room) c.write_word-count.ensures.standing c.requires.taken (let here = set-within old.ids old.quotas.items c.args.page c.args.index c.args.word c.requires.page_in c.requires.index_in in rw here old.within)
 
 pub returns-clause-state : goal.returns-clause-state
 returns-clause-state g c =

@@ -13,34 +13,34 @@ use Rattle.pool.proofs.table_pool.TablePoolTableMem.take_page.Goals as goal
 pub unwrap-row-requires : goal.unwrap-row-requires
 unwrap-row-requires g c =
     let old = c.args.self.now in
-    rw (c.row_of.ensures, c.deref.ensures.value) (position-found old.ids.items c.args.p (row_of-within (pages_in old) c.args.p old.ids_whole c.requires.free))
+    rw c.row.ensures (position-found old.ids c.args.p (row_of-within (pages_in old) c.args.p old.ids_whole c.requires.free))
 
 -- the page from which on is looked is that of the partition's row
-begins : {S : Type 0} {g : Ghosts S} (old : TablePool S g) (p row start : ℕ) → position (λ id. id == p) old.ids.items ≡ Some row → start ≡ get_or old.lowest.items row start → start ≡ slice_index old.lowest.items (row_of old.ids.items p)
+begins : {S : Type 0} {g : Ghosts S} (old : TablePool S g) (p row start : ℕ) → position (λ id. id == p) old.ids ≡ Some row → start ≡ get_or old.lowest.items row start → start ≡ slice_index old.lowest.items (row_of old.ids p)
 begins old p row start placed read =
-    let is = row_of-found old.ids.items p row placed in
+    let is = row_of-found old.ids p row placed in
     get_or_read old.lowest.items row start (omega (arith, is.1, old.ids_whole, old.none_free_below.rows)) read 0 ∙ ap (slice_index old.lowest.items) (sym is.0)
 
 pub next_unmarked-page-requires : goal.next_unmarked-page-requires
 next_unmarked-page-requires g c =
     let old = c.args.self.now in
-    let placed : position (λ id. id == c.args.p) old.ids.items ≡ Some c.unwrap-row.result = rw (← c.deref.ensures.value) (sym c.row_of.ensures ∙ c.unwrap-row.ensures) in
+    let placed : position (λ id. id == c.args.p) old.ids ≡ Some c.unwrap-row.result = sym c.row.ensures ∙ c.unwrap-row.ensures in
     rw (begins old c.args.p c.unwrap-row.result c.index.result.now placed c.index.ensures) (some-unmarked (memory_in old) old.lowest.items c.args.p old.none_free_below old.taken_whole c.requires.free)
 
 pub mark-requires : goal.mark-requires
 mark-requires g c =
     let old = c.args.self.now in
     let memory = memory_in old in
-    let placed : position (λ id. id == c.args.p) old.ids.items ≡ Some c.unwrap-row.result = rw (← c.deref.ensures.value) (sym c.row_of.ensures ∙ c.unwrap-row.ensures) in
+    let placed : position (λ id. id == c.args.p) old.ids ≡ Some c.unwrap-row.result = sym c.row.ensures ∙ c.unwrap-row.ensures in
     let lowest = found-lowest memory old.lowest.items c.args.p c.next_unmarked-page.result old.none_free_below c.requires.free (rw (begins old c.args.p c.unwrap-row.result c.index.result.now placed c.index.ensures) at c.next_unmarked-page.ensures) in
-    let inside : c.next_unmarked-page.result < length old.taken = omega (arith, old.taken_whole, share_inside old.quotas.items (row_of old.ids.items c.args.p) c.next_unmarked-page.result lowest.inside) in
+    let inside : c.next_unmarked-page.result < length old.taken = omega (arith, old.taken_whole, share_inside old.quotas.items (row_of old.ids c.args.p) c.next_unmarked-page.result lowest.inside) in
     inside
 
 pub returns-clause-lowest : goal.returns-clause-lowest
 returns-clause-lowest g c =
     let old = c.args.self.now in
     let memory = memory_in old in
-    let placed : position (λ id. id == c.args.p) old.ids.items ≡ Some c.unwrap-row.result = rw (← c.deref.ensures.value) (sym c.row_of.ensures ∙ c.unwrap-row.ensures) in
+    let placed : position (λ id. id == c.args.p) old.ids ≡ Some c.unwrap-row.result = sym c.row.ensures ∙ c.unwrap-row.ensures in
     let lowest = found-lowest memory old.lowest.items c.args.p c.next_unmarked-page.result old.none_free_below c.requires.free (rw (begins old c.args.p c.unwrap-row.result c.index.result.now placed c.index.ensures) at c.next_unmarked-page.ensures) in
     lowest
 
@@ -48,8 +48,8 @@ pub overflow_sub-index_mut : goal.overflow_sub-index_mut
 overflow_sub-index_mut g c =
     let old = c.args.self.now in
     let memory = memory_in old in
-    let placed : position (λ id. id == c.args.p) old.ids.items ≡ Some c.unwrap-row.result = rw (← c.deref.ensures.value) (sym c.row_of.ensures ∙ c.unwrap-row.ensures) in
-    let row = row_of-found old.ids.items c.args.p c.unwrap-row.result placed in
+    let placed : position (λ id. id == c.args.p) old.ids ≡ Some c.unwrap-row.result = sym c.row.ensures ∙ c.unwrap-row.ensures in
+    let row = row_of-found old.ids c.args.p c.unwrap-row.result placed in
     let rows = old.free_counted.rows in
     let here : c.index_mut.result.now ≡ slice_index old.free.items c.unwrap-row.result = get_or_read old.free.items _ _ (omega (arith, row.1, old.ids_whole, rows)) c.index_mut.ensures.value 0 in
     let counted = counts-free memory old.free.items c.args.p c.unwrap-row.result old.free_counted row.0 (omega (arith, row.1, old.ids_whole)) in
@@ -60,18 +60,17 @@ pub invariant_of-self : goal.invariant_of-self
 invariant_of-self g c =
     let old = c.args.self.now in
     let memory = memory_in old in
-    let placed : position (λ id. id == c.args.p) old.ids.items ≡ Some c.unwrap-row.result = rw (← c.deref.ensures.value) (sym c.row_of.ensures ∙ c.unwrap-row.ensures) in
+    let placed : position (λ id. id == c.args.p) old.ids ≡ Some c.unwrap-row.result = sym c.row.ensures ∙ c.unwrap-row.ensures in
     let lowest = found-lowest memory old.lowest.items c.args.p c.next_unmarked-page.result old.none_free_below c.requires.free (rw (begins old c.args.p c.unwrap-row.result c.index.result.now placed c.index.ensures) at c.next_unmarked-page.ensures) in
     let page = c.next_unmarked-page.result in
-    let inside : page < length old.taken = omega (arith, old.taken_whole, share_inside old.quotas.items (row_of old.ids.items c.args.p) page lowest.inside) in
-    let row = row_of-found old.ids.items c.args.p c.unwrap-row.result placed in
+    let inside : page < length old.taken = omega (arith, old.taken_whole, share_inside old.quotas.items (row_of old.ids c.args.p) page lowest.inside) in
+    let row = row_of-found old.ids c.args.p c.unwrap-row.result placed in
     let rows = old.free_counted.rows in
     let here : c.index_mut.result.now ≡ slice_index old.free.items c.unwrap-row.result = get_or_read old.free.items _ _ (omega (arith, row.1, old.ids_whole, rows)) c.index_mut.ensures.value 0 in
     let counted = counts-free memory old.free.items c.args.p c.unwrap-row.result old.free_counted row.0 (omega (arith, row.1, old.ids_whole)) in
     let some = c.requires.free in
     record {
       ids_whole = old.ids_whole;
-      ids_once = old.ids_once;
       words_whole = ap length c.fill.ensures.words ∙ old.words_whole;
       taken_whole = rw c.mark.ensures (length-set old.taken _ _ ∙ old.taken_whole);
       free_counted = rw c.mark.ensures (counts-take memory old.free.items c.unwrap-row.result page (c.index_mut.result.now - 1) old.free_counted

@@ -14,10 +14,10 @@ same-some n r is = cc
 pub returns-in-Some-clause-root : goal.returns-in-Some-clause-root
 returns-in-Some-clause-root c = λ r is.
     let own = c.self.inside in
-    let found = ap (λ (ids : List ℕ). position (λ id. eqb id c.args.p) ids) (sym c.deref.ensures.value) ∙ sym c.row_of.ensures ∙ c.in-Some.is in
+    let found = sym c.row.ensures ∙ c.in-Some.is in
     let rows = ap (λ (l : Layout). length l.ids) (sym c.self.view_is) in
     let pages = ap (λ (l : Layout). l.pages) c.self.view_is in
-    let inside = root-in own.ids.items c.args.p c.in-Some.row r own.pages found (sym c.new.ensures ∙ same-some c.new.result r is) c.self.invariant.1 in
+    let inside = root-in own.ids c.args.p c.in-Some.row r own.pages found (sym c.new.ensures ∙ same-some c.new.result r is) c.self.invariant.1 in
     omega (arith, inside, pages)
 
 no-some : (o : Option ℕ) (r : ℕ) → o ≡ None → o ≡ Some r → ⊥
