@@ -1,6 +1,7 @@
 -- What clauses say of the tables: canonical tables, and an edit of a partition that has a root or has none.
-use Rattle.std.proofs.Common.{◌≡◌, ℕ, ◌+◌, ◌-◌, ◌*◌, ◌/◌, ◌%◌, ◌^◌, ◌<◌, ◌≤◌, Bool, true, false, not, ◌&&◌, cond, eqb, ltb, List, length, position, Option, Some, None, is_some, refl, sym, ap, ap₂, subst, ◌∙◌, arith, inl, inr}
+use Rattle.std.proofs.Common.{◌≡◌, ℕ, ◌+◌, ◌-◌, ◌*◌, ◌/◌, ◌%◌, ◌^◌, ◌<◌, ◌≤◌, Bool, true, false, not, ◌&&◌, cond, eqb, ltb, List, length, position, Option, Some, None, is_some, Result, Ok, Err, refl, sym, ap, ap₂, subst, ◌∙◌, arith, inl, inr}
 use Rattle.std.specs.Option.{option_map}
+use Rattle.std.specs.Result.{OnOk}
 use Rattle.std.proofs.lemmas.Bool.{cases_Bool, ltb-true, eqb-true}
 use Rattle.std.proofs.lemmas.Bool.Decides.{nat_tests}
 use Rattle.base.specs.Access.{Access, View}
@@ -162,6 +163,20 @@ pub record IsEdited (p : ℕ) (runs : List PageRun) (access : View) (old new : T
 -- the view of these tables
 abbrev pub view : Layout → Pool → ℕ → TablesView
 view layout pool room = record { layout = layout; pool = pool; room = room }
+
+-- what holds where there is a value holds of what follows from it
+on-ok : {T E : Type 0} (result : Result T E) {A B : Type 0} → (A → B) → OnOk result A → OnOk result B
+on-ok (Ok x) f a = f a
+on-ok (Err e) f a = a
+
+-- room for the operations that are planned is room for those of the edit
+pub room-made : {T E : Type 0} (result : Result T E) (p : ℕ) (runs : List PageRun) (access : View) (layout : Layout) (now before : Pool) (room had planned clears : ℕ) (old : TablesView)
+    → now ≡ before → view layout before had ≡ old → edit_operations p runs access old ≤ planned
+    → OnOk result (planned + clears ≤ room) → OnOk result (edit_operations p runs access (view layout now room) + clears ≤ room)
+room-made result p runs access layout now before room had planned clears old same is most made =
+    let edit : edit_operations p runs access (view layout now room) ≡ edit_operations p runs access old =
+    ap (λ (x : Pool). edit_operations p runs access (view layout x room)) same ∙ ap (λ (t : TablesView). edit_operations p runs access t) is in
+    on-ok result (λ has. omega (arith, edit, most, has)) made
 
 pub edited-rooted : (layout : Layout) (old new : Pool) (room left p row : ℕ) (runs : List PageRun) (access : View) → IsRow layout.ids p row → IsCanonical layout (pages_of old.memory)
     → EditsRow layout row (edited runs access (answers layout (pages_of old.memory).words row)) (pages_of old.memory) (pages_of new.memory)

@@ -1,6 +1,8 @@
-use Rattle.std.proofs.Common.{◌≡◌, ap, subst, arith}
+use Rattle.std.proofs.Common.{◌≡◌, ap, sym, subst, arith}
+use Rattle.pool.specs.Pool.{Pool, pages_of}
+use Rattle.stage2.specs.Orderly.{IsCanonical}
 use Rattle.stage2.specs.Tables.{TablesView, AreCanonical, view_of}
-use Rattle.stage2.proofs.Editing.WholeTables.{view, are-canonical, room-most}
+use Rattle.stage2.proofs.Editing.WholeTables.{view, are-canonical, room-most, room-made}
 use Rattle.stage2.proofs.tables.Tables.ready.Goals as goal
 
 pub returns-then-has_room-clause-room : goal.returns-then-has_room-clause-room
@@ -26,3 +28,9 @@ pub returns-then-has_room-2-clause-canonical : goal.returns-then-has_room-2-clau
 returns-then-has_room-2-clause-canonical g c =
     let m = c.self.inside.memory in
     subst (λ (t : TablesView). AreCanonical t) c.self.view_is (are-canonical (view c.self.inside.layout (g.M.TableMem.state m) (g.M.TableMem.room m)) c.self.invariant (g.met.M.TableMem.free_is_zero m) (g.met.M.TableMem.operations_lie_within m))
+
+pub returns-then-looks-clause-room : goal.returns-then-looks-clause-room
+returns-then-looks-clause-room g c = room-made c.ready.result c.args.p c.args.runs.now c.args.access c.self.inside.layout (g.M.TableMem.state c.ready.new.self) (g.M.TableMem.state c.self.inside.memory) (g.M.TableMem.room c.ready.new.self) (g.M.TableMem.room c.self.inside.memory) c.plan-plan.result.operations c.args.clears c.args.self.now c.ready.ensures.state c.self.view_is c.plan-plan.ensures.operations c.ready.ensures.room
+
+pub returns-then-looks-clause-canonical : goal.returns-then-looks-clause-canonical
+returns-then-looks-clause-canonical g c = are-canonical (view c.self.inside.layout (g.M.TableMem.state c.ready.new.self) (g.M.TableMem.room c.ready.new.self)) (subst (λ (x : Pool). IsCanonical c.self.inside.layout (pages_of x.memory)) (sym c.ready.ensures.state) c.self.invariant) (g.met.M.TableMem.free_is_zero c.ready.new.self) (g.met.M.TableMem.operations_lie_within c.ready.new.self)
