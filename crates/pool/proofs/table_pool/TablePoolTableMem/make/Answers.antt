@@ -1,10 +1,9 @@
-use Rattle.std.proofs.Common.{◌≡◌, ◌+◌, ◌*◌, ◌∙◌, ap, sym, subst, arith, true, false, length, replicate, ◌++◌, sum}
-use Rattle.base.specs.Manifest.{PartitionRow, ids_of, quotas_of, page_count}
-use Rattle.std.proofs.lemmas.List.{length-append, length-map, length-replicate}
+use Rattle.std.proofs.Common.{◌≡◌, ◌+◌, ◌*◌, ◌∙◌, ap, arith, true, false, length, replicate, ◌++◌, sum}
+use Rattle.base.specs.Manifest.{quotas_of, page_count}
+use Rattle.std.proofs.lemmas.List.{length-append, length-replicate}
 use Rattle.pool.proofs.Words.{words_of-zeros}
 use Rattle.pool.proofs.Nonzero.{counts_nonzero-new}
 use Rattle.pool.proofs.Kept.{roots-new, taken_of-new, length-quotas_of, page_count-le, counts-new}
-use Rattle.manifest.proofs.Facts.{facts, row_of-id}
 use Rattle.pool.proofs.table_pool.TablePoolTableMem.make.Goals as goal
 
 pub invariant_of-result-2-clause-words_whole : goal.invariant_of-result-2-clause-words_whole
