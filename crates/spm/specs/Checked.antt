@@ -15,7 +15,7 @@ use Rattle.rules.specs.Calls.Reclaim.{reclaim_tests, sent_with}
 use Rattle.rules.specs.Calls.Relinquish.{given_up, relinquish_tests}
 use Rattle.rules.specs.Calls.Retrieve.{asked, granted, request_tests, retrieve_tests}
 use Rattle.rules.specs.Receivers.{received_with}
-use Rattle.spm.specs.declared.calls.retrieve.Caller.{Caller}
+use Rattle.spm.specs.declared.call.Caller.{Caller}
 
 -- the tests pass, and this is what the descriptor says, the home of its pages, and how many of the caller's sends were accepted
 pub record IsChecked (s : State) (c : CallWords) (kind : Kind) (t : Transfer) (desc : descriptor.Send) (home : Access) (sends : ℕ) : Type 0 where

@@ -1,13 +1,23 @@
 //! What a call changes that has passed its tests.
 
-ghost use Rattle.std.specs.Prelude.{◌≡◌, None};
-ghost use Rattle.spm.specs.Granted.{replied};
+ghost use Rattle.std.specs.Prelude.{◌≡◌, true, None, IfOk};
+ghost use Rattle.base.specs.Pages.{are_disjoint};
+ghost use Rattle.spm.specs.Granted.{IsOrderly, IsSameEdit, replied};
 
-use base::{Access, Handle, OutOfMemory, PartitionId, Run, Status};
+use base::{Access, Handle, OutOfMemory, PartitionId, Run, Status, normal};
 use ledger::Live;
 use mailbox::Pair;
+use std::alloc::Global;
 use std::marker::Model;
 use wire::Reply;
+
+/// What a partition is to reach of pages: this access, or nothing. They may be cleared, while nobody reaches them.
+#[derive(Clone, Copy)]
+pub(crate) struct Reach {
+    pub(crate) who: PartitionId,
+    pub(crate) to: Option<Access>,
+    pub(crate) clears: bool,
+}
 
 /// What a partition reaches of these pages changes: to this access, or to nothing. The runs are maximal
 /// and stand upward. The pages may be cleared, while nobody reaches them.
@@ -30,6 +40,34 @@ impl Model for Edit {
       to = e.to;
       clears = e.clears;
     } };
+}
+
+impl Edit {
+    /// The edit of a transaction's pages, in the memory of the spare runs.
+    #[inline(always)]
+    pub(crate) fn of(
+        alloc: Global,
+        spare: &mut Vec<Run>,
+        transaction: &Live,
+        reach: Reach,
+    ) -> Result<Self, OutOfMemory>
+        requires apart { are_disjoint transaction.now.ranges ≡ true }
+        ensures same { IfOk result (IsSameEdit (record {
+          who = reach.who;
+          runs = transaction.now.ranges;
+          to = reach.to;
+          clears = reach.clears;
+        })) }
+        ensures orderly { IfOk result (IsOrderly reach.who) }
+    {
+        let Reach { who, to, clears } = reach;
+        Ok(Edit {
+            who,
+            runs: normal(alloc, spare, &transaction.terms.ranges)?,
+            to,
+            clears,
+        })
+    }
 }
 
 /// A change of the state, made by the calling partition.

@@ -65,39 +65,16 @@ pub(crate) fn commit<M: TableMem + Drop>(
         answer,
     } = change;
     match edit {
-        Some(edit) => edit_and_apply(state, tables, spare, p, edit, update)?,
+        Some(edit) => {
+            let clears = clear_count(&edit);
+            tables.ready(edit.who, &Runs::of(&edit.runs), edit.to, clears)?;
+            apply(state, p, update)?;
+            edit_tables(tables, &edit);
+            *spare = edit.runs;
+        }
         None => apply(state, p, update)?,
     }
     Ok(answer.into_reply())
-}
-
-/// Edits the tables, and changes the state. The memory of the edit's runs is spare then.
-fn edit_and_apply<M: TableMem + Drop>(
-    state: &mut State,
-    tables: &mut Tables<M>,
-    spare: &mut Vec<Run>,
-    p: PartitionId,
-    edit: Edit,
-    update: Update,
-) -> Result<(), OutOfMemory>
-    requires layout { tables.old.layout ≡ layout_of state.old.manifest }
-    requires rows { AreRowsOfPartitions tables.old.layout.ids }
-    requires known { is_partition state.old.manifest p ≡ true }
-    requires can { CanUpdate state.old p update }
-    requires orderly { IsOrderly p edit }
-    requires fits { fits_in state.old.manifest tables.old (Some edit) ≡ true }
-    ensures state { OnOk result (state.new ≡ updated state.old p update) }
-    ensures layout { tables.new.layout ≡ tables.old.layout }
-    ensures edited { OnOk result (AreEditedBy (Some edit) tables.old tables.new) }
-    ensures shown { OnOk result (ShowsEdit (Some edit) tables.old tables.new) }
-    ensures err_state { OnErr result (state.new ≡ state.old) }
-    ensures err_pool { OnErr result (tables.new.pool ≡ tables.old.pool) }
-{
-    tables.ready(edit.who, &Runs::of(&edit.runs), edit.to, clear_count(&edit))?;
-    apply(state, p, update)?;
-    edit_tables(tables, &edit);
-    *spare = edit.runs;
-    Ok(())
 }
 
 /// How many runs an edit clears.

@@ -57,10 +57,10 @@ fn may_be_buffers(state: &State, p: PartitionId, run: Run) -> bool
     requires { IsReached state.now }
     ensures { result ≡ rules.may_be_buffers state.now p run }
 {
-    let pair = state.pairs.pair_of(p);
+    let owner = state.owner(p);
     let mut number = run.first().number();
     while number < run.end() {
-        let segment = state.free_segment(p, &pair, Page::new(number), run.end());
+        let segment = state.free_segment(&owner, Page::new(number), run.end());
         if !is_read_write(segment.value) {
             return false;
         }

@@ -12,9 +12,9 @@ ghost use Rattle.spm.specs.Granted.{IsGranted, IsStopped, AreSameEdits, AreOrder
 
 use crate::call::LentCall;
 use crate::calls::clearing::may_clear_returned;
-use crate::change::{Answer, Change, Edit, Stop, Update};
+use crate::change::{Answer, Change, Edit, Reach, Stop, Update};
 use crate::state::State;
-use base::{Handle, Kind, OutOfMemory, PartitionId, Run, Status, normal};
+use base::{Handle, Kind, OutOfMemory, PartitionId, Run, Status};
 use descr::{are_clear_flags, orders_clear};
 use ledger::Live;
 use std::alloc::Global;
@@ -112,13 +112,12 @@ fn returned_by(
     match transaction.terms.kind {
         Kind::Share => Ok(None),
         Kind::Lend | Kind::Donate => {
-            let runs = normal(alloc, spare, &transaction.terms.ranges)?;
-            Ok(Some(Edit {
+            let reach = Reach {
                 who: p,
-                runs,
                 to: Some(transaction.terms.home),
                 clears,
-            }))
+            };
+            Ok(Some(Edit::of(alloc, spare, transaction, reach)?))
         }
     }
 }

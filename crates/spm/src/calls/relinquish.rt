@@ -10,8 +10,8 @@ ghost use Rattle.spm.specs.Granted.{IsGranted, IsStopped};
 
 use crate::call::LentCall;
 use crate::calls::clearing::may_clear_lent;
-use crate::calls::receiver::{received_with, receiver_edit};
-use crate::change::{Answer, Change, Stop, Update};
+use crate::calls::receiver::received_with;
+use crate::change::{Answer, Change, Edit, Reach, Stop, Update};
 use crate::state::State;
 use base::{Handle, PartitionId, Run, Status};
 use descr::read_relinquish;
@@ -37,13 +37,17 @@ pub(crate) fn relinquish(
     ensures stopped { IfErr result (λ stop. IsStopped
         (rules.relinquish_rule state.now call.now) true stop) }
 {
-    let p = call.partition();
     match check(state, call) {
         Ok(given) => {
             let transaction = given.transaction;
-            match receiver_edit(state.alloc, spare, p, transaction, None, given.clears) {
+            let reach = Reach {
+                who: call.partition(),
+                to: None,
+                clears: given.clears,
+            };
+            match Edit::of(state.alloc, spare, transaction, reach) {
                 Ok(edit) => Ok(Change {
-                    edit,
+                    edit: Some(edit),
                     update: Update::Relinquish(transaction.handle),
                     answer: Answer::Success(0, 0),
                 }),

@@ -10,10 +10,10 @@ ghost use Rattle.rules.specs.Transfers.{caller_version};
 ghost use Rattle.spm.specs.Checked.{IsCaller, IsNamed, IsRetrieved};
 ghost use Rattle.spm.specs.Granted.{IsGranted, IsStopped, CanRetrieve, after_retrieval, replied};
 
-use crate::call::LentCall;
-use crate::calls::receiver::{received_with, receiver_edit};
+use crate::call::{Caller, LentCall};
+use crate::calls::receiver::received_with;
 use crate::calls::transfer::{are_lengths, names_tx};
-use crate::change::{Answer, Change, Stop, Update};
+use crate::change::{Answer, Change, Edit, Reach, Stop, Update};
 use crate::spare::Spare;
 use crate::state::State;
 use base::limits::PAGE_SIZE;
@@ -24,17 +24,8 @@ use base::{
 use descr::{Endpoint, RetrieveDesc, read_retrieve};
 use descw::{ResponseFields, write_response};
 use ledger::Live;
-use mailbox::Pair;
 use std::mem::replace;
 use wire::Transfer;
-
-/// The partition that asks, its version of FF-A, and its buffers: they are looked up once.
-#[derive(Clone, Copy)]
-pub(crate) struct Caller {
-    pub(crate) partition: PartitionId,
-    pub(crate) version: Version,
-    pub(crate) pair: Pair,
-}
 
 /// Who asks, what its request says, and the transaction that it names.
 #[derive(Clone, Copy)]
@@ -67,7 +58,7 @@ pub(crate) fn retrieve(
         (rules.retrieve_rule state.now call.now transfer) true stop) }
 {
     match check(state, call, transfer) {
-        Ok(granted) => match change(state, call, transfer, granted, spare) {
+        Ok(granted) => match change(state, call, granted, spare) {
             Ok(change) => Ok(change),
             Err(error) => Err(Stop::NoMemory(error)),
         },
@@ -332,35 +323,33 @@ fn respond(
 fn change(
     state: &State,
     call: &LentCall<'_>,
-    transfer: Transfer,
     granted: Retrieval<'_>,
     spare: &mut Spare,
 ) -> Result<Change, OutOfMemory>
     requires reached { IsReached state.now }
-    requires retrieved { IsRetrieved state.now call.now transfer
+    requires retrieved { (transfer : Transfer) × IsRetrieved state.now call.now transfer
         granted.transaction.now granted.access }
     requires version { granted.version ≡ caller_version state.now call.now }
-    ensures { IfOk result (λ change. IsGranted state.now call.now.caller
-        (rules.retrieve_rule state.now call.now transfer) true change) }
+    ensures { IfOk result (λ change. (transfer : Transfer) → IsRetrieved state.now call.now transfer
+        granted.entry.transaction.now granted.entry.access
+        → IsGranted state.now call.now.caller (rules.retrieve_rule state.now call.now transfer) true change) }
 {
-    let p = call.partition();
     let Retrieval {
         transaction,
         access,
         version,
     } = granted;
+    let p = call.partition();
     let room = replace(&mut spare.response, Vec::new(state.alloc));
     let answer = respond(room, version, p, transaction, access)?;
-    let edit = receiver_edit(
-        state.alloc,
-        &mut spare.runs,
-        p,
-        transaction,
-        Some(access),
-        false,
-    )?;
+    let reach = Reach {
+        who: p,
+        to: Some(access),
+        clears: false,
+    };
+    let edit = Edit::of(state.alloc, &mut spare.runs, transaction, reach)?;
     Ok(Change {
-        edit,
+        edit: Some(edit),
         update: Update::Retrieve(transaction.handle, access),
         answer,
     })

@@ -14,14 +14,14 @@ ghost use Rattle.spm.specs.Checked.{IsChecked};
 use crate::call::LentCall;
 use crate::calls::clearing::may_clear_sent;
 use crate::calls::transfer::{are_lengths, names_tx};
-use crate::change::{Answer, Change, Edit, Stop, Update};
+use crate::change::{Answer, Change, Edit, Reach, Stop, Update};
 use crate::partitions::PartitionState;
 use crate::state::State;
 use arrayvec::ArrayVec;
 use base::limits::{MOST_LIVE, MOST_RECEIVERS};
 use base::{
     Access, Handle, Kind, MemoryAttributes, OutOfMemory, PartitionId, Permissions, Rights, Run,
-    Status, normal,
+    Status,
 };
 use descr::{Endpoint, SendDesc, read_send};
 use ledger::{Live, Receiver, Terms};
@@ -52,7 +52,7 @@ pub(crate) fn send(
         (rules.send_rule state.now call.now kind transfer) true stop) }
 {
     match check(state, call, kind, transfer) {
-        Ok(checked) => match change(state, call, kind, transfer, &checked, spare) {
+        Ok(checked) => match change(state, call, kind, &checked, spare) {
             Ok(change) => Ok(change),
             Err(error) => Err(Stop::NoMemory(error)),
         },
@@ -78,8 +78,8 @@ fn check<'a>(
 {
     let p = call.partition();
     let row = state.row(p);
-    let own = state.pairs.pair_of(p);
-    let Some(pair) = own else {
+    let owner = state.owner(p);
+    let Some(pair) = owner.pair else {
         return Err(Status::InvalidParameters);
     };
     if !names_tx(transfer) || !are_lengths(transfer, pair, call) {
@@ -92,7 +92,7 @@ fn check<'a>(
     if !are_parties(state, p, &desc) || !suits(kind, &desc) {
         return Err(Status::InvalidParameters);
     }
-    let Some(home) = state.common_home(p, &own, &desc) else {
+    let Some(home) = state.common_home(&owner, &desc) else {
         return Err(Status::Denied);
     };
     if !are_capped(kind, home, &desc.receivers) || !may_clear_sent(desc.clears, home) {
@@ -243,27 +243,20 @@ fn change(
     state: &State,
     call: &LentCall<'_>,
     kind: Kind,
-    transfer: Transfer,
     checked: &Checked<'_>,
     spare: &mut Vec<Run>,
 ) -> Result<Change, OutOfMemory>
     requires reached { IsReached state.now }
-    requires checked { IsChecked state.now call.now kind transfer
+    requires checked { (transfer : Transfer) × IsChecked state.now call.now kind transfer
         checked.now.desc checked.now.home checked.now.sends }
-    ensures { IfOk result (λ change. IsGranted state.now call.now.caller
-        (rules.send_rule state.now call.now kind transfer) true change) }
+    ensures { IfOk result (λ change. (transfer : Transfer) → IsChecked state.now call.now kind transfer
+        checked.now.desc checked.now.home checked.now.sends
+        → IsGranted state.now call.now.caller (rules.send_rule state.now call.now kind transfer) true change) }
 {
     let p = call.partition();
     let transaction = transaction(state, p, kind, checked)?;
     let handle = transaction.handle;
-    let edit = sender_edit(
-        state.alloc,
-        spare,
-        kind,
-        p,
-        &transaction.terms.ranges,
-        checked.desc.clears,
-    )?;
+    let edit = sender_edit(state.alloc, spare, &transaction, checked.desc.clears)?;
     Ok(Change {
         edit,
         update: Update::Open(transaction),
@@ -334,27 +327,23 @@ fn receivers_of(
 fn sender_edit(
     alloc: Global,
     spare: &mut Vec<Run>,
-    kind: Kind,
-    p: PartitionId,
-    ranges: &[Run],
+    transaction: &Live,
     clears: bool,
 ) -> Result<Option<Edit>, OutOfMemory>
-    requires apart { are_disjoint ranges.now ≡ true }
-    requires at_most_512 { length ranges.now ≤ 512 }
-    ensures same { IfOk result (λ edit. AreSameEdits
-        (rules.sender_edit kind p ranges.now clears) edit) }
-    ensures orderly { IfOk result (λ edit. AreOrderly p edit) }
+    requires apart { are_disjoint transaction.now.ranges ≡ true }
+    ensures same { IfOk result (AreSameEdits (rules.sender_edit transaction.now.kind
+        transaction.now.sender transaction.now.ranges clears)) }
+    ensures orderly { IfOk result (AreOrderly transaction.now.sender) }
 {
-    match kind {
+    match transaction.terms.kind {
         Kind::Share => Ok(None),
         Kind::Lend | Kind::Donate => {
-            let runs = normal(alloc, spare, ranges)?;
-            Ok(Some(Edit {
-                who: p,
-                runs,
+            let reach = Reach {
+                who: transaction.terms.sender,
                 to: None,
                 clears,
-            }))
+            };
+            Ok(Some(Edit::of(alloc, spare, transaction, reach)?))
         }
     }
 }

@@ -1,10 +1,10 @@
-use Rattle.std.proofs.Common.{◌≡◌, Bool, List, refl, ap, subst, ◌∙◌}
+use Rattle.std.proofs.Common.{◌≡◌, Bool, ℕ, refl, ap, subst, ◌∙◌}
+use Rattle.base.specs.declared.transaction.Kind.{Kind}
 use Rattle.base.specs.Descriptors.Send as descriptor
 use Rattle.base.specs.Handles.{low_half, high_half}
-use Rattle.base.specs.Pages.{PageRun, are_disjoint}
+use Rattle.base.specs.Pages.{are_disjoint}
 use Rattle.base.specs.Transactions.{Live}
 use Rattle.rules.proofs.Calls.Send.{send_passes, sent_apart}
-use Rattle.ledger.specs.declared.live.Terms.{Terms}
 use Rattle.wire.specs.Replies.{success}
 use Rattle.rules.specs.Calls.Send.{opened, sender_edit as edit_of}
 use Rattle.spm.specs.Granted.{AreSameEdits, AreOrderly}
@@ -12,28 +12,35 @@ use Rattle.spm.specs.declared.calls.send.Checked.{Checked}
 use Rattle.spm.proofs.OpenLemmas.{send_granted}
 use Rattle.spm.proofs.calls.send.change.Goals as goal
 
-pub sender_edit-requires-clause-apart : goal.sender_edit-requires-clause-apart
-sender_edit-requires-clause-apart c =
+pub sender_edit-requires : goal.sender_edit-requires
+sender_edit-requires c =
     let s = c.args.state.now in
     let call = c.args.call.now in
-    ap are_disjoint (c.deref-2.ensures.value ∙ ap (λ (t : Terms). t.ranges.items) c.deref.ensures ∙ ap (λ (t : Live). t.ranges) (c.transaction-2.view_is ∙ c.in_ok-transaction.ensures.opened))
-    ∙ ap (λ (v : descriptor.Send). are_disjoint v.ranges) c.requires.checked.said
-    ∙ sent_apart s call c.args.kind c.args.transfer (send_passes s call c.args.kind c.args.transfer c.requires.checked.passed)
+    let passed = c.requires.checked in
+    record {
+      apart = ap (λ (t : Live). are_disjoint t.ranges) c.in_ok-transaction.ensures.opened
+          ∙ ap (λ (v : descriptor.Send). are_disjoint v.ranges) passed.1.said
+          ∙ sent_apart s call c.args.kind passed.0 (send_passes s call c.args.kind passed.0 passed.1.passed);
+    }
 
 pub returns : goal.returns
-returns c =
+returns c = λ transfer checked.
     let s = c.args.state.now in
     let call = c.args.call.now in
+    let kind = c.args.kind in
     let desc = c.args.checked.now.desc in
     let home = c.args.checked.now.home in
     let t = c.in_ok-transaction.transaction in
-    let opens : t ≡ opened s call.caller c.args.kind desc home = c.in_ok-transaction.ensures.opened ∙ ap (λ p. opened s p c.args.kind desc home) c.partition-p.ensures.same in
-    let ranges : c.deref-2.result.now ≡ t.ranges = c.deref-2.ensures.value ∙ ap (λ (u : Terms). u.ranges.items) c.deref.ensures ∙ ap (λ (u : Live). u.ranges) c.transaction-2.view_is in
+    let edit = c.in_ok-edit.edit in
+    let opens : t ≡ opened s call.caller kind desc home = c.in_ok-transaction.ensures.opened ∙ ap (λ p. opened s p kind desc home) c.partition-p.ensures.same in
+    let its_sender : t.sender ≡ call.caller = ap (λ (u : Live). u.sender) opens in
+    let its_kind : t.kind ≡ kind = ap (λ (u : Live). u.kind) opens in
     let clears = ap (λ (k : Checked). k.desc.clears) c.checked.view_is in
-    let same = subst (λ p. AreSameEdits (edit_of c.args.kind p c.deref-2.result.now desc.clears) c.in_ok-edit.edit) c.partition-p.ensures.same
-    (subst (λ (b : Bool). AreSameEdits (edit_of c.args.kind c.partition-p.result c.deref-2.result.now b) c.in_ok-edit.edit) clears c.in_ok-edit.ensures.same) in
-    let orderly = subst (λ p. AreOrderly p c.in_ok-edit.edit) c.partition-p.ensures.same c.in_ok-edit.ensures.orderly in
+    let same : AreSameEdits (edit_of kind call.caller t.ranges desc.clears) edit =
+    subst (λ (k : Kind). AreSameEdits (edit_of k call.caller t.ranges desc.clears) edit) its_kind
+    (subst (λ (p : ℕ). AreSameEdits (edit_of t.kind p t.ranges desc.clears) edit) its_sender
+    (subst (λ (b : Bool). AreSameEdits (edit_of t.kind t.sender t.ranges b) edit) clears c.in_ok-edit.ensures.same)) in
+    let orderly = subst (λ (p : ℕ). AreOrderly p edit) its_sender c.in_ok-edit.ensures.orderly in
     let handle = ap (λ (u : Live). u.handle) c.transaction-2.view_is in
     let reply : success c.low.result c.high.result ≡ success (low_half t.handle) (high_half t.handle) = rw (c.low.ensures, c.high.ensures, handle) refl in
-    send_granted s call c.args.kind c.args.transfer desc home c.args.checked.now.sends t c.in_ok-edit.edit _ c.requires.reached c.requires.checked opens
-    (subst (λ (rs : List PageRun). AreSameEdits (edit_of c.args.kind call.caller rs desc.clears) c.in_ok-edit.edit) ranges same) orderly reply
+    send_granted s call kind transfer desc home c.args.checked.now.sends t edit _ c.requires.reached checked opens same orderly reply

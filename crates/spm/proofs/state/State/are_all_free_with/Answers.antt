@@ -5,7 +5,7 @@ use Rattle.spm.proofs.state.State.are_all_free_with.Goals as goal
 
 pub returns-in-None-free_until : goal.returns-in-None-free_until
 returns-in-None-free_until c =
-    let f = is_free_with c.args.self.now c.args.p c.args.home in
+    let f = is_free_with c.args.self.now c.args.owner.now.partition c.args.home in
     let end = c.end-then-first-end in
     let known = c.loop-run.invariant in
     let passed : (n : ℕ) → c.in-Some.run'.first ≤ n → n < c.past-first.result → f n ≡ true = λ n from to. elim (c.past-first.ensures.known n from to) [ inl a ↦ known.first n a.0 a.1 | inr b ↦ known.last n b.0 b.1 ] in
@@ -14,7 +14,7 @@ returns-in-None-free_until c =
 
 pub loop-run-preserved-then-first-end : goal.loop-run-preserved-then-first-end
 loop-run-preserved-then-first-end c =
-    let f = is_free_with c.args.self.now c.args.p c.args.home in
+    let f = is_free_with c.args.self.now c.args.owner.now.partition c.args.home in
     let end = c.end-then-first-end in
     let known = c.loop-run.invariant in
     let passed : (n : ℕ) → c.in-Some.run'.first ≤ n → n < c.past-first.result → f n ≡ true = λ n from to. elim (c.past-first.ensures.known n from to) [ inl a ↦ known.first n a.0 a.1 | inr b ↦ known.last n b.0 b.1 ] in
@@ -27,7 +27,7 @@ loop-run-preserved-then-first-end c =
 
 pub loop-run-preserved : goal.loop-run-preserved
 loop-run-preserved c =
-    let f = is_free_with c.args.self.now c.args.p c.args.home in
+    let f = is_free_with c.args.self.now c.args.owner.now.partition c.args.home in
     let known = c.loop-run.invariant in
     let passed : (n : ℕ) → c.in-Some.run'.first ≤ n → n < c.past-first.result → f n ≡ true = λ n from to. elim (c.past-first.ensures.known n from to) [ inl a ↦ known.first n a.0 a.1 | inr b ↦ known.last n b.0 b.1 ] in
     let decided = each_page-known f c.in-Some.run' c.past-first.result c.end.result c.end.ensures.same c.past-first.ensures.behind c.past-first.ensures.inside passed in

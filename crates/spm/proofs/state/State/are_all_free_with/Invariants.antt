@@ -4,7 +4,7 @@ use Rattle.spm.proofs.state.State.are_all_free_with.Given as goal
 
 abbrev pub invariant-loop-run : goal.invariant-loop-run
 invariant-loop-run l = record {
-  rest : spec.each_page_in (spec.is_free_with l.self l.p l.home) l.run-iterator ≡ spec.each_page_in (spec.is_free_with l.self l.p l.home) l.desc.ranges;
-  first : (n : ℕ) → l.looks.first.first ≤ n → n < l.looks.first.end → spec.is_free_with l.self l.p l.home n ≡ true;
-  last : (n : ℕ) → l.looks.last.first ≤ n → n < l.looks.last.end → spec.is_free_with l.self l.p l.home n ≡ true;
+  rest : spec.each_page_in (spec.is_free_with l.self l.owner.partition l.home) l.run-iterator ≡ spec.each_page_in (spec.is_free_with l.self l.owner.partition l.home) l.desc.ranges;
+  first : (n : ℕ) → l.looks.first.first ≤ n → n < l.looks.first.end → spec.is_free_with l.self l.owner.partition l.home n ≡ true;
+  last : (n : ℕ) → l.looks.last.first ≤ n → n < l.looks.last.end → spec.is_free_with l.self l.owner.partition l.home n ≡ true;
 }

@@ -8,7 +8,7 @@ loop-known-init c = record { rest = refl; known = λ n from to. absurd (omega (a
 
 pub loop-known-preserved : goal.loop-known-preserved
 loop-known-preserved c =
-    let f = is_free_with c.args.self.now c.args.p c.args.home in
+    let f = is_free_with c.args.self.now c.args.owner.now.partition c.args.home in
     let found = c.known_from-found in
     let first : found.result.first ≡ c.loop-known.known.end = found.ensures.first ∙ c.new.ensures in
     record {
@@ -18,10 +18,10 @@ loop-known-preserved c =
 
 pub returns-then-found-clause-none : goal.returns-then-found-clause-none
 returns-then-found-clause-none c =
-    let f = is_free_with c.args.self.now c.args.p c.args.home in
+    let f = is_free_with c.args.self.now c.args.owner.now.partition c.args.home in
     sym c.loop-known.invariant.rest ∙ each_page-fails f c.args.end c.loop-known.known.end c.loop-known-test.true (ap f (sym c.new.ensures) ∙ c.known_from-found.ensures.none c.if-found.true)
 
 pub returns-clause-some : goal.returns-clause-some
 returns-clause-some c =
-    let f = is_free_with c.args.self.now c.args.p c.args.home in
+    let f = is_free_with c.args.self.now c.args.owner.now.partition c.args.home in
     sym c.loop-known.invariant.rest ∙ each_page-done f c.args.end c.loop-known.known.end c.loop-known-test.false
