@@ -34,7 +34,7 @@ examples:
 
 # The program, the library and the tests that they look at are built first, over what was proved before.
 checks: run lib
-	cd crates/spans && rt test
+	cd crates/ledger_tests && rt test
 	cd crates/call_tests && rt test
 	checks/refusals.sh
 	checks/refused_calls.sh

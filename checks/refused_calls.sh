@@ -2,7 +2,7 @@
 # Refuses each allocation of tests of the gate in turn. Where a call of theirs is refused, those of maps compare all numbers,
 # the blocks and the spare ones with what was there, and that of a send three translations, what is live and what was
 # written; then they make the call again. Each must pass, or end for want of memory where the test itself finds none. To
-# be run after `rt test` in crates/spans and crates/call_tests.
+# be run after `rt test` in crates/ledger_tests and crates/call_tests.
 set -eu
 here=$(cd "$(dirname "$0")" && pwd)
 work=$(mktemp -d)
@@ -34,8 +34,8 @@ refuse() {
     echo "$2: $count allocations refused in turn, $ended of them ended the test"
 }
 
-refuse spans page_map::tests::runs_that_cross_blocks_are_put
-refuse spans page_map::tests::borders_of_blocks_part_nothing_that_came_back
-refuse spans page_map::tests::blocks_that_become_short_are_joined
+refuse ledger_tests page_map::runs_that_cross_blocks_are_put
+refuse ledger_tests page_map::borders_of_blocks_part_nothing_that_came_back
+refuse ledger_tests page_map::blocks_that_become_short_are_joined
 refuse call_tests manager::lends_after_a_refused_growth
 echo 'passed'

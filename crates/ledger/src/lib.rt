@@ -12,6 +12,3 @@ pub use donation::Donation;
 pub use free::{Owned, Standing};
 pub use ledger::Ledger;
 pub use live::{Live, Receiver, Terms};
-
-#[cfg(test)]
-mod tests;

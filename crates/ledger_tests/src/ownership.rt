@@ -2,9 +2,9 @@ ghost use Rattle.std.specs.Prelude.{◌≡◌, ◌<◌, ◌∷◌, [], ℕ, true
 ghost use Rattle.base.specs.Pages.{covers};
 ghost use Rattle.base.specs.Ledger.{live_at};
 
-use crate::{Donation, Ledger, Live, Receiver, Terms};
 use arrayvec::ArrayVec;
 use base::{Access, Handle, Kind, OutOfMemory, Page, PartitionId, Rights, Run};
+use ledger::{Donation, Ledger, Live, Receiver, Terms};
 use manifest::common_manifest;
 use std::alloc::Global;
 use std::process::Abort;

@@ -1,7 +1,7 @@
 ghost use Rattle.std.specs.Prelude.{◌≤◌, OnOk};
 
-use super::{Blocks, PageMap};
 use base::{OutOfMemory, Page, Run};
+use spans::PageMap;
 use std::alloc::Global;
 use std::process::Abort;
 use std::test::Fail;
@@ -116,7 +116,7 @@ impl Pair {
     /// Both say the same of all pages, no two intervals that touch have one number, and there is one spare block at most.
     /// It answers how many intervals there are.
     fn compare(&self, rt: &impl Abort) -> usize {
-        assert!(rt; self.map.blocks.spare.len() < 2);
+        assert!(rt; self.map.spare() < 2);
         let mut last = None;
         let mut end = 0;
         let mut count: usize = 0;
@@ -143,7 +143,7 @@ impl Pair {
 
     /// How many blocks there are, and how many are spare.
     fn capacity(&self) -> [usize; 2] {
-        [self.blocks(), self.map.blocks.spare.len()]
+        [self.blocks(), self.map.spare()]
     }
 }
 
@@ -310,7 +310,7 @@ fn blocks_that_become_short_are_joined(rt: HostRuntime) -> Result<(), Fail> {
     let runs = pair.shape(&rt, most, true)?;
     pair.put(&rt, &runs, 7)?;
     assert!(&rt; pair.blocks() < 9, "there are {} blocks", pair.blocks());
-    assert_eq!(&rt; pair.map.blocks.spare.len(), 1);
+    assert_eq!(&rt; pair.map.spare(), 1);
     pair.compare(&rt);
     Ok(())
 }
