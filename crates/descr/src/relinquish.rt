@@ -8,9 +8,6 @@ use crate::numbers::{u16_at, u32_at, u64_at};
 use base::{Handle, PartitionId};
 use std::marker::Model;
 
-#[cfg(test)]
-mod tests;
-
 /// What a relinquish says (FF-A 1.1, "Descriptor to relinquish a memory region").
 #[derive(Clone, Copy, Debug, PartialEq, Eq)]
 pub struct RelinquishDesc {

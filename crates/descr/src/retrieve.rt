@@ -11,9 +11,6 @@ use crate::numbers::{u16_at, u32_at, u64_at};
 use base::{Handle, Kind, MemoryAttributes, PartitionId, Version};
 use std::marker::Model;
 
-#[cfg(test)]
-mod tests;
-
 /// What a retrieve request says (FF-A 1.1 and 1.0, "FFA_MEM_RETRIEVE_REQ").
 #[derive(Clone, Copy, Debug, PartialEq, Eq)]
 pub struct RetrieveDesc {

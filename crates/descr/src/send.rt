@@ -15,9 +15,6 @@ use arrayvec::ArrayVec;
 use base::{MemoryAttributes, PartitionId, Version};
 use std::marker::Model;
 
-#[cfg(test)]
-mod tests;
-
 /// What a send says (FF-A 1.1 and 1.0, "Memory transaction descriptor"). Its ranges stay in the
 /// borrowed bytes.
 #[derive(Drop)]

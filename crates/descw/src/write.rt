@@ -16,9 +16,6 @@ use crate::text::{
 use base::{MemoryAttributes, OutOfMemory, Version};
 use std::alloc::Global;
 
-#[cfg(test)]
-mod tests;
-
 /// The size of a relinquish of one endpoint, in bytes.
 const RELINQUISH_SIZE: usize = 18;
 

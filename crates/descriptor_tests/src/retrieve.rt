@@ -1,6 +1,5 @@
-use super::{RetrieveDesc, read_retrieve};
-use crate::access::Endpoint;
 use base::{Handle, Kind, MemoryAttributes, PartitionId, Permissions, Version};
+use descr::{Endpoint, RetrieveDesc, read_retrieve};
 use std::process::Abort;
 
 /// 0x8002 asks for what 0x8001 lent under handle 0x0807060504030201, read-write, in the layout of

@@ -1,4 +1,4 @@
-use super::read_relinquish;
+use descr::read_relinquish;
 
 /// 0x8002 gives up handle 0x0807060504030201; two bytes stand behind the descriptor.
 const RELINQUISH: [u8; 20] = [

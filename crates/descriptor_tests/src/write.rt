@@ -1,10 +1,10 @@
-use super::{write_relinquish, write_response, write_retrieve, write_send};
-use crate::fields::{
-    HeaderFields, RangeFields, RelinquishFields, ResponseFields, RetrieveFields, SendFields,
-};
 use base::{Handle, Kind, MemoryAttributes, Page, PartitionId, Permissions, Run, Version};
 use descr::{
     Endpoint, RelinquishDesc, RetrieveDesc, SendDesc, read_relinquish, read_retrieve, read_send,
+};
+use descw::{
+    HeaderFields, RangeFields, RelinquishFields, ResponseFields, RetrieveFields, SendFields,
+    write_relinquish, write_response, write_retrieve, write_send,
 };
 use std::process::Abort;
 

@@ -1,6 +1,5 @@
-use super::{SendDesc, read_send};
-use crate::access::Endpoint;
 use base::{MemoryAttributes, PartitionId, Permissions, Version};
+use descr::{Endpoint, SendDesc, read_send};
 use std::process::Abort;
 
 /// 0x8001 lends page 0x80001 to 0x8002, read-write, in the layout of FF-A 1.1.
