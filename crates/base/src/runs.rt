@@ -9,9 +9,6 @@ use std::alloc::Global;
 use std::marker::Model;
 use std::mem::replace;
 
-#[cfg(test)]
-mod tests;
-
 /// Runs that are maximal, in ascending order: a page lies between any two of them.
 #[derive(Drop)]
 pub struct Runs<'a>(&'a [Run]);

@@ -1,5 +1,4 @@
-use super::*;
-use crate::Page;
+use base::{Page, Run, normal};
 use std::test::Fail;
 
 #[test]
