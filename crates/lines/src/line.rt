@@ -13,9 +13,6 @@ use hex::FromHexError;
 use std::alloc::Global;
 use std::str;
 
-#[cfg(test)]
-mod tests;
-
 /// The most bytes of a line, its line feed apart.
 const MOST_BYTES: usize = 66_000;
 

@@ -1,9 +1,8 @@
-use super::{Line, read_line};
-use crate::send::{ReclaimLine, SendLine};
 use arrayvec::ArrayVec;
 use base::{Handle, Kind, OutOfMemory, PartitionId, Permissions};
 use descr::Endpoint;
 use descw::{RangeFields, RelinquishFields};
+use lines::{Line, ReclaimLine, SendLine, read_line};
 use std::alloc::Global;
 use std::process::Abort;
 use std::test::Fail;
