@@ -8,9 +8,6 @@ use base::OutOfMemory;
 use std::alloc::Global;
 use std::marker::Model;
 
-#[cfg(test)]
-mod tests;
-
 /// A mark, or none, for each number below a count of at most 2^27.
 ///
 /// The words are a tree (`tree.rt`), levels of words that tell where others are not 0, and then from the bit

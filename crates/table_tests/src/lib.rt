@@ -1,5 +1,5 @@
-//! Tests of the translation tables, through the public functions of `stage2`, and of their memory. They stand apart
-//! from it, since a crate is proved once more with its tests.
+//! Tests of the translation tables, through the public functions of `stage2`, of their memory, and of the marks of its
+//! pages. They stand apart from what they test, since a crate is proved once more with its tests.
 #![tactic(auto)]
 
 #[cfg(test)]
@@ -10,6 +10,8 @@ mod gaps;
 mod lone_page;
 #[cfg(test)]
 mod memory;
+#[cfg(test)]
+mod numbers;
 #[cfg(test)]
 mod passed_on;
 #[cfg(test)]

@@ -1,6 +1,6 @@
 ghost use Rattle.std.specs.Prelude.{◌≡◌, length};
 
-use crate::Marks;
+use marks::Marks;
 use std::process::Abort;
 use std::test::Fail;
 

@@ -1,6 +1,6 @@
 -- there are as many numbers as at first
 use Rattle.std.proofs.Common.{◌≡◌, length}
-use Rattle.marks.proofs.marks.tests.the_lowest_number_is_taken.Given as goal
+use Rattle.table_tests.proofs.numbers.the_lowest_number_is_taken.Given as goal
 
 abbrev pub invariant-loop-n : goal.invariant-loop-n
 invariant-loop-n g l = length l.marks ≡ 1043
