@@ -13,9 +13,6 @@ use base::{Page, PartitionId, Status};
 use manifest::{Manifest, Partition};
 use std::marker::Model;
 
-#[cfg(test)]
-mod tests;
-
 /// A partition, and its pair where one is registered.
 #[derive(Clone, Copy, Debug, PartialEq, Eq)]
 struct Mailbox {

@@ -1,6 +1,5 @@
-use super::Pairs;
-use crate::Pair;
 use base::{OutOfMemory, Page, PartitionId, Run, Status};
+use mailbox::{Pair, Pairs};
 use manifest::common_manifest;
 use std::alloc::Global;
 use std::test::Fail;
