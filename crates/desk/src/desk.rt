@@ -20,9 +20,6 @@ use std::alloc::Global;
 use std::marker::{Model, PhantomData};
 use std::sync::{Mutex, Wait};
 
-#[cfg(test)]
-mod tests;
-
 /// What lies under the lock: the book, and the pass that knows all of its calls.
 #[derive(Drop)]
 struct Shelf<J: Naming> {

@@ -1,11 +1,7 @@
 ghost use Rattle.std.specs.Prelude.{◌≡◌, ◌<◌};
 
-use super::{Desk, Opened};
-use crate::book::Book;
-use crate::naming::Naming;
-use crate::receipt::Receipt;
-use crate::seat::Seat;
 use base::OutOfMemory;
+use desk::{Book, Desk, Naming, Opened, Receipt, Seat};
 use manifest::common_manifest;
 use pool::ListPool;
 use spm::{Call, Reply, run_calls};

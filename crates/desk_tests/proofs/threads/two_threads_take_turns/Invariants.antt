@@ -1,4 +1,4 @@
-use Rattle.desk.proofs.desk.tests.two_threads_take_turns.Given as goal
+use Rattle.desk_tests.proofs.threads.two_threads_take_turns.Given as goal
 
 -- the desk that was just opened
 abbrev pub ghosts-play_two : goal.ghosts-play_two

@@ -1,4 +1,4 @@
-use Rattle.desk.proofs.desk.tests.eight_threads_share_a_desk.Given as goal
+use Rattle.desk_tests.proofs.threads.eight_threads_share_a_desk.Given as goal
 
 -- the desk that was just opened
 abbrev pub ghosts-play_eight : goal.ghosts-play_eight
