@@ -42,15 +42,6 @@ sets_of-write words page first n word step index next is there differs =
     let test : (slice_index (words_set words page first n word step) (512 * page + index) == next) ≡ false = grind (arith, nat_tests, differs) in
     rw (add-one, is, there, test) refl
 
--- or which is there
-pub sets_of-pass : (words : List ℕ) (page first n word step index next : ℕ) → first + n ≡ index → word + step * n ≡ next
-    → slice_index (words_set words page first n word step) (512 * page + index) ≡ next
-    → sets_of words page first (n + 1) word step ≡ sets_of words page first n word step
-unfolding sets_of
-sets_of-pass words page first n word step index next is there same =
-    let test : (slice_index (words_set words page first n word step) (512 * page + index) == next) ≡ true = grind (arith, nat_tests, same) in
-    rw (add-one, is, there, test) refl
-
 -- how many operations were made after some more
 pub counted-length : (ops : List Op) (n : ℕ) → counted ops (n % 2 ^ 64) ≡ (n + length ops) % 2 ^ 64
 counted-length [] n = omega arith

@@ -1,7 +1,7 @@
 //! Words that are replaced, one after another: what stands there is broken first.
 
-ghost use Rattle.std.specs.Prelude.{◌≡◌, ◌+◌, ◌-◌, ◌*◌, ◌^◌, ◌<◌, ◌≤◌, ◌++◌, ◌∷◌, [], ◌≢◌};
-ghost use Rattle.pool.specs.Pool.{words_of, nonzero_in, after_break, after_make};
+ghost use Rattle.std.specs.Prelude.{◌≡◌, ◌+◌, ◌-◌, ◌*◌, ◌^◌, ◌<◌, ◌≤◌, ◌++◌, ◌∷◌, []};
+ghost use Rattle.pool.specs.Pool.{words_of, after_break, after_make};
 ghost use Rattle.pool.specs.Writing.{IsHeld, MayWrite, HasRoom, Grows, IsReady, Wrote, log_of, block_from, replaces};
 ghost use Rattle.pool.specs.declared.operation.Op.TheVariants.{Invalidate};
 
@@ -36,37 +36,8 @@ fn push_invalidate(operations: &mut Vec<Op>, who: PartitionId, run: Run)
     operations.push_reserved(Op::Invalidate { who, run });
 }
 
-/// Makes the first of these words 0, which is not, and invalidates what it stands for. It answers how many words of the
-/// page are not 0.
-#[inline(always)]
-fn break_one<S: WordStore>(
-    store: &mut S,
-    operations: &mut Vec<Op>,
-    nonzero: u32,
-    with: Replacement,
-) -> u32
-    requires index_in { with.range.first < 512 }
-    requires page_in { IsHeld (S.words store.old) (S.stands store.old) with.range.page }
-    requires pages_in { with.start + 512 ≤ 2 ^ 27 }
-    requires some { words_of (S.words store.old) with.range.page with.range.first ≢ 0 }
-    requires ready { IsReady (S.words store.old) with.range.page 2 (log_of operations.old nonzero) }
-    ensures wrote { Wrote (after_break with.who with.range.page with.range.first (block_from with.start))
-        with.range.page 2 (S.words store.old) (S.words store.new)
-        (log_of operations.old nonzero) (log_of operations.new result) }
-    ensures zero { words_of (S.words store.new) with.range.page with.range.first ≡ 0 }
-    ensures standing { S.stands store.new ≡ S.stands store.old }
-{
-    let zero = WordAt {
-        page: with.range.page,
-        index: with.range.first,
-        word: 0,
-    };
-    let nonzero = write_word(store, operations, nonzero, 1, zero);
-    push_invalidate(operations, with.who, Run::new(with.start, PAGES));
-    nonzero
-}
-
-/// The same, if the word is not 0.
+/// Makes the first of these words 0, if it is not, and invalidates what it stands for then. It answers how many words of
+/// the page are not 0.
 #[inline(always)]
 fn break_word<S: WordStore>(
     store: &mut S,
@@ -84,10 +55,18 @@ fn break_word<S: WordStore>(
     ensures zero { words_of (S.words store.new) with.range.page with.range.first ≡ 0 }
     ensures standing { S.stands store.new ≡ S.stands store.old }
 {
-    if store.standing_word(with.range.page, with.range.first) == 0 {
+    let before = store.standing_word(with.range.page, with.range.first);
+    if before == 0 {
         return nonzero;
     }
-    break_one(store, operations, nonzero, with)
+    let zero = WordAt {
+        page: with.range.page,
+        index: with.range.first,
+        word: 0,
+    };
+    let nonzero = write_word(store, operations, nonzero, before, zero);
+    push_invalidate(operations, with.who, Run::new(with.start, PAGES));
+    nonzero
 }
 
 /// Writes the first of these words where 0 stands, if it is not 0. It answers how many words of the page are not 0.
@@ -140,31 +119,6 @@ fn replace_one<S: WordStore>(
     make_word(store, operations, nonzero, range)
 }
 
-/// Replaces words of a page that has no 0 by zeros.
-fn break_all<S: WordStore>(store: &mut S, mut log: Log, with: Replacement) -> Log
-    requires may { MayWrite (S.words store.old) (S.stands store.old) with.range }
-    requires pages_in { with.start + 512 * (with.range.end - with.range.first) ≤ 2 ^ 27 }
-    requires all { nonzero_in (words_of (S.words store.old)) with.range.page ≡ 512 }
-    requires zero { with.range.word ≡ 0 }
-    requires same { with.range.step ≡ 0 }
-    requires ready { IsReady (S.words store.old) with.range.page (3 * (with.range.end - with.range.first)) log }
-    ensures wrote { Wrote (replaces with) with.range.page (3 * (with.range.end - with.range.first))
-        (S.words store.old) (S.words store.new) log result }
-    ensures standing { S.stands store.new ≡ S.stands store.old }
-{
-    let Replacement { who, range, start } = with;
-    for index in range.first..range.end {
-        let start = Page::new(start.number() + PAGES * (index - range.first));
-        let range = WordRange {
-            first: index,
-            ..range
-        };
-        let one = Replacement { who, range, start };
-        log.nonzero = break_one(store, &mut log.operations, log.nonzero, one);
-    }
-    log
-}
-
 /// Replaces words, each by what stands there and by what is to.
 fn replace_others<S: WordStore>(store: &mut S, mut log: Log, with: Replacement) -> Log
     requires may { MayWrite (S.words store.old) (S.stands store.old) with.range }
@@ -195,7 +149,7 @@ fn replace_others<S: WordStore>(store: &mut S, mut log: Log, with: Replacement) 
     log
 }
 
-/// Replaces words. Where all words of the page are 0, or none is, it is known which are broken.
+/// Replaces words. Where all words of the page are 0, none is broken.
 fn replace_all<S: WordStore>(store: &mut S, log: Log, with: Replacement) -> Log
     requires may { MayWrite (S.words store.old) (S.stands store.old) with.range }
     requires pages_in { with.start + 512 * (with.range.end - with.range.first) ≤ 2 ^ 27 }
@@ -206,9 +160,6 @@ fn replace_all<S: WordStore>(store: &mut S, log: Log, with: Replacement) -> Log
 {
     if log.nonzero == 0 && with.range.word > 0 {
         return write_words(store, log, with.range);
-    }
-    if log.nonzero == TABLE_WORDS && with.range.word == 0 && with.range.step == 0 {
-        return break_all(store, log, with);
     }
     replace_others(store, log, with)
 }
