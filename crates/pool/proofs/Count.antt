@@ -1,7 +1,6 @@
 -- How many of the first numbers pass a test.
-use Rattle.std.proofs.Common.{◌≡◌, ◌≢◌, ℕ, zero, suc, ◌+◌, ◌<◌, ◌≤◌, arith, Bool, true, false, cond, eqb, refl, inl, inr, add-one}
+use Rattle.std.proofs.Common.{◌≡◌, ◌≢◌, ℕ, zero, suc, ◌+◌, ◌<◌, ◌≤◌, arith, Bool, true, false, cond, refl, inl, inr, add-one}
 use Rattle.std.proofs.lemmas.Bool.{cases_eq, cases_Bool}
-use Rattle.std.proofs.lemmas.Bool.Decides.{nat_tests}
 use Rattle.base.specs.Counts.{count_below}
 
 -- tests that agree have the same count
@@ -94,15 +93,4 @@ count_below-witness a (suc n) some = elim (cases_Bool (a n)) [
       let fewer : 0 < 0 + count_below a n = (rw isnt at some) in
       let rest = count_below-witness a n (omega (arith, fewer)) in
       (rest.0, (let lt = rest.1 in omega (arith, lt)), rest.2)
-]
-
--- where all are counted, each passes
-pub count_below-full : (passes : ℕ → Bool) (n k : ℕ) → count_below passes n ≡ n → k < n → passes k ≡ true
-count_below-full passes n k full below = elim (cases_Bool (passes k)) [
-  | inl is ↦ is
-  | inr isnt ↦
-      let others : ℕ → Bool = λ j. cond (eqb j k) true (passes j) in
-      let more = count_below-one passes others n k below isnt (grind (arith, nat_tests)) (λ j lt differs. let test : eqb j k ≡ false = grind (arith, nat_tests, differs) in rw test refl) in
-      let most = count_below-le others n in
-      absurd (omega (arith, full, more, most))
 ]

@@ -7,7 +7,7 @@ use Rattle.std.proofs.lemmas.List.{length-set, length-replicate, get_or-set_same
 use Rattle.base.specs.Counts.{count_below}
 use Rattle.base.specs.Manifest.{page_count}
 use Rattle.pool.specs.Pool.{Words, words_of, put, nonzero_in, CountsNonzero}
-use Rattle.pool.proofs.Count.{count_below-same, count_below-one, count_below-some, count_below-none, count_below-le, count_below-full, count_below-witness}
+use Rattle.pool.proofs.Count.{count_below-same, count_below-one, count_below-some, count_below-none, count_below-le, count_below-witness}
 use Rattle.pool.proofs.Words.{put-same, put-other_index, words_of-set_at, words_of-zeros}
 
 -- a test that has another answer at one number
@@ -71,15 +71,6 @@ nonzero-zeros words page index none below = elim (cases_eq (words page index) 0)
   | inl is ↦ is
   | inr differs ↦ let some = nonzero-some words page index below differs in absurd (omega (arith, some, none))
 ]
-
--- where all are counted, none is 0
-pub nonzero-full : (words : Words) (page index : ℕ) → nonzero_in words page ≡ 512 → index < 512 → words page index ≢ 0
-unfolding nonzero_in
-nonzero-full words page index full below is =
-    let passes = count_below-full (λ i. not (words page i == 0)) 512 index full below in
-    let test : (words page index == 0) ≡ true = grind (arith, nat_tests, is) in
-    let bad : not true ≡ true = ap not (sym test) ∙ passes in
-    absurd (cc)
 
 -- where one is counted, it is there
 pub nonzero-word : (words : Words) (page : ℕ) → 0 < nonzero_in words page → (index : ℕ) × (index < 512) × (words page index ≢ 0)

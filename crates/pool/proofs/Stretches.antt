@@ -9,7 +9,7 @@ use Rattle.pool.specs.declared.operation.Op.{Op}
 use Rattle.pool.specs.declared.operation.Op.TheVariants.{Set}
 use Rattle.pool.proofs.Words.{words_of-set_at, put-same, put-other_index, put-other_page}
 use Rattle.pool.specs.Shown.{AllDiffer}
-use Rattle.pool.proofs.Nonzero.{word-read, nonzero-put, nonzero-zeros, nonzero-none}
+use Rattle.pool.proofs.Nonzero.{word-read, nonzero-put}
 
 -- their number stays
 pub length-words_set : (words : List ℕ) (page first n word step : ℕ) → length (words_set words page first n word step) ≡ length words
@@ -119,13 +119,6 @@ sets_of-join words page first a (suc b) n word step index next is there sum =
     here : ℕ → ℕ → List Op
     here i w = cond (slice_index (words_set words page first (a + b) word step) (512 * page + i) == w) [] (Set page i w ∷ [])
 
--- the operations of words that go on where others end, over those before
-pub sets_of-over : (words : List ℕ) (page first a b n word step index next : ℕ) (ops : List Op) → first + a ≡ index → word + step * a ≡ next → a + b ≡ n
-    → sets_of (words_set words page first a word step) page index b next step ++ (sets_of words page first a word step ++ ops) ≡ sets_of words page first n word step ++ ops
-sets_of-over words page first a b n word step index next ops is there sum =
-    sym (append_assoc (sets_of (words_set words page first a word step) page index b next step) (sets_of words page first a word step) ops)
-    ∙ ap (λ sets. sets ++ ops) (sets_of-join words page first a b n word step index next is there sum)
-
 -- ---- stretches whose words are all 0, or none of which is
 
 -- how many are not 0 then
@@ -163,29 +156,6 @@ nonzero-cleared words page first (suc n) room small others =
     let new : nonzero_in (words_of (slice_set set (512 * page + (first + n)) (0 + 0 * n))) page ≡ nonzero_in (put page (first + n) 0 (words_of set)) page =
     ap (λ w. nonzero_in (words_of (slice_set set (512 * page + (first + n)) w)) page) zero_next ∙ ap (λ w. nonzero_in w page) written in
     omega (arith, new, less, rest)
-
--- zeros that are to be 0 stay, and nothing is recorded
-pub zeros-stay : (words : List ℕ) (page first n : ℕ) → 512 * page + 512 ≤ length words → first + n ≤ 512 → ((x : ℕ) → x < n → words_of words page (first + x) ≡ 0)
-    → words_set words page first n 0 0 ≡ words
-unfolding words_set
-zeros-stay words page first zero room small zeros = refl
-zeros-stay words page first (suc n) room small zeros =
-    let same = zeros-stay words page first n room (omega (arith, small)) (λ x lt. zeros x (omega (arith, lt))) in
-    let zero_next : 0 + 0 * n ≡ 0 = omega arith in
-    let read : slice_index words (512 * page + (first + n)) ≡ 0 = word-read words page (first + n) (slice_index words (512 * page + (first + n))) (omega (arith, small)) refl ∙ zeros n (omega arith) in
-    rw (same, zero_next) (set-same words (512 * page + (first + n)) 0 (omega (arith, small, room)) read)
-
-pub zeros-make_none : (words : List ℕ) (page first n : ℕ) → 512 * page + 512 ≤ length words → first + n ≤ 512 → ((x : ℕ) → x < n → words_of words page (first + x) ≡ 0)
-    → sets_of words page first n 0 0 ≡ []
-unfolding sets_of
-zeros-make_none words page first zero room small zeros = refl
-zeros-make_none words page first (suc n) room small zeros =
-    let same = zeros-stay words page first n room (omega (arith, small)) (λ x lt. zeros x (omega (arith, lt))) in
-    let none = zeros-make_none words page first n room (omega (arith, small)) (λ x lt. zeros x (omega (arith, lt))) in
-    let zero_next : 0 + 0 * n ≡ 0 = omega arith in
-    let read : slice_index words (512 * page + (first + n)) ≡ 0 = word-read words page (first + n) (slice_index words (512 * page + (first + n))) (omega (arith, small)) refl ∙ zeros n (omega arith) in
-    let test : (slice_index words (512 * page + (first + n)) == 0) ≡ true = grind (arith, nat_tests, read) in
-    rw (same, zero_next, none, test) refl
 
 -- what is not there where a stretch begins is not there once the words before it are written
 pub differ-next : (words : List ℕ) (page first n m word step index next : ℕ) → 512 * page + 512 ≤ length words → first + m ≤ 512 → n < m → first + n ≡ index → word + step * n ≡ next → AllDiffer words page first m word step
@@ -248,40 +218,6 @@ nonzero-sets_of words page first (suc n) room small =
           let written = words_of-set_at set page (first + n) 0 (omega (arith, small)) inside in
           rw (test, written) (omega (arith, less, rest))
     ])
-
--- ---- a page whose words become 0
-
--- none that is not is left
-pub nonzero-emptied : (words : List ℕ) (page : ℕ) → 512 * page + 512 ≤ length words → nonzero_in (words_of (words_set words page 0 512 0 0)) page ≡ 0
-nonzero-emptied words page room =
-    nonzero-none (words_of (words_set words page 0 512 0 0)) page (λ i below.
-    let index : 0 + i ≡ i = omega arith in
-    let zero : 0 + 0 * i ≡ 0 = omega arith in
-    ap (words_of (words_set words page 0 512 0 0) page) (sym index) ∙ words_set-at words page 0 512 0 0 i room (omega arith) below ∙ zero)
-
--- while one is left, not all words were looked at, so 64 more are there
-pub emptied-part : (words new : List ℕ) (page n count : ℕ) → 512 * page + 512 ≤ length words → new ≡ words_set words page 0 n 0 0 → count ≡ nonzero_in (words_of new) page → 0 < count → n ≤ 512 → n % 64 ≡ 0
-    → n + 64 ≤ 512
-emptied-part words new page n count room written counted some small parts =
-    let left : n ≢ 512 = λ is.
-    let none = ap (λ w. nonzero_in (words_of w) page) (written ∙ ap (λ k. words_set words page 0 k 0 0) is) ∙ nonzero-emptied words page room in
-    absurd (omega (arith, some, counted, none)) in
-    omega (arith, left, small, parts)
-
--- once none is left, the words behind stay, and nothing more is recorded
-pub emptied-rest : (words : List ℕ) (page n : ℕ) → 512 * page + 512 ≤ length words → n ≤ 512 → nonzero_in (words_of (words_set words page 0 n 0 0)) page ≡ 0
-    → (words_set words page 0 n 0 0 ≡ words_set words page 0 512 0 0) × (sets_of words page 0 n 0 0 ≡ sets_of words page 0 512 0 0)
-emptied-rest words page n room small none =
-    let set = words_set words page 0 n 0 0 in
-    let whole : 512 * page + 512 ≤ length set = (let long = length-words_set words page 0 n 0 0 in omega (arith, long, room)) in
-    let zeros : (x : ℕ) → x < 512 - n → words_of set page (n + x) ≡ 0 = λ x lt. nonzero-zeros (words_of set) page (n + x) none (omega (arith, lt)) in
-    let more : n + (512 - n) ≡ 512 = omega (arith, small) in
-    let within : n + (512 - n) ≤ 512 = omega (arith, small) in
-    let index : 0 + n ≡ n = omega arith in
-    let next : 0 + 0 * n ≡ 0 = omega arith in (
-      sym (zeros-stay set page n (512 - n) whole within zeros) ∙ words_set-join words page 0 n (512 - n) 512 0 0 n 0 index next more,
-      ap (λ (ops : List Op). ops ++ sets_of words page 0 n 0 0) (sym (zeros-make_none set page n (512 - n) whole within zeros)) ∙ sets_of-join words page 0 n (512 - n) 512 0 0 n 0 index next more,
-    )
 
 -- the words of a part of a range are below what all of them are
 pub part-in_range : (first end word step at k next bound : ℕ) → word + step * (end - first) < bound → first ≤ at → at + k ≤ end → next ≡ word + step * (at - first) → next + step * k < bound

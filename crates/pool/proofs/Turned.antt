@@ -1,5 +1,5 @@
 -- Words that are turned: none is there, and the old ones are 0 exactly where the new ones are not.
-use Rattle.std.proofs.Common.{◌≡◌, ◌≢◌, ℕ, ◌+◌, ◌-◌, ◌*◌, ◌<◌, ◌≤◌, ◌==◌, not, true, false, arith, List, [], ◌∷◌, length, drop, get_or, slice_set, refl, sym, ap, ap₂, ◌∙◌, inl, inr}
+use Rattle.std.proofs.Common.{◌≡◌, ◌≢◌, ℕ, ◌+◌, ◌*◌, ◌<◌, ◌≤◌, ◌==◌, not, true, arith, List, [], ◌∷◌, length, drop, get_or, slice_set, refl, sym, ap, ap₂, ◌∙◌, inl, inr}
 use Rattle.std.proofs.lemmas.Bool.{cases_eq}
 use Rattle.std.proofs.lemmas.Bool.Decides.{nat_tests}
 use Rattle.std.proofs.lemmas.List.{at_drop_more, at_drop_all}
@@ -9,7 +9,7 @@ use Rattle.pool.specs.Shown.{AllDiffer}
 use Rattle.pool.specs.Writing.{IsTurned, Turns, TurnRuns, page_alone}
 use Rattle.pool.specs.declared.runs.TableWords.{TableWords}
 use Rattle.pool.specs.declared.word_range.WordRange.{WordRange}
-use Rattle.pool.proofs.Nonzero.{nonzero-zeros, nonzero-full}
+use Rattle.pool.proofs.Nonzero.{nonzero-zeros}
 use Rattle.pool.proofs.Stretches.{words_set-none, words_set-next, nonzero-filled, nonzero-cleared}
 
 -- ---- words from an index on, so many of them
@@ -54,25 +54,11 @@ module _ (old : List ℕ) (page first n word step : ℕ) (zeros : word ≡ 0 →
               omega (arith, filled, there, is, counted)
         ]
 
--- a page all of whose words are 0, and one that has no 0
-pub none-counted : (words : List ℕ) (page i : ℕ) → nonzero_in (words_of words) page ≡ 0 → i < 512 → (words_of words page i == 0) ≡ true
-none-counted words page i none small = let is = nonzero-zeros (words_of words) page i none small in grind (arith, nat_tests, is)
-
-pub all-counted : (words : List ℕ) (page i : ℕ) → nonzero_in (words_of words) page ≡ 512 → i < 512 → (words_of words page i == 0) ≡ false
-all-counted words page i all small = let is = nonzero-full (words_of words) page i all small in grind (arith, nat_tests, is)
-
--- words come in the place of zeros
-pub turns-zeros : (words : List ℕ) (range : WordRange) → 0 < range.word → ((x : ℕ) → x < range.end - range.first → (words_of words range.page (range.first + x) == 0) ≡ true) → Turns words range
-turns-zeros words range some zeros = record {
+-- words come in the place of zeros, where all of the page are 0
+pub turns-empty : (words : List ℕ) (range : WordRange) → 0 < range.word → range.end ≤ 512 → nonzero_in (words_of words) range.page ≡ 0 → Turns words range
+turns-empty words range some small none = record {
   zeros = λ zero. absurd (omega (arith, some, zero));
-  each = λ x lt. let test : not (range.word == 0) ≡ true = grind (arith, nat_tests, some) in zeros x lt ∙ sym test;
-}
-
--- and zeros in the place of others
-pub turns-others : (words : List ℕ) (range : WordRange) → range.word ≡ 0 → range.step ≡ 0 → ((x : ℕ) → x < range.end - range.first → (words_of words range.page (range.first + x) == 0) ≡ false) → Turns words range
-turns-others words range zero same others = record {
-  zeros = λ _. same;
-  each = λ x lt. let test : not (range.word == 0) ≡ false = grind (arith, nat_tests, zero) in others x lt ∙ sym test;
+  each = λ x lt. let is = nonzero-zeros (words_of words) range.page (range.first + x) none (omega (arith, small, lt)) in grind (arith, nat_tests, some, is);
 }
 
 -- ---- words that stand for pages

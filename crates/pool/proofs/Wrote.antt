@@ -1,5 +1,5 @@
 -- What is written of a page, step by step.
-use Rattle.std.proofs.Common.{◌≡◌, ◌≢◌, ℕ, ◌+◌, ◌-◌, ◌*◌, ◌%◌, ◌^◌, ◌<◌, ◌≤◌, ◌==◌, true, false, arith, List, [], ◌∷◌, ◌++◌, length, reverse, slice_index, slice_set, vec_len, vec_capacity, refl, sym, subst, ap, ap₂, ◌∙◌, inr, add-one}
+use Rattle.std.proofs.Common.{◌≡◌, ◌≢◌, ℕ, ◌+◌, ◌-◌, ◌*◌, ◌<◌, ◌≤◌, ◌==◌, true, false, arith, List, [], ◌∷◌, ◌++◌, length, reverse, slice_index, slice_set, vec_len, vec_capacity, refl, sym, subst, ap, ap₂, ◌∙◌, inr, add-one}
 use Rattle.std.proofs.lemmas.Bool.Decides.{nat_tests}
 use Rattle.std.proofs.lemmas.List.{length-set, reverse-append}
 use Rattle.base.specs.Pages.{PageRun, covers}
@@ -7,11 +7,10 @@ use Rattle.pool.specs.Pool.{Pool, words_of, words_set, sets_of, nonzero_in, coun
 use Rattle.pool.specs.Shown.{IsShown}
 use Rattle.pool.specs.Writing.{HasRoom, Grows, IsReady, Wrote, Records, TurnRuns, with_range, writes_of, range_set, runs_set, indexes_set}
 use Rattle.pool.specs.declared.log.Log.{Log}
-use Rattle.pool.specs.declared.operation.Op.{Op}
 use Rattle.pool.specs.declared.operation.Op.TheVariants.{Set, Invalidate}
 use Rattle.pool.specs.declared.runs.TableWords.{TableWords}
 use Rattle.pool.specs.declared.word_range.WordRange.{WordRange}
-use Rattle.pool.proofs.Stretches.{words_set-beside, words_set-join, sets_of-join, sets_of-over, set-same, vec_len-made, length-words_set, zeros-stay, zeros-make_none, emptied-rest}
+use Rattle.pool.proofs.Stretches.{words_set-beside, set-same, vec_len-made, length-words_set}
 use Rattle.pool.proofs.RunWords.{after_runs-none, after_runs-next, after_runs-append, words_in-append}
 use Rattle.pool.proofs.Gaps.{gap-one, gap-words, covers-append, or-right}
 
@@ -121,33 +120,6 @@ sets-pass page first n word step index next pool is there inside same =
     let long = length-words_set pool.memory.words page first n word step in
     let stays : slice_set set (512 * page + index) next ≡ set = set-same set (512 * page + index) next (omega (arith, long, inside)) same in
     rw (add-one, is, there, test, stays) refl
-
-counted-append : (a b : List Op) (n : ℕ) → counted (a ++ b) n ≡ counted a (counted b n)
-counted-append [] b n = refl
-counted-append (op ∷ a) b n = ap (λ (k : ℕ). (k + 1) % 2 ^ 64) (counted-append a b n)
-
--- words that go on where others end
-pub sets-join : (page first a b n word step index next : ℕ) (pool : Pool) → first + a ≡ index → word + step * a ≡ next → a + b ≡ n
-    → after_sets page index b next step (after_sets page first a word step pool) ≡ after_sets page first n word step pool
-sets-join page first a b n word step index next pool is there sum =
-    let words = pool.memory.words in
-    let join = words_set-join words page first a b n word step index next is there sum in
-    let over = sets_of-over words page first a b n word step index next pool.operations is there sum in
-    let made = sym (counted-append (sets_of (words_set words page first a word step) page index b next step) (sets_of words page first a word step) pool.made) ∙ ap (λ ops. counted ops pool.made) (sets_of-join words page first a b n word step index next is there sum) in
-    rw (join, over, made) refl
-
--- where all are 0, none is written to make them so
-pub sets-stay : (page first n word step : ℕ) (pool : Pool) → word ≡ 0 → step ≡ 0 → 512 * page + 512 ≤ length pool.memory.words → first + n ≤ 512 → ((x : ℕ) → x < n → words_of pool.memory.words page (first + x) ≡ 0)
-    → after_sets page first n word step pool ≡ pool
-sets-stay page first n word step pool none same room small zeros =
-    rw (none, same, zeros-stay pool.memory.words page first n room small zeros, zeros-make_none pool.memory.words page first n room small zeros) refl
-
--- nor those behind, once none of the page is left that is not
-pub sets-rest : (page n : ℕ) (pool : Pool) → 512 * page + 512 ≤ length pool.memory.words → n ≤ 512 → nonzero_in (words_of (words_set pool.memory.words page 0 n 0 0)) page ≡ 0
-    → after_sets page 0 n 0 0 pool ≡ after_sets page 0 512 0 0 pool
-sets-rest page n pool room small none =
-    let rest = emptied-rest pool.memory.words page n room small none in
-    rw (rest.0, rest.1) refl
 
 -- ---- words for the pages of runs
 

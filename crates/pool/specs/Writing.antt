@@ -83,10 +83,6 @@ pub record Turns (words : List ℕ) (range : WordRange) : Type 0 where
   pub each : (x : ℕ) → x < range.end - range.first
       → (words_of words range.page (range.first + x) == 0) ≡ not (range.word == 0)
 
--- all words of a page are 0
-abbrev pub zeros_of : ℕ → WordRange
-zeros_of page = record { page = page; first = 0; end = 512; word = 0; step = 0 }
-
 -- the words of a range may be written to a store: they are below 2^64, and their page stands in memory
 pub record MayWrite (words : List ℕ) (stands : ℕ → Bool) (range : WordRange) : Type 0 where
   pub ordered : range.first ≤ range.end

@@ -3,23 +3,15 @@
 ghost use Rattle.std.specs.Prelude.{◌≡◌, ℕ, List, ◌+◌, ◌-◌, ◌*◌, ◌^◌, ◌<◌, ◌≤◌, ◌++◌, ◌∷◌, [], ◌⊎◌, length, slice_set, if◌then◌else◌, ◌==◌};
 ghost use Rattle.pool.specs.Pool.{after_set};
 ghost use Rattle.pool.specs.declared.operation.Op.TheVariants.{Set};
-ghost use Rattle.pool.specs.Writing.{range_set, with_range, writes_of, zeros_of, log_of, NoneThere, Turns, IsHeld, MayWrite, MayWriteAt, Records, HasRoom, Grows, IsReady, Wrote};
+ghost use Rattle.pool.specs.Writing.{range_set, with_range, writes_of, log_of, NoneThere, Turns, IsHeld, MayWrite, MayWriteAt, Records, HasRoom, Grows, IsReady, Wrote};
 
 use crate::log::Log;
-use crate::looks::are_all;
 use crate::operation::Op;
 use crate::word_range::WordRange;
 use crate::word_store::WordStore;
-use base::limits::TABLE_WORDS;
-
-/// How many words are looked at, at most, before they are written: 512 bytes, which are close at hand then.
-const MOST: u32 = 64;
 
 /// No more words than these are written beside their operations.
 pub(crate) const SHORT: u32 = 16;
-
-/// Fewer words than these are written one by one: to look at them all before takes longer.
-const FEW: u32 = 4;
 
 /// A word that is to stand in a page.
 #[derive(Clone, Copy)]
@@ -187,95 +179,9 @@ pub(crate) fn write_others<S: WordStore>(store: &mut S, mut log: Log, range: Wor
     log
 }
 
-/// Writes 0 where another word is there. A part of a table that is emptied has mostly zeros alone, or none: its first
-/// word tells which it is looked at for. It is inlined where it is known that the word and the step are 0.
+/// Writes the words that are not there. Where all words of the page are 0 and these are not, none is looked at.
 #[inline(always)]
-fn clear_part<S: WordStore>(store: &mut S, log: Log, range: WordRange) -> Log
-    requires may { MayWrite (S.words store.old) (S.stands store.old) range }
-    requires some { range.first < range.end }
-    requires zero { range.word ≡ 0 }
-    requires same { range.step ≡ 0 }
-    requires ready { IsReady (S.words store.old) range.page (length (writes_of (S.words store.old) range)) log }
-    ensures wrote { Wrote (range_set range) range.page (range.end - range.first)
-        (S.words store.old) (S.words store.new) log result }
-    ensures standing { S.stands store.new ≡ S.stands store.old }
-{
-    let WordRange {
-        page,
-        first,
-        end,
-        ..
-    } = range;
-    if store.standing_word(page, first) == 0 {
-        if are_all(store, page, first, end, true) {
-            return log;
-        }
-    } else if end - first <= log.nonzero && are_all(store, page, first, end, false) {
-        return turn_all(store, log, range);
-    }
-    write_others(store, log, range)
-}
-
-/// Writes the words of a part that are not there. Where the count of the page lets all words of the part be 0, they are
-/// looked at together first: if they are, none is there.
-#[inline(always)]
-fn write_part<S: WordStore>(store: &mut S, log: Log, range: WordRange) -> Log
-    requires may { MayWrite (S.words store.old) (S.stands store.old) range }
-    requires some { range.first < range.end }
-    requires ready { IsReady (S.words store.old) range.page (range.end - range.first) log }
-    ensures wrote { Wrote (range_set range) range.page (range.end - range.first)
-        (S.words store.old) (S.words store.new) log result }
-    ensures standing { S.stands store.new ≡ S.stands store.old }
-{
-    let WordRange {
-        page,
-        first,
-        end,
-        ..
-    } = range;
-    let most = TABLE_WORDS - (end - first);
-    if range.word > 0 && log.nonzero <= most && are_all(store, page, first, end, true) {
-        return turn_all(store, log, range);
-    }
-    if range.word == 0 && range.step == 0 {
-        return clear_part(store, log, range.zeros());
-    }
-    write_others(store, log, range)
-}
-
-/// Writes many words, part by part.
-fn write_parts<S: WordStore>(store: &mut S, mut log: Log, range: WordRange) -> Log
-    requires may { MayWrite (S.words store.old) (S.stands store.old) range }
-    requires ready { IsReady (S.words store.old) range.page (range.end - range.first) log }
-    ensures wrote { Wrote (range_set range) range.page (range.end - range.first)
-        (S.words store.old) (S.words store.new) log result }
-    ensures standing { S.stands store.new ≡ S.stands store.old }
-{
-    let WordRange {
-        mut first,
-        end,
-        mut word,
-        step,
-        ..
-    } = range;
-    while first < end {
-        let written = (end - first).min(MOST);
-        let part = WordRange {
-            first,
-            end: first + written,
-            word,
-            ..range
-        };
-        log = write_part(store, log, part);
-        first += written;
-        word += step * u64::from(written);
-    }
-    log
-}
-
-/// Writes many words. Where all words of the page are 0, or none is, their count tells which are not there, and none is
-/// looked at.
-fn write_many<S: WordStore>(store: &mut S, log: Log, range: WordRange) -> Log
+pub(crate) fn write_words<S: WordStore>(store: &mut S, log: Log, range: WordRange) -> Log
     requires may { MayWrite (S.words store.old) (S.stands store.old) range }
     requires ready { IsReady (S.words store.old) range.page (range.end - range.first) log }
     ensures wrote { Wrote (range_set range) range.page (range.end - range.first)
@@ -285,71 +191,5 @@ fn write_many<S: WordStore>(store: &mut S, log: Log, range: WordRange) -> Log
     if log.nonzero == 0 && range.word > 0 {
         return turn_all(store, log, range);
     }
-    if log.nonzero == TABLE_WORDS && range.word == 0 && range.step == 0 {
-        return turn_all(store, log, range.zeros());
-    }
-    write_parts(store, log, range)
-}
-
-/// Writes words that are not there. Few are written here, without a call.
-#[inline(always)]
-pub(crate) fn write_words<S: WordStore>(store: &mut S, log: Log, range: WordRange) -> Log
-    requires may { MayWrite (S.words store.old) (S.stands store.old) range }
-    requires ready { IsReady (S.words store.old) range.page (range.end - range.first) log }
-    ensures wrote { Wrote (range_set range) range.page (range.end - range.first)
-        (S.words store.old) (S.words store.new) log result }
-    ensures standing { S.stands store.new ≡ S.stands store.old }
-{
-    let written = range.end - range.first;
-    if written < FEW {
-        return write_others(store, log, range);
-    }
-    if written <= MOST {
-        return write_part(store, log, range);
-    }
-    write_many(store, log, range)
-}
-
-/// Writes 0 into each word of a page that is not 0, part by part until none is left.
-fn clear_parts<S: WordStore>(store: &mut S, mut log: Log, page: u32) -> Log
-    requires page_in { IsHeld (S.words store.old) (S.stands store.old) page }
-    requires ready { IsReady (S.words store.old) page log.nonzero log }
-    ensures wrote { Wrote (range_set (zeros_of page)) page log.nonzero
-        (S.words store.old) (S.words store.new) log result }
-    ensures standing { S.stands store.new ≡ S.stands store.old }
-{
-    let mut first = 0;
-    while log.nonzero > 0 {
-        let part = WordRange {
-            page,
-            first,
-            end: first + MOST,
-            word: 0,
-            step: 0,
-        };
-        log = clear_part(store, log, part);
-        first += MOST;
-    }
-    log
-}
-
-/// Writes 0 into each word of a page that is not 0. Where none is 0, none is looked at.
-pub(crate) fn clear_page<S: WordStore>(store: &mut S, log: Log, page: u32) -> Log
-    requires page_in { IsHeld (S.words store.old) (S.stands store.old) page }
-    requires ready { IsReady (S.words store.old) page log.nonzero log }
-    ensures wrote { Wrote (range_set (zeros_of page)) page log.nonzero
-        (S.words store.old) (S.words store.new) log result }
-    ensures standing { S.stands store.new ≡ S.stands store.old }
-{
-    if log.nonzero == TABLE_WORDS {
-        let all = WordRange {
-            page,
-            first: 0,
-            end: TABLE_WORDS,
-            word: 0,
-            step: 0,
-        };
-        return turn_all(store, log, all);
-    }
-    clear_parts(store, log, page)
+    write_others(store, log, range)
 }

@@ -12,7 +12,7 @@ use crate::operation::Op;
 use crate::places::{quotas_of, share_starts, total};
 use crate::replace::{Replacement, replace_words};
 use crate::runs::{TableWords, set_runs, turn_gaps, turn_runs};
-use crate::stretch::{WordAt, clear_page, write_word};
+use crate::stretch::{WordAt, write_others, write_word};
 use crate::table_mem::TableMem;
 use crate::word_range::WordRange;
 use crate::word_store::WordStore;
@@ -187,10 +187,17 @@ impl<S: WordStore> TableMem for TablePool<S> {
     fn clear_words(&mut self, page: u32) {
         let count = self.nonzero[page as usize];
         let log = Log::take(&mut self.operations, count);
+        let zeros = WordRange {
+            page,
+            first: 0,
+            end: TABLE_WORDS,
+            word: 0,
+            step: 0,
+        };
         let Log {
             operations,
             nonzero,
-        } = clear_page(&mut self.store, log, page);
+        } = write_others(&mut self.store, log, zeros);
         self.operations = operations;
         self.nonzero[page as usize] = nonzero;
     }

@@ -1,19 +1,36 @@
 use Rattle.std.proofs.Common.{◌+◌, ◌≤◌, reverse, arith}
+use Rattle.std.proofs.lemmas.Grind.{common_steps}
 use Rattle.pool.proofs.RunWords.{keeps-sets}
+use Rattle.pool.proofs.Stretches.{nonzero-sets_of}
 use Rattle.pool.proofs.Within.{within-behind}
 use Rattle.pool.proofs.Written.{stays, state}
+use Rattle.pool.proofs.Wrote.{wrote-length}
 use Rattle.pool.proofs.table_pool.TablePoolTableMem.clear_words.Goals as goal
+
+pub write_others-operations-requires-clause-ready : goal.write_others-operations-requires-clause-ready
+write_others-operations-requires-clause-ready g c =
+    let old = c.args.self.now in
+    let sets = nonzero-sets_of (g.S.WordStore.words old.store) c.args.page 0 512 (omega (arith, old.words_whole, c.requires.page_in)) (omega arith) in
+    rw c.take-log.ensures record { counted = grind (arith, common_steps); room = omega (arith, sets, c.requires.ready) }
+
+pub returns-clause-room : goal.returns-clause-room
+returns-clause-room g c =
+    let old = c.args.self.now in
+    let sets = nonzero-sets_of (g.S.WordStore.words old.store) c.args.page 0 512 (omega (arith, old.words_whole, c.requires.page_in)) (omega arith) in
+    let wrote = rw c.take-log.ensures at c.write_others-operations.ensures.wrote in
+    let long = wrote-length (record { page = c.args.page; first = 0; end = 512; word = 0; step = 0 }) _ _ _ _ _ wrote in
+    omega (arith, long, sets, wrote.grows.capacity)
 
 pub invariant_of-self : goal.invariant_of-self
 invariant_of-self g c =
     let old = c.args.self.now in
     let page = c.args.page in
     let small : 0 + 512 ≤ 512 = omega arith in
-    stays old page c.requires.page_in (rw c.take-log.ensures at c.clear_page-operations.ensures.wrote) (λ a room. keeps-sets page 0 512 0 0 a small room) c.clear_page-operations.ensures.standing c.requires.taken (within-behind old.ids old.quotas.items (g.S.WordStore.words old.store) page 0 512 0 0 (reverse old.operations.items) c.requires.page_in small old.within)
+    stays old page c.requires.page_in (rw c.take-log.ensures at c.write_others-operations.ensures.wrote) (λ a room. keeps-sets page 0 512 0 0 a small room) c.write_others-operations.ensures.standing c.requires.taken (within-behind old.ids old.quotas.items (g.S.WordStore.words old.store) page 0 512 0 0 (reverse old.operations.items) c.requires.page_in small old.within)
 
 pub returns-clause-state : goal.returns-clause-state
 returns-clause-state g c =
     let old = c.args.self.now in
     let page = c.args.page in
     let small : 0 + 512 ≤ 512 = omega arith in
-    state old page c.requires.page_in (rw c.take-log.ensures at c.clear_page-operations.ensures.wrote) (λ a room. keeps-sets page 0 512 0 0 a small room)
+    state old page c.requires.page_in (rw c.take-log.ensures at c.write_others-operations.ensures.wrote) (λ a room. keeps-sets page 0 512 0 0 a small room)
