@@ -1,7 +1,7 @@
 //! Looks at words of a page that stands in memory. A loop over many of them has no end at the first that decides: so it
 //! becomes vector instructions.
 
-ghost use Rattle.std.specs.Prelude.{◌≡◌, ◌≢◌, ℕ, ◌+◌, ◌-◌, ◌*◌, ◌^◌, ◌<◌, ◌≤◌, ◌==◌, not, true, false};
+ghost use Rattle.std.specs.Prelude.{◌≡◌, ◌≢◌, ℕ, ◌+◌, ◌-◌, ◌*◌, ◌^◌, ◌<◌, ◌≤◌, true, false};
 ghost use Rattle.base.specs.Pages.{covers, in_run};
 ghost use Rattle.pool.specs.Pool.{words_of};
 ghost use Rattle.pool.specs.Writing.{IsHeld, MayWrite, AreThere, IsMissing, MayWriteRuns, AreGapsThere, IsGapMissing, HasZero};
@@ -12,19 +12,19 @@ use crate::word_store::WordStore;
 use base::Run;
 use base::limits::TABLE_WORDS;
 
-/// Whether the words of a page from one index up to another are all 0, or whether none is.
+/// Whether none of the words of a page from one index up to another is 0.
 #[inline(always)]
-pub(crate) fn are_all<S: WordStore>(store: &S, page: u32, first: u32, end: u32, zero: bool) -> bool
+fn are_nonzero<S: WordStore>(store: &S, page: u32, first: u32, end: u32) -> bool
     requires index_in { end ≤ 512 }
     requires page_in { IsHeld (S.words store.now) (S.stands store.now) page }
-    ensures yes { result ≡ true → (x : ℕ) → x < end - first
-        → (words_of (S.words store.now) page (first + x) == 0) ≡ zero }
-    ensures no { result ≡ false → (x : ℕ) × (x < end - first)
-        × ((words_of (S.words store.now) page (first + x) == 0) ≡ not zero) }
+    ensures yes { result ≡ true → (i : ℕ) → first ≤ i → i < end
+        → words_of (S.words store.now) page i ≢ 0 }
+    ensures no { result ≡ false → (i : ℕ) × (first ≤ i) × (i < end)
+        × (words_of (S.words store.now) page i ≡ 0) }
 {
     let mut are = true;
     for index in first..end {
-        are &= (store.standing_word(page, index) == 0) == zero;
+        are &= store.standing_word(page, index) != 0;
     }
     are
 }
@@ -64,7 +64,7 @@ fn is_filled<S: WordStore>(store: &S, page: u32, start: u32, run: Run) -> bool
     }
     let first = index_from(start, run.first().number());
     let end = index_from(start, run.end());
-    are_all(store, page, first, end, false)
+    are_nonzero(store, page, first, end)
 }
 
 /// Whether none of the words is 0 that stand for pages of runs.

@@ -1,4 +1,4 @@
-use Rattle.std.proofs.Common.{◌≡◌, ◌≢◌, ℕ, ◌+◌, ◌-◌, ◌<◌, ◌≤◌, true, arith, sym, ap, subst, ◌∙◌, inl, inr}
+use Rattle.std.proofs.Common.{◌≡◌, ℕ, ◌+◌, ◌<◌, ◌≤◌, true, arith, sym, ap, ◌∙◌, inl, inr}
 use Rattle.std.proofs.lemmas.Bool.Decides.{nat_tests}
 use Rattle.base.specs.Pages.{PageRun, in_run}
 use Rattle.pool.specs.Pool.{words_of}
@@ -31,9 +31,7 @@ returns-clause-yes g c = λ some i small within.
     let at = there c.args.run (c.args.start + i) within in
     let first : c.index_from-first.result ≤ i = omega (arith, at.0, c.index_from-first.ensures, c.number.ensures.same, c.first-2.ensures.same) in
     let end : i < c.index_from-end.result = omega (arith, at.1, small, c.index_from-end.ensures, c.end.ensures.same) in
-    let same : c.index_from-first.result + (i - c.index_from-first.result) ≡ i = omega (arith, first) in
-    let test = c.are_all.ensures.yes some (i - c.index_from-first.result) (omega (arith, first, end)) in
-    subst (λ k. words_of (g.S.WordStore.words c.args.store.now) c.args.page k ≢ 0) same (grind (arith, nat_tests, test))
+    c.are_nonzero.ensures.yes some i first end
 
 -- ---- one of them is 0
 
@@ -54,11 +52,11 @@ returns-then-count-eq1-clause-no g c = λ none.
 
 pub returns-clause-no : goal.returns-clause-no
 returns-clause-no g c = λ none.
-    let so = c.are_all.ensures.no none in
-    let lt = so.1 in
-    let i = c.index_from-first.result + so.0 in
+    let so = c.are_nonzero.ensures.no none in
+    let from = so.1 in
+    let lt = so.2 in
     let first = c.index_from-first.ensures in
     let end = c.index_from-end.ensures in
-    let low : c.args.run.first ≤ c.args.start + i = omega (arith, first, end, lt, c.number.ensures.same, c.first-2.ensures.same, c.end.ensures.same) in
-    let high : c.args.start + i < c.args.run.first + c.args.run.count = omega (arith, first, end, lt, c.number.ensures.same, c.first-2.ensures.same, c.end.ensures.same) in
-    (i, omega (arith, end, lt), here c.args.run (c.args.start + i) low high, (let test = so.2 in grind (arith, nat_tests, test)))
+    let low : c.args.run.first ≤ c.args.start + so.0 = omega (arith, first, end, from, lt, c.number.ensures.same, c.first-2.ensures.same, c.end.ensures.same) in
+    let high : c.args.start + so.0 < c.args.run.first + c.args.run.count = omega (arith, first, end, from, lt, c.number.ensures.same, c.first-2.ensures.same, c.end.ensures.same) in
+    (so.0, omega (arith, end, lt), here c.args.run (c.args.start + so.0) low high, so.3)
