@@ -1,8 +1,9 @@
 -- A page alone, whose word stands at an index.
 use Rattle.std.proofs.Common.{◌≡◌, ◌≢◌, ℕ, ◌+◌, ◌*◌, ◌<◌, ◌≤◌, ◌⊎◌, arith, [], ◌∷◌, length, slice_index, refl, sym, ap, ◌∙◌, inl, inr}
-use Rattle.pool.specs.Pool.{Pool, after_set, after_sets, words_set, index_from, words_in}
+use Rattle.pool.specs.Pool.{Pool, words_of, after_set, after_sets, words_set, index_from, words_in}
 use Rattle.pool.specs.Writing.{page_alone, runs_set}
 use Rattle.pool.specs.declared.runs.TableWords.{TableWords}
+use Rattle.pool.proofs.Nonzero.{word-read}
 use Rattle.pool.proofs.RunWords.{after_run-outside, page-alone, sets-none}
 use Rattle.pool.proofs.Stretches.{words_set-none}
 use Rattle.pool.proofs.Wrote.{sets-more, sets-pass, alone-run}
@@ -26,21 +27,24 @@ module _ (with : TableWords) (page index : ℕ) (small : index < 512) (is : with
   alone-sets : (pool : Pool) → runs_set with (page_alone page ∷ []) pool ≡ after_sets with.page index (0 + 1) (with.word + with.step * index) with.step pool
   alone-sets pool = alone-run with (page_alone page) pool ∙ page-alone with.page with.start with.word with.step page index (with.word + with.step * index) pool at end refl
 
-  read-none : (pool : Pool) → slice_index (words_set pool.memory.words with.page index 0 (with.word + with.step * index) with.step) (512 * with.page + index) ≡ slice_index pool.memory.words (512 * with.page + index)
-  read-none pool = ap (λ l. slice_index l (512 * with.page + index)) (words_set-none pool.memory.words with.page index (with.word + with.step * index) with.step)
+  -- the word that stands there
+  stands : (pool : Pool) → slice_index (words_set pool.memory.words with.page index 0 (with.word + with.step * index) with.step) (512 * with.page + index) ≡ words_of pool.memory.words with.page index
+  stands pool =
+      ap (λ l. slice_index l (512 * with.page + index)) (words_set-none pool.memory.words with.page index (with.word + with.step * index) with.step)
+      ∙ word-read pool.memory.words with.page index (slice_index pool.memory.words (512 * with.page + index)) small refl
 
   -- it is written
-  pub alone-set : (pool : Pool) → slice_index pool.memory.words (512 * with.page + index) ≢ with.word + with.step * index → runs_set with (page_alone page ∷ []) pool ≡ after_set with.page index (with.word + with.step * index) pool
+  pub alone-set : (pool : Pool) → words_of pool.memory.words with.page index ≢ with.word + with.step * index → runs_set with (page_alone page ∷ []) pool ≡ after_set with.page index (with.word + with.step * index) pool
   alone-set pool differs =
       let next = with.word + with.step * index in
       alone-sets pool
-      ∙ sets-more with.page index 0 next with.step index next pool (omega arith) (omega arith) (λ e. differs (sym (read-none pool) ∙ e))
+      ∙ sets-more with.page index 0 next with.step index next pool (omega arith) (omega arith) (λ e. differs (sym (stands pool) ∙ e))
       ∙ ap (λ p. after_set with.page index next p) (sets-none with.page index next with.step pool)
 
   -- or is there
-  pub alone-stays : (pool : Pool) → 512 * with.page + index < length pool.memory.words → slice_index pool.memory.words (512 * with.page + index) ≡ with.word + with.step * index → runs_set with (page_alone page ∷ []) pool ≡ pool
+  pub alone-stays : (pool : Pool) → 512 * with.page + index < length pool.memory.words → words_of pool.memory.words with.page index ≡ with.word + with.step * index → runs_set with (page_alone page ∷ []) pool ≡ pool
   alone-stays pool within there =
       let next = with.word + with.step * index in
       alone-sets pool
-      ∙ sets-pass with.page index 0 next with.step index next pool (omega arith) (omega arith) within (read-none pool ∙ there)
+      ∙ sets-pass with.page index 0 next with.step index next pool (omega arith) (omega arith) within (stands pool ∙ there)
       ∙ sets-none with.page index next with.step pool

@@ -1,5 +1,5 @@
 -- Words that are turned: none is there, and the old ones are 0 exactly where the new ones are not.
-use Rattle.std.proofs.Common.{◌≡◌, ◌≢◌, ℕ, ◌+◌, ◌*◌, ◌<◌, ◌≤◌, ◌==◌, not, true, arith, List, [], ◌∷◌, length, drop, get_or, slice_set, refl, sym, ap, ap₂, ◌∙◌, inl, inr}
+use Rattle.std.proofs.Common.{◌≡◌, ◌≢◌, ℕ, ◌+◌, ◌*◌, ◌<◌, ◌≤◌, ◌==◌, not, true, arith, List, [], ◌∷◌, length, drop, get_or, refl, sym, ap, ap₂, ◌∙◌, inl, inr}
 use Rattle.std.proofs.lemmas.Bool.{cases_eq}
 use Rattle.std.proofs.lemmas.Bool.Decides.{nat_tests}
 use Rattle.std.proofs.lemmas.List.{at_drop_more, at_drop_all}
@@ -10,7 +10,7 @@ use Rattle.pool.specs.Writing.{IsTurned, Turns, TurnRuns, page_alone}
 use Rattle.pool.specs.declared.runs.TableWords.{TableWords}
 use Rattle.pool.specs.declared.word_range.WordRange.{WordRange}
 use Rattle.pool.proofs.Nonzero.{nonzero-zeros}
-use Rattle.pool.proofs.Stretches.{words_set-none, words_set-next, nonzero-filled, nonzero-cleared}
+use Rattle.pool.proofs.Stretches.{nonzero-filled, nonzero-cleared}
 
 -- ---- words from an index on, so many of them
 
@@ -70,12 +70,6 @@ first-zero with i zeros zero = omega (arith, zero)
 pub zero-first : (with : TableWords) (i : ℕ) → (with.word ≡ 0 → with.step ≡ 0) → with.word ≡ 0 → with.word + with.step * i ≡ 0
 zero-first with i zeros zero = rw (zero, zeros zero) (omega arith)
 
-pub some-first : (with : TableWords) (i : ℕ) → (with.word ≡ 0 → with.step ≡ 0) → 0 < with.word + with.step * i → 0 < with.word
-some-first with i zeros above = elim (cases_eq with.word 0) [
-  | inl zero ↦ let all = zero-first with i zeros zero in absurd (omega (arith, above, all))
-  | inr some ↦ omega (arith, some)
-]
-
 same-test : (with : TableWords) (i : ℕ) → (with.word ≡ 0 → with.step ≡ 0) → (with.word + with.step * i == 0) ≡ (with.word == 0)
 same-test with i zeros = elim (cases_eq with.word 0) [
   | inl zero ↦ let all = zero-first with i zeros zero in grind (arith, nat_tests, zero, all)
@@ -92,13 +86,6 @@ turned-range old with first end zeros turned = record {
   zeros = λ zero. zeros (first-zero with first zeros zero);
   each = λ x lt. turned-word old with first (first + x) zeros (turned (first + x) (omega arith) (omega (arith, lt)));
 }
-
--- one word
-pub set-one : (words : List ℕ) (page index next step : ℕ) → slice_set words (512 * page + index) next ≡ words_set words page index 1 next step
-set-one words page index next step =
-    let here : index + 0 ≡ index = omega arith in
-    let this : next + step * 0 ≡ next = omega arith in
-    ap (λ l. slice_set l (512 * page + index) next) (sym (words_set-none words page index next step)) ∙ sym (words_set-next words page index 0 next step index next here this)
 
 -- ---- runs
 

@@ -1,18 +1,19 @@
 -- What is written of a page, step by step.
-use Rattle.std.proofs.Common.{◌≡◌, ◌≢◌, ℕ, ◌+◌, ◌-◌, ◌*◌, ◌<◌, ◌≤◌, ◌==◌, true, false, arith, List, [], ◌∷◌, ◌++◌, length, reverse, slice_index, slice_set, vec_len, vec_capacity, refl, sym, subst, ap, ap₂, ◌∙◌, inr, add-one}
+use Rattle.std.proofs.Common.{◌≡◌, ◌≢◌, ℕ, ◌+◌, ◌-◌, ◌*◌, ◌<◌, ◌≤◌, ◌==◌, Bool, true, false, arith, List, [], ◌∷◌, ◌++◌, length, reverse, slice_index, slice_set, vec_len, vec_capacity, refl, sym, subst, ap, ap₂, ◌∙◌, inr, add-one}
 use Rattle.std.proofs.lemmas.Bool.Decides.{nat_tests}
 use Rattle.std.proofs.lemmas.List.{length-set, reverse-append}
 use Rattle.base.specs.Pages.{PageRun, covers}
 use Rattle.pool.specs.Pool.{Pool, words_of, words_set, sets_of, nonzero_in, counted, after_set, after_sets, after_run, after_invalidate, index_from, words_in, gap}
 use Rattle.pool.specs.Shown.{IsShown}
-use Rattle.pool.specs.Writing.{HasRoom, Grows, IsReady, Wrote, Records, TurnRuns, with_range, writes_of, range_set, runs_set, indexes_set}
+use Rattle.pool.specs.Writing.{Grows, MayWrite, MayWriteRuns, Wrote, Records, TurnRuns, CanWriteRuns, CanWriteIndexes, with_range, writes_of, range_set, runs_set, indexes_set}
 use Rattle.pool.specs.declared.log.Log.{Log}
 use Rattle.pool.specs.declared.operation.Op.TheVariants.{Set, Invalidate}
 use Rattle.pool.specs.declared.runs.TableWords.{TableWords}
 use Rattle.pool.specs.declared.word_range.WordRange.{WordRange}
 use Rattle.pool.proofs.Stretches.{words_set-beside, set-same, vec_len-made, length-words_set}
-use Rattle.pool.proofs.RunWords.{after_runs-none, after_runs-next, after_runs-append, words_in-append}
-use Rattle.pool.proofs.Gaps.{gap-one, gap-words, covers-append, or-right}
+use Rattle.pool.proofs.RunWords.{words-in_range, after_runs-none, after_runs-next, after_runs-append, words_in-append}
+use Rattle.pool.proofs.Gaps.{gap-one, gap-words, gap-has, covers-append, or-right}
+use Rattle.pool.proofs.Turned.{run-at}
 
 -- ---- steps
 
@@ -140,6 +141,36 @@ wrote-gap with first end old new before after most wrote =
     let long = gap-words with.start first end most in
     wrote-as wrote (omega (arith, long)) (λ pool _. sym (gap-one with.page with.start with.word with.step first end pool most))
 
+-- words for the pages of a run, or of a gap, can be written from one index up to another
+pub can-run : {known : Bool} {words : List ℕ} {stands : ℕ → Bool} {with : TableWords} {log : Log} (run : PageRun) (first end : ℕ) → first ≡ index_from with.start run.first → end ≡ index_from with.start (run.first + run.count)
+    → CanWriteRuns known words stands with (run ∷ []) log → CanWriteIndexes known words stands with first end log
+can-run {with = with} run first end from to can = record {
+  may = can.may;
+  most = omega (arith, to);
+  zeros = λ is. (can.turned is).zeros;
+  each = λ is i low high. let within = run-at with.start i run (omega (arith, low, from)) (omega (arith, high, to)) in (can.turned is).each i (omega (arith, high, to)) (rw within refl);
+  ready = record { counted = can.ready.counted; room = omega (arith, from, to, can.ready.room) };
+}
+
+pub can-gap : {known : Bool} {words : List ℕ} {stands : ℕ → Bool} {with : TableWords} {log : Log} (first end : ℕ) → end ≤ 512 → CanWriteRuns known words stands with (gap with.start first end) log → CanWriteIndexes known words stands with first end log
+can-gap {with = with} first end most can = record {
+  may = can.may;
+  most = most;
+  zeros = λ is. (can.turned is).zeros;
+  each = λ is i low high. (can.turned is).each i (omega (arith, high, most)) (gap-has with.start first end i low high);
+  ready = record { counted = can.ready.counted; room = (let long = gap-words with.start first end most in omega (arith, long, can.ready.room)) };
+}
+
+-- they may be written then
+pub may-range : {words : List ℕ} {stands : ℕ → Bool} (with : TableWords) (first end : ℕ) → MayWriteRuns words stands with → first < end → end ≤ 512
+    → MayWrite words stands (record { page = with.page; first = first; end = end; word = with.word + with.step * first; step = with.step })
+may-range with first end may some most = record {
+  ordered = omega (arith, some);
+  index_in = most;
+  in_range = words-in_range with.word with.step first end may.in_range (omega (arith, some, most)) most;
+  page_in = may.page_in;
+}
+
 -- the words behind stay
 pub wrote-beside : (with : TableWords) (first end most i : ℕ) (old new : List ℕ) (before after : Log) → Wrote (indexes_set with first end) with.page most old new before after → 512 * with.page + 512 ≤ length old
     → first ≤ 512 → end ≤ 512 → first ≤ i → end ≤ i → words_of new with.page i ≡ words_of old with.page i
@@ -154,6 +185,23 @@ run-beside with run i old new before after wrote room behind =
     let end = index_from with.start (run.first + run.count) in
     let sets : Wrote (indexes_set with first end) with.page (words_in with.start (run ∷ [])) old new before after = wrote-as wrote (omega arith) (λ pool _. alone-run with run pool) in
     wrote-beside with first end (words_in with.start (run ∷ [])) i old new before after sets room (omega arith) (omega arith) (omega (arith, behind)) behind
+
+-- ---- words that are turned
+
+pub turned-part : (words : List ℕ) (with : TableWords) (part rest : List PageRun) → TurnRuns words with (part ++ rest) → TurnRuns words with part
+turned-part words with part rest all = record {
+  zeros = all.zeros;
+  each = λ i small within. all.each i small (covers-append with.start part rest (with.start + i) ∙ rw within refl);
+}
+
+pub turned-rest : (old new : List ℕ) (with : TableWords) (part rest : List PageRun) → TurnRuns old with (part ++ rest) → ((i : ℕ) → covers rest (with.start + i) ≡ true → words_of new with.page i ≡ words_of old with.page i) → TurnRuns new with rest
+turned-rest old new with part rest all stay = record {
+  zeros = all.zeros;
+  each = λ i small within.
+      ap (λ (n : ℕ). n == 0) (stay i within) ∙ all.each i small (covers-append with.start part rest (with.start + i) ∙ rw within (or-right with.start (covers part (with.start + i))));
+}
+
+-- ---- some of the runs
 
 -- Some of the runs are left: with the words for their pages it is done.
 pub record Left (with : TableWords) (all left : List PageRun) (old new : List ℕ) (before after : Log) : Type 0 where
@@ -173,11 +221,20 @@ left-all with all words log counted = record {
 }
 
 module _ {with : TableWords} {all left : List PageRun} {old mid : List ℕ} {before log : Log} (so : Left with all left old mid before log) where
-  -- there is room for the first of them
-  pub left-ready : (part rest : List PageRun) (more : ℕ) → left ≡ part ++ rest → more ≤ words_in with.start part → HasRoom before.operations (words_in with.start all) → IsReady mid with.page more log
-  left-ready part rest more parts few room =
+  -- the first of them can be written
+  pub left-can : {known : Bool} {stood stands : ℕ → Bool} (part rest : List PageRun) → left ≡ part ++ rest → CanWriteRuns known old stood with all before → stands ≡ stood → (known ≡ true → TurnRuns mid with left)
+      → CanWriteRuns known mid stands with part log
+  left-can part rest parts can standing turned =
       let sum = ap (words_in with.start) parts ∙ words_in-append with.start part rest in
-      record { counted = so.counted; room = omega (arith, so.len, so.capacity, sum, few, room) }
+      record {
+        may = record {
+          start_in = can.may.start_in;
+          in_range = can.may.in_range;
+          page_in = record { inside = omega (arith, so.whole, can.may.page_in.inside); standing = ap (λ (s : ℕ → Bool). s with.page) standing ∙ can.may.page_in.standing };
+        };
+        turned = λ is. turned-part mid with part rest (subst (λ (rs : List PageRun). TurnRuns mid with rs) parts (turned is));
+        ready = record { counted = so.counted; room = omega (arith, so.len, so.capacity, sum, can.ready.room) };
+      }
 
   -- which are written
   pub left-less : {new : List ℕ} {after : Log} (part rest : List PageRun) → left ≡ part ++ rest → Wrote (runs_set with part) with.page (words_in with.start part) mid new log after → Left with all rest old new before after
@@ -207,18 +264,3 @@ module _ {with : TableWords} {all left : List PageRun} {old mid : List ℕ} {bef
     counted = so.counted;
     grows = record { len = omega (arith, so.len); capacity = so.capacity };
   }
-
--- ---- words that are turned
-
-pub turned-part : (words : List ℕ) (with : TableWords) (part rest : List PageRun) → TurnRuns words with (part ++ rest) → TurnRuns words with part
-turned-part words with part rest all = record {
-  zeros = all.zeros;
-  each = λ i small within. all.each i small (covers-append with.start part rest (with.start + i) ∙ rw within refl);
-}
-
-pub turned-rest : (old new : List ℕ) (with : TableWords) (part rest : List PageRun) → TurnRuns old with (part ++ rest) → ((i : ℕ) → covers rest (with.start + i) ≡ true → words_of new with.page i ≡ words_of old with.page i) → TurnRuns new with rest
-turned-rest old new with part rest all stay = record {
-  zeros = all.zeros;
-  each = λ i small within.
-      ap (λ (n : ℕ). n == 0) (stay i within) ∙ all.each i small (covers-append with.start part rest (with.start + i) ∙ rw within (or-right with.start (covers part (with.start + i))));
-}

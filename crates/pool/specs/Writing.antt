@@ -143,11 +143,19 @@ pub record TurnRuns (words : List ℕ) (with : TableWords) (runs : List PageRun)
 abbrev pub TurnGaps : List ℕ → TableWords → List PageRun → Type 0
 TurnGaps words with runs = TurnRuns words with (gaps_of with.start runs)
 
--- words for the pages of runs can be turned: they may be written, none is there, and there is room for their operations
-pub record CanTurnRuns (words : List ℕ) (stands : ℕ → Bool) (with : TableWords) (runs : List PageRun) (log : Log) : Type 0 where
+-- words for the pages of runs can be written: it may be known that they are turned, and there is room for their operations
+pub record CanWriteRuns (known : Bool) (words : List ℕ) (stands : ℕ → Bool) (with : TableWords) (runs : List PageRun) (log : Log) : Type 0 where
   pub may : MayWriteRuns words stands with
-  pub turned : TurnRuns words with runs
+  pub turned : known ≡ true → TurnRuns words with runs
   pub ready : IsReady words with.page (words_in with.start runs) log
+
+-- and those from one index up to another
+pub record CanWriteIndexes (known : Bool) (words : List ℕ) (stands : ℕ → Bool) (with : TableWords) (first end : ℕ) (log : Log) : Type 0 where
+  pub may : MayWriteRuns words stands with
+  pub most : end ≤ 512
+  pub zeros : known ≡ true → with.word ≡ 0 → with.step ≡ 0
+  pub each : known ≡ true → (i : ℕ) → first ≤ i → i < end → IsTurned words with i
+  pub ready : IsReady words with.page (end - first) log
 
 -- what they make of a pool, for the pages of runs
 abbrev pub runs_set : TableWords → List PageRun → Pool → Pool

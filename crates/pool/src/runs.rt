@@ -1,13 +1,13 @@
 //! Words of a page that stand for the pages of runs.
 
-ghost use Rattle.std.specs.Prelude.{◌≡◌, ℕ, ◌+◌, ◌-◌, ◌*◌, ◌^◌, ◌<◌, ◌≤◌, ◌∷◌, [], ◌⊎◌, IfSome, true};
+ghost use Rattle.std.specs.Prelude.{◌≡◌, ◌==◌, not, ◌+◌, ◌-◌, ◌*◌, ◌^◌, ◌<◌, ◌≤◌, ◌∷◌, [], ◌⊎◌, IfSome, true};
 ghost use Rattle.base.specs.Pages.{are_normal};
-ghost use Rattle.pool.specs.Pool.{index_from, words_in, gaps_of};
-ghost use Rattle.pool.specs.Writing.{MayWriteRuns, IsTurned, CanTurnRuns, IsReady, Wrote, log_of, page_alone, runs_set, indexes_set};
+ghost use Rattle.pool.specs.Pool.{index_from, words_of, words_in, gaps_of};
+ghost use Rattle.pool.specs.Writing.{IsHeld, CanWriteRuns, CanWriteIndexes, Wrote, log_of, page_alone, runs_set, indexes_set};
 
 use crate::log::Log;
 use crate::operation::Op;
-use crate::stretch::{SHORT, WordAt, put_word, recounted_all, write_all, write_word, write_words};
+use crate::stretch::{SHORT, WordAt, turn_all, write_word, write_words};
 use crate::word_range::WordRange;
 use crate::word_store::WordStore;
 use base::limits::TABLE_WORDS;
@@ -113,155 +113,35 @@ fn indexes_of(start: u32, run: Run) -> Indexes
     }
 }
 
+/// The word in whose place one is to come. Where it is turned, it is not looked at: one is answered that is 0, or the new
+/// word, exactly where it is.
+#[inline(always)]
+fn word_before<S: WordStore, const TURNED: bool>(store: &S, at: WordAt) -> u64
+    requires index_in { at.index < 512 }
+    requires page_in { IsHeld (S.words store.now) (S.stands store.now) at.page }
+    requires turned { TURNED ≡ true
+        → (words_of (S.words store.now) at.page at.index == 0) ≡ not (at.word == 0) }
+    ensures zero { (result == 0) ≡ (words_of (S.words store.now) at.page at.index == 0) }
+    ensures there { (result == at.word) ≡ (words_of (S.words store.now) at.page at.index == at.word) }
+{
+    if TURNED {
+        u64::from(at.word == 0)
+    } else {
+        store.standing_word(at.page, at.index)
+    }
+}
+
 /// Writes the word for a page, if it is among them and not there, and records the write behind these
 /// operations. It answers how many words of the page of words are not 0.
 #[inline(always)]
-fn set_one<S: WordStore>(
+fn write_page<S: WordStore, const TURNED: bool>(
     store: &mut S,
     operations: &mut Vec<Op>,
     nonzero: u32,
     page: Page,
     with: TableWords,
 ) -> u32
-    requires may { MayWriteRuns (S.words store.old) (S.stands store.old) with }
-    requires ready { IsReady (S.words store.old) with.page (words_in with.start (page_alone page ∷ []))
-        (log_of operations.old nonzero) }
-    ensures wrote { Wrote (runs_set with (page_alone page ∷ [])) with.page (words_in with.start (page_alone page ∷ []))
-        (S.words store.old) (S.words store.new) (log_of operations.old nonzero) (log_of operations.new result) }
-    ensures standing { S.stands store.new ≡ S.stands store.old }
-{
-    let index = index_at(with.start, page);
-    if index >= TABLE_WORDS {
-        return nonzero;
-    }
-    let word = with.word + with.step * u64::from(index);
-    let before = store.standing_word(with.page, index);
-    if before == word {
-        return nonzero;
-    }
-    let at = WordAt {
-        page: with.page,
-        index,
-        word,
-    };
-    write_word(store, operations, nonzero, before, at)
-}
-
-/// Writes the words for the pages of a run that are not there.
-#[inline(always)]
-fn write_run<S: WordStore>(store: &mut S, mut log: Log, run: Run, with: TableWords) -> Log
-    requires may { MayWriteRuns (S.words store.old) (S.stands store.old) with }
-    requires ready { IsReady (S.words store.old) with.page (words_in with.start (run ∷ [])) log }
-    ensures wrote { Wrote (runs_set with (run ∷ [])) with.page (words_in with.start (run ∷ []))
-        (S.words store.old) (S.words store.new) log result }
-    ensures standing { S.stands store.new ≡ S.stands store.old }
-{
-    if run.count() == 1 {
-        log.nonzero = set_one(store, &mut log.operations, log.nonzero, run.first(), with);
-        return log;
-    }
-    let Indexes { first, end } = indexes_of(with.start, run);
-    write_words(store, log, with.range(first, end))
-}
-
-/// Writes the words for the pages of runs that are not there.
-#[inline(always)]
-fn write_runs<S: WordStore>(store: &mut S, mut log: Log, runs: &[Run], with: TableWords) -> Log
-    requires may { MayWriteRuns (S.words store.old) (S.stands store.old) with }
-    requires ready { IsReady (S.words store.old) with.page (words_in with.start runs.now) log }
-    ensures wrote { Wrote (runs_set with runs.now) with.page (words_in with.start runs.now)
-        (S.words store.old) (S.words store.new) log result }
-    ensures standing { S.stands store.new ≡ S.stands store.old }
-{
-    for run in runs {
-        log = write_run(store, log, *run, with);
-    }
-    log
-}
-
-/// Writes the words for the pages of runs that are not there, and records each write behind these
-/// operations. It answers how many words of the page are not 0. For one page alone the list stays where
-/// it is.
-pub(crate) fn set_runs<S: WordStore>(
-    store: &mut S,
-    operations: &mut Vec<Op>,
-    nonzero: u32,
-    runs: &[Run],
-    with: TableWords,
-) -> u32
-    requires may { MayWriteRuns (S.words store.old) (S.stands store.old) with }
-    requires ready { IsReady (S.words store.old) with.page (words_in with.start runs.now) (log_of operations.old nonzero) }
-    ensures wrote { Wrote (runs_set with runs.now) with.page (words_in with.start runs.now)
-        (S.words store.old) (S.words store.new) (log_of operations.old nonzero) (log_of operations.new result) }
-    ensures standing { S.stands store.new ≡ S.stands store.old }
-{
-    if runs.len() == 1 {
-        let run = runs[0];
-        if run.count() == 1 {
-            return set_one(store, operations, nonzero, run.first(), with);
-        }
-    }
-    let log = Log::take(operations, nonzero);
-    let Log {
-        operations: list,
-        nonzero,
-    } = write_runs(store, log, runs, with);
-    *operations = list;
-    nonzero
-}
-
-/// Writes the words of some indexes, none of which is there.
-#[inline(always)]
-fn turn_indexes<S: WordStore>(store: &mut S, log: Log, indexes: Indexes, with: TableWords) -> Log
-    requires may { MayWriteRuns (S.words store.old) (S.stands store.old) with }
-    requires most { indexes.end ≤ 512 }
-    requires zeros { with.word ≡ 0 → with.step ≡ 0 }
-    requires turned { (i : ℕ) → indexes.first ≤ i → i < indexes.end → IsTurned (S.words store.old) with i }
-    requires ready { IsReady (S.words store.old) with.page (indexes.end - indexes.first) log }
-    ensures wrote { Wrote (indexes_set with indexes.first indexes.end) with.page (indexes.end - indexes.first)
-        (S.words store.old) (S.words store.new) log result }
-    ensures standing { S.stands store.new ≡ S.stands store.old }
-{
-    let Indexes { first, end } = indexes;
-    if first >= end {
-        return log;
-    }
-    let Log {
-        operations,
-        nonzero,
-    } = log;
-    let operations = write_all(store, operations, with.range(first, end));
-    Log {
-        operations,
-        nonzero: recounted_all(nonzero, end - first, with.word),
-    }
-}
-
-/// The same. It is no part of the loops over runs and gaps: so the compiler makes two words at once.
-fn turn_words<S: WordStore>(store: &mut S, log: Log, indexes: Indexes, with: TableWords) -> Log
-    requires may { MayWriteRuns (S.words store.old) (S.stands store.old) with }
-    requires most { indexes.end ≤ 512 }
-    requires zeros { with.word ≡ 0 → with.step ≡ 0 }
-    requires turned { (i : ℕ) → indexes.first ≤ i → i < indexes.end → IsTurned (S.words store.old) with i }
-    requires ready { IsReady (S.words store.old) with.page (indexes.end - indexes.first) log }
-    ensures wrote { Wrote (indexes_set with indexes.first indexes.end) with.page (indexes.end - indexes.first)
-        (S.words store.old) (S.words store.new) log result }
-    ensures standing { S.stands store.new ≡ S.stands store.old }
-{
-    turn_indexes(store, log, indexes, with)
-}
-
-/// Writes the word for a page, if it is among them, which is not there. It answers how many words of the page of words
-/// are not 0.
-#[inline(always)]
-fn turn_one<S: WordStore>(
-    store: &mut S,
-    operations: &mut Vec<Op>,
-    nonzero: u32,
-    page: Page,
-    with: TableWords,
-) -> u32
-    requires { CanTurnRuns (S.words store.old) (S.stands store.old) with (page_alone page ∷ [])
+    requires { CanWriteRuns TURNED (S.words store.old) (S.stands store.old) with (page_alone page ∷ [])
         (log_of operations.old nonzero) }
     ensures wrote { Wrote (runs_set with (page_alone page ∷ [])) with.page (words_in with.start (page_alone page ∷ []))
         (S.words store.old) (S.words store.new) (log_of operations.old nonzero) (log_of operations.new result) }
@@ -276,41 +156,99 @@ fn turn_one<S: WordStore>(
         index,
         word: with.word + with.step * u64::from(index),
     };
-    put_word(store, operations, at);
-    recounted_all(nonzero, 1, with.word)
+    let before = word_before::<S, TURNED>(store, at);
+    if before == at.word {
+        return nonzero;
+    }
+    write_word(store, operations, nonzero, before, at)
 }
 
-/// Writes the words for the pages of a run, none of which is there.
+/// Writes the words of some indexes that are not there.
 #[inline(always)]
-fn turn_run<S: WordStore>(store: &mut S, mut log: Log, run: Run, with: TableWords) -> Log
-    requires { CanTurnRuns (S.words store.old) (S.stands store.old) with (run ∷ []) log }
+fn write_indexes<S: WordStore, const TURNED: bool>(
+    store: &mut S,
+    log: Log,
+    indexes: Indexes,
+    with: TableWords,
+) -> Log
+    requires { CanWriteIndexes TURNED (S.words store.old) (S.stands store.old) with indexes.first indexes.end log }
+    ensures wrote { Wrote (indexes_set with indexes.first indexes.end) with.page (indexes.end - indexes.first)
+        (S.words store.old) (S.words store.new) log result }
+    ensures standing { S.stands store.new ≡ S.stands store.old }
+{
+    let Indexes { first, end } = indexes;
+    if first >= end {
+        return log;
+    }
+    let range = with.range(first, end);
+    if TURNED {
+        return turn_all(store, log, range);
+    }
+    write_words(store, log, range)
+}
+
+/// The same. It is no part of the loops over runs and gaps: so the compiler makes two words at once.
+fn write_apart<S: WordStore, const TURNED: bool>(
+    store: &mut S,
+    log: Log,
+    indexes: Indexes,
+    with: TableWords,
+) -> Log
+    requires { CanWriteIndexes TURNED (S.words store.old) (S.stands store.old) with indexes.first indexes.end log }
+    ensures wrote { Wrote (indexes_set with indexes.first indexes.end) with.page (indexes.end - indexes.first)
+        (S.words store.old) (S.words store.new) log result }
+    ensures standing { S.stands store.new ≡ S.stands store.old }
+{
+    write_indexes::<S, TURNED>(store, log, indexes, with)
+}
+
+/// Writes the words for the pages of a run that are not there.
+#[inline(always)]
+fn write_run<S: WordStore, const TURNED: bool>(
+    store: &mut S,
+    mut log: Log,
+    run: Run,
+    with: TableWords,
+) -> Log
+    requires { CanWriteRuns TURNED (S.words store.old) (S.stands store.old) with (run ∷ []) log }
     ensures wrote { Wrote (runs_set with (run ∷ [])) with.page (words_in with.start (run ∷ []))
         (S.words store.old) (S.words store.new) log result }
     ensures standing { S.stands store.new ≡ S.stands store.old }
 {
     if run.count() == 1 {
-        log.nonzero = turn_one(store, &mut log.operations, log.nonzero, run.first(), with);
+        log.nonzero = write_page::<S, TURNED>(
+            store,
+            &mut log.operations,
+            log.nonzero,
+            run.first(),
+            with,
+        );
         return log;
     }
     if run.count() <= SHORT
         && let Some(all) = all_indexes(with.start, run)
     {
-        return turn_indexes(store, log, all, with);
+        return write_indexes::<S, TURNED>(store, log, all, with);
     }
-    turn_words(store, log, indexes_of(with.start, run), with)
+    write_apart::<S, TURNED>(store, log, indexes_of(with.start, run), with)
 }
 
-/// Writes the words for the pages of runs, none of which is there.
+/// Writes the words for the pages of runs that are not there.
 #[inline(always)]
-fn turn_each<S: WordStore>(store: &mut S, mut log: Log, runs: &[Run], with: TableWords) -> Log
+fn write_each<S: WordStore, const TURNED: bool>(
+    store: &mut S,
+    mut log: Log,
+    runs: &[Run],
+    with: TableWords,
+) -> Log
     requires normal { are_normal runs.now ≡ true }
-    requires can { CanTurnRuns (S.words store.old) (S.stands store.old) with runs.now log }
+    requires can { CanWriteRuns TURNED (S.words store.old) (S.stands store.old) with runs.now log }
     ensures wrote { Wrote (runs_set with runs.now) with.page (words_in with.start runs.now)
         (S.words store.old) (S.words store.new) log result }
     ensures standing { S.stands store.new ≡ S.stands store.old }
 {
     for run in runs {
-        log = turn_run(store, log, *run, with);
+        log = write_run::<S, TURNED>(store, log, *run, with);
     }
     log
 }
@@ -318,7 +256,7 @@ fn turn_each<S: WordStore>(store: &mut S, mut log: Log, runs: &[Run], with: Tabl
 /// The same, and records each write behind these operations. It answers how many words of the page are not 0. It is a function
 /// of its own, so that one page alone needs less of the stack.
 #[inline(never)]
-fn turn_many<S: WordStore>(
+fn write_many<S: WordStore, const TURNED: bool>(
     store: &mut S,
     operations: &mut Vec<Op>,
     nonzero: u32,
@@ -326,7 +264,8 @@ fn turn_many<S: WordStore>(
     with: TableWords,
 ) -> u32
     requires normal { are_normal runs.now ≡ true }
-    requires can { CanTurnRuns (S.words store.old) (S.stands store.old) with runs.now (log_of operations.old nonzero) }
+    requires can { CanWriteRuns TURNED (S.words store.old) (S.stands store.old) with runs.now
+        (log_of operations.old nonzero) }
     ensures wrote { Wrote (runs_set with runs.now) with.page (words_in with.start runs.now)
         (S.words store.old) (S.words store.new) (log_of operations.old nonzero) (log_of operations.new result) }
     ensures standing { S.stands store.new ≡ S.stands store.old }
@@ -335,14 +274,14 @@ fn turn_many<S: WordStore>(
     let Log {
         operations: list,
         nonzero,
-    } = turn_each(store, log, runs, with);
+    } = write_each::<S, TURNED>(store, log, runs, with);
     *operations = list;
     nonzero
 }
 
-/// Writes the words for the pages of runs, none of which is there, and records each write behind these operations. It
-/// answers how many words of the page are not 0. For one page alone the list stays where it is.
-pub(crate) fn turn_runs<S: WordStore>(
+/// Writes the words for the pages of runs that are not there, and records each write behind these operations. Where they are
+/// turned, none is looked at. It answers how many words of the page are not 0. For one page alone the list stays where it is.
+pub(crate) fn write_runs<S: WordStore, const TURNED: bool>(
     store: &mut S,
     operations: &mut Vec<Op>,
     nonzero: u32,
@@ -350,7 +289,8 @@ pub(crate) fn turn_runs<S: WordStore>(
     with: TableWords,
 ) -> u32
     requires normal { are_normal runs.now ≡ true }
-    requires can { CanTurnRuns (S.words store.old) (S.stands store.old) with runs.now (log_of operations.old nonzero) }
+    requires can { CanWriteRuns TURNED (S.words store.old) (S.stands store.old) with runs.now
+        (log_of operations.old nonzero) }
     ensures wrote { Wrote (runs_set with runs.now) with.page (words_in with.start runs.now)
         (S.words store.old) (S.words store.new) (log_of operations.old nonzero) (log_of operations.new result) }
     ensures standing { S.stands store.new ≡ S.stands store.old }
@@ -358,10 +298,10 @@ pub(crate) fn turn_runs<S: WordStore>(
     if runs.len() == 1 {
         let run = runs[0];
         if run.count() == 1 {
-            return turn_one(store, operations, nonzero, run.first(), with);
+            return write_page::<S, TURNED>(store, operations, nonzero, run.first(), with);
         }
     }
-    turn_many(store, operations, nonzero, runs, with)
+    write_many::<S, TURNED>(store, operations, nonzero, runs, with)
 }
 
 /// Writes the words for pages in none of the runs, gap by gap. None of them is there.
@@ -371,7 +311,7 @@ pub(crate) fn turn_gaps<S: WordStore>(
     runs: &[Run],
     with: TableWords,
 ) -> Log
-    requires { CanTurnRuns (S.words store.old) (S.stands store.old) with (gaps_of with.start runs.now) log }
+    requires { CanWriteRuns true (S.words store.old) (S.stands store.old) with (gaps_of with.start runs.now) log }
     ensures wrote { let gaps = gaps_of with.start runs.now in
         Wrote (runs_set with gaps) with.page (words_in with.start gaps)
         (S.words store.old) (S.words store.new) log result }
@@ -380,10 +320,10 @@ pub(crate) fn turn_gaps<S: WordStore>(
     let mut first = 0;
     for run in runs {
         let end = index_from(with.start, run.first().number());
-        log = turn_words(store, log, Indexes { first, end }, with);
+        log = write_apart::<S, true>(store, log, Indexes { first, end }, with);
         first = first.max(index_from(with.start, run.end()));
     }
-    turn_words(
+    write_apart::<S, true>(
         store,
         log,
         Indexes {

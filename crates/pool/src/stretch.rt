@@ -33,7 +33,7 @@ fn recounted(count: u32, before: u64, after: u64) -> u32
 
 /// How many words of a page are not 0, once so many were turned: they were 0, or they are, where the new word is 0.
 #[inline(always)]
-pub(crate) fn recounted_all(count: u32, written: u32, word: u64) -> u32
+fn recounted_all(count: u32, written: u32, word: u64) -> u32
     requires least { word ≡ 0 → written ≤ count }
     requires most { count ≤ 512 }
     requires few { written ≤ 512 }
@@ -49,7 +49,7 @@ pub(crate) fn recounted_all(count: u32, written: u32, word: u64) -> u32
 
 /// Writes a word, and records the write behind these operations.
 #[inline(always)]
-pub(crate) fn put_word<S: WordStore>(store: &mut S, operations: &mut Vec<Op>, at: WordAt)
+fn put_word<S: WordStore>(store: &mut S, operations: &mut Vec<Op>, at: WordAt)
     requires index_in { at.index < 512 }
     requires page_in { IsHeld (S.words store.old) (S.stands store.old) at.page }
     requires ready { HasRoom operations.old 1 }
@@ -109,11 +109,7 @@ pub(crate) fn record_all(mut operations: Vec<Op>, range: WordRange) -> Vec<Op>
 /// Writes words none of which is there, and records each write behind these operations. Few are written beside their
 /// operations: two loops take longer to begin.
 #[inline(always)]
-pub(crate) fn write_all<S: WordStore>(
-    store: &mut S,
-    operations: Vec<Op>,
-    range: WordRange,
-) -> Vec<Op>
+fn write_all<S: WordStore>(store: &mut S, operations: Vec<Op>, range: WordRange) -> Vec<Op>
     requires may { MayWrite (S.words store.old) (S.stands store.old) range }
     requires ready { HasRoom operations (range.end - range.first) }
     ensures words { S.words store.new ≡ with_range (S.words store.old) range }

@@ -11,7 +11,7 @@ use crate::looks::{are_filled, are_gaps_there};
 use crate::operation::Op;
 use crate::places::{quotas_of, share_starts, total};
 use crate::replace::{Replacement, replace_words};
-use crate::runs::{TableWords, set_runs, turn_gaps, turn_runs};
+use crate::runs::{TableWords, turn_gaps, write_runs};
 use crate::stretch::{WordAt, write_others, write_word};
 use crate::table_mem::TableMem;
 use crate::word_range::WordRange;
@@ -151,7 +151,7 @@ impl<S: WordStore> TableMem for TablePool<S> {
 
     fn set_runs(&mut self, words: TableWords, runs: &Runs) {
         let count = self.nonzero[words.page as usize];
-        let count = set_runs(
+        let count = write_runs::<S, false>(
             &mut self.store,
             &mut self.operations,
             count,
@@ -174,7 +174,7 @@ impl<S: WordStore> TableMem for TablePool<S> {
 
     fn turn_runs(&mut self, words: TableWords, runs: &Runs) {
         let count = self.nonzero[words.page as usize];
-        let count = turn_runs(
+        let count = write_runs::<S, true>(
             &mut self.store,
             &mut self.operations,
             count,

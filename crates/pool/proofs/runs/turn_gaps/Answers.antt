@@ -1,43 +1,29 @@
-use Rattle.std.proofs.Common.{◌≡◌, ◌+◌, ◌≤◌, ◌++◌, [], drop, max, refl, sym, ap, ap₂, ◌∙◌, arith, rules}
+use Rattle.std.proofs.Common.{◌≡◌, ◌+◌, ◌≤◌, ◌++◌, [], drop, max, refl, sym, ap, ap₂, ◌∙◌, arith}
 use Rattle.std.proofs.lemmas.List.{append-nil}
 use Rattle.pool.specs.Pool.{index_from, gap, gaps_from}
-use Rattle.pool.proofs.Gaps.{gaps-left, gaps-done, gaps-behind, gap-has, gap-words}
-use Rattle.pool.proofs.Wrote.{left-all, left-ready, left-less, left-none, wrote-gap, wrote-beside, turned-part, turned-rest}
+use Rattle.pool.proofs.Gaps.{gaps-left, gaps-done, gaps-behind}
+use Rattle.pool.proofs.Wrote.{left-all, left-can, left-less, left-none, can-gap, wrote-gap, wrote-beside, turned-rest}
 use Rattle.pool.proofs.runs.turn_gaps.Goals as goal
 
 pub loop-run-init : goal.loop-run-init
 loop-run-init g c = record {
   left = left-all c.args.with _ (g.S.WordStore.words c.args.store.now) c.args.log c.requires.ready.counted;
   standing = refl;
-  turned = c.requires.turned;
+  turned = c.requires.turned refl;
   most = omega arith;
 }
 
-pub turn_words-log-requires : goal.turn_words-log-requires
-turn_words-log-requires g c =
+pub write_apart-log-requires : goal.write_apart-log-requires
+write_apart-log-requires g c =
     let w = c.args.with in
     let first = c.loop-run.first in
     let end = c.index_from-end.result in
     let run = c.run-item.result in
     let before = c.loop-run.invariant in
-    let here = gap w.start first end in
     let rest = gaps_from w.start (max first (index_from w.start (run.first + run.count))) (drop (c.loop-run.run-index + 1) c.args.runs.now) in
     let end_at : index_from w.start run.first ≡ end = sym (c.index_from-end.ensures ∙ ap (index_from w.start) (c.number.ensures.same ∙ c.first.ensures.same)) in
     let parts = gaps-left w.start first c.loop-run.run-index c.args.runs.now run c.loop-run-test.true c.run-item.is ∙ ap (λ e. gap w.start first e ++ rest) end_at in
-    let small : end ≤ 512 = omega (arith, c.index_from-end.ensures) in
-    let words = gap-words w.start first end small in
-    let turned = turned-part (g.S.WordStore.words c.loop-run.store) w here rest (rw parts at before.turned) in
-    record {
-      may = record {
-        start_in = c.requires.may.start_in;
-        in_range = c.requires.may.in_range;
-        page_in = record { inside = omega (arith, before.left.whole, c.requires.may.page_in.inside); standing = search rules };
-      };
-      most = small;
-      zeros = turned.zeros;
-      turned = λ i from below. turned.each i (omega (arith, below, small)) (gap-has w.start first end i from below);
-      ready = left-ready before.left here rest _ parts (omega (arith, words)) c.requires.ready.room;
-    }
+    can-gap first end (omega (arith, c.index_from-end.ensures)) (left-can before.left (gap w.start first end) rest parts c.requires before.standing (λ _. before.turned))
 
 pub loop-run-preserved : goal.loop-run-preserved
 loop-run-preserved g c =
@@ -57,37 +43,25 @@ loop-run-preserved g c =
     ∙ ap₂ (λ e f. gap w.start first e ++ gaps_from w.start f behind) end_at next_at in
     let small : end ≤ 512 = omega (arith, c.index_from-end.ensures) in
     let old = g.S.WordStore.words c.loop-run.store in
-    let new = g.S.WordStore.words c.turn_words-log.new.store in
-    let wrote = c.turn_words-log.ensures.wrote in
+    let new = g.S.WordStore.words c.write_apart-log.new.store in
+    let wrote = c.write_apart-log.ensures.wrote in
     record {
-      left = left-less before.left here rest parts (wrote-gap w first end old new c.loop-run.log c.turn_words-log.result small wrote);
-      standing = c.turn_words-log.ensures.standing ∙ before.standing;
+      left = left-less before.left here rest parts (wrote-gap w first end old new c.loop-run.log c.write_apart-log.result small wrote);
+      standing = c.write_apart-log.ensures.standing ∙ before.standing;
       turned = turned-rest old new w here rest (rw parts at before.turned) (λ i within.
           let from = gaps-behind w.start behind next (w.start + i) within in
-          wrote-beside w first end _ i old new c.loop-run.log c.turn_words-log.result wrote (omega (arith, before.left.whole, c.requires.may.page_in.inside)) before.most small (omega (arith, from, next_at)) (omega (arith, from, next_at, end_at)));
+          wrote-beside w first end _ i old new c.loop-run.log c.write_apart-log.result wrote (omega (arith, before.left.whole, c.requires.may.page_in.inside)) before.most small (omega (arith, from, next_at)) (omega (arith, from, next_at, end_at)));
       most = omega (arith, before.most, next_at);
     }
 
-pub turn_words-requires : goal.turn_words-requires
-turn_words-requires g c =
+pub write_apart-requires : goal.write_apart-requires
+write_apart-requires g c =
     let w = c.args.with in
     let first = c.loop-run.first in
     let before = c.loop-run.invariant in
     let here = gap w.start first 512 in
     let parts = gaps-done w.start first c.loop-run.run-index c.args.runs.now c.loop-run-test.false ∙ sym (append-nil here) in
-    let words = gap-words w.start first 512 (omega arith) in
-    let turned = turned-part (g.S.WordStore.words c.loop-run.store) w here [] (rw parts at before.turned) in
-    record {
-      may = record {
-        start_in = c.requires.may.start_in;
-        in_range = c.requires.may.in_range;
-        page_in = record { inside = omega (arith, before.left.whole, c.requires.may.page_in.inside); standing = search rules };
-      };
-      most = omega arith;
-      zeros = turned.zeros;
-      turned = λ i from below. turned.each i below (gap-has w.start first 512 i from below);
-      ready = left-ready before.left here [] _ parts (omega (arith, words)) c.requires.ready.room;
-    }
+    can-gap first 512 (omega arith) (left-can before.left here [] parts c.requires before.standing (λ _. before.turned))
 
 pub returns-clause-wrote : goal.returns-clause-wrote
 returns-clause-wrote g c =
@@ -95,4 +69,4 @@ returns-clause-wrote g c =
     let first = c.loop-run.first in
     let here = gap w.start first 512 in
     let parts = gaps-done w.start first c.loop-run.run-index c.args.runs.now c.loop-run-test.false ∙ sym (append-nil here) in
-    left-none (left-less c.loop-run.invariant.left here [] parts (wrote-gap w first 512 (g.S.WordStore.words c.loop-run.store) (g.S.WordStore.words c.turn_words.new.store) c.loop-run.log c.turn_words.result (omega arith) c.turn_words.ensures.wrote)) refl
+    left-none (left-less c.loop-run.invariant.left here [] parts (wrote-gap w first 512 (g.S.WordStore.words c.loop-run.store) (g.S.WordStore.words c.write_apart.new.store) c.loop-run.log c.write_apart.result (omega arith) c.write_apart.ensures.wrote)) refl

@@ -1,32 +1,18 @@
-use Rattle.std.proofs.Common.{◌+◌, [], ◌∷◌, drop, refl, ◌∙◌, arith, rules}
-use Rattle.pool.proofs.Turned.{runs-left, runs-done}
-use Rattle.pool.proofs.Wrote.{left-all, left-ready, left-less, left-none}
+use Rattle.std.proofs.Common.{◌==◌, not, List, sym, subst, ◌∙◌}
+use Rattle.base.specs.Pages.{PageRun}
+use Rattle.pool.specs.Pool.{words_in}
+use Rattle.pool.specs.Writing.{CanWriteRuns, Wrote, log_of, runs_set}
+use Rattle.pool.proofs.RunWords.{runs-one}
 use Rattle.pool.proofs.runs.write_runs.Goals as goal
 
-pub loop-run-init : goal.loop-run-init
-loop-run-init g c = record { left = left-all c.args.with c.args.runs.now (g.S.WordStore.words c.args.store.now) c.args.log c.requires.ready.counted; standing = refl }
+pub write_page-requires : goal.write_page-requires
+write_page-requires g c =
+    let w = c.args.with in
+    let one = runs-one c.args.runs.now c.index-runs-0.result c.first.result c.if-runs-eq1.true c.index-runs-0.is c.first.ensures.same (sym c.count.ensures.same ∙ c.if-count-eq1.true) in
+    subst (λ (rs : List PageRun). CanWriteRuns (not (g.row.TURNED == 0)) (g.S.WordStore.words c.args.store.now) (g.S.WordStore.stands c.args.store.now) w rs (log_of c.args.operations.now c.args.nonzero)) one c.requires.can
 
-pub write_run-log-requires : goal.write_run-log-requires
-write_run-log-requires g c =
-    let run = c.run-item.result in
-    let before = c.loop-run.invariant in
-    record {
-      may = record {
-        start_in = c.requires.may.start_in;
-        in_range = c.requires.may.in_range;
-        page_in = record { inside = omega (arith, before.left.whole, c.requires.may.page_in.inside); standing = search rules };
-      };
-      ready = left-ready before.left (run ∷ []) (drop (c.loop-run.run-index + 1) c.args.runs.now) _ (runs-left c.args.runs.now c.loop-run.run-index run c.loop-run-test.true c.run-item.is) (omega arith) c.requires.ready.room;
-    }
-
-pub loop-run-preserved : goal.loop-run-preserved
-loop-run-preserved g c =
-    let run = c.run-item.result in
-    let before = c.loop-run.invariant in
-    record {
-      left = left-less before.left (run ∷ []) (drop (c.loop-run.run-index + 1) c.args.runs.now) (runs-left c.args.runs.now c.loop-run.run-index run c.loop-run-test.true c.run-item.is) c.write_run-log.ensures.wrote;
-      standing = c.write_run-log.ensures.standing ∙ before.standing;
-    }
-
-pub returns-clause-wrote : goal.returns-clause-wrote
-returns-clause-wrote g c = left-none c.loop-run.invariant.left (runs-done c.args.runs.now c.loop-run.run-index c.loop-run-test.false)
+pub returns-then-count-eq1-clause-wrote : goal.returns-then-count-eq1-clause-wrote
+returns-then-count-eq1-clause-wrote g c =
+    let w = c.args.with in
+    let one = runs-one c.args.runs.now c.index-runs-0.result c.first.result c.if-runs-eq1.true c.index-runs-0.is c.first.ensures.same (sym c.count.ensures.same ∙ c.if-count-eq1.true) in
+    subst (λ (rs : List PageRun). Wrote (runs_set w rs) w.page (words_in w.start rs) (g.S.WordStore.words c.args.store.now) (g.S.WordStore.words c.write_page.new.store) (log_of c.args.operations.now c.args.nonzero) (log_of c.write_page.new.operations c.write_page.result)) (sym one) c.write_page.ensures.wrote

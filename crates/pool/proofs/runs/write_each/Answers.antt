@@ -1,0 +1,43 @@
+use Rattle.std.proofs.Common.{◌+◌, [], ◌∷◌, drop, refl, ◌∙◌, arith, inl, inr}
+use Rattle.std.proofs.lemmas.Bool.{cases_lt}
+use Rattle.pool.proofs.Gaps.{above, before-rise, rise-lower, rise-normal}
+use Rattle.pool.proofs.Turned.{runs-left, runs-done}
+use Rattle.pool.proofs.Wrote.{left-all, left-can, left-less, left-none, turned-rest, run-beside}
+use Rattle.pool.proofs.runs.write_each.Goals as goal
+
+pub loop-run-init : goal.loop-run-init
+loop-run-init g c = record {
+  left = left-all c.args.with c.args.runs.now (g.S.WordStore.words c.args.store.now) c.args.log c.requires.can.ready.counted;
+  standing = refl;
+  turned = c.requires.can.turned;
+  up = rise-normal c.args.runs.now c.requires.normal;
+}
+
+pub write_run-log-requires : goal.write_run-log-requires
+write_run-log-requires g c =
+    let run = c.run-item.result in
+    let before = c.loop-run.invariant in
+    left-can before.left (run ∷ []) (drop (c.loop-run.run-index + 1) c.args.runs.now) (runs-left c.args.runs.now c.loop-run.run-index run c.loop-run-test.true c.run-item.is) c.requires.can before.standing before.turned
+
+pub loop-run-preserved : goal.loop-run-preserved
+loop-run-preserved g c =
+    let w = c.args.with in
+    let run = c.run-item.result in
+    let behind = drop (c.loop-run.run-index + 1) c.args.runs.now in
+    let parts = runs-left c.args.runs.now c.loop-run.run-index run c.loop-run-test.true c.run-item.is in
+    let before = c.loop-run.invariant in
+    let old = g.S.WordStore.words c.loop-run.store in
+    let new = g.S.WordStore.words c.write_run-log.new.store in
+    let up = (above run behind 0 (rw parts at before.up)).1 in
+    record {
+      left = left-less before.left (run ∷ []) behind parts c.write_run-log.ensures.wrote;
+      standing = c.write_run-log.ensures.standing ∙ before.standing;
+      turned = λ known. turned-rest old new w (run ∷ []) behind (rw parts at (before.turned known)) (λ i within. elim (cases_lt (w.start + i) (run.first + run.count)) [
+        | inl lt ↦ let none = before-rise behind (run.first + run.count) (w.start + i) up lt in absurd (cc)
+        | inr past ↦ run-beside w run i old new c.loop-run.log c.write_run-log.result c.write_run-log.ensures.wrote (omega (arith, before.left.whole, c.requires.can.may.page_in.inside)) (omega (arith, past))
+      ]);
+      up = rise-lower behind (run.first + run.count) 0 (omega arith) up;
+    }
+
+pub returns-clause-wrote : goal.returns-clause-wrote
+returns-clause-wrote g c = left-none c.loop-run.invariant.left (runs-done c.args.runs.now c.loop-run.run-index c.loop-run-test.false)

@@ -1,0 +1,36 @@
+use Rattle.std.proofs.Common.{◌≡◌, ◌==◌, ◌-◌, ◌*◌, ◌+◌, not, true, arith}
+use Rattle.std.proofs.lemmas.Bool.Decides.{nat_tests}
+use Rattle.pool.specs.Writing.{indexes_set}
+use Rattle.pool.proofs.RunWords.{sets-none}
+use Rattle.pool.proofs.Turned.{turned-range}
+use Rattle.pool.proofs.Wrote.{wrote-none, may-range}
+use Rattle.pool.proofs.runs.write_indexes.Goals as goal
+
+pub returns-then-first-end-clause-wrote : goal.returns-then-first-end-clause-wrote
+returns-then-first-end-clause-wrote g c =
+    let w = c.args.with in
+    let first = c.args.indexes.first in
+    let end = c.args.indexes.end in
+    let none : end - first ≡ 0 = omega (arith, c.if-first-end.true) in
+    wrote-none (indexes_set w first end) w.page (end - first) (g.S.WordStore.words c.args.store.now) c.args.log c.requires.ready.counted (λ pool _. rw none (sets-none w.page first (w.word + w.step * first) w.step pool))
+
+pub turn_all-requires : goal.turn_all-requires
+turn_all-requires g c =
+    let known : not (g.row.TURNED == 0) ≡ true = grind (arith, nat_tests, c.if-this-ne0.true) in
+    rw c.range-range.ensures record {
+      may = may-range c.args.with c.args.indexes.first c.args.indexes.end c.requires.may c.if-first-end.false c.requires.most;
+      turned = turned-range (g.S.WordStore.words c.args.store.now) c.args.with c.args.indexes.first c.args.indexes.end (c.requires.zeros known) (c.requires.each known);
+      ready = c.requires.ready;
+    }
+
+pub returns-then-this-ne0-clause-wrote : goal.returns-then-this-ne0-clause-wrote
+returns-then-this-ne0-clause-wrote g c = rw c.range-range.ensures at c.turn_all.ensures.wrote
+
+pub write_words-requires : goal.write_words-requires
+write_words-requires g c = rw c.range-range.ensures record {
+  may = may-range c.args.with c.args.indexes.first c.args.indexes.end c.requires.may c.if-first-end.false c.requires.most;
+  ready = c.requires.ready;
+}
+
+pub returns-clause-wrote : goal.returns-clause-wrote
+returns-clause-wrote g c = rw c.range-range.ensures at c.write_words.ensures.wrote
