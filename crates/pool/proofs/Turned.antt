@@ -64,16 +64,10 @@ turns-empty words range some small none = record {
 -- ---- words that stand for pages
 
 -- their first tells whether they are 0
-pub first-zero : (with : TableWords) (i : ℕ) → (with.word ≡ 0 → with.step ≡ 0) → with.word + with.step * i ≡ 0 → with.word ≡ 0
-first-zero with i zeros zero = omega (arith, zero)
-
-pub zero-first : (with : TableWords) (i : ℕ) → (with.word ≡ 0 → with.step ≡ 0) → with.word ≡ 0 → with.word + with.step * i ≡ 0
-zero-first with i zeros zero = rw (zero, zeros zero) (omega arith)
-
 same-test : (with : TableWords) (i : ℕ) → (with.word ≡ 0 → with.step ≡ 0) → (with.word + with.step * i == 0) ≡ (with.word == 0)
 same-test with i zeros = elim (cases_eq with.word 0) [
-  | inl zero ↦ let all = zero-first with i zeros zero in grind (arith, nat_tests, zero, all)
-  | inr some ↦ let all : with.word + with.step * i ≢ 0 = λ none. some (first-zero with i zeros none) in grind (arith, nat_tests, some, all)
+  | inl zero ↦ rw (zero, zeros zero) (let none : 0 + 0 * i ≡ 0 = omega arith in rw none refl)
+  | inr some ↦ let all : with.word + with.step * i ≢ 0 = λ none. some (omega (arith, none)) in grind (arith, nat_tests, some, all)
 ]
 
 pub turned-word : (old : List ℕ) (with : TableWords) (first i : ℕ) → (with.word ≡ 0 → with.step ≡ 0) → IsTurned old with i → (words_of old with.page i == 0) ≡ not (with.word + with.step * first == 0)
@@ -83,7 +77,7 @@ turned-word old with first i zeros turned = turned ∙ ap not (sym (same-test wi
 pub turned-range : (old : List ℕ) (with : TableWords) (first end : ℕ) → (with.word ≡ 0 → with.step ≡ 0) → ((i : ℕ) → first ≤ i → i < end → IsTurned old with i)
     → Turns old (record { page = with.page; first = first; end = end; word = with.word + with.step * first; step = with.step })
 turned-range old with first end zeros turned = record {
-  zeros = λ zero. zeros (first-zero with first zeros zero);
+  zeros = λ zero. zeros (omega (arith, zero));
   each = λ x lt. turned-word old with first (first + x) zeros (turned (first + x) (omega arith) (omega (arith, lt)));
 }
 

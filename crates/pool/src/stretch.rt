@@ -1,9 +1,8 @@
 //! Words of a page that follow one another, and are written at once.
 
-ghost use Rattle.std.specs.Prelude.{◌≡◌, ℕ, List, ◌+◌, ◌-◌, ◌*◌, ◌^◌, ◌<◌, ◌≤◌, ◌++◌, ◌∷◌, [], ◌⊎◌, length, slice_set, if◌then◌else◌, ◌==◌};
+ghost use Rattle.std.specs.Prelude.{◌≡◌, ℕ, List, ◌+◌, ◌-◌, ◌*◌, ◌^◌, ◌<◌, ◌≤◌, ◌⊎◌, length, if◌then◌else◌, ◌==◌};
 ghost use Rattle.pool.specs.Pool.{after_set};
-ghost use Rattle.pool.specs.declared.operation.Op.TheVariants.{Set};
-ghost use Rattle.pool.specs.Writing.{range_set, with_range, writes_of, log_of, NoneThere, Turns, IsHeld, MayWrite, MayWriteAt, Records, HasRoom, Grows, IsReady, Wrote};
+ghost use Rattle.pool.specs.Writing.{range_set, with_range, writes_of, log_of, NoneThere, Turns, MayWrite, MayWriteAt, Records, HasRoom, Grows, IsReady, Wrote};
 
 use crate::log::Log;
 use crate::operation::Op;
@@ -47,24 +46,8 @@ fn recounted_all(count: u32, written: u32, word: u64) -> u32
     }
 }
 
-/// Writes a word, and records the write behind these operations.
-#[inline(always)]
-fn put_word<S: WordStore>(store: &mut S, operations: &mut Vec<Op>, at: WordAt)
-    requires index_in { at.index < 512 }
-    requires page_in { IsHeld (S.words store.old) (S.stands store.old) at.page }
-    requires ready { HasRoom operations.old 1 }
-    ensures words { S.words store.new ≡ slice_set (S.words store.old) (512 * at.page + at.index) at.word }
-    ensures standing { S.stands store.new ≡ S.stands store.old }
-    ensures items { operations.new.items ≡ operations.old.items ++ Set at.page at.index at.word ∷ [] }
-    ensures grows { Grows 1 operations.old operations.new }
-{
-    let WordAt { page, index, word } = at;
-    store.set_word(page, index, word);
-    operations.push_reserved(Op::Set { page, index, word });
-}
-
-/// The same. It answers how many words of the page are not 0: the word in whose place this one comes is 0 exactly where
-/// `before` is.
+/// Writes a word, and records the write behind these operations. It answers how many words of the page are not 0: the word
+/// in whose place this one comes is 0 exactly where `before` is.
 #[inline(always)]
 pub(crate) fn write_word<S: WordStore>(
     store: &mut S,
@@ -79,8 +62,10 @@ pub(crate) fn write_word<S: WordStore>(
         (log_of operations.old nonzero) (log_of operations.new result) }
     ensures standing { S.stands store.new ≡ S.stands store.old }
 {
-    put_word(store, operations, at);
-    recounted(nonzero, before, at.word)
+    let WordAt { page, index, word } = at;
+    store.set_word(page, index, word);
+    operations.push_reserved(Op::Set { page, index, word });
+    recounted(nonzero, before, word)
 }
 
 /// Records the writes of all words of a range behind these operations.

@@ -19,6 +19,6 @@ pub returns-clause-wrote : goal.returns-clause-wrote
 returns-clause-wrote g c =
     let at = c.args.at in
     let old = g.S.WordStore.words c.args.store.now in
-    let new = g.S.WordStore.words c.put_word.new.store in
-    wrote-set at.page at.index at.word old new (log_of c.args.operations.now c.args.nonzero) (log_of c.put_word.new.operations c.recounted.result) c.put_word.ensures.words c.put_word.ensures.items c.put_word.ensures.grows
-    (recount old new at.page at.index at.word c.args.nonzero c.args.before c.recounted.result c.requires.may.index_in c.requires.may.page_in.inside c.requires.ready.counted c.requires.may.turned c.put_word.ensures.words c.recounted.ensures)
+    let new = g.S.WordStore.words c.set_word.new.self in
+    wrote-set at.page at.index at.word old new (log_of c.args.operations.now c.args.nonzero) (log_of c.push_reserved.new.self c.recounted.result) c.set_word.ensures.words c.push_reserved.ensures.items (record { len = omega (arith, c.push_reserved.ensures.len); capacity = c.push_reserved.ensures.capacity })
+    (recount old new at.page at.index at.word c.args.nonzero c.args.before c.recounted.result c.requires.may.index_in c.requires.may.page_in.inside c.requires.ready.counted c.requires.may.turned c.set_word.ensures.words c.recounted.ensures)
