@@ -27,7 +27,7 @@ fn recounted(count: u32, before: u64, after: u64) -> u32
     requires most { count ≤ 512 }
     ensures { result + (if before == 0 then 0 else 1) ≡ count + (if after == 0 then 0 else 1) }
 {
-    count + u32::from(after != 0) - u32::from(before != 0)
+    count + u32::from(after != 0) + u32::from(before == 0) - 1
 }
 
 /// How many words of a page are not 0, once so many were turned: they were 0, or they are, where the new word is 0.
