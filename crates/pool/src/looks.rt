@@ -4,7 +4,7 @@
 ghost use Rattle.std.specs.Prelude.{◌≡◌, ◌≢◌, ℕ, ◌+◌, ◌-◌, ◌*◌, ◌^◌, ◌<◌, ◌≤◌, true, false};
 ghost use Rattle.base.specs.Pages.{covers, in_run};
 ghost use Rattle.pool.specs.Pool.{words_of};
-ghost use Rattle.pool.specs.Writing.{IsHeld, MayWrite, AreThere, IsMissing, MayWriteRuns, AreGapsThere, IsGapMissing, HasZero};
+ghost use Rattle.pool.specs.Writing.{IsHeld, MayWrite, AreThere, IsMissing, Turns, MayWriteRuns, AreGapsThere, IsGapMissing, HasZero};
 
 use crate::runs::{TableWords, index_at, index_from};
 use crate::word_range::WordRange;
@@ -25,6 +25,22 @@ fn are_nonzero<S: WordStore>(store: &S, page: u32, first: u32, end: u32) -> bool
     let mut are = true;
     for index in first..end {
         are &= store.standing_word(page, index) != 0;
+    }
+    are
+}
+
+/// Whether all words of a range are turned: they come in the place of words that are 0, or they are 0 and come in the place
+/// of words that are not.
+#[inline(always)]
+pub(crate) fn are_turned<S: WordStore>(store: &S, range: WordRange) -> bool
+    requires { MayWrite (S.words store.now) (S.stands store.now) range }
+    ensures yes { result ≡ true → Turns (S.words store.now) range }
+    ensures no { result ≡ false → Turns (S.words store.now) range → ⊥ }
+{
+    let were_zero = range.word != 0;
+    let mut are = were_zero || range.step == 0;
+    for index in range.first..range.end {
+        are &= (store.standing_word(range.page, index) == 0) == were_zero;
     }
     are
 }

@@ -1,10 +1,11 @@
 //! Words of a page that follow one another, and are written at once.
 
-ghost use Rattle.std.specs.Prelude.{◌≡◌, ℕ, List, ◌+◌, ◌-◌, ◌*◌, ◌^◌, ◌<◌, ◌≤◌, ◌⊎◌, length, if◌then◌else◌, ◌==◌};
-ghost use Rattle.pool.specs.Pool.{after_set};
+ghost use Rattle.std.specs.Prelude.{◌≡◌, ℕ, List, ◌+◌, ◌-◌, ◌*◌, ◌^◌, ◌<◌, ◌≤◌, ◌⊎◌, length, if◌then◌else◌, ◌==◌, true};
+ghost use Rattle.pool.specs.Pool.{after_set, words_of, nonzero_in};
 ghost use Rattle.pool.specs.Writing.{range_set, with_range, writes_of, log_of, NoneThere, Turns, MayWrite, MayWriteAt, Records, HasRoom, Grows, IsReady, Wrote};
 
 use crate::log::Log;
+use crate::looks::are_turned;
 use crate::operation::Op;
 use crate::word_range::WordRange;
 use crate::word_store::WordStore;
@@ -160,7 +161,21 @@ pub(crate) fn write_others<S: WordStore>(store: &mut S, mut log: Log, range: Wor
     log
 }
 
-/// Writes the words that are not there. Where all words of the page are 0 and these are not, none is looked at.
+/// Whether it is told at once that all words of a range are turned: by the count of the page's words that are not 0, or by
+/// one look at many of them.
+#[inline(always)]
+fn turn_at_once<S: WordStore>(store: &S, nonzero: u32, range: WordRange) -> bool
+    requires may { MayWrite (S.words store.now) (S.stands store.now) range }
+    requires counted { nonzero ≡ nonzero_in (words_of (S.words store.now)) range.page }
+    ensures { result ≡ true → Turns (S.words store.now) range }
+{
+    if nonzero == 0 && range.word > 0 {
+        return true;
+    }
+    range.end - range.first > SHORT && are_turned(store, range)
+}
+
+/// Writes the words that are not there: all of them without a look at each, where it is told at once that they are turned.
 #[inline(always)]
 pub(crate) fn write_words<S: WordStore>(store: &mut S, log: Log, range: WordRange) -> Log
     requires may { MayWrite (S.words store.old) (S.stands store.old) range }
@@ -169,7 +184,7 @@ pub(crate) fn write_words<S: WordStore>(store: &mut S, log: Log, range: WordRang
         (S.words store.old) (S.words store.new) log result }
     ensures standing { S.stands store.new ≡ S.stands store.old }
 {
-    if log.nonzero == 0 && range.word > 0 {
+    if turn_at_once(store, log.nonzero, range) {
         return turn_all(store, log, range);
     }
     write_others(store, log, range)

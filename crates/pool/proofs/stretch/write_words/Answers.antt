@@ -1,11 +1,9 @@
-use Rattle.std.proofs.Common.{◌-◌, sym, ◌∙◌, arith}
+use Rattle.std.proofs.Common.{◌-◌, arith}
 use Rattle.pool.proofs.Stretches.{length-sets_of-le}
-use Rattle.pool.proofs.Turned.{turns-empty}
 use Rattle.pool.proofs.stretch.write_words.Goals as goal
 
 pub turn_all-requires-clause-turned : goal.turn_all-requires-clause-turned
-turn_all-requires-clause-turned g c =
-    turns-empty (g.S.WordStore.words c.args.store.now) c.args.range c.if-range-gt0.true c.requires.may.index_in (sym c.requires.ready.counted ∙ c.if-log-eq0.true)
+turn_all-requires-clause-turned g c = c.turn_at_once.ensures c.if-turn_at_once.true
 
 pub write_others-requires-clause-ready : goal.write_others-requires-clause-ready
 write_others-requires-clause-ready g c =
