@@ -281,6 +281,7 @@ fn write_many<S: WordStore, const TURNED: bool>(
 
 /// Writes the words for the pages of runs that are not there, and records each write behind these operations. Where they are
 /// turned, none is looked at. It answers how many words of the page are not 0. For one page alone the list stays where it is.
+#[inline(always)]
 pub(crate) fn write_runs<S: WordStore, const TURNED: bool>(
     store: &mut S,
     operations: &mut Vec<Op>,

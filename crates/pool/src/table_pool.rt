@@ -133,6 +133,7 @@ impl<S: WordStore> TableMem for TablePool<S> {
         self.nonzero[page as usize]
     }
 
+    #[inline(always)]
     fn has_gaps(&self, words: TableWords, runs: &Runs) -> bool {
         are_gaps_there(&self.store, runs.list(), words)
     }
@@ -149,6 +150,7 @@ impl<S: WordStore> TableMem for TablePool<S> {
         self.nonzero[page as usize] = count;
     }
 
+    #[inline(always)]
     fn set_runs(&mut self, words: TableWords, runs: &Runs) {
         let count = self.nonzero[words.page as usize];
         let count = write_runs::<S, false>(
@@ -161,6 +163,7 @@ impl<S: WordStore> TableMem for TablePool<S> {
         self.nonzero[words.page as usize] = count;
     }
 
+    #[inline(always)]
     fn set_gaps(&mut self, words: TableWords, runs: &Runs) {
         let count = self.nonzero[words.page as usize];
         let log = Log::take(&mut self.operations, count);
@@ -172,6 +175,7 @@ impl<S: WordStore> TableMem for TablePool<S> {
         self.nonzero[words.page as usize] = nonzero;
     }
 
+    #[inline(always)]
     fn turn_runs(&mut self, words: TableWords, runs: &Runs) {
         let count = self.nonzero[words.page as usize];
         let count = write_runs::<S, true>(
@@ -202,6 +206,7 @@ impl<S: WordStore> TableMem for TablePool<S> {
         self.nonzero[page as usize] = nonzero;
     }
 
+    #[inline(always)]
     fn replace_words(&mut self, p: PartitionId, range: WordRange, start: Page) {
         let with = Replacement {
             who: p,

@@ -348,6 +348,7 @@ fn plan_each_gigabyte<M: TableMem>(memory: &M, edit: &RowPlan, runs: &Runs) -> P
 
 /// What an edit needs: the tables after it at places where there is none before it, and its operations. Mostly one gigabyte has
 /// all its pages.
+#[inline(always)]
 pub(crate) fn plan_row<M: TableMem>(memory: &M, edit: &RowPlan, runs: &Runs) -> Plan
     requires canonical { IsCanonical edit.now.layout.now (pages_of (M.state memory.now).memory) }
     ensures { IsRowPlanned edit.now runs.now (M.state memory.now) result }
