@@ -1,6 +1,7 @@
 pub mod Needs
 pub mod Growth
 pub mod Bounds
+pub mod FewOperations
 pub mod EditPlans
 pub mod Pieces
 pub mod Operations

@@ -6,20 +6,21 @@ ghost use Rattle.base.specs.Manifest.{page_count};
 ghost use Rattle.base.specs.Need.{grow};
 ghost use Rattle.pool.specs.Pool.{pages_of};
 ghost use Rattle.stage2.specs.Edits.{edited};
+ghost use Rattle.stage2.specs.inner.Chunks.{covers_chunk};
 ghost use Rattle.stage2.specs.inner.Clauses.{is_between, points_at, view_in};
 ghost use Rattle.stage2.specs.inner.Gigabytes.{gigabyte_growth};
 ghost use Rattle.stage2.specs.Orderly.{IsCanonical};
-ghost use Rattle.stage2.specs.Room.{row_operations};
-ghost use Rattle.std.specs.Prelude.{◌≡◌, ℕ, ◌+◌, ◌-◌, ◌*◌, ◌/◌, ◌^◌, ◌<◌, ◌≤◌, ◌&&◌, Some, not, length};
+ghost use Rattle.stage2.specs.Room.{pages_in, row_operations};
+ghost use Rattle.std.specs.Prelude.{◌≡◌, ℕ, ◌+◌, ◌-◌, ◌*◌, ◌/◌, ◌^◌, ◌<◌, ◌≤◌, ◌&&◌, Some, true, not, length, IfSome};
 
-use crate::level2::points_at_table;
+use crate::level2::{block_of, points_at_table, table_of};
 use crate::parts::{bounds, chunk_span, gigabyte_span};
-use crate::place::{Gigabyte, Span};
-use crate::plan::second_at;
+use crate::place::{Chunk, Gigabyte, Span};
+use crate::plan::{entry_at, second_at};
 use crate::read::read_word;
 use crate::site::RowPlan;
 use crate::table_page::TablePage;
-use base::Runs;
+use base::{Page, Runs};
 use base::limits::{CHUNK_PAGES, GIGABYTE_PAGES};
 use pool::TableMem;
 
@@ -112,13 +113,83 @@ pub(crate) fn most_operations(runs: &Runs) -> usize
     518 * chunks_between(bounds(runs)) as usize
 }
 
-/// How many operations an edit of the runs mostly makes, at most: a write for each page between the first and the last, and an
-/// invalidation for each run.
-pub(crate) fn likely_operations(runs: &Runs) -> usize
-    ensures { length runs.now ≤ result }
+/// How many pages the runs have.
+#[inline(always)]
+fn count_pages(runs: &Runs) -> u32
+    ensures { (chunk : ℕ) → pages_in runs.now chunk ≤ result }
 {
-    let pages = bounds(runs);
-    runs.list()
-        .len()
-        .saturating_add((pages.end - pages.first) as usize)
+    let list = runs.list();
+    if let [run] = list {
+        return run.count();
+    }
+    let mut pages: u32 = 0;
+    for run in list {
+        pages = pages.saturating_add(run.count());
+    }
+    pages
+}
+
+/// The chunk that has all pages of a span, if there are some, and such a one.
+#[inline(always)]
+fn only_chunk(pages: Span) -> Option<Chunk>
+    requires { pages.end ≤ 2 ^ 27 }
+    ensures { IfSome result (λ chunk. (chunk ≡ pages.first / 512) × (chunk < 262144)
+        × (pages.end ≤ 512 * chunk + 512)) }
+{
+    if pages.first >= pages.end {
+        return None;
+    }
+    let chunk = Chunk::of(Page::new(pages.first));
+    if pages.end <= chunk.end() {
+        Some(chunk)
+    } else {
+        None
+    }
+}
+
+/// Whether the first of the runs has all pages of a chunk.
+#[inline(always)]
+fn is_filled(runs: &Runs, chunk: Chunk) -> bool
+    ensures { result ≡ true → covers_chunk chunk runs.now ≡ true }
+{
+    match runs.list().first() {
+        Some(run) => {
+            run.first().number() <= chunk.first().number() && chunk.end() <= run.end()
+        }
+        None => false,
+    }
+}
+
+/// How many operations an edit makes at most whose pages lie in one chunk, unless that was a block and is one no more: those on the words of its
+/// pages, and of those beside them where the count of its table's words leaves it open whether it stays. It costs less than a plan.
+#[inline(always)]
+pub(crate) fn few_operations<M: TableMem>(memory: &M, edit: &RowPlan, runs: &Runs) -> Option<usize>
+    requires canonical { IsCanonical edit.now.layout.now (pages_of (M.state memory.now).memory) }
+    ensures bound { IfSome result (λ few. row_operations runs.now edit.now.access
+        (view_in edit.now.layout.now edit.now.row (M.state memory.now)) ≤ few) }
+    ensures most { IfSome result (λ few. few ≤ 2 ^ 33) }
+{
+    let chunk = only_chunk(bounds(runs))?;
+    let gigabyte = Gigabyte::of(chunk.first());
+    let second = second_at(memory, edit.layout, &edit.row, gigabyte);
+    let entry = entry_at(memory, edit.layout, &second, chunk);
+    let pages = count_pages(runs);
+    let mut words = runs.list().len() + pages as usize;
+    match table_of(&entry) {
+        Some(third) => {
+            let nonzero = memory.nonzero(third.number());
+            if edit.access.is_some() && nonzero.saturating_add(pages) >= CHUNK_PAGES {
+                words = words.max(nonzero as usize);
+            }
+        }
+        None => {
+            if is_filled(runs, chunk) {
+                return Some(5);
+            }
+            if block_of(&entry).is_some() {
+                return None;
+            }
+        }
+    }
+    Some(5 + words)
 }

@@ -19,7 +19,7 @@ ghost use Rattle.stage2.specs.declared.walked.Slot.TheVariants.{Next, Bad};
 ghost use Rattle.std.specs.Prelude.{◌≡◌, ◌≢◌, ℕ, ◌+◌, ◌-◌, ◌*◌, ◌/◌, ◌%◌, ◌^◌, ◌<◌, ◌≤◌, ◌&&◌, true, false, Some, None, not, List, length, is_some, if◌then◌else◌};
 
 use crate::layout::Layout;
-use crate::level1::{find_table, only_gigabyte, touches};
+use crate::level1::{find_table, touches};
 use crate::level2::{block_of, plain_until, table_of};
 use crate::outcome::{is_alike_in_block, is_alike_in_table, is_told_mixed};
 use crate::parts::{gigabyte_runs, gigabyte_span, next_piece};
@@ -71,7 +71,7 @@ pub(crate) fn second_at<M: TableMem>(
 }
 
 /// A chunk's level 2 word, in a gigabyte's table, if it has one.
-fn entry_at<M: TableMem>(
+pub(crate) fn entry_at<M: TableMem>(
     memory: &M,
     layout: &Layout,
     second: &Option<TablePage>,
@@ -249,7 +249,7 @@ fn plain_from<M: TableMem>(memory: &M, second: &Option<TablePage>, first: u32, e
 
 /// What an edit needs for the chunks of a gigabyte that its runs touch.
 #[inline(never)]
-fn plan_each_chunk<M: TableMem>(
+fn plan_chunks<M: TableMem>(
     memory: &M,
     edit: &RowPlan,
     second: &Option<TablePage>,
@@ -277,25 +277,6 @@ fn plan_each_chunk<M: TableMem>(
         }
     }
     plan
-}
-
-/// What an edit needs for the chunks of a gigabyte.
-#[inline(always)]
-fn plan_chunks<M: TableMem>(
-    memory: &M,
-    edit: &RowPlan,
-    second: &Option<TablePage>,
-    gigabyte: Gigabyte,
-    runs: &Runs,
-) -> Plan
-    requires canonical { IsCanonical edit.now.layout.now (pages_of (M.state memory.now).memory) }
-    requires table { second_in edit.now.layout.now edit.now.row gigabyte (M.state memory.now) ≡ second.now }
-    ensures { ArePlanned edit.now gigabyte runs.now (M.state memory.now) result }
-{
-    match ChunkEdit::alone(edit.layout, runs, gigabyte, &edit.access) {
-        Some(here) => plan_in(memory, edit, second, &here),
-        None => plan_each_chunk(memory, edit, second, gigabyte, runs),
-    }
 }
 
 /// What an edit needs for a gigabyte, its level 2 table with it.
@@ -326,9 +307,8 @@ fn plan_gigabyte<M: TableMem>(memory: &M, edit: &RowPlan, gigabyte: Gigabyte, ru
     }
 }
 
-/// What an edit needs, gigabyte by gigabyte.
-#[inline(never)]
-fn plan_each_gigabyte<M: TableMem>(memory: &M, edit: &RowPlan, runs: &Runs) -> Plan
+/// What an edit needs, gigabyte by gigabyte: the tables after it at places where there is none before it, and its operations.
+pub(crate) fn plan_row<M: TableMem>(memory: &M, edit: &RowPlan, runs: &Runs) -> Plan
     requires canonical { IsCanonical edit.now.layout.now (pages_of (M.state memory.now).memory) }
     ensures { IsRowPlanned edit.now runs.now (M.state memory.now) result }
 {
@@ -344,17 +324,4 @@ fn plan_each_gigabyte<M: TableMem>(memory: &M, edit: &RowPlan, runs: &Runs) -> P
         }
     }
     plan
-}
-
-/// What an edit needs: the tables after it at places where there is none before it, and its operations. Mostly one gigabyte has
-/// all its pages.
-#[inline(always)]
-pub(crate) fn plan_row<M: TableMem>(memory: &M, edit: &RowPlan, runs: &Runs) -> Plan
-    requires canonical { IsCanonical edit.now.layout.now (pages_of (M.state memory.now).memory) }
-    ensures { IsRowPlanned edit.now runs.now (M.state memory.now) result }
-{
-    match only_gigabyte(runs) {
-        Some(gigabyte) => plan_gigabyte(memory, edit, gigabyte, runs),
-        None => plan_each_gigabyte(memory, edit, runs),
-    }
 }

@@ -23,7 +23,7 @@ count-from f low (suc n) from =
       | inr t ↦ rw t (omega (arith, rest))
     ]
 
-count-within : (f : ℕ → Bool) (low high n : ℕ) → ((x : ℕ) → x < n → f x ≡ true → (low ≤ x) × (x < high)) → count_below f n ≤ high - low
+pub count-within : (f : ℕ → Bool) (low high n : ℕ) → ((x : ℕ) → x < n → f x ≡ true → (low ≤ x) × (x < high)) → count_below f n ≤ high - low
 unfolding count_below
 count-within f low high zero within = omega arith
 count-within f low high (suc n) within = elim (cases_Bool (f n)) [
@@ -39,7 +39,7 @@ count-within f low high (suc n) within = elim (cases_Bool (f n)) [
 -- ---- what the runs touch
 
 module _ (runs : List PageRun) (access : View) (v : ℕ → View) (first end : ℕ) (within : lie_within first end runs ≡ true) where
-  between : (n : ℕ) → covers runs n ≡ true → (first ≤ n) × (n < end)
+  pub between : (n : ℕ) → covers runs n ≡ true → (first ≤ n) × (n < end)
   between n covered =
       let run = any-within (λ r. in_run r n) first end runs covered within in
       let low = run.2 in

@@ -1,38 +1,59 @@
-use Rattle.std.proofs.Common.{◌≡◌, ◌≤◌, ◌≢◌, ℕ, ◌+◌, ◌*◌, ◌%◌, false, cond, sym, ap, ◌∙◌, arith}
-use Rattle.base.specs.Access.{View}
-use Rattle.stage2.specs.Edits.{edited, touches_chunk}
-use Rattle.stage2.specs.inner.Clauses.{view_in}
-use Rattle.stage2.specs.inner.Gigabytes.{grows_at}
-use Rattle.stage2.specs.Room.{table_operations, chunk_operations}
-use Rattle.stage2.proofs.Counting.Growth.{grows-nothing}
-use Rattle.stage2.proofs.Editing.ChunkByChunk.{bit, bit-most, untouched}
-use Rattle.stage2.proofs.Runs.Spans.{sum_below-alone, count_below-alone}
+use Rattle.std.proofs.Common.{◌≡◌, ℕ, ◌+◌, ◌*◌, ◌<◌, ◌≤◌, true, refl, sym, ap, subst, ◌∙◌, arith}
+use Rattle.pool.specs.Pool.{pages_of}
+use Rattle.stage2.specs.inner.Chunks.{covers_chunk}
+use Rattle.stage2.proofs.Counting.Growth.{filled-grows, filled-operations, second-inside}
+use Rattle.stage2.proofs.Counting.UpToPiece.{planned-start, planned-piece, planned-end, planned-filled, planned-one}
+use Rattle.stage2.proofs.Runs.Between.{past-past}
 use Rattle.stage2.proofs.plan.plan_chunks.Goals as goal
 
-pub returns-in-Some : goal.returns-in-Some
-returns-in-Some g c =
-    let h = c.in-Some.here in
-    let so = c.in-Some.ensures.some in
-    let here = so.1 in
+pub loop-piece-init : goal.loop-piece-init
+loop-piece-init g c = record {
+  planned = rw c.again-rest.ensures (planned-start c.new-plan.ensures);
+}
+
+pub plain_from-plain-requires-clause-page_in : goal.plain_from-plain-requires-clause-page_in
+plain_from-plain-requires-clause-page_in g c = λ j is.
+    let m = pages_of (g.M.TableMem.state c.args.memory.now).memory in
+    let inside = second-inside c.args.edit.now.layout.now m c.requires.canonical c.args.gigabyte c.in-Some.ensures.in_range c.args.edit.now.row c.args.edit.now.inside j (c.requires.table ∙ is) in
+    subst (λ n. j < n) c.requires.canonical.orderly.pages inside
+
+pub loop-piece-preserved-then-piece-plain : goal.loop-piece-preserved-then-piece-plain
+loop-piece-preserved-then-piece-plain g c =
+    let so = planned-piece c.loop-piece.invariant.planned c.in-Some.ensures.some in
+    let m = pages_of (g.M.TableMem.state c.args.memory.now).memory in
     let gigabyte = c.args.gigabyte in
-    let i = h.chunk % 512 in
-    let at : h.chunk ≡ 512 * gigabyte + i = omega (arith, here) in
     let runs = c.args.runs.now in
     let access = c.args.edit.now.access in
-    let before : ℕ → View = view_in c.args.edit.now.layout.now c.args.edit.now.row (g.M.TableMem.state c.args.memory.now) in
-    let grows : ℕ → ℕ = λ k. bit (grows_at before (edited runs access before) k) in
-    let all : ℕ → ℕ = λ x. chunk_operations runs access before (512 * gigabyte + x) in
-    let apart : (k : ℕ) → k ≢ i → touches_chunk (512 * gigabyte + k) runs ≡ false = λ k differs. so.4 (512 * gigabyte + k) (λ e. differs (omega (arith, e, at))) in
-    let tables : c.plan_in.result.tables ≡ grows h.chunk = rw (so.2, so.3) at c.plan_in.ensures.tables in
-    let one : chunk_operations runs access before h.chunk ≤ c.plan_in.result.operations = rw (so.2, so.3) at c.plan_in.ensures.operations in
-    let same : all i ≡ chunk_operations runs access before h.chunk = ap (chunk_operations runs access before) (sym at) in
-    let sum = sum_below-alone all 512 i (omega arith) (λ k small differs. ap (λ t. cond t (3 + table_operations runs access before (512 * gigabyte + k)) 0) (apart k differs)) in
-    let most = c.plan_in.ensures.most in
-    let bit_most = bit-most (grows_at before (edited runs access before) h.chunk) in
+    let layout = c.args.edit.now.layout.now in
+    let row = c.args.edit.now.row in
+    let first = c.in-Some.piece.first in
+    let end = c.plain_from-plain.result in
+    let below = c.in-Some.ensures.in_range in
+    let most = c.plain_from-plain.ensures.most c.if-piece-plain.true in
+    let last = c.in-Some.ensures.some.most in
+    let filled : (x : ℕ) → first ≤ x → x < end → covers_chunk (512 * gigabyte + x) runs ≡ true =
+    λ x from lt. sym (so.left.fills (512 * gigabyte + x) (omega (arith, from))) ∙ c.in-Some.ensures.some.filled x from (omega (arith, lt, most)) in
     record {
-      tables = tables ∙ ap grows at ∙ sym (count_below-alone (λ x. grows_at before (edited runs access before) (512 * gigabyte + x)) 512 i (omega arith)
-          (λ k small differs. grows-nothing runs access before (512 * gigabyte + k) (λ n there. untouched (512 * gigabyte + k) runs n (apart k differs) there)));
-      operations = omega (arith, one, same, sum);
-      few = omega (arith, tables, bit_most);
-      most = omega (arith, most);
+      planned = planned-filled so c.if-piece-plain.true (omega (arith, most, last))
+          (λ x from lt. filled-grows layout m c.requires.canonical gigabyte below row runs access (512 * gigabyte + x) (filled x from lt))
+          (λ x from lt. filled-operations layout m c.requires.canonical gigabyte below row c.args.edit.now.inside runs access c.args.second.now x (omega (arith, lt, most, last)) c.requires.table (c.plain_from-plain.ensures.plain layout x from lt) (filled x from lt))
+          refl;
     }
+
+pub plan_at-more-requires-clause-past : goal.plan_at-more-requires-clause-past
+plan_at-more-requires-clause-past g c =
+    let next = c.in-Some.ensures.some in
+    past-past (512 * (512 * c.args.gigabyte + c.in-Some.piece.first)) (512 * c.chunk.result) c.loop-piece.rest c.in-Some.piece.runs (sym (ap (λ k. 512 * k) c.chunk.ensures.same)) next.past
+
+pub loop-piece-preserved : goal.loop-piece-preserved
+loop-piece-preserved g c =
+    let so = planned-piece c.loop-piece.invariant.planned c.in-Some.ensures.some in
+    let here = c.chunk.ensures.same in
+    record {
+      planned = planned-one so c.in-Some.ensures.some.small refl (rw here at c.plan_at-more.ensures.tables) (rw here at c.plan_at-more.ensures.operations) c.plan_at-more.ensures.most;
+    }
+
+pub returns : goal.returns
+returns g c =
+    let so = planned-end c.loop-piece.invariant.planned (c.in_default.ensures.none refl) in
+    record { tables = so.tables; operations = so.operations; few = so.few; most = so.most }

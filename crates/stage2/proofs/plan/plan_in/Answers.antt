@@ -13,7 +13,7 @@ use Rattle.stage2.proofs.Editing.MadeEdit.{touches-made}
 use Rattle.stage2.proofs.Counting.Growth.{grows-entry, second-inside, entry-view, view-mixed, view-spelled, view-taken}
 use Rattle.stage2.proofs.Counting.Operations.{chunk-same}
 use Rattle.stage2.specs.Orderly.{IsCanonical}
-use Rattle.stage2.proofs.Tree.KnownWords.{second-known}
+use Rattle.stage2.proofs.Counting.FewOperations.{entry-known}
 use Rattle.stage2.proofs.plan.plan_in.Goals as goal
 
 pub entry_at-entry-requires-clause-table : goal.entry_at-entry-requires-clause-table
@@ -21,16 +21,10 @@ entry_at-entry-requires-clause-table g c = λ j e.
     let chunk = c.args.edit.now.chunk in
     second-inside c.args.row.now.layout.now (pages_of (g.M.TableMem.state c.args.memory.now).memory) c.requires.canonical (chunk / 512) (omega (arith, c.requires.in_range)) c.args.row.now.row c.args.row.now.inside j (c.requires.table ∙ e)
 
--- the chunk's word has a form of its level
-known : (layout : Layout) (m : Pages) → IsCanonical layout m → (g i : ℕ) → g < 512 → i < 512 → (row : Option ℕ) → ((r : ℕ) → row ≡ Some r → r < length layout.ids) → (second : Option ℕ) → second_of layout m.words row g ≡ second → entry_in layout m.words second i ≢ Bad
-known layout m canonical g i below small row inside None is bad = cc
-known layout m canonical g i below small None inside (Some j) is bad = cc
-known layout m canonical g i below small (Some r) inside (Some j) is bad = second-known layout m canonical.orderly r g i j (inside r refl) below small is bad
-
 pub entry_at-entry-requires-clause-known : goal.entry_at-entry-requires-clause-known
 entry_at-entry-requires-clause-known g c =
     let chunk = c.args.edit.now.chunk in
-    known c.args.row.now.layout.now (pages_of (g.M.TableMem.state c.args.memory.now).memory) c.requires.canonical (chunk / 512) (chunk % 512) (omega (arith, c.requires.in_range)) (omega arith) c.args.row.now.row c.args.row.now.inside c.args.second.now c.requires.table
+    entry-known c.args.row.now.layout.now (pages_of (g.M.TableMem.state c.args.memory.now).memory) c.requires.canonical (chunk / 512) (chunk % 512) (omega (arith, c.requires.in_range)) (omega arith) c.args.row.now.row c.args.row.now.inside c.args.second.now c.requires.table
 
 pub plan_chunk-requires-clause-taken : goal.plan_chunk-requires-clause-taken
 plan_chunk-requires-clause-taken g c = λ k next.

@@ -1,38 +1,111 @@
-use Rattle.std.proofs.Common.{◌≡◌, ◌≢◌, ℕ, ◌/◌, false, sym, ◌∙◌, arith, inl, inr}
-use Rattle.std.proofs.lemmas.Bool.{cases_Bool}
+use Rattle.std.proofs.Common.{◌≡◌, ℕ, ◌+◌, ◌-◌, ◌*◌, ◌/◌, ◌≤◌, false, inl, inr, sym, ap, ◌∙◌, arith}
+use Rattle.pool.specs.Pool.{pages_of}
+use Rattle.stage2.specs.Edits.{edited}
+use Rattle.stage2.specs.inner.Chunks.{answers_of}
+use Rattle.stage2.specs.Room.{sum_below, gigabyte_operations}
+use Rattle.stage2.specs.inner.Gigabytes.{gigabyte_growth}
+use Rattle.stage2.proofs.Editing.ChunkByChunk.{sum_below-more}
+use Rattle.stage2.proofs.Editing.GigabyteByGigabyte.{grow-sum}
+use Rattle.stage2.proofs.Runs.Spans.{sum_below-none, sum_below-tail, outside-gigabytes}
+use Rattle.stage2.proofs.Counting.Growth.{growth-nothing}
+use Rattle.stage2.proofs.Runs.ChunkCounts.{operations-nothing}
+use Rattle.stage2.specs.declared.plan.Plan.{Plan}
 use Rattle.base.specs.Access.{View}
 use Rattle.base.specs.Pages.{covers}
-use Rattle.stage2.specs.Edits.{edited}
-use Rattle.stage2.specs.inner.Clauses.{view_in}
-use Rattle.stage2.specs.inner.Gigabytes.{gigabyte_growth}
-use Rattle.stage2.specs.Room.{gigabyte_operations}
-use Rattle.stage2.proofs.Counting.Growth.{growth-nothing}
-use Rattle.stage2.proofs.Editing.GigabyteByGigabyte.{grow-sum}
-use Rattle.stage2.proofs.Runs.ChunkCounts.{operations-nothing}
-use Rattle.stage2.proofs.Runs.Spans.{sum_below-alone}
+use Rattle.stage2.proofs.Runs.OwnRuns.{gigabyte-covers, gigabyte-growth, gigabyte-operations}
 use Rattle.stage2.proofs.plan.plan_row.Goals as goal
+use Rattle.stage2.proofs.plan.plan_row.Goals.{then-touches, else-touches}
 
-pub plan_gigabyte-requires-clause-touched : goal.plan_gigabyte-requires-clause-touched
-plan_gigabyte-requires-clause-touched g c = c.in-Some.ensures.touched
+pub plan_gigabyte-more-requires-clause-touched : goal.plan_gigabyte-more-requires-clause-touched
+plan_gigabyte-more-requires-clause-touched g c = c.touches.ensures.yes c.if-touches.true c.new-gigabyte.result c.args.runs.now c.gigabyte_runs-part.ensures
 
-pub returns-in-Some : goal.returns-in-Some
-returns-in-Some g c =
-    let here = c.in-Some.ensures in
-    let one = c.in-Some.gigabyte in
+pub loop-number-init : goal.loop-number-init
+loop-number-init g c =
+    let v = answers_of c.args.edit.now.layout.now (pages_of (g.M.TableMem.state c.args.memory.now).memory).words c.args.edit.now.row in
+    let first = c.gigabyte_span-span.result.first in
+    record {
+      tables = ap (λ (p : Plan). p.tables) c.new-plan.ensures ∙ sym (sum_below-none (gigabyte_growth v (edited c.args.runs.now c.args.edit.now.access v)) first
+          (λ x lt. growth-nothing c.args.runs.now c.args.edit.now.access v x (λ n at. outside-gigabytes c.args.runs.now first c.gigabyte_span-span.result.end n c.gigabyte_span-span.ensures.within (inl (omega (arith, at, lt))))));
+      operations = let none = sum_below-none (gigabyte_operations c.args.runs.now c.args.edit.now.access v) first
+          (λ x lt. operations-nothing c.args.runs.now c.args.edit.now.access v x (λ n at. outside-gigabytes c.args.runs.now first c.gigabyte_span-span.result.end n c.gigabyte_span-span.ensures.within (inl (omega (arith, at, lt))))) in omega (arith, none);
+      few = let none : c.new-plan.result.tables ≡ 0 = ap (λ (p : Plan). p.tables) c.new-plan.ensures in omega (arith, none);
+      most = let none : c.new-plan.result.operations ≡ 0 = ap (λ (p : Plan). p.operations) c.new-plan.ensures in omega (arith, none);
+    }
+
+pub loop-number-preserved : goal.loop-number-preserved
+loop-number-preserved g c =
+    let v : ℕ → View = answers_of c.args.edit.now.layout.now (pages_of (g.M.TableMem.state c.args.memory.now).memory).words c.args.edit.now.row in
     let runs = c.args.runs.now in
     let access = c.args.edit.now.access in
-    let v : ℕ → View = view_in c.args.edit.now.layout.now c.args.edit.now.row (g.M.TableMem.state c.args.memory.now) in
     let f : ℕ → ℕ = gigabyte_growth v (edited runs access v) in
     let h : ℕ → ℕ = gigabyte_operations runs access v in
-    let none : (k : ℕ) → k ≢ one → (n : ℕ) → n / 512 / 512 ≡ k → covers runs n ≡ false = λ k differs n at. elim (cases_Bool (covers runs n)) [
-      | inr out ↦ out
-      | inl t ↦ absurd (differs (sym at ∙ here.only n t))
-    ] in
-    let alone = sum_below-alone h 512 one here.below (λ k small differs. operations-nothing runs access v k (none k differs)) in
-    let made = c.plan_gigabyte.ensures.operations in
-    let most = c.plan_gigabyte.ensures.most in
+    let i = c.loop-number.number in
+    let tables = sum_below-more f i in
+    let operations = sum_below-more h i in
+    let so = c.loop-number.invariant in
+    let part = c.gigabyte_runs-part.result in
+    let here = c.new-gigabyte.ensures in
+    let is = rw here at c.gigabyte_runs-part.ensures in
+    elim c.if-touches.branch [
+      | then-touches w ↦
+          let grown : w.plan_gigabyte-more.result.tables ≡ f i = (rw here at w.plan_gigabyte-more.ensures.tables) ∙ gigabyte-growth i runs part access is v in
+          let all : gigabyte_operations part access v i ≤ w.plan_gigabyte-more.result.operations = rw here at w.plan_gigabyte-more.ensures.operations in
+          let own = gigabyte-operations i runs part is access v in
+          let made : h i ≤ w.plan_gigabyte-more.result.operations = omega (arith, all, own) in
+          rw w.plan-is (record {
+            tables = up c.loop-number.plan.tables w.plan_gigabyte-more.result.tables (f i) (sum_below f i) (sum_below f (i + 1)) so.tables grown tables;
+            operations = most c.loop-number.plan.operations w.plan_gigabyte-more.result.operations (h i) (sum_below h i) (sum_below h (i + 1)) so.operations made operations;
+            few = bound 513 c.loop-number.plan.tables w.plan_gigabyte-more.result.tables i so.few w.plan_gigabyte-more.ensures.few;
+            most = bound 525826 c.loop-number.plan.operations w.plan_gigabyte-more.result.operations i so.most w.plan_gigabyte-more.ensures.most;
+          })
+      | else-touches w ↦
+          let out : (n : ℕ) → n / 512 / 512 ≡ i → covers runs n ≡ false = λ n at. sym (gigabyte-covers i runs part is n at) ∙ c.touches.ensures.no w.if-touches.false n in
+          let grown : f i ≡ 0 = growth-nothing runs access v i out in
+          let made : h i ≡ 0 = operations-nothing runs access v i out in
+          rw w.plan-is (record {
+            tables = same c.loop-number.plan.tables (f i) (sum_below f i) (sum_below f (i + 1)) so.tables grown tables;
+            operations = still c.loop-number.plan.operations (h i) (sum_below h i) (sum_below h (i + 1)) so.operations made operations;
+            few = let few = so.few in omega (arith, few);
+            most = let most = so.most in omega (arith, most);
+          })
+    ]
+  where
+    up : (count one f below next : ℕ) → count ≡ below → one ≡ f → next ≡ f + below → count + one ≡ next
+    up count one f below next a b c = omega arith
+
+    most : (count more one below next : ℕ) → below ≤ count → one ≤ more → next ≡ one + below → next ≤ count + more
+    most count more one below next a b c = omega arith
+
+    still : (count f below next : ℕ) → below ≤ count → f ≡ 0 → next ≡ f + below → next ≤ count
+    still count f below next a b c = omega arith
+
+    same : (count f below next : ℕ) → count ≡ below → f ≡ 0 → next ≡ f + below → count ≡ next
+    same count f below next a b c = omega arith
+
+    bound : (k count one i : ℕ) → count ≤ k * i → one ≤ k → count + one ≤ k * (i + 1)
+    bound k count one i a b = let more : k * (i + 1) ≡ k * i + k = omega arith in omega (arith, a, b, more)
+
+pub returns : goal.returns
+returns g c =
+    let v : ℕ → View = answers_of c.args.edit.now.layout.now (pages_of (g.M.TableMem.state c.args.memory.now).memory).words c.args.edit.now.row in
+    let runs = c.args.runs.now in
+    let access = c.args.edit.now.access in
+    let f : ℕ → ℕ = gigabyte_growth v (edited runs access v) in
+    let h : ℕ → ℕ = gigabyte_operations runs access v in
+    let so = c.loop-number.invariant in
+    let i = c.loop-number.number in
+    let most = c.gigabyte_span-span.ensures.most in
+    let end = c.loop-number-test.false in
+    let last : i ≤ c.gigabyte_span-span.result.end = c.loop-number.auto.number-end c.gigabyte_span-span.ensures.ordered in
+    let e : i + (512 - i) ≡ 512 = omega (arith, most, last) in
+    let none : (x : ℕ) → i ≤ x → (n : ℕ) → n / 512 / 512 ≡ x → covers runs n ≡ false =
+    λ x from n at. outside-gigabytes runs c.gigabyte_span-span.result.first c.gigabyte_span-span.result.end n c.gigabyte_span-span.ensures.within (inr (omega (arith, from, at, end))) in
     record {
-      tables = c.plan_gigabyte.ensures.tables ∙ sym (sum_below-alone f 512 one here.below (λ k small differs. growth-nothing runs access v k (none k differs))) ∙ grow-sum v (edited runs access v);
-      operations = omega (arith, alone, made);
-      most = omega (arith, most);
+      tables = so.tables ∙ sym (sum_below-tail f (512 - i) i (λ x from to. growth-nothing runs access v x (none x from))) ∙ ap (sum_below f) e ∙ grow-sum v (edited runs access v);
+      operations =
+          let made : sum_below h i ≤ c.loop-number.plan.operations = so.operations in
+          let tail = sum_below-tail h (512 - i) i (λ x from to. operations-nothing runs access v x (none x from)) in
+          let whole : sum_below h (i + (512 - i)) ≡ sum_below h 512 = ap (sum_below h) e in
+          omega (arith, made, tail, whole);
+      most = let few = so.most in omega (arith, few, last, most);
     }

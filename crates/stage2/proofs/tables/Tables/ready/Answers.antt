@@ -17,20 +17,10 @@ returns-then-has_room-clause-canonical g c =
     let m = c.self.inside.memory in
     subst (λ (t : TablesView). AreCanonical t) c.self.view_is (are-canonical (view c.self.inside.layout (g.M.TableMem.state m) (g.M.TableMem.room m)) c.self.invariant (g.met.M.TableMem.free_is_zero m) (g.met.M.TableMem.operations_lie_within m))
 
-pub returns-then-has_room-2-clause-room : goal.returns-then-has_room-2-clause-room
-returns-then-has_room-2-clause-room g c =
-    let most = c.plan-plan.ensures.operations in
-    let room : g.M.TableMem.room c.self.inside.memory ≡ c.args.self.now.room = ap (λ (t : TablesView). t.room) c.self.view_is in
-    let has = c.has_room-2.ensures c.if-has_room-2.true in
-    omega (arith, most, room, has)
+pub returns-then-has_room_for_few-clause-room : goal.returns-then-has_room_for_few-clause-room
+returns-then-has_room_for_few-clause-room g c = c.has_room_for_few.ensures c.if-has_room_for_few.true
 
-pub returns-then-has_room-2-clause-canonical : goal.returns-then-has_room-2-clause-canonical
-returns-then-has_room-2-clause-canonical g c =
+pub returns-then-has_room_for_few-clause-canonical : goal.returns-then-has_room_for_few-clause-canonical
+returns-then-has_room_for_few-clause-canonical g c =
     let m = c.self.inside.memory in
     subst (λ (t : TablesView). AreCanonical t) c.self.view_is (are-canonical (view c.self.inside.layout (g.M.TableMem.state m) (g.M.TableMem.room m)) c.self.invariant (g.met.M.TableMem.free_is_zero m) (g.met.M.TableMem.operations_lie_within m))
-
-pub returns-then-looks-clause-room : goal.returns-then-looks-clause-room
-returns-then-looks-clause-room g c = room-made c.ready.result c.args.p c.args.runs.now c.args.access c.self.inside.layout (g.M.TableMem.state c.ready.new.self) (g.M.TableMem.state c.self.inside.memory) (g.M.TableMem.room c.ready.new.self) (g.M.TableMem.room c.self.inside.memory) c.plan-plan.result.operations c.args.clears c.args.self.now c.ready.ensures.state c.self.view_is c.plan-plan.ensures.operations c.ready.ensures.room
-
-pub returns-then-looks-clause-canonical : goal.returns-then-looks-clause-canonical
-returns-then-looks-clause-canonical g c = are-canonical (view c.self.inside.layout (g.M.TableMem.state c.ready.new.self) (g.M.TableMem.room c.ready.new.self)) (subst (λ (x : Pool). IsCanonical c.self.inside.layout (pages_of x.memory)) (sym c.ready.ensures.state) c.self.invariant) (g.met.M.TableMem.free_is_zero c.ready.new.self) (g.met.M.TableMem.operations_lie_within c.ready.new.self)

@@ -1,7 +1,7 @@
 use Rattle.std.proofs.Common.{◌-◌}
 use Rattle.stage2.specs.inner.Clauses.{view_in}
 use Rattle.stage2.proofs.Counting.UpToPiece.{IsPlanned}
-use Rattle.stage2.proofs.plan.plan_each_chunk.Given as goal
+use Rattle.stage2.proofs.plan.plan_chunks.Given as goal
 
 -- the chunks before this one are planned
 abbrev pub invariant-loop-piece : goal.invariant-loop-piece

@@ -4,7 +4,7 @@ use Rattle.stage2.specs.Edits.{edited}
 use Rattle.stage2.specs.inner.Chunks.{answers_of}
 use Rattle.stage2.specs.Room.{sum_below, gigabyte_operations}
 use Rattle.stage2.specs.inner.Gigabytes.{gigabyte_growth}
-use Rattle.stage2.proofs.plan.plan_each_gigabyte.Given as goal
+use Rattle.stage2.proofs.plan.plan_row.Given as goal
 
 abbrev pub invariant-loop-number : goal.invariant-loop-number
 invariant-loop-number g l = record {

@@ -1,0 +1,197 @@
+-- An edit whose pages lie in one chunk, and which writes no words of level 3 but theirs.
+use Rattle.std.proofs.Common.{◌≡◌, ◌≢◌, ℕ, zero, suc, ◌+◌, ◌-◌, ◌*◌, ◌/◌, ◌%◌, ◌<◌, ◌≤◌, min, Bool, true, false, cond, is_some, List, [], ◌∷◌, length, Option, Some, None, refl, sym, ap, ap₂, subst, ◌∙◌, arith, inl, inr}
+use Rattle.std.specs.Option.{option_map_or}
+use Rattle.std.proofs.lemmas.Bool.{cases_Bool, cases_lt}
+use Rattle.std.proofs.lemmas.List.Sums.{sum_by-cons}
+use Rattle.base.specs.Access.{View}
+use Rattle.base.specs.Need.{is_mixed, is_alike}
+use Rattle.std.proofs.lemmas.Bool.Decides.{nat_tests}
+use Rattle.base.specs.Pages.{PageRun, in_run, covers}
+use Rattle.pool.specs.Pool.{Pages, nonzero_in}
+use Rattle.stage2.specs.Edits.{edited, touches_chunk}
+use Rattle.stage2.specs.inner.Chunks.{answers_at, answers_of, second_of, entry_in, block_answer, covers_chunk, IsWordFor}
+use Rattle.stage2.specs.Orderly.{IsCanonical, answer_of}
+use Rattle.stage2.specs.Parts.{part_in, part_count}
+use Rattle.stage2.specs.Room.{sum_below, pages_among, pages_in, reached_in, table_operations, chunk_operations, gigabyte_operations, row_operations}
+use Rattle.stage2.specs.Slot.{Layout, Slot, Next, Bad}
+use Rattle.stage2.specs.Walk.{next_page}
+use Rattle.stage2.proofs.Counting.Bounds.{count-within}
+use Rattle.stage2.proofs.Counting.Growth.{entry-view, view-mixed, view-spelled, filled-operations}
+use Rattle.stage2.proofs.Counting.Needs.{mixed-same, mixed-none, unlike-mixed}
+use Rattle.stage2.proofs.Counting.Operations.{table-either, table-words, reached-as, plain-answer}
+use Rattle.stage2.proofs.Counting.Pieces.{count_below-fewer, page-among, zero-beside}
+use Rattle.stage2.proofs.Runs.ChunkCounts.{nowhere, with-pages, without-pages, operations-nothing}
+use Rattle.stage2.proofs.Runs.Spans.{sum_below-alone}
+use Rattle.stage2.proofs.Tree.KnownWords.{second-known}
+use Rattle.stage2.proofs.Walkers.Level3Write.{at_3-word}
+use Rattle.words.proofs.RoundTrip.{entry-zero}
+use Rattle.words.specs.Words.{entry_of}
+
+-- ---- how many pages and pieces runs have in a chunk
+
+pub run-pages : (run : PageRun) (c : ℕ) → pages_among (λ i. in_run run (512 * c + i)) ≤ run.count
+unfolding pages_among
+run-pages run c =
+    let few = count-within (λ i. in_run run (512 * c + i)) (run.first - 512 * c) (run.first + run.count - 512 * c) 512 (λ i lt here.
+    let low : run.first ≤ 512 * c + i = grind (arith, nat_tests, here) in
+    let high : 512 * c + i < run.first + run.count = grind (arith, nat_tests, here) in
+    (omega (arith, low), omega (arith, high))) in
+    omega (arith, few)
+
+parts-few : (c : ℕ) (runs : List PageRun) → part_count c runs ≤ length runs
+parts-few c [] = omega arith
+parts-few c (run ∷ runs) =
+    let rest = parts-few c runs in
+    let here = one (part_in c run) in
+    rw (sum_by-cons (λ (r : PageRun). option_map_or (λ (part : PageRun). 1) (part_in c r) 0) run runs) (omega (arith, rest, here))
+  where
+    one : (part : Option PageRun) → option_map_or (λ (p : PageRun). 1) part 0 ≤ 1
+    one None = omega arith
+    one (Some p) = omega arith
+
+-- ---- runs that have pages in one chunk alone
+
+module _ (runs : List PageRun) (access : View) (v : ℕ → View) (c : ℕ) (below : c < 262144) (only : (x : ℕ) → covers runs x ≡ true → x / 512 ≡ c) where
+  apart : (x : ℕ) → (x / 512 ≡ c → ⊥) → covers runs x ≡ false
+  apart x differs = elim (cases_Bool (covers runs x)) [
+    | inl t ↦ absurd (differs (only x t))
+    | inr f ↦ f
+  ]
+
+  alone : row_operations runs access v ≤ 2 + chunk_operations runs access v c
+  alone =
+      let g = c / 512 in
+      let i = c % 512 in
+      let at : 512 * g + i ≡ c = omega arith in
+      let chunks = sum_below-alone (λ x. chunk_operations runs access v (512 * g + x)) 512 i (omega arith)
+      (λ k lt differs. ap (λ t. cond t (3 + table_operations runs access v (512 * g + k)) 0) (nowhere runs (512 * g + k) (λ x there. apart x (λ e. differs (omega (arith, e, there, at)))))) in
+      let here = ap (chunk_operations runs access v) at in
+      let rows = sum_below-alone (gigabyte_operations runs access v) 512 g (omega (arith, below)) (λ k lt differs. operations-nothing runs access v k (λ x there. apart x (λ e. differs (omega (arith, e, there, at))))) in
+      omega (arith, chunks, here, rows)
+
+  -- all pages of a chunk without a table
+  pub few-filled : chunk_operations runs access v c ≡ 3 → row_operations runs access v ≤ 5
+  few-filled three = let all = alone in omega (arith, all, three)
+
+  module _ (n : ℕ) (enough : pages_in runs c + length runs ≤ n) where
+    few : (0 < pages_in runs c → table_operations runs access v c ≤ n) → row_operations runs access v ≤ n + 5
+    few most =
+        let all = alone in
+        elim (cases_lt 0 (pages_in runs c)) [
+          | inl some ↦
+              let chunk : chunk_operations runs access v c ≡ 3 + table_operations runs access v c = ap (λ t. cond t (3 + table_operations runs access v c) 0) (with-pages runs c some) in
+              let table = most some in
+              omega (arith, all, chunk, table)
+          | inr none ↦
+              let chunk : chunk_operations runs access v c ≡ 0 = ap (λ t. cond t (3 + table_operations runs access v c) 0) (without-pages runs c (omega (arith, none))) in
+              omega (arith, all, chunk)
+        ]
+
+    -- unmapped, in a table
+    pub few-unmapped : is_mixed v c ≡ true → is_some access ≡ false → row_operations runs access v ≤ n + 5
+    few-unmapped was unmaps = few (λ some.
+        let page = page-among (λ i. covers runs (512 * c + i)) some in
+        let lt = page.1 in
+        let either = table-either runs access v c (512 * c + page.0) was (omega (arith, lt)) page.2 in
+        let parts = parts-few c runs in
+        elim either [
+          | inl kept ↦ let k = kept ∙ ap (λ b. pages_in runs c + cond b 0 (part_count c runs)) unmaps in omega (arith, k, parts, enough)
+          | inr gone ↦ let k = gone ∙ ap (λ b. cond b (reached_in v c) (pages_in runs c)) unmaps in omega (arith, k, enough)
+        ])
+
+    -- mapped, in a table of so many words
+    pub few-either : is_mixed v c ≡ true → is_some access ≡ true → reached_in v c ≤ n → row_operations runs access v ≤ n + 5
+    few-either was maps most = few (λ some.
+        let page = page-among (λ i. covers runs (512 * c + i)) some in
+        let lt = page.1 in
+        let either = table-either runs access v c (512 * c + page.0) was (omega (arith, lt)) page.2 in
+        elim either [
+          | inl kept ↦ let k = kept ∙ ap (λ b. pages_in runs c + cond b 0 (part_count c runs)) maps in omega (arith, k, enough)
+          | inr gone ↦ let k = gone ∙ ap (λ b. cond b (reached_in v c) (pages_in runs c)) maps in omega (arith, k, most)
+        ])
+
+    -- mapped, in a table in which another page is not
+    pub few-mapped : is_mixed v c ≡ true → is_some access ≡ true → (y : ℕ) × (y < 512) × (covers runs (512 * c + y) ≡ false) × (v (512 * c + y) ≡ None) → row_operations runs access v ≤ n + 5
+    few-mapped was maps other = few (λ some.
+        let page = page-among (λ i. covers runs (512 * c + i)) some in
+        let lt = page.1 in
+        let small = other.1 in
+        let x = 512 * c + page.0 in
+        let y = 512 * c + other.0 in
+        let within : edited runs access v x ≡ access = ap (λ b. cond b access (v x)) page.2 in
+        let beside : edited runs access v y ≡ None = ap (λ b. cond b access (v y)) other.2 ∙ other.3 in
+        let now = unlike-mixed (edited runs access v) c x y (omega (arith, lt)) (omega (arith, small)) (ap₂ is_alike within beside ∙ unlike access maps) in
+        let table : table_operations runs access v c ≡ pages_in runs c + cond (is_some access) 0 (part_count c runs) = rw (now, was) refl in
+        let k = table ∙ ap (λ b. pages_in runs c + cond b 0 (part_count c runs)) maps in
+        omega (arith, k, enough))
+      where
+        unlike : (a : View) → is_some a ≡ true → is_alike a None ≡ false
+        unlike None e = absurd (cc)
+        unlike (Some a) e = refl
+
+    -- in a chunk none of whose pages is reached
+    pub few-hung : ((i : ℕ) → i < 512 → v (512 * c + i) ≡ None) → row_operations runs access v ≤ n + 5
+    unfolding pages_among
+    few-hung none = few (λ some.
+        let was = mixed-none v c none in
+        let fewer = count_below-fewer (λ i. is_some (edited runs access v (512 * c + i))) (λ i. covers runs (512 * c + i)) 512 (λ k lt reached. elim (cases_Bool (covers runs (512 * c + k))) [
+          | inl t ↦ t
+          | inr f ↦ let not : is_some (edited runs access v (512 * c + k)) ≡ false = ap (λ a. is_some a) (ap (λ b. cond b access (v (512 * c + k))) f ∙ none k lt) in absurd (cc)
+        ]) in
+        elim (cases_Bool (is_mixed (edited runs access v) c)) [
+          | inl now ↦ let table : table_operations runs access v c ≡ reached_in (edited runs access v) c = rw (now, was) refl in omega (arith, table, fewer, enough)
+          | inr now ↦ let table : table_operations runs access v c ≡ 0 = rw (now, was) refl in omega (arith, table)
+        ])
+
+-- ---- what a chunk's word tells
+
+-- the chunk's word has a form of its level
+pub entry-known : (layout : Layout) (m : Pages) → IsCanonical layout m → (g i : ℕ) → g < 512 → i < 512 → (row : Option ℕ) → ((r : ℕ) → row ≡ Some r → r < length layout.ids) → (second : Option ℕ) → second_of layout m.words row g ≡ second → entry_in layout m.words second i ≢ Bad
+entry-known layout m canonical g i below small row inside None is bad = cc
+entry-known layout m canonical g i below small None inside (Some j) is bad = cc
+entry-known layout m canonical g i below small (Some r) inside (Some j) is bad = second-known layout m canonical.orderly r g i j (inside r refl) below small is bad
+
+module _ (layout : Layout) (m : Pages) (canonical : IsCanonical layout m) (row : Option ℕ) (inside : (r : ℕ) → row ≡ Some r → r < length layout.ids) (second : Option ℕ) (c : ℕ) (below : c < 262144)
+    (hangs : second_of layout m.words row (c / 512) ≡ second) where
+  abbrev entry : Slot
+  entry = entry_in layout m.words second (c % 512)
+
+  abbrev before : ℕ → View
+  before = answers_of layout m.words row
+
+  gigabyte : c / 512 < 512
+  gigabyte = omega (arith, below)
+
+  at : 512 * (c / 512) + c % 512 ≡ c
+  at = omega arith
+
+  seen : (i : ℕ) → i < 512 → before (512 * c + i) ≡ answers_at layout m.words entry (512 * c + i)
+  seen i lt = sym (entry-view layout m canonical (c / 512) gigabyte row inside second (c % 512) (512 * c + i) (omega arith) hangs (omega (arith, lt)))
+
+  pub entry-mixed : is_mixed before c ≡ is_some (next_page entry)
+  entry-mixed =
+      mixed-same (answers_at layout m.words entry) before c seen
+      ∙ subst (λ x. is_mixed (answers_at layout m.words entry) x ≡ is_some (next_page entry)) at (view-mixed layout m canonical (c / 512) gigabyte row inside second (c % 512) (omega arith) hangs)
+
+  pub entry-plain : next_page entry ≡ None → block_answer entry ≡ None → (i : ℕ) → i < 512 → before (512 * c + i) ≡ None
+  entry-plain none free i lt = seen i lt ∙ plain-answer layout m.words entry (512 * c + i) none ∙ free
+
+  pub entry-beside : (k : ℕ) → entry ≡ Next k → (which : ℕ → Bool) → nonzero_in m.words k + pages_among which < 512 → (i : ℕ) × (i < 512) × (which i ≡ false) × (before (512 * c + i) ≡ None)
+  entry-beside k next which few =
+      let zero = zero-beside m.words k which few in
+      let lt = zero.1 in
+      let n = 512 * c + zero.0 in
+      let index : n % 512 ≡ zero.0 = omega (arith, lt) in
+      let word : m.words k (n % 512) ≡ 0 = ap (m.words k) index ∙ zero.3 in
+      (zero.0, lt, zero.2, seen zero.0 lt ∙ ap (λ (s : Slot). answers_at layout m.words s n) next ∙ ap answer_of (at_3-word layout n (m.words k (n % 512)) None (ap (entry_of 3) word ∙ entry-zero 3)))
+
+  pub entry-words : (k : ℕ) → entry ≡ Next k → nonzero_in m.words k ≡ reached_in before c
+  entry-words k next =
+      table-words layout m.words c k (λ n there none.
+      (subst (λ x. (y : ℕ) → y / 512 ≡ x → IsWordFor y (answers_at layout m.words (Next k) y) (m.words k (y % 512))) at (view-spelled layout m canonical (c / 512) gigabyte row inside second (c % 512) (omega arith) hangs k next) n there).zero none)
+      ∙ reached-as before (answers_at layout m.words (Next k)) c (λ i lt. sym (seen i lt ∙ ap (λ (s : Slot). answers_at layout m.words s (512 * c + i)) next))
+
+  pub entry-filled : (runs : List PageRun) (access : View) → next_page entry ≡ None → covers_chunk c runs ≡ true → chunk_operations runs access before c ≡ 3
+  entry-filled runs access none filled =
+      subst (λ x. chunk_operations runs access before x ≡ 3) at
+      (filled-operations layout m canonical (c / 512) gigabyte row inside runs access second (c % 512) (omega arith) hangs none (subst (λ x. covers_chunk x runs ≡ true) (sym at) filled))
