@@ -170,11 +170,11 @@ pub(crate) fn few_operations<M: TableMem>(memory: &M, edit: &RowPlan, runs: &Run
     ensures most { IfSome result (λ few. few ≤ 2 ^ 33) }
 {
     let chunk = only_chunk(bounds(runs))?;
+    let pages = count_pages(runs);
+    let mut words = runs.list().len() + pages as usize;
     let gigabyte = Gigabyte::of(chunk.first());
     let second = second_at(memory, edit.layout, &edit.row, gigabyte);
     let entry = entry_at(memory, edit.layout, &second, chunk);
-    let pages = count_pages(runs);
-    let mut words = runs.list().len() + pages as usize;
     match table_of(&entry) {
         Some(third) => {
             let nonzero = memory.nonzero(third.number());
