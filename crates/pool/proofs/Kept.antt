@@ -7,7 +7,7 @@ use Rattle.std.proofs.lemmas.Bool.Decides.{nat_tests}
 use Rattle.std.proofs.lemmas.List.{length-map}
 use Rattle.base.specs.Manifest.{PartitionRow, ManifestRows, row_of, quotas_of, page_count}
 use Rattle.manifest.specs.Valid.{is_valid}
-use Rattle.pool.specs.Pool.{Memory, Pages, InShare, IsLowestFreeOf, row_in, words_of, taken_of, mark, with_mark, share_start, row_quota, pages_of, free_of, CountsFree, NoneFreeBelow, new_memory, used_by, used_of}
+use Rattle.pool.specs.Pool.{Memory, Pages, InShare, HasFree, IsLowestFree, row_in, words_of, taken_of, mark, with_mark, share_start, row_quota, pages_of, free_of, CountsFree, NoneFreeBelow, new_memory, used_by, used_of}
 use Rattle.pool.specs.declared.table_pool.TablePool.{TablePool}
 use Rattle.pool.specs.declared.word_store.WordStore.{Ghosts}
 use Rattle.marks.specs.Marks.{IsFirstUnmarked, AllMarkedFrom}
@@ -67,15 +67,12 @@ taken_of-new roots shares page held = elim (cases_lt page roots) [
 pub row_of-found : (ids : List ℕ) (p row : ℕ) → position (λ id. id == p) ids ≡ Some row → (row_of ids p ≡ row) × (row < length ids)
 row_of-found ids p row found = grind (arith, nat_tests, found)
 
--- a partition that has a free page has a row
-pub row_of-within : (m : Pages) (p : ℕ) → length m.ids ≡ length m.quotas → 0 < free_of m p → row_of m.ids p < length m.ids
-row_of-within m p whole free = elim (cases_lt (row_of m.ids p) (length m.ids)) [
+-- where a page is free there is a row
+pub row-within : (m : Pages) (row : ℕ) → HasFree m row → row < length m.quotas
+row-within m row free = elim (cases_lt row (length m.quotas)) [
   | inl within ↦ within
-  | inr beyond ↦ absurd (omega (arith, free, row_quota-none m.quotas (row_of m.ids p) (omega arith)))
+  | inr beyond ↦ absurd (omega (arith, free, row_quota-none m.quotas row (omega arith)))
 ]
-
-pub position-found : (ids : List ℕ) (p : ℕ) → row_of ids p < length ids → IsSome (position (λ id. id == p) ids)
-position-found ids p below = grind (arith, nat_tests, below)
 
 -- ---- the search for a free page
 
@@ -87,26 +84,24 @@ abbrev pub pages_in : {S : Type 0} {g : Ghosts S} → TablePool S g → Pages
 pages_in m = pages_of (memory_in m)
 
 -- where some are free, not each page of a share is taken
-free-some : (m : Pages) (p : ℕ) → 0 < free_of m p → ((q : ℕ) → InShare m.quotas (row_of m.ids p) q → m.taken q ≡ true) → ⊥
-free-some m p free held =
-    let row = row_of m.ids p in
+free-some : (m : Pages) (row : ℕ) → HasFree m row → ((q : ℕ) → InShare m.quotas row q → m.taken q ≡ true) → ⊥
+free-some m row free held =
     let all = count_below-all (λ k. m.taken (share_start m.quotas row + k)) (row_quota m.quotas row) (λ k short. held (share_start m.quotas row + k) (share_at m.quotas row k short)) in
     omega (arith, free, all)
 
 -- nor are all from the page on below which none is free
-pub some-unmarked : (m : Memory) (lowest : List ℕ) (p : ℕ) → NoneFreeBelow m.quotas m.taken lowest → length m.taken ≡ page_count m.quotas → 0 < free_of (pages_of m) p → ¬ AllMarkedFrom m.taken (slice_index lowest (row_in m p))
+pub some-unmarked : (m : Memory) (lowest : List ℕ) (row : ℕ) → NoneFreeBelow m.quotas m.taken lowest → length m.taken ≡ page_count m.quotas → HasFree (pages_of m) row → ¬ AllMarkedFrom m.taken (slice_index lowest row)
 unfolding taken_of
-some-unmarked m lowest p below whole free held =
-    free-some (pages_of m) p free (λ q inside. elim (cases_lt q (slice_index lowest (row_in m p))) [
-      | inl under ↦ below.below (row_in m p) q inside under
-      | inr on ↦ held q on (omega (arith, whole, share_inside m.quotas (row_in m p) q inside))
+some-unmarked m lowest row below whole free held =
+    free-some (pages_of m) row free (λ q inside. elim (cases_lt q (slice_index lowest row)) [
+      | inl under ↦ below.below row q inside under
+      | inr on ↦ held q on (omega (arith, whole, share_inside m.quotas row q inside))
     ])
 
 -- the next one that is not taken is the lowest free one
-pub found-lowest : (m : Memory) (lowest : List ℕ) (p found : ℕ) → NoneFreeBelow m.quotas m.taken lowest → 0 < free_of (pages_of m) p → IsFirstUnmarked m.taken (slice_index lowest (row_in m p)) found → IsLowestFreeOf m p found
+pub found-lowest : (m : Memory) (lowest : List ℕ) (row found : ℕ) → NoneFreeBelow m.quotas m.taken lowest → HasFree (pages_of m) row → IsFirstUnmarked m.taken (slice_index lowest row) found → IsLowestFree (pages_of m) row found
 unfolding taken_of
-found-lowest m lowest p found below free first =
-    let row = row_in m p in
+found-lowest m lowest row found below free first =
     let inside = share_at m.quotas row 0 (omega (arith, free)) in
     let before : (q : ℕ) → InShare m.quotas row q → q < found → taken_of m.taken q ≡ true = λ q in_share early. elim (cases_lt q (slice_index lowest row)) [
       | inl under ↦ below.below row q in_share under
@@ -118,7 +113,7 @@ found-lowest m lowest p found below free first =
         from = omega (arith, first.from, below.from row inside.partition);
         to = elim (cases_lt found (share_start m.quotas row + row_quota m.quotas row)) [
           | inl within ↦ within
-          | inr beyond ↦ absurd (free-some (pages_of m) p free (λ q in_share. before q in_share (omega (arith, beyond, in_share.to))))
+          | inr beyond ↦ absurd (free-some (pages_of m) row free (λ q in_share. before q in_share (omega (arith, beyond, in_share.to))))
         ];
       };
       free = first.free;

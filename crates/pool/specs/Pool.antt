@@ -127,13 +127,9 @@ pub record IsLowestFree (m : Pages) (row page : ℕ) : Type 0 where
   pub free : m.taken page ≡ false
   pub lowest : (q : ℕ) → InShare m.quotas row q → q < page → m.taken q ≡ true
 
--- the page stands in a partition's share
-abbrev pub InShareOf : Memory → ℕ → ℕ → Type 0
-InShareOf m p page = InShare m.quotas (row_in m p) page
-
--- the free page of a partition's share with the lowest number
-abbrev pub IsLowestFreeOf : Memory → ℕ → ℕ → Type 0
-IsLowestFreeOf m p page = IsLowestFree (pages_of m) (row_in m p) page
+-- a page of a row's share is free
+abbrev pub HasFree : Pages → ℕ → Type 0
+HasFree m row = used_by m row < row_quota m.quotas row
 
 -- ---- the calls
 

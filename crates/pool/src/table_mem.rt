@@ -1,7 +1,7 @@
 ghost use Rattle.std.specs.Prelude.{◌≡◌, ◌≢◌, ℕ, ◌+◌, ◌-◌, ◌*◌, ◌^◌, ◌<◌, ◌≤◌, length, reverse, IfOk, OnOk, true, false};
 ghost use Rattle.base.specs.Manifest.{page_count};
 ghost use Rattle.base.specs.Pages.{covers};
-ghost use Rattle.pool.specs.Pool.{Pool, IsWhole, HasRow, all_lie_in, InShareOf, IsLowestFreeOf, pages_of, words_of, taken_of, nonzero_in, words_in, new_pool, after_set, after_sets, after_runs, gaps_of, after_replaces, after_invalidate, after_clear, after_take, after_give, emptied, free_of, image_of};
+ghost use Rattle.pool.specs.Pool.{Pool, IsWhole, HasRow, all_lie_in, InShare, HasFree, IsLowestFree, pages_of, words_of, taken_of, nonzero_in, words_in, new_pool, after_set, after_sets, after_runs, gaps_of, after_replaces, after_invalidate, after_clear, after_take, after_give, emptied, free_of, image_of};
 ghost use Rattle.pool.specs.Writing.{AreGapsThere, IsGapMissing, TurnRuns, TurnGaps, HasZero};
 
 use crate::image::Image;
@@ -148,16 +148,16 @@ pub trait TableMem {
         ensures state { state self.new ≡ after_clear run (state self.old) }
         ensures room { room self.new + 1 ≡ room self.old };
 
-    /// Takes the free page of a partition's share with the lowest number, and answers that number.
-    fn take_page(&mut self, p: PartitionId) -> u32
-        requires free { 0 < free_of (pages_of (state self.old).memory) p }
-        ensures lowest { IsLowestFreeOf (state self.old).memory p result }
+    /// Takes the free page of a row's share with the lowest number, and answers that number.
+    fn take_page(&mut self, row: u32) -> u32
+        requires free { HasFree (pages_of (state self.old).memory) row }
+        ensures lowest { IsLowestFree (pages_of (state self.old).memory) row result }
         ensures state { state self.new ≡ after_take result (state self.old) }
         ensures room { room self.new ≡ room self.old };
 
-    /// Gives back a page of a partition's share, all of whose words are 0.
-    fn give_page(&mut self, p: PartitionId, page: u32)
-        requires inside { InShareOf (state self.old).memory p page }
+    /// Gives back a page of a row's share, all of whose words are 0.
+    fn give_page(&mut self, row: u32, page: u32)
+        requires inside { InShare (state self.old).memory.quotas row page }
         requires taken { taken_of (state self.old).memory.taken page ≡ true }
         requires empty { (i : ℕ) → i < 512 → words_of (state self.old).memory.words page i ≡ 0 }
         ensures state { state self.new ≡ after_give page (state self.old) }

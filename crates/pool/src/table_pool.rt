@@ -227,8 +227,8 @@ impl<S: WordStore> TableMem for TablePool<S> {
         self.operations.push_reserved(Op::Clear { run });
     }
 
-    fn take_page(&mut self, p: PartitionId) -> u32 {
-        let row = self.ids.row(p).unwrap();
+    fn take_page(&mut self, row: u32) -> u32 {
+        let row = row as usize;
         let page = self.taken.next_unmarked(self.lowest[row]);
         self.store.fill(page);
         self.taken.mark(page);
@@ -237,8 +237,8 @@ impl<S: WordStore> TableMem for TablePool<S> {
         page
     }
 
-    fn give_page(&mut self, p: PartitionId, page: u32) {
-        let row = self.ids.row(p).unwrap();
+    fn give_page(&mut self, row: u32, page: u32) {
+        let row = row as usize;
         self.taken.unmark(page);
         self.free[row] += 1;
         self.lowest[row] = self.lowest[row].min(page);

@@ -54,7 +54,7 @@ fn unlink<M: TableMem>(
 {
     put_word(memory, row.root(), gigabyte.index(), 0);
     memory.invalidate(p, gigabyte.pages());
-    give_page(memory, p, second);
+    give_page(memory, row, second);
 }
 
 /// Edits the pages of runs in a gigabyte: they are reached with this access, or not at all. A level 2 table that is taken is linked after
@@ -72,7 +72,7 @@ fn edit_gigabyte<M: TableMem>(memory: &mut M, edit: &RowEdit, gigabyte: Gigabyte
             if edit.access.is_none() {
                 return;
             }
-            take_page(memory, edit.p)
+            take_page(memory, edit.row)
         }
     };
     edit_chunks(memory, edit, second, gigabyte, runs);

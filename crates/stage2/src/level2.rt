@@ -151,7 +151,7 @@ fn drop_table<M: TableMem>(memory: &mut M, site: &Site, edit: &ChunkEdit, third:
         block_word(edit.chunk, &edit.access),
     );
     empty_table(memory, third, edit);
-    give_page(memory, p, third);
+    give_page(memory, site.row, third);
 }
 
 /// Edits the pages of a chunk whose table stays. Where they are unmapped, they are invalidated run by run.
@@ -192,7 +192,7 @@ fn hang_table<M: TableMem>(memory: &mut M, site: &Site, edit: &ChunkEdit, before
         + (3 + reached_in (edited edit.now.runs edit.now.access (λ n. before.now)) edit.now.chunk) }
 {
     let Site { p, second, .. } = *site;
-    let third = take_page(memory, p);
+    let third = take_page(memory, site.row);
     fill_table(memory, third, edit, before);
     replace_entry(
         memory,

@@ -1,15 +1,14 @@
 //! Single words of tables, and pages of tables that are taken and given back.
 
 ghost use Rattle.base.specs.Manifest.{page_count};
-ghost use Rattle.pool.specs.Pool.{pages_of, words_of, taken_of, free_of, after_take, after_give, InShareOf, IsLowestFreeOf};
+ghost use Rattle.pool.specs.Pool.{pages_of, words_of, taken_of, after_take, after_give, InShare, IsLowestFree};
 ghost use Rattle.pool.specs.declared.operation.Op.TheVariants.{Set};
-ghost use Rattle.stage2.specs.inner.Clauses.{Puts, IsEmpty, HasWord};
+ghost use Rattle.stage2.specs.inner.Clauses.{Puts, IsEmpty, HasFree, HasWord};
 ghost use Rattle.stage2.specs.inner.History.{Made};
 ghost use Rattle.stage2.specs.Moments.{IsLogged};
 ghost use Rattle.std.specs.Prelude.{◌≡◌, ℕ, ◌+◌, ◌-◌, ◌<◌, true, false, [], ◌∷◌};
 
-use crate::table_page::TablePage;
-use base::PartitionId;
+use crate::table_page::{Row, TablePage};
 use pool::TableMem;
 
 /// Writes a word of a root or of a page that is taken.
@@ -27,24 +26,24 @@ pub(crate) fn put_word<M: TableMem>(memory: &mut M, table: TablePage, index: u32
 }
 
 /// Takes the free page of a partition's share with the lowest number.
-pub(crate) fn take_page<M: TableMem>(memory: &mut M, p: PartitionId) -> TablePage
-    requires free { 0 < free_of (pages_of (M.state memory.old).memory) p }
-    ensures lowest { IsLowestFreeOf (M.state memory.old).memory p result }
+pub(crate) fn take_page<M: TableMem>(memory: &mut M, row: Row) -> TablePage
+    requires free { HasFree row (M.state memory.old) }
+    ensures lowest { IsLowestFree (pages_of (M.state memory.old).memory) row result }
     ensures state { M.state memory.new ≡ after_take result (M.state memory.old) }
     ensures room { M.room memory.new ≡ M.room memory.old }
 {
-    TablePage::new(memory.take_page(p))
+    TablePage::new(memory.take_page(row.number()))
 }
 
 /// Gives back a page of a partition's share, all of whose words are 0.
-pub(crate) fn give_page<M: TableMem>(memory: &mut M, p: PartitionId, table: TablePage)
-    requires inside { InShareOf (M.state memory.old).memory p table }
+pub(crate) fn give_page<M: TableMem>(memory: &mut M, row: Row, table: TablePage)
+    requires inside { InShare (M.state memory.old).memory.quotas row table }
     requires taken { taken_of (M.state memory.old).memory.taken table ≡ true }
     requires empty { (i : ℕ) → i < 512 → words_of (M.state memory.old).memory.words table i ≡ 0 }
     ensures state { M.state memory.new ≡ after_give table (M.state memory.old) }
     ensures room { M.room memory.new ≡ M.room memory.old }
 {
-    memory.give_page(p, table.number());
+    memory.give_page(row.number(), table.number());
 }
 
 /// Whether all words of a table are 0, which their count tells.

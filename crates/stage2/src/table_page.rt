@@ -60,6 +60,13 @@ impl Row {
         Row(number)
     }
 
+    /// The number of the row.
+    pub(crate) fn number(self) -> u32
+        ensures { result ≡ self }
+    {
+        self.0
+    }
+
     /// The page of the partition's root.
     pub(crate) fn root(self) -> TablePage
         ensures { result ≡ self }

@@ -22,10 +22,10 @@ fn common_memory<M: TableMem>(alloc: Global) -> Result<M, OutOfMemory>
 
 fn take_first_pages<M: TableMem + Drop>(rt: &impl Abort, alloc: Global) -> Result<(), OutOfMemory> {
     let mut memory: M = common_memory(alloc)?;
-    for (id, first) in [(0x8001, 3), (0x8002, 19), (0x8003, 35)] {
+    for (row, id, first) in [(0, 0x8001, 3), (1, 0x8002, 19), (2, 0x8003, 35)] {
         let p = PartitionId::new(id);
         assert_eq!(rt; memory.free(p), 16);
-        assert_eq!(rt; memory.take_page(p), first);
+        assert_eq!(rt; memory.take_page(row), first);
         assert_eq!(rt; memory.free(p), 15);
     }
     assert_eq!(rt; memory.free(PartitionId::new(0x8004)), 0);
@@ -36,13 +36,13 @@ fn take_given_page<M: TableMem + Drop>(rt: &impl Abort, alloc: Global) -> Result
     let mut memory: M = common_memory(alloc)?;
     let p = PartitionId::new(0x8002);
     assert!(rt; memory.free(p) > 0);
-    let lower = memory.take_page(p);
+    let lower = memory.take_page(1);
     assert!(rt; memory.free(p) > 0);
-    let upper = memory.take_page(p);
+    let upper = memory.take_page(1);
     assert_eq!(rt; (lower, upper), (19, 20));
-    memory.give_page(p, lower);
+    memory.give_page(1, lower);
     assert_eq!(rt; memory.free(p), 15);
-    assert_eq!(rt; memory.take_page(p), lower);
+    assert_eq!(rt; memory.take_page(1), lower);
     Ok(())
 }
 

@@ -2,9 +2,8 @@
 use Rattle.std.proofs.Common.{◌≡◌, ℕ, ◌+◌, ◌/◌, ◌%◌, ◌<◌, Bool, true, false, ◌&&◌, eqb, cond, is_some, None, Some, List, sym, ap, subst, ◌∙◌, arith}
 use Rattle.std.proofs.lemmas.Bool.Decides.{nat_tests}
 use Rattle.base.specs.Access.{View}
-use Rattle.base.specs.Manifest.{row_of}
 use Rattle.base.specs.Pages.{PageRun}
-use Rattle.pool.specs.Pool.{Pages, Pool, IsWhole, pages_of, words_of, taken_of, free_of, row_in, with_mark, after_take, IsLowestFree, IsLowestFreeOf}
+use Rattle.pool.specs.Pool.{Pages, Pool, IsWhole, pages_of, words_of, taken_of, with_mark, after_take, IsLowestFree}
 use Rattle.pool.specs.declared.operation.Op.TheVariants.{Set}
 use Rattle.words.specs.Words.{table_word_of}
 use Rattle.stage2.specs.Edits.{AreFree, edited, disturbed}
@@ -13,7 +12,7 @@ use Rattle.stage2.specs.Orderly.{IsOrderly, answers, answer_of, linked}
 use Rattle.stage2.specs.Walk.{walk, walked, Gigabyte, table_at}
 use Rattle.stage2.specs.declared.site.RowEdit.{RowEdit}
 use Rattle.stage2.specs.declared.walked.Walked.{Walked}
-use Rattle.stage2.specs.inner.Clauses.{second_at, row_view, Puts, CanEditChunks, AreChunksEdited, CanEditGigabyte, IsGigabyteEdited, EditsInGigabyte, GigabyteInStep, operations_in_chunks, operations_in_gigabyte}
+use Rattle.stage2.specs.inner.Clauses.{second_at, row_view, HasFree, Puts, CanEditChunks, AreChunksEdited, CanEditGigabyte, IsGigabyteEdited, EditsInGigabyte, GigabyteInStep, operations_in_chunks, operations_in_gigabyte}
 use Rattle.stage2.specs.inner.Gigabytes.{Fits, IsUnderway}
 use Rattle.stage2.specs.inner.Steps.{IsSeated, disturbed_below}
 use Rattle.stage2.proofs.Editing.Gigabyte.{touched-below, link-has-free, link-fits, same-answers, link-chunks, finish-link}
@@ -27,24 +26,18 @@ module _ {e : RowEdit} {g : ℕ} {runs : List PageRun} {first : Pool} {r0 : ℕ}
   below : g < 512
   below = touched-below runs g can.touched
 
-  is_row : row_in first.memory e.p ≡ e.row
-  is_row = ap (λ x. row_of x e.p) (sym can.canonical.orderly.ids) ∙ e.own
-
   -- a page is free for it
-  pub untabled-free : 0 < free_of (pages_of first.memory) e.p
-  untabled-free =
-      let free = link-has-free e.layout.now e.row g runs e.access (pages_of first.memory) can.canonical e.inside below none can.touched maps can.fits.fits in
-      rw is_row (omega (arith, free))
+  pub untabled-free : HasFree e.row first
+  untabled-free = link-has-free e.layout.now e.row g runs e.access (pages_of first.memory) can.canonical e.inside below none can.touched maps can.fits.fits
 
   -- which is taken
-  module _ {j : ℕ} {taken : Pool} (whole : IsWhole first.memory) (zeros : (i : ℕ) → taken_of first.memory.taken j ≡ false → words_of first.memory.words j i ≡ 0) (lowest : IsLowestFreeOf first.memory e.p j) (is : taken ≡ after_take j first) where
+  module _ {j : ℕ} {taken : Pool} (whole : IsWhole first.memory) (zeros : (i : ℕ) → taken_of first.memory.taken j ≡ false → words_of first.memory.words j i ≡ 0) (lowest : IsLowestFree (pages_of first.memory) e.row j) (is : taken ≡ after_take j first) where
     link : IsLink e.layout.now e.row g j (pages_of first.memory)
     link =
-        let free : IsLowestFree (pages_of first.memory) e.row j = subst (λ x. IsLowestFree (pages_of first.memory) x j) is_row lowest in
-        record { orderly = can.canonical.orderly; partition = e.inside; gigabyte = below; none = none; inside = free.inside; free = free.free; zero = λ i. zeros i free.free }
+        record { orderly = can.canonical.orderly; partition = e.inside; gigabyte = below; none = none; inside = lowest.inside; free = lowest.free; zero = λ i. zeros i lowest.free }
 
     marked : pages_of taken.memory ≡ with_mark j true (pages_of first.memory)
-    marked = pages_of-take first taken (row_in first.memory e.p) j whole lowest is
+    marked = pages_of-take first taken e.row j whole lowest is
 
     -- two operations are for its link
     costs : operations_in_gigabyte e g runs first ≡ operations_in_chunks e g j runs taken + 2

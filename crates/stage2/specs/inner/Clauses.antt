@@ -5,7 +5,8 @@ use Rattle.base.specs.Counts.{count_below}
 use Rattle.base.specs.Manifest.{row_of}
 use Rattle.base.specs.Need.{grow}
 use Rattle.base.specs.Pages.{PageRun, covers}
-use Rattle.pool.specs.Pool.{Pool, InShare, pages_of, row_in, words_of, taken_of, nonzero_in, with_put, with_mark, after_replaces, used_by, row_quota}
+use Rattle.pool.specs.Pool as memory
+use Rattle.pool.specs.Pool.{Pool, InShare, pages_of, row_in, words_of, taken_of, nonzero_in, with_put, with_mark, after_replaces}
 use Rattle.pool.specs.declared.runs.TableWords.{TableWords}
 use Rattle.stage2.specs.declared.site.ChunkEdit.{ChunkEdit}
 use Rattle.stage2.specs.declared.plan.Plan.{Plan}
@@ -121,7 +122,7 @@ AnswersAll s e one pool = (n : ℕ) → n / 512 ≡ e.chunk → chunk_view s e p
 
 -- a page of the row's share is free
 abbrev pub HasFree : ℕ → Pool → Type 0
-HasFree row pool = used_by (pages_of pool.memory) row < row_quota pool.memory.quotas row
+HasFree row pool = memory.HasFree (pages_of pool.memory) row
 
 -- the edit takes a table for it
 abbrev pub GrowsChunk : Site → ChunkEdit → Pool → Type 0

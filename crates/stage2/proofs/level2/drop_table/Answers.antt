@@ -45,9 +45,7 @@ give_page-requires-clause-inside g c =
     let m2 = pages_of (g.M.TableMem.state c.empty_table.new.memory).memory in
     let share : InShare m.quotas c.args.site.now.row c.args.third = third-share c.args.edit.now.layout.now c.args.site.now.row c.args.edit.now.chunk c.args.site.now.second m c.requires.site c.args.third c.requires.table in
     let quotas : m2.quotas ≡ m.quotas = c.empty_table.ensures.writes.words.quotas ∙ ap (λ (x : Pages). x.quotas) c.replace_entry.ensures.pages in
-    let ids : m2.ids ≡ c.args.edit.now.layout.now.ids = c.empty_table.ensures.writes.words.ids ∙ ap (λ (x : Pages). x.ids) c.replace_entry.ensures.pages ∙ sym c.requires.site.orderly.ids in
-    let is : row_of m2.ids c.args.site.now.p ≡ c.args.site.now.row = ap (λ x. row_of x c.args.site.now.p) ids ∙ c.requires.row in
-    subst (λ x. InShare m2.quotas x c.args.third) (sym is) (subst (λ x. InShare x c.args.site.now.row c.args.third) (sym quotas) share)
+    subst (λ x. InShare x c.args.site.now.row c.args.third) (sym quotas) share
 
 pub give_page-requires-clause-taken : goal.give_page-requires-clause-taken
 give_page-requires-clause-taken g c =

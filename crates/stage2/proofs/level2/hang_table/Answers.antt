@@ -24,21 +24,21 @@ use Rattle.stage2.proofs.level2.hang_table.Goals as goal
 pub fill_table-requires-clause-taken : goal.fill_table-requires-clause-taken
 fill_table-requires-clause-taken g c =
     let old = g.M.TableMem.state c.args.memory.now in
-    let marked = pages_of-take old (g.M.TableMem.state c.take_page-third.new.memory) (row_in old.memory c.args.site.now.p) c.take_page-third.result (g.met.M.TableMem.whole c.args.memory.now) c.take_page-third.ensures.lowest c.take_page-third.ensures.state in
+    let marked = pages_of-take old (g.M.TableMem.state c.take_page-third.new.memory) c.args.site.now.row c.take_page-third.result (g.met.M.TableMem.whole c.args.memory.now) c.take_page-third.ensures.lowest c.take_page-third.ensures.state in
     ap (λ (x : Pages). x.taken c.take_page-third.result) marked ∙ mark-same (pages_of old.memory).taken c.take_page-third.result true
 
 pub replace_entry-requires-clause-page_in : goal.replace_entry-requires-clause-page_in
 replace_entry-requires-clause-page_in g c =
     let old = g.M.TableMem.state c.args.memory.now in
     let m2 = pages_of (g.M.TableMem.state c.fill_table.new.memory).memory in
-    let marked = pages_of-take old (g.M.TableMem.state c.take_page-third.new.memory) (row_in old.memory c.args.site.now.p) c.take_page-third.result (g.met.M.TableMem.whole c.args.memory.now) c.take_page-third.ensures.lowest c.take_page-third.ensures.state in
+    let marked = pages_of-take old (g.M.TableMem.state c.take_page-third.new.memory) c.args.site.now.row c.take_page-third.result (g.met.M.TableMem.whole c.args.memory.now) c.take_page-third.ensures.lowest c.take_page-third.ensures.state in
     let quotas : m2.quotas ≡ (pages_of old.memory).quotas = c.fill_table.ensures.words.quotas ∙ ap (λ (x : Pages). x.quotas) marked in
     subst (λ x. c.args.site.now.second < page_count x) (sym quotas) (second-inside c.args.edit.now.layout.now c.args.site.now.row c.args.edit.now.chunk c.args.site.now.second (pages_of old.memory) c.requires.site)
 
 pub replace_entry-requires-clause-taken : goal.replace_entry-requires-clause-taken
 replace_entry-requires-clause-taken g c =
     let old = g.M.TableMem.state c.args.memory.now in
-    let marked = pages_of-take old (g.M.TableMem.state c.take_page-third.new.memory) (row_in old.memory c.args.site.now.p) c.take_page-third.result (g.met.M.TableMem.whole c.args.memory.now) c.take_page-third.ensures.lowest c.take_page-third.ensures.state in
+    let marked = pages_of-take old (g.M.TableMem.state c.take_page-third.new.memory) c.args.site.now.row c.take_page-third.result (g.met.M.TableMem.whole c.args.memory.now) c.take_page-third.ensures.lowest c.take_page-third.ensures.state in
     ap (λ f. f c.args.site.now.second) c.fill_table.ensures.words.taken ∙ ap (λ (x : Pages). x.taken c.args.site.now.second) marked
     ∙ mark-kept (pages_of old.memory).taken c.take_page-third.result c.args.site.now.second (second-taken c.args.edit.now.layout.now c.args.site.now.row c.args.edit.now.chunk c.args.site.now.second (pages_of old.memory) c.requires.site)
 
@@ -50,12 +50,10 @@ returns-clause-redoes g c = λ outcome.
     let m1 = pages_of (g.M.TableMem.state c.take_page-third.new.memory).memory in
     let m2 = pages_of (g.M.TableMem.state c.fill_table.new.memory).memory in
     let new = pages_of (g.M.TableMem.state c.replace_entry.new.memory).memory in
-    let marked = pages_of-take old (g.M.TableMem.state c.take_page-third.new.memory) (row_in old.memory c.args.site.now.p) k (g.met.M.TableMem.whole c.args.memory.now) c.take_page-third.ensures.lowest c.take_page-third.ensures.state in
-    let is : row_in old.memory c.args.site.now.p ≡ c.args.site.now.row = ap (λ x. row_of x c.args.site.now.p) (sym c.requires.site.orderly.ids) ∙ c.requires.row in
-    let lowest : IsLowestFree m c.args.site.now.row k = subst (λ x. IsLowestFree m x k) is c.take_page-third.ensures.lowest in
+    let marked = pages_of-take old (g.M.TableMem.state c.take_page-third.new.memory) c.args.site.now.row k (g.met.M.TableMem.whole c.args.memory.now) c.take_page-third.ensures.lowest c.take_page-third.ensures.state in
     let word : c.table_word.result ≡ table_word_of (c.args.edit.now.layout.now.base + k) = c.table_word.ensures.value ∙ ap table_word_of c.address.ensures in
     does-hang c.args.edit.now.layout.now c.args.site.now.row c.args.edit.now.chunk c.args.site.now.second m c.requires.site
-    c.args.edit.now.runs c.args.edit.now.access c.args.before.now k m1 m2 new c.requires.none lowest c.requires.before marked
+    c.args.edit.now.runs c.args.edit.now.access c.args.before.now k m1 m2 new c.requires.none c.take_page-third.ensures.lowest c.requires.before marked
     c.fill_table.ensures.words
     (subst (λ x. new ≡ with_put c.args.site.now.second (c.args.edit.now.chunk % 512) x m2) word c.replace_entry.ensures.pages)
     outcome
@@ -87,7 +85,7 @@ returns-clause-in_step g c = λ outcome seated.
     let hung : IsHung layout (words_of y.memory.words) row chunk j = subst (λ (w : Words). IsHung layout w row chunk j) (sym took) (hung-seen layout row chunk j m site seated) in
     let hung_z : IsHung layout (words_of z.memory.words) row chunk j = hung-outside layout (words_of y.memory.words) (words_of z.memory.words) row chunk j k site.partition site.chunk loose c.fill_table.ensures.words.others hung in
     let loose_z : IsUnheld layout (words_of z.memory.words) k = unheld-outside layout (words_of y.memory.words) (words_of z.memory.words) k loose c.fill_table.ensures.words.others in
-    let inside : k < page_count m.quotas = share_inside m.quotas row k (subst (λ r. InShare m.quotas r k) (ap (λ i. row_of i c.args.site.now.p) (sym site.orderly.ids) ∙ c.requires.row) c.take_page-third.ensures.lowest.inside) in
+    let inside : k < page_count m.quotas = share_inside m.quotas row k c.take_page-third.ensures.lowest.inside in
     let is_word : word ≡ table_word_of (layout.base + k) = c.table_word.ensures.value ∙ ap table_word_of c.address.ensures in
     let is_slot : slot layout 2 word ≡ Next k = ap (slot layout 2) is_word ∙ slot-table layout 2 k (omega arith) (rw site.orderly.pages inside) site.orderly.fits in
     let redoes = returns-clause-redoes g c outcome in
@@ -105,6 +103,6 @@ returns-clause-in_step g c = λ outcome seated.
 pub replace_entry-requires-clause-partition : goal.replace_entry-requires-clause-partition
 replace_entry-requires-clause-partition g c =
     let old = g.M.TableMem.state c.args.memory.now in
-    let marked = pages_of-take old (g.M.TableMem.state c.take_page-third.new.memory) (row_in old.memory c.args.site.now.p) c.take_page-third.result (g.met.M.TableMem.whole c.args.memory.now) c.take_page-third.ensures.lowest c.take_page-third.ensures.state in
+    let marked = pages_of-take old (g.M.TableMem.state c.take_page-third.new.memory) c.args.site.now.row c.take_page-third.result (g.met.M.TableMem.whole c.args.memory.now) c.take_page-third.ensures.lowest c.take_page-third.ensures.state in
     let ids = c.fill_table.ensures.words.ids ∙ ap (λ (x : Pages). x.ids) marked in
     has-row c.args.edit.now.layout.now (g.M.TableMem.state c.fill_table.new.memory).memory c.args.site.now.p c.args.site.now.row (c.requires.site.orderly.ids ∙ sym ids) c.requires.row c.requires.site.partition

@@ -5,13 +5,8 @@ use Rattle.std.proofs.Math.ListN.{length-set}
 use Rattle.pool.proofs.Words.{words_of-beyond}
 use Rattle.pool.proofs.Shares.{share_inside, share_end}
 use Rattle.pool.specs.Pool.{InShare}
-use Rattle.pool.proofs.Kept.{free_zero-mark, roots-mark, standing-mark, position-found, row_of-found, memory_in, counts-give, counts-below, below-give}
+use Rattle.pool.proofs.Kept.{free_zero-mark, roots-mark, standing-mark, memory_in, counts-give, counts-below, below-give}
 use Rattle.pool.proofs.table_pool.TablePoolTableMem.give_page.Goals as goal
-
-pub unwrap-row-requires : goal.unwrap-row-requires
-unwrap-row-requires g c =
-    let old = c.args.self.now in
-    rw c.row.ensures (position-found old.ids c.args.p (omega (arith, c.requires.inside.partition, old.ids_whole)))
 
 pub unmark-requires : goal.unmark-requires
 unmark-requires g c = let old = c.args.self.now in omega (arith, old.taken_whole, share_inside _ _ _ c.requires.inside)
@@ -19,34 +14,32 @@ unmark-requires g c = let old = c.args.self.now in omega (arith, old.taken_whole
 pub overflow_add-index_mut : goal.overflow_add-index_mut
 overflow_add-index_mut g c =
     let old = c.args.self.now in
-    let found : position (λ id. id == c.args.p) old.ids ≡ Some c.unwrap-row.result = sym c.row.ensures ∙ c.unwrap-row.ensures in
-    let placed = row_of-found old.ids c.args.p c.unwrap-row.result found in
+    let row = c.args.row in
+    let share = c.requires.inside in
     let rows = old.free_counted.rows in
-    let here = get_or_read old.free.items _ _ (omega (arith, placed.1, old.ids_whole, rows)) c.index_mut.ensures.value 0 in
-    let share : InShare old.quotas.items c.unwrap-row.result c.args.page = subst (λ r. InShare old.quotas.items r c.args.page) placed.0 c.requires.inside in
-    let most = counts-below (memory_in old) old.free.items c.unwrap-row.result c.args.page old.free_counted share c.requires.taken in
-    let end = share_end old.quotas.items c.unwrap-row.result share.partition in
+    let here = get_or_read old.free.items _ _ (omega (arith, share.partition, rows)) c.index_mut.ensures.value 0 in
+    let most = counts-below (memory_in old) old.free.items row c.args.page old.free_counted share c.requires.taken in
+    let end = share_end old.quotas.items row share.partition in
     omega (arith, here, most, end, old.fits)
 
 pub invariant_of-self : goal.invariant_of-self
 invariant_of-self g c =
     let old = c.args.self.now in
     let page = c.args.page in
-    let found : position (λ id. id == c.args.p) old.ids ≡ Some c.unwrap-row.result = sym c.row.ensures ∙ c.unwrap-row.ensures in
-    let placed = row_of-found old.ids c.args.p c.unwrap-row.result found in
+    let row = c.args.row in
+    let share = c.requires.inside in
     let rows = old.free_counted.rows in
-    let here : c.index_mut.result.now ≡ slice_index old.free.items c.unwrap-row.result = get_or_read old.free.items _ _ (omega (arith, placed.1, old.ids_whole, rows)) c.index_mut.ensures.value 0 in
-    let share : InShare old.quotas.items c.unwrap-row.result page = subst (λ r. InShare old.quotas.items r page) placed.0 c.requires.inside in
+    let here : c.index_mut.result.now ≡ slice_index old.free.items row = get_or_read old.free.items _ _ (omega (arith, share.partition, rows)) c.index_mut.ensures.value 0 in
     let inside : page < length old.taken = omega (arith, old.taken_whole, share_inside _ _ _ c.requires.inside) in
-    let low : c.min.result ≡ min (slice_index old.lowest.items c.unwrap-row.result) page =
-    c.min.ensures ∙ ap (λ n. min n page) (get_or_read old.lowest.items _ _ (omega (arith, placed.1, old.ids_whole, old.none_free_below.rows)) c.index.ensures 0) in
+    let low : c.min.result ≡ min (slice_index old.lowest.items row) page =
+    c.min.ensures ∙ ap (λ n. min n page) (get_or_read old.lowest.items _ _ (omega (arith, share.partition, old.none_free_below.rows)) c.index.ensures 0) in
     let stands = g.S.WordStore.stands old.store in
     record {
       ids_whole = old.ids_whole;
       words_whole = old.words_whole;
       taken_whole = rw c.unmark.ensures (length-set old.taken _ _ ∙ old.taken_whole);
-      free_counted = rw c.unmark.ensures (counts-give (memory_in old) old.free.items c.unwrap-row.result page (c.index_mut.result.now + 1) old.free_counted share inside c.requires.taken (omega (arith, here)));
-      none_free_below = rw (c.unmark.ensures, low) (below-give old.quotas.items old.lowest.items old.taken c.unwrap-row.result page old.none_free_below share inside);
+      free_counted = rw c.unmark.ensures (counts-give (memory_in old) old.free.items row page (c.index_mut.result.now + 1) old.free_counted share inside c.requires.taken (omega (arith, here)));
+      none_free_below = rw (c.unmark.ensures, low) (below-give old.quotas.items old.lowest.items old.taken row page old.none_free_below share inside);
       nonzero_counted = old.nonzero_counted;
       fits = old.fits;
       roots = rw c.unmark.ensures (roots-mark old.taken (length old.quotas.items) page false inside (omega (arith, c.requires.inside.from)) old.roots);

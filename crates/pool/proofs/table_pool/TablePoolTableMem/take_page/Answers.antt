@@ -1,58 +1,46 @@
 use Rattle.std.proofs.Common.{◌≡◌, ℕ, ◌==◌, ◌-◌, ◌<◌, ◌∙◌, sym, subst, arith, length, slice_index, get_or, Some, ap, true}
 use Rattle.std.proofs.lemmas.List.{get_or_read}
 use Rattle.std.proofs.Math.ListN.{length-set}
-use Rattle.std.specs.List.{position}
-use Rattle.base.specs.Manifest.{row_of}
-use Rattle.pool.specs.Pool.{InShare, taken_of}
+use Rattle.pool.specs.Pool.{HasFree}
 use Rattle.pool.specs.declared.table_pool.TablePool.{TablePool}
 use Rattle.pool.specs.declared.word_store.WordStore.{Ghosts}
 use Rattle.pool.proofs.Shares.{share_inside}
-use Rattle.pool.proofs.Kept.{memory_in, pages_in, free_zero-mark, roots-mark, standing-mark, some-unmarked, found-lowest, position-found, row_of-within, row_of-found, counts-take, counts-free, below-take}
+use Rattle.pool.proofs.Kept.{memory_in, pages_in, free_zero-mark, roots-mark, standing-mark, some-unmarked, found-lowest, row-within, counts-take, below-take}
 use Rattle.pool.proofs.table_pool.TablePoolTableMem.take_page.Goals as goal
 
-pub unwrap-row-requires : goal.unwrap-row-requires
-unwrap-row-requires g c =
-    let old = c.args.self.now in
-    rw c.row.ensures (position-found old.ids c.args.p (row_of-within (pages_in old) c.args.p old.ids_whole c.requires.free))
-
--- the page from which on is looked is that of the partition's row
-begins : {S : Type 0} {g : Ghosts S} (old : TablePool S g) (p row start : ℕ) → position (λ id. id == p) old.ids ≡ Some row → start ≡ get_or old.lowest.items row start → start ≡ slice_index old.lowest.items (row_of old.ids p)
-begins old p row start placed read =
-    let is = row_of-found old.ids p row placed in
-    get_or_read old.lowest.items row start (omega (arith, is.1, old.ids_whole, old.none_free_below.rows)) read 0 ∙ ap (slice_index old.lowest.items) (sym is.0)
+-- the page from which on is looked is that of the row
+begins : {S : Type 0} {g : Ghosts S} (old : TablePool S g) (row start : ℕ) → HasFree (pages_in old) row → start ≡ get_or old.lowest.items row start → start ≡ slice_index old.lowest.items row
+begins old row start free read = get_or_read old.lowest.items row start (omega (arith, row-within (pages_in old) row free, old.none_free_below.rows)) read 0
 
 pub next_unmarked-page-requires : goal.next_unmarked-page-requires
 next_unmarked-page-requires g c =
     let old = c.args.self.now in
-    let placed : position (λ id. id == c.args.p) old.ids ≡ Some c.unwrap-row.result = sym c.row.ensures ∙ c.unwrap-row.ensures in
-    rw (begins old c.args.p c.unwrap-row.result c.index.result.now placed c.index.ensures) (some-unmarked (memory_in old) old.lowest.items c.args.p old.none_free_below old.taken_whole c.requires.free)
+    rw (begins old c.args.row c.index.result.now c.requires.free c.index.ensures) (some-unmarked (memory_in old) old.lowest.items c.args.row old.none_free_below old.taken_whole c.requires.free)
 
 pub mark-requires : goal.mark-requires
 mark-requires g c =
     let old = c.args.self.now in
     let memory = memory_in old in
-    let placed : position (λ id. id == c.args.p) old.ids ≡ Some c.unwrap-row.result = sym c.row.ensures ∙ c.unwrap-row.ensures in
-    let lowest = found-lowest memory old.lowest.items c.args.p c.next_unmarked-page.result old.none_free_below c.requires.free (rw (begins old c.args.p c.unwrap-row.result c.index.result.now placed c.index.ensures) at c.next_unmarked-page.ensures) in
-    let inside : c.next_unmarked-page.result < length old.taken = omega (arith, old.taken_whole, share_inside old.quotas.items (row_of old.ids c.args.p) c.next_unmarked-page.result lowest.inside) in
+    let lowest = found-lowest memory old.lowest.items c.args.row c.next_unmarked-page.result old.none_free_below c.requires.free (rw (begins old c.args.row c.index.result.now c.requires.free c.index.ensures) at c.next_unmarked-page.ensures) in
+    let inside : c.next_unmarked-page.result < length old.taken = omega (arith, old.taken_whole, share_inside old.quotas.items c.args.row c.next_unmarked-page.result lowest.inside) in
     inside
 
 pub returns-clause-lowest : goal.returns-clause-lowest
 returns-clause-lowest g c =
     let old = c.args.self.now in
     let memory = memory_in old in
-    let placed : position (λ id. id == c.args.p) old.ids ≡ Some c.unwrap-row.result = sym c.row.ensures ∙ c.unwrap-row.ensures in
-    let lowest = found-lowest memory old.lowest.items c.args.p c.next_unmarked-page.result old.none_free_below c.requires.free (rw (begins old c.args.p c.unwrap-row.result c.index.result.now placed c.index.ensures) at c.next_unmarked-page.ensures) in
+    let lowest = found-lowest memory old.lowest.items c.args.row c.next_unmarked-page.result old.none_free_below c.requires.free (rw (begins old c.args.row c.index.result.now c.requires.free c.index.ensures) at c.next_unmarked-page.ensures) in
     lowest
 
 pub overflow_sub-index_mut : goal.overflow_sub-index_mut
 overflow_sub-index_mut g c =
     let old = c.args.self.now in
     let memory = memory_in old in
-    let placed : position (λ id. id == c.args.p) old.ids ≡ Some c.unwrap-row.result = sym c.row.ensures ∙ c.unwrap-row.ensures in
-    let row = row_of-found old.ids c.args.p c.unwrap-row.result placed in
+    let row = c.args.row in
+    let within = row-within (pages_in old) row c.requires.free in
     let rows = old.free_counted.rows in
-    let here : c.index_mut.result.now ≡ slice_index old.free.items c.unwrap-row.result = get_or_read old.free.items _ _ (omega (arith, row.1, old.ids_whole, rows)) c.index_mut.ensures.value 0 in
-    let counted = counts-free memory old.free.items c.args.p c.unwrap-row.result old.free_counted row.0 (omega (arith, row.1, old.ids_whole)) in
+    let here : c.index_mut.result.now ≡ slice_index old.free.items row = get_or_read old.free.items _ _ (omega (arith, within, rows)) c.index_mut.ensures.value 0 in
+    let counted = old.free_counted.each row within in
     let some = c.requires.free in
     omega (arith, here, counted, some)
 
@@ -60,23 +48,21 @@ pub invariant_of-self : goal.invariant_of-self
 invariant_of-self g c =
     let old = c.args.self.now in
     let memory = memory_in old in
-    let placed : position (λ id. id == c.args.p) old.ids ≡ Some c.unwrap-row.result = sym c.row.ensures ∙ c.unwrap-row.ensures in
-    let lowest = found-lowest memory old.lowest.items c.args.p c.next_unmarked-page.result old.none_free_below c.requires.free (rw (begins old c.args.p c.unwrap-row.result c.index.result.now placed c.index.ensures) at c.next_unmarked-page.ensures) in
+    let lowest = found-lowest memory old.lowest.items c.args.row c.next_unmarked-page.result old.none_free_below c.requires.free (rw (begins old c.args.row c.index.result.now c.requires.free c.index.ensures) at c.next_unmarked-page.ensures) in
     let page = c.next_unmarked-page.result in
-    let inside : page < length old.taken = omega (arith, old.taken_whole, share_inside old.quotas.items (row_of old.ids c.args.p) page lowest.inside) in
-    let row = row_of-found old.ids c.args.p c.unwrap-row.result placed in
+    let inside : page < length old.taken = omega (arith, old.taken_whole, share_inside old.quotas.items c.args.row page lowest.inside) in
+    let row = c.args.row in
+    let within = row-within (pages_in old) row c.requires.free in
     let rows = old.free_counted.rows in
-    let here : c.index_mut.result.now ≡ slice_index old.free.items c.unwrap-row.result = get_or_read old.free.items _ _ (omega (arith, row.1, old.ids_whole, rows)) c.index_mut.ensures.value 0 in
-    let counted = counts-free memory old.free.items c.args.p c.unwrap-row.result old.free_counted row.0 (omega (arith, row.1, old.ids_whole)) in
+    let here : c.index_mut.result.now ≡ slice_index old.free.items row = get_or_read old.free.items _ _ (omega (arith, within, rows)) c.index_mut.ensures.value 0 in
+    let counted = old.free_counted.each row within in
     let some = c.requires.free in
     record {
       ids_whole = old.ids_whole;
       words_whole = ap length c.fill.ensures.words ∙ old.words_whole;
       taken_whole = rw c.mark.ensures (length-set old.taken _ _ ∙ old.taken_whole);
-      free_counted = rw c.mark.ensures (counts-take memory old.free.items c.unwrap-row.result page (c.index_mut.result.now - 1) old.free_counted
-          (subst (λ r. InShare old.quotas.items r page) row.0 lowest.inside) inside lowest.free (omega (arith, here, counted, some)));
-      none_free_below = rw c.mark.ensures (below-take old.quotas.items old.lowest.items old.taken c.unwrap-row.result page old.none_free_below
-          (subst (λ r. InShare old.quotas.items r page) row.0 lowest.inside) inside (subst (λ r. (q : ℕ) → InShare old.quotas.items r q → q < page → taken_of old.taken q ≡ true) row.0 lowest.lowest));
+      free_counted = rw c.mark.ensures (counts-take memory old.free.items row page (c.index_mut.result.now - 1) old.free_counted lowest.inside inside lowest.free (omega (arith, here, counted, some)));
+      none_free_below = rw c.mark.ensures (below-take old.quotas.items old.lowest.items old.taken row page old.none_free_below lowest.inside inside lowest.lowest);
       nonzero_counted = rw c.fill.ensures.words old.nonzero_counted;
       fits = old.fits;
       roots = rw c.mark.ensures (roots-mark old.taken (length old.quotas.items) page true inside (omega (arith, lowest.inside.from)) old.roots);
