@@ -150,6 +150,7 @@ fn replace_others<S: WordStore>(store: &mut S, mut log: Log, with: Replacement) 
 }
 
 /// Replaces words. Where all words of the page are 0, none is broken.
+#[inline(never)]
 fn replace_all<S: WordStore>(store: &mut S, log: Log, with: Replacement) -> Log
     requires may { MayWrite (S.words store.old) (S.stands store.old) with.range }
     requires pages_in { with.start + 512 * (with.range.end - with.range.first) ≤ 2 ^ 27 }
