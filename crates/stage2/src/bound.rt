@@ -20,8 +20,8 @@ use crate::plan::{entry_at, second_at};
 use crate::read::read_word;
 use crate::site::RowPlan;
 use crate::table_page::TablePage;
-use base::{Page, Runs};
 use base::limits::{CHUNK_PAGES, GIGABYTE_PAGES};
+use base::{Page, Runs};
 use pool::TableMem;
 
 /// How many chunks of a gigabyte, from one up to another, counted from its first, have no table.
@@ -153,9 +153,7 @@ fn is_filled(runs: &Runs, chunk: Chunk) -> bool
     ensures { result ≡ true → covers_chunk chunk runs.now ≡ true }
 {
     match runs.list().first() {
-        Some(run) => {
-            run.first().number() <= chunk.first().number() && chunk.end() <= run.end()
-        }
+        Some(run) => { run.first().number() <= chunk.first().number() && chunk.end() <= run.end() }
         None => false,
     }
 }

@@ -1,5 +1,5 @@
 -- An edit whose pages lie in one chunk, and which writes no words of level 3 but theirs.
-use Rattle.std.proofs.Common.{◌≡◌, ◌≢◌, ℕ, zero, suc, ◌+◌, ◌-◌, ◌*◌, ◌/◌, ◌%◌, ◌<◌, ◌≤◌, min, Bool, true, false, cond, is_some, List, [], ◌∷◌, length, Option, Some, None, refl, sym, ap, ap₂, subst, ◌∙◌, arith, inl, inr}
+use Rattle.std.proofs.Common.{◌≡◌, ◌≢◌, ℕ, ◌+◌, ◌-◌, ◌*◌, ◌/◌, ◌%◌, ◌<◌, ◌≤◌, Bool, true, false, cond, is_some, List, [], ◌∷◌, length, Option, Some, None, refl, sym, ap, ap₂, subst, ◌∙◌, arith, inl, inr}
 use Rattle.std.specs.Option.{option_map_or}
 use Rattle.std.proofs.lemmas.Bool.{cases_Bool, cases_lt}
 use Rattle.std.proofs.lemmas.List.Sums.{sum_by-cons}
@@ -8,11 +8,11 @@ use Rattle.base.specs.Need.{is_mixed, is_alike}
 use Rattle.std.proofs.lemmas.Bool.Decides.{nat_tests}
 use Rattle.base.specs.Pages.{PageRun, in_run, covers}
 use Rattle.pool.specs.Pool.{Pages, nonzero_in}
-use Rattle.stage2.specs.Edits.{edited, touches_chunk}
+use Rattle.stage2.specs.Edits.{edited}
 use Rattle.stage2.specs.inner.Chunks.{answers_at, answers_of, second_of, entry_in, block_answer, covers_chunk, IsWordFor}
 use Rattle.stage2.specs.Orderly.{IsCanonical, answer_of}
 use Rattle.stage2.specs.Parts.{part_in, part_count}
-use Rattle.stage2.specs.Room.{sum_below, pages_among, pages_in, reached_in, table_operations, chunk_operations, gigabyte_operations, row_operations}
+use Rattle.stage2.specs.Room.{pages_among, pages_in, reached_in, table_operations, chunk_operations, gigabyte_operations, row_operations}
 use Rattle.stage2.specs.Slot.{Layout, Slot, Next, Bad}
 use Rattle.stage2.specs.Walk.{next_page}
 use Rattle.stage2.proofs.Counting.Bounds.{count-within}

@@ -1,4 +1,4 @@
-use Rattle.std.proofs.Common.{◌≡◌, ◌+◌, ◌*◌, take, List, sym, ap, ◌∙◌, arith}
+use Rattle.std.proofs.Common.{◌≡◌, ◌+◌, ◌*◌, take, List, ap, ◌∙◌, arith}
 use Rattle.base.specs.Pages.{PageRun, covers}
 use Rattle.stage2.specs.Room.{pages_in}
 use Rattle.pool.proofs.FirstRuns.{take-all}

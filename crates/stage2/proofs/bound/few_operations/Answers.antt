@@ -1,11 +1,11 @@
-use Rattle.std.proofs.Common.{◌≡◌, ◌≢◌, ℕ, ◌+◌, ◌*◌, ◌/◌, ◌%◌, ◌<◌, ◌≤◌, true, false, not, is_some, length, List, Option, None, Some, refl, sym, ap, ◌∙◌, arith}
+use Rattle.std.proofs.Common.{◌≡◌, ℕ, ◌+◌, ◌*◌, ◌/◌, ◌%◌, ◌≤◌, true, false, is_some, length, List, None, Some, refl, sym, ap, ◌∙◌, arith}
 use Rattle.base.specs.Access.{View}
 use Rattle.base.specs.Pages.{PageRun, covers}
 use Rattle.stage2.specs.Parts.{lie_within}
-use Rattle.pool.specs.Pool.{Pool, pages_of, words_of, nonzero_in}
+use Rattle.pool.specs.Pool.{pages_of, nonzero_in}
 use Rattle.stage2.specs.inner.Chunks.{answers_of, second_of, block_answer}
 use Rattle.stage2.specs.Walk.{next_page}
-use Rattle.stage2.specs.Room.{pages_in, row_operations}
+use Rattle.stage2.specs.Room.{pages_in}
 use Rattle.stage2.proofs.Counting.Bounds.{between}
 use Rattle.stage2.proofs.Counting.FewOperations.{few-unmapped, few-mapped, few-either, few-hung, few-filled, entry-known, entry-mixed, entry-plain, entry-words, entry-beside, entry-filled}
 use Rattle.stage2.proofs.Counting.Growth.{second-inside}

@@ -1,5 +1,5 @@
 use Rattle.std.proofs.Common.{◌≡◌, ℕ, ◌/◌, ◌%◌, ◌<◌, Bool, cond, eqb, [], is_some, Some, None, arith, sym, ap, subst, ◌∙◌, ◌*◌, ◌+◌}
-use Rattle.base.specs.Manifest.{row_of, page_count}
+use Rattle.base.specs.Manifest.{page_count}
 use Rattle.pool.specs.Pool.{Pages, Pool, Words, pages_of, words_of, put, InShare}
 use Rattle.stage2.specs.declared.walked.Walked.{Walked}
 use Rattle.stage2.specs.Walk.{walked}

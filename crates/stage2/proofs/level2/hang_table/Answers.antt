@@ -1,7 +1,7 @@
 use Rattle.std.proofs.Common.{◌≡◌, ℕ, ◌+◌, ◌/◌, ◌%◌, ◌<◌, Bool, eqb, true, false, arith, sym, ap, subst, ◌∙◌}
-use Rattle.base.specs.Manifest.{row_of, page_count}
+use Rattle.base.specs.Manifest.{page_count}
 use Rattle.words.specs.Words.{table_word_of}
-use Rattle.pool.specs.Pool.{Pages, Pool, Words, pages_of, words_of, put, with_put, row_in, InShare, IsLowestFree}
+use Rattle.pool.specs.Pool.{Pages, Pool, Words, pages_of, words_of, put, with_put}
 use Rattle.pool.proofs.Words.{mark-same, mark-kept}
 use Rattle.stage2.proofs.Editing.FourChunkEdits.{second-inside, second-taken, does-hang}
 use Rattle.stage2.proofs.Tree.TakenPages.{pages_of-take}

@@ -1,18 +1,17 @@
-use Rattle.std.proofs.Common.{Option, None, Some, length, ◌≢◌, ◌≡◌, ◌≤◌, ◌<◌, ℕ, ◌+◌, ◌*◌, ◌%◌, ◌/◌, not, is_some, ◌&&◌, cond, refl, sym, ap, subst, ◌∙◌, arith}
+use Rattle.std.proofs.Common.{◌≡◌, ◌≤◌, ◌<◌, ℕ, ◌+◌, ◌*◌, ◌%◌, ◌/◌, not, is_some, ◌&&◌, cond, refl, sym, ap, subst, ◌∙◌, arith}
 use Rattle.base.specs.Access.{View}
-use Rattle.pool.specs.Pool.{Pages, pages_of}
-use Rattle.stage2.specs.Slot.{Layout, Slot, Bad}
+use Rattle.pool.specs.Pool.{pages_of}
+use Rattle.stage2.specs.Slot.{Slot}
 use Rattle.stage2.specs.Walk.{next_page}
 use Rattle.base.specs.Need.{is_mixed}
 use Rattle.stage2.specs.Edits.{edited}
-use Rattle.stage2.specs.inner.Chunks.{answers_at, answers_of, second_of, entry_in}
+use Rattle.stage2.specs.inner.Chunks.{answers_at, answers_of, entry_in}
 use Rattle.stage2.specs.inner.Gigabytes.{grows_at}
 use Rattle.stage2.specs.Room.{table_operations, chunk_operations}
 use Rattle.stage2.proofs.Editing.ChunkByChunk.{bit}
 use Rattle.stage2.proofs.Editing.MadeEdit.{touches-made}
 use Rattle.stage2.proofs.Counting.Growth.{grows-entry, second-inside, entry-view, view-mixed, view-spelled, view-taken}
 use Rattle.stage2.proofs.Counting.Operations.{chunk-same}
-use Rattle.stage2.specs.Orderly.{IsCanonical}
 use Rattle.stage2.proofs.Counting.FewOperations.{entry-known}
 use Rattle.stage2.proofs.plan.plan_in.Goals as goal
 

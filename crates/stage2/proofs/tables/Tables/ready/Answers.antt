@@ -1,8 +1,6 @@
-use Rattle.std.proofs.Common.{◌≡◌, ap, sym, subst, arith}
-use Rattle.pool.specs.Pool.{Pool, pages_of}
-use Rattle.stage2.specs.Orderly.{IsCanonical}
+use Rattle.std.proofs.Common.{◌≡◌, ap, subst, arith}
 use Rattle.stage2.specs.Tables.{TablesView, AreCanonical, view_of}
-use Rattle.stage2.proofs.Editing.WholeTables.{view, are-canonical, room-most, room-made}
+use Rattle.stage2.proofs.Editing.WholeTables.{view, are-canonical, room-most}
 use Rattle.stage2.proofs.tables.Tables.ready.Goals as goal
 
 pub returns-then-has_room-clause-room : goal.returns-then-has_room-clause-room
