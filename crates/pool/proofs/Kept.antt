@@ -214,10 +214,6 @@ counts-below m free row page counts inside is_taken =
     let now = used_by-give (pages_of m) row page inside is_taken in
     omega (arith, was, now)
 
--- what is counted for a partition
-pub counts-free : (m : Memory) (free : List ℕ) (p row : ℕ) → CountsFree m.quotas m.taken free → row_of m.ids p ≡ row → row < length m.quotas → slice_index free row ≡ free_of (pages_of m) p
-counts-free m free p row counts is small = let each = counts.each row small in rw is (omega (arith, each))
-
 -- ---- a valid manifest
 
 pub length-quotas_of : (partitions : List PartitionRow) → length (quotas_of partitions) ≡ length partitions

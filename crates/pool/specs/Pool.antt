@@ -112,9 +112,9 @@ pub record NoneFreeBelow (quotas : List ℕ) (taken : List Bool) (lowest : List 
   pub from : (row : ℕ) → row < length quotas → share_start quotas row ≤ slice_index lowest row
   pub below : (row page : ℕ) → InShare quotas row page → page < slice_index lowest row → taken_of taken page ≡ true
 
--- how many pages of a partition's share are free
+-- how many pages of a row's share are free
 abbrev pub free_of : Pages → ℕ → ℕ
-free_of m p = row_quota m.quotas (row_of m.ids p) - used_by m (row_of m.ids p)
+free_of m row = row_quota m.quotas row - used_by m row
 
 -- a list of how many words of each page are not 0
 pub record CountsNonzero (quotas words nonzero : List ℕ) : Type 0 where

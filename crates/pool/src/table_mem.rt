@@ -163,9 +163,9 @@ pub trait TableMem {
         ensures state { state self.new ≡ after_give page (state self.old) }
         ensures room { room self.new ≡ room self.old };
 
-    /// How many pages of a partition's share are free; 0 for one that has no row.
-    fn free(&self, p: PartitionId) -> u32
-        ensures { result ≡ free_of (pages_of (state self.now).memory) p };
+    /// How many pages of a row's share are free; 0 where there is no such row.
+    fn free(&self, row: u32) -> u32
+        ensures { result ≡ free_of (pages_of (state self.now).memory) row };
 
     /// Whether there is room for this many operations.
     fn has_room(&self, operations: usize) -> bool

@@ -244,9 +244,9 @@ impl<S: WordStore> TableMem for TablePool<S> {
         self.lowest[row] = self.lowest[row].min(page);
     }
 
-    fn free(&self, p: PartitionId) -> u32 {
-        match self.ids.row(p) {
-            Some(row) => self.free[row],
+    fn free(&self, row: u32) -> u32 {
+        match self.free.get(row as usize) {
+            Some(free) => *free,
             None => 0,
         }
     }

@@ -1,5 +1,4 @@
 use crate::fixture::LARGE;
-use base::PartitionId;
 use manifest::read;
 use pool::{RawPool, TableMem};
 use std::fs::File;
@@ -18,9 +17,9 @@ fn resident(rt: &HostRuntime) -> io::Result<u64> {
     Ok(number.and_then(|number| number.parse().ok()).unwrap_or(0))
 }
 
-fn take_all(rt: &impl Abort, memory: &mut RawPool, p: PartitionId) {
+fn take_all(rt: &impl Abort, memory: &mut RawPool) {
     for _ in 0..1_024 {
-        assert!(rt; memory.free(p) > 0);
+        assert!(rt; memory.free(0) > 0);
         let _page = memory.take_page(0);
     }
 }
@@ -32,7 +31,7 @@ fn pages_that_are_taken_are_written(rt: HostRuntime) -> Result<(), Fail> {
     let mut memory = RawPool::make(rt.alloc(), &manifest)?;
     let before = resident(&rt)?;
     assert!(&rt; before > 0);
-    take_all(&rt, &mut memory, PartitionId::new(0x8001));
+    take_all(&rt, &mut memory);
     assert!(&rt; before.saturating_add(3_500) < resident(&rt)?);
     Ok(())
 }

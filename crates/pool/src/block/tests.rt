@@ -2,7 +2,6 @@ use super::Block;
 use crate::raw_pool::RawPool;
 use crate::table_mem::TableMem;
 use crate::word_store::WordStore;
-use base::PartitionId;
 use manifest::read;
 use std::fs::File;
 use std::io::{self, Read};
@@ -41,10 +40,10 @@ fn resident(rt: &HostRuntime) -> io::Result<u64> {
 }
 
 /// Takes all pages of a partition's share, which are written then.
-fn take_all(rt: &impl Abort, memory: &mut RawPool, p: PartitionId) {
+fn take_all(rt: &impl Abort, memory: &mut RawPool, row: u32) {
     for _ in 0..512 {
-        assert!(rt; memory.free(p) > 0);
-        let _page = memory.take_page(0);
+        assert!(rt; memory.free(row) > 0);
+        let _page = memory.take_page(row);
     }
 }
 
@@ -56,9 +55,9 @@ fn gives_its_block_back(rt: HostRuntime) -> Result<(), Fail> {
     assert!(rt; before > 0);
     for _ in 0..100 {
         let mut memory = RawPool::make(rt.alloc(), &manifest)?;
-        assert_eq!(rt; memory.free(PartitionId::new(0x8001)), 512);
-        take_all(&rt, &mut memory, PartitionId::new(0x8001));
-        take_all(&rt, &mut memory, PartitionId::new(0x8002));
+        assert_eq!(rt; memory.free(0), 512);
+        take_all(&rt, &mut memory, 0);
+        take_all(&rt, &mut memory, 1);
         let _start = memory.address();
     }
     assert!(rt; resident(&rt)? < before.saturating_add(350_000));

@@ -22,26 +22,24 @@ fn common_memory<M: TableMem>(alloc: Global) -> Result<M, OutOfMemory>
 
 fn take_first_pages<M: TableMem + Drop>(rt: &impl Abort, alloc: Global) -> Result<(), OutOfMemory> {
     let mut memory: M = common_memory(alloc)?;
-    for (row, id, first) in [(0, 0x8001, 3), (1, 0x8002, 19), (2, 0x8003, 35)] {
-        let p = PartitionId::new(id);
-        assert_eq!(rt; memory.free(p), 16);
+    for (row, first) in [(0, 3), (1, 19), (2, 35)] {
+        assert_eq!(rt; memory.free(row), 16);
         assert_eq!(rt; memory.take_page(row), first);
-        assert_eq!(rt; memory.free(p), 15);
+        assert_eq!(rt; memory.free(row), 15);
     }
-    assert_eq!(rt; memory.free(PartitionId::new(0x8004)), 0);
+    assert_eq!(rt; memory.free(3), 0);
     Ok(())
 }
 
 fn take_given_page<M: TableMem + Drop>(rt: &impl Abort, alloc: Global) -> Result<(), OutOfMemory> {
     let mut memory: M = common_memory(alloc)?;
-    let p = PartitionId::new(0x8002);
-    assert!(rt; memory.free(p) > 0);
+    assert!(rt; memory.free(1) > 0);
     let lower = memory.take_page(1);
-    assert!(rt; memory.free(p) > 0);
+    assert!(rt; memory.free(1) > 0);
     let upper = memory.take_page(1);
     assert_eq!(rt; (lower, upper), (19, 20));
     memory.give_page(1, lower);
-    assert_eq!(rt; memory.free(p), 15);
+    assert_eq!(rt; memory.free(1), 15);
     assert_eq!(rt; memory.take_page(1), lower);
     Ok(())
 }

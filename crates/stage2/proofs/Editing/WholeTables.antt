@@ -2,7 +2,7 @@
 use Rattle.std.proofs.Common.{◌≡◌, ℕ, ◌+◌, ◌-◌, ◌*◌, ◌/◌, ◌%◌, ◌^◌, ◌<◌, ◌≤◌, Bool, true, false, not, ◌&&◌, cond, eqb, ltb, List, length, position, Option, Some, None, is_some, Result, Ok, Err, refl, sym, ap, ap₂, subst, ◌∙◌, arith, inl, inr}
 use Rattle.std.specs.Option.{option_map}
 use Rattle.std.specs.Result.{OnOk}
-use Rattle.std.proofs.lemmas.Bool.{cases_Bool, ltb-true, eqb-true}
+use Rattle.std.proofs.lemmas.Bool.{cases_Bool, ltb-true, ltb-false, eqb-true}
 use Rattle.std.proofs.lemmas.Bool.Decides.{nat_tests}
 use Rattle.base.specs.Access.{Access, View}
 use Rattle.base.specs.Manifest.{row_of}
@@ -220,16 +220,11 @@ cleared-in_step t run new left is none e same o = record {
 -- ---- how many pages are taken
 
 -- the quota of a partition that has a root
-pub record IsQuota (layout : Layout) (m : Pages) (p quota : ℕ) : Type 0 where
-  pub root : ltb (row_of layout.ids p) (length layout.ids) ≡ true
-  pub is : quota ≡ row_quota m.quotas (row_of m.ids p)
-
-pub quota-found : (layout : Layout) (m : Pages) (p quota : ℕ) → IsOrderly layout m → option_map (row_quota layout.quotas) (position (λ id. eqb id p) layout.ids) ≡ Some quota → IsQuota layout m p quota
-quota-found layout m p quota h found = elim (cases_Bool (ltb (row_of layout.ids p) (length layout.ids))) [
+pub quota-found : (layout : Layout) (p quota : ℕ) → option_map (row_quota layout.quotas) (position (λ id. eqb id p) layout.ids) ≡ Some quota → quota ≡ row_quota layout.quotas (row_of layout.ids p)
+quota-found layout p quota found = elim (cases_Bool (ltb (row_of layout.ids p) (length layout.ids))) [
   | inl t ↦
       let some : Some (row_quota layout.quotas (row_of layout.ids p)) ≡ Some quota = rw t at found in
-      let same : row_quota layout.quotas (row_of layout.ids p) ≡ quota = cc in
-      record { root = t; is = sym same ∙ ap₂ (λ (qs ids : List ℕ). row_quota qs (row_of ids p)) h.quotas h.ids }
+      cc
   | inr f ↦ let none : None ≡ Some quota = rw f at found in absurd (cc)
 ]
 
@@ -239,48 +234,33 @@ quota-none layout p found = elim (cases_Bool (ltb (row_of layout.ids p) (length 
   | inr f ↦ f
 ]
 
-pub used-found : (layout : Layout) (m : Pages) (p quota : ℕ) → IsCanonical layout m → IsQuota layout m p quota → quota - free_of m p ≡ need (answers layout m.words (row_of layout.ids p))
-used-found layout m p quota h is =
-    let used = used-need layout m (row_of layout.ids p) h (ltb-true _ _ is.root) in
-    let most = used_by-le m (row_of m.ids p) in
-    let same : row_of m.ids p ≡ row_of layout.ids p = ap (λ (ids : List ℕ). row_of ids p) (sym h.orderly.ids) in
-    let here : used_by m (row_of m.ids p) ≡ used_by m (row_of layout.ids p) = ap (used_by m) same in
-    let q = is.is in
-    numbers quota (row_quota m.quotas (row_of m.ids p)) (used_by m (row_of m.ids p)) q most ∙ here ∙ used
-  where
-    numbers : (quota all used : ℕ) → quota ≡ all → used ≤ all → quota - (all - used) ≡ used
-    numbers quota all used a b = omega arith
-
-pub free-found : (layout : Layout) (m : Pages) (p quota : ℕ) → IsQuota layout m p quota → free_of m p ≤ quota
-free-found layout m p quota is =
-    let q = is.is in
-    numbers quota (row_quota m.quotas (row_of m.ids p)) (used_by m (row_of m.ids p)) q
-  where
-    numbers : (quota all used : ℕ) → quota ≡ all → all - used ≤ quota
-    numbers quota all used a = omega arith
+-- a partition that has no root has no free page
+pub free-none : (t : TablesView) (p : ℕ) → IsCanonical t.layout (pages_of t.pool.memory) → has_root t p ≡ false → free_of (pages_of t.pool.memory) (row_of t.layout.ids p) ≡ 0
+free-none t p h none =
+    let beyond = ltb-false _ _ none in
+    let zero = row_quota-none t.pool.memory.quotas (row_of t.layout.ids p) (omega (arith, beyond, h.orderly.rows)) in
+    omega (arith, zero)
 
 -- what a partition's tables may still take, and what they take, is its quota
-pub free-and-need : (t : TablesView) (p : ℕ) → IsCanonical t.layout (pages_of t.pool.memory) → free_of (pages_of t.pool.memory) p + need (view_of t p) ≡ row_quota t.layout.quotas (row_of t.layout.ids p)
+pub free-and-need : (t : TablesView) (p : ℕ) → IsCanonical t.layout (pages_of t.pool.memory) → free_of (pages_of t.pool.memory) (row_of t.layout.ids p) + need (view_of t p) ≡ row_quota t.layout.quotas (row_of t.layout.ids p)
 free-and-need t p h =
     let m = pages_of t.pool.memory in
     let row = row_of t.layout.ids p in
-    let ids : row_of m.ids p ≡ row = ap (λ (ids : List ℕ). row_of ids p) (sym h.orderly.ids) in
-    let free : free_of m p ≡ row_quota m.quotas row - used_by m row = ap (λ r. row_quota m.quotas r - used_by m r) ids in
     let quota : row_quota m.quotas row ≡ row_quota t.layout.quotas row = ap (λ (q : List ℕ). row_quota q row) (sym h.orderly.quotas) in
     let most = used_by-le m row in
     elim (cases_Bool (ltb row (length t.layout.ids))) [
       | inl rooted ↦
           let used : used_by m row ≡ need (view_of t p) = used-need t.layout m row h (ltb-true _ _ rooted) in
-          numbers (free_of m p) (row_quota m.quotas row) (used_by m row) (need (view_of t p)) (row_quota t.layout.quotas row) free most used quota
+          numbers (row_quota m.quotas row) (used_by m row) (need (view_of t p)) (row_quota t.layout.quotas row) most used quota
       | inr none ↦
           let past : length m.quotas ≤ row = outside row (length t.layout.ids) (length m.quotas) none h.orderly.rows in
           let zero : row_quota m.quotas row ≡ 0 = row_quota-none m.quotas row past in
           let needs = rootless-need t p none in
-          numbers (free_of m p) (row_quota m.quotas row) (used_by m row) (need (view_of t p)) (row_quota t.layout.quotas row) free most (omega (arith, most, zero, needs)) quota
+          numbers (row_quota m.quotas row) (used_by m row) (need (view_of t p)) (row_quota t.layout.quotas row) most (omega (arith, most, zero, needs)) quota
     ]
   where
-    numbers : (free all used needs quota : ℕ) → free ≡ all - used → used ≤ all → used ≡ needs → all ≡ quota → free + needs ≡ quota
-    numbers free all used needs quota a b c d = omega arith
+    numbers : (all used needs quota : ℕ) → used ≤ all → used ≡ needs → all ≡ quota → all - used + needs ≡ quota
+    numbers all used needs quota a b c = omega arith
 
     outside : (row ids quotas : ℕ) → ltb row ids ≡ false → ids ≡ quotas → quotas ≤ row
     outside row ids quotas e f = grind (arith, nat_tests, e, f)

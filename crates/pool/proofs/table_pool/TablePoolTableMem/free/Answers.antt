@@ -1,15 +1,27 @@
-use Rattle.std.proofs.Common.{◌≡◌, ◌==◌, ◌∙◌, sym, arith, Some}
-use Rattle.std.specs.List.{position}
+use Rattle.std.proofs.Common.{◌≡◌, ◌<◌, ◌≤◌, List, ℕ, length, slice_index, sym, ap, arith}
+use Rattle.std.proofs.lemmas.Bool.{ltb-true, ltb-false}
 use Rattle.std.proofs.lemmas.List.{get_or_read}
-use Rattle.pool.proofs.Kept.{memory_in, row_of-found, counts-free}
+use Rattle.pool.proofs.Shares.{row_quota-none}
 use Rattle.pool.proofs.table_pool.TablePoolTableMem.free.Goals as goal
 
 pub returns-in-Some : goal.returns-in-Some
 returns-in-Some g c =
     let old = c.args.self.now in
-    let row = c.in-Some.row in
-    let found : position (λ id. id == c.args.p) old.ids ≡ Some row = sym c.row.ensures ∙ c.in-Some.is in
-    let placed = row_of-found old.ids c.args.p row found in
     let rows = old.free_counted.rows in
-    get_or_read old.free.items _ _ (omega (arith, placed.1, old.ids_whole, rows)) c.index.ensures 0
-    ∙ counts-free (memory_in old) old.free.items c.args.p row old.free_counted placed.0 (omega (arith, placed.1, old.ids_whole))
+    let found = c.in-Some.ensures.lookup in
+    let inside = ltb-true _ _ (sym found.0) in
+    let many = ap length c.deref.ensures.value in
+    let within : c.args.row < length old.quotas.items = omega (arith, inside, many, rows) in
+    let here : c.in-Some.free.now ≡ slice_index old.free.items c.args.row = get_or_read old.free.items _ _ (omega (arith, within, rows)) (rw c.deref.ensures.value at found.1) 0 in
+    let each = old.free_counted.each c.args.row within in
+    omega (arith, here, each)
+
+pub returns-in-None : goal.returns-in-None
+returns-in-None g c =
+    let old = c.args.self.now in
+    let found = c.in-None.ensures.lookup in
+    let beyond = ltb-false _ _ (sym found.0) in
+    let many = ap length c.deref.ensures.value in
+    let rows = old.free_counted.rows in
+    let none = row_quota-none old.quotas.items c.args.row (omega (arith, beyond, many, rows)) in
+    omega (arith, none)
