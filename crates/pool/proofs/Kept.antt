@@ -1,5 +1,5 @@
 -- What a table memory keeps at each write, and what its searches find.
-use Rattle.std.proofs.Common.{◌≡◌, ℕ, ◌+◌, ◌<◌, ◌≤◌, ◌^◌, Bool, true, false, List, length, slice_index, slice_set, ◌∙◌, ap, ap₂, replicate, ◌++◌, refl, arith, inl, inr, IsTrue, IsSome, Some, ◌==◌, ◌≢◌, min}
+use Rattle.std.proofs.Common.{◌≡◌, ℕ, ◌+◌, ◌<◌, ◌≤◌, ◌^◌, Bool, true, false, List, length, slice_index, slice_set, ◌∙◌, ap, ap₂, replicate, ◌++◌, refl, arith, inl, inr, IsTrue, Some, ◌==◌, ◌≢◌, min}
 use Rattle.std.specs.List.{position}
 use Rattle.std.proofs.lemmas.Grind.{common_steps}
 use Rattle.std.proofs.lemmas.Bool.{cases_eq, cases_lt}
@@ -7,7 +7,7 @@ use Rattle.std.proofs.lemmas.Bool.Decides.{nat_tests}
 use Rattle.std.proofs.lemmas.List.{length-map}
 use Rattle.base.specs.Manifest.{PartitionRow, ManifestRows, row_of, quotas_of, page_count}
 use Rattle.manifest.specs.Valid.{is_valid}
-use Rattle.pool.specs.Pool.{Memory, Pages, InShare, HasFree, IsLowestFree, row_in, words_of, taken_of, mark, with_mark, share_start, row_quota, pages_of, free_of, CountsFree, NoneFreeBelow, new_memory, used_by, used_of}
+use Rattle.pool.specs.Pool.{Memory, Pages, InShare, HasFree, IsLowestFree, words_of, taken_of, mark, with_mark, share_start, row_quota, pages_of, CountsFree, NoneFreeBelow, new_memory, used_by, used_of}
 use Rattle.pool.specs.declared.table_pool.TablePool.{TablePool}
 use Rattle.pool.specs.declared.word_store.WordStore.{Ghosts}
 use Rattle.marks.specs.Marks.{IsFirstUnmarked, AllMarkedFrom}

@@ -9,7 +9,7 @@ use Rattle.base.specs.Manifest.{row_of}
 use Rattle.base.specs.Need.{is_mixed, is_reached, need, grow}
 use Rattle.base.specs.Pages.{PageRun, in_run, covers}
 use Rattle.pool.specs.declared.operation.Op.TheVariants.{Clear}
-use Rattle.pool.specs.Pool.{Pool, Pages, pages_of, words_of, taken_of, used_by, row_quota, free_of, after_clear, all_lie_in}
+use Rattle.pool.specs.Pool.{Pool, pages_of, words_of, taken_of, used_by, row_quota, free_of, after_clear, all_lie_in}
 use Rattle.pool.proofs.Count.{count_below-same, count_below-none, count_below-some}
 use Rattle.pool.proofs.Shares.{row_quota-none, used_by-le}
 use Rattle.stage2.specs.declared.walked.Walked.{Walked}
@@ -18,7 +18,7 @@ use Rattle.stage2.specs.Edits.{edited, AreFree, disturbed, with_pages}
 use Rattle.stage2.specs.inner.Chunks.{answers_of}
 use Rattle.stage2.specs.inner.Gigabytes.{EditsRow, FitsRow}
 use Rattle.stage2.specs.Moments.{cleared_by, StaysInStep}
-use Rattle.stage2.specs.Orderly.{IsOrderly, IsCanonical, answers, answer_of}
+use Rattle.stage2.specs.Orderly.{IsCanonical, answers, answer_of}
 use Rattle.stage2.specs.Room.{row_operations}
 use Rattle.stage2.specs.Slot.{Layout}
 use Rattle.stage2.specs.Tables.{TablesView, walk_in, view_of, has_root, AreCanonical, Fits, edit_operations, ReachSo, ShowsMoments, ClearsNothing, EditsInStep, ClearsInStep}

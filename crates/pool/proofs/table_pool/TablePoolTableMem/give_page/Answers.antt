@@ -1,10 +1,8 @@
-use Rattle.std.proofs.Common.{◌≡◌, false, ◌==◌, ◌+◌, ◌∙◌, ◌<◌, sym, subst, length, slice_index, Some, arith, ap, min}
-use Rattle.std.specs.List.{position}
+use Rattle.std.proofs.Common.{◌≡◌, false, ◌+◌, ◌∙◌, ◌<◌, length, slice_index, arith, ap, min}
 use Rattle.std.proofs.lemmas.List.{get_or_read}
 use Rattle.std.proofs.Math.ListN.{length-set}
 use Rattle.pool.proofs.Words.{words_of-beyond}
 use Rattle.pool.proofs.Shares.{share_inside, share_end}
-use Rattle.pool.specs.Pool.{InShare}
 use Rattle.pool.proofs.Kept.{free_zero-mark, roots-mark, standing-mark, memory_in, counts-give, counts-below, below-give}
 use Rattle.pool.proofs.table_pool.TablePoolTableMem.give_page.Goals as goal
 

@@ -1,4 +1,4 @@
-use Rattle.std.proofs.Common.{◌≡◌, ◌+◌, ap, sym, subst, ◌∙◌, arith}
+use Rattle.std.proofs.Common.{◌≡◌, ◌+◌, ap, sym, subst, ◌∙◌}
 use Rattle.base.specs.Need.{need}
 use Rattle.base.specs.Manifest.{row_of}
 use Rattle.pool.specs.Pool.{row_quota, pages_of, free_of}
