@@ -5,7 +5,7 @@ use Rattle.std.proofs.lemmas.Bool.{leb-true, eqb-true, eq-eqb}
 use Rattle.std.proofs.lemmas.Bool.Decides.{nat_tests}
 use Rattle.base.specs.declared.access.MemoryKind.{MemoryKind}
 use Rattle.base.specs.Pages.{PageRun, in_run, covers}
-use Rattle.base.specs.Access.{Access, View, is_normal, is_reached_with}
+use Rattle.base.specs.Access.{Access, View, is_normal}
 use Rattle.base.specs.Manifest.{GrantRow, RegionRow, region_at, granted_in, access_of_grant, is_sharable}
 use Rattle.base.specs.Transactions.{Gift}
 use Rattle.base.specs.Ledger.{live_at, donation_at, settled_view, is_idle}

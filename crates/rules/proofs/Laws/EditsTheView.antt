@@ -1,5 +1,5 @@
 -- The law that a rule's edit is what the call changes of the views.
-use Rattle.std.proofs.Common.{◌≡◌, ℕ, Bool, true, false, ◌&&◌, not, cond, eqb, List, [], ◌∷◌, Option, Some, None, is_some, find, refl, sym, eq-eqb, ◌∙◌, ap, subst, inl, inr}
+use Rattle.std.proofs.Common.{◌≡◌, ℕ, Bool, true, false, ◌&&◌, not, cond, eqb, List, [], ◌∷◌, Option, Some, None, is_some, find, refl, sym, eq-eqb, ◌∙◌, ap, subst, ◌⊎◌, inl, inr}
 use Rattle.std.specs.List.{list_all}
 use Rattle.std.specs.Option.{option_map, option_map_or, option_and_then}
 use Rattle.std.proofs.lemmas.Bool.{eqb-true}
@@ -26,7 +26,7 @@ use Rattle.rules.specs.Calls.Relinquish.{given_up, given_back_by, relinquish_rul
 use Rattle.rules.specs.Calls.Retrieve.{with_donation, with_rx_filled, retrieve_rule}
 use Rattle.rules.specs.Receivers.{is_received_by, with_retrieval_by}
 use Rattle.rules.specs.Run.{rule_of, IsReached}
-use Rattle.rules.specs.Laws.EditsTheView.{PassesTests, AreNotReached, EditsTheView}
+use Rattle.rules.specs.Laws.EditsTheView.{PassesTests, AreNotReached, AreTurned, EditsTheView}
 use Rattle.rules.proofs.Calls.Send.{SendPasses, send_passes, next_is}
 use Rattle.rules.specs.Laws.SentPages.{IsSentPage, AreSentPages, IsSentToOthers, IsNotTaken}
 use Rattle.rules.proofs.Calls.Reclaim.{ReclaimPasses, reclaim_passes}
@@ -39,12 +39,20 @@ use Rattle.rules.proofs.FreePages.{common_at, settled, eqb_sym}
 use Rattle.rules.proofs.Laws.Handles.{handles_used_once}
 use Rattle.rules.proofs.Laws.OneOwner.{owned_once, first_is}
 use Rattle.rules.proofs.Laws.SentPages.{transactions_kept}
-use Rattle.rules.proofs.ViewLemmas.{opened_view}
+use Rattle.rules.proofs.ViewLemmas.{opened_view, free_view}
 
 send : (s : State) (c : CallWords) (k : Kind) (t : Transfer) → SendPasses s c k t → (q n : ℕ) → sees (send_rule s c k t).next q n ≡ with_edit (send_rule s c k t).edit (sees s) q n
 send s c k t passes q n =
     let v = sent s c t in
     ap (λ (u : State). sees u q n) (next_is s c k t passes) ∙ opened_view s c.caller k v passes.home (common_at s c.caller v.ranges passes.home passes.common) q n
+
+if_own : (p : ℕ) (a : View) → cond (eqb p p) a None ≡ a
+if_own p a = let self : eqb p p ≡ true = eq-eqb p p refl in rw self refl
+
+-- the sender reaches what is taken from it: it is free, and has a home
+sent_reached : (s : State) (c : CallWords) (k : Kind) (t : Transfer) → SendPasses s c k t → (n : ℕ) → covers (sent s c t).ranges n ≡ true → is_some (sees s c.caller n) ≡ true
+sent_reached s c k t passes n here =
+    ap is_some (free_view s c.caller c.caller n passes.home (common_at s c.caller (sent s c t).ranges passes.home passes.common n here) ∙ if_own c.caller (Some passes.home))
 
 -- ---- a reclaim
 
@@ -108,20 +116,17 @@ reclaim s c handle flags r k q n =
     ended_view s c.caller handle r k clears q n ∙ ap (λ (o : Option Live). with_edit (option_and_then (returned_by clears) o) (sees s) q n) (sym k.found)
 
 -- what a reclaim gives back was not reached: its sender kept what it shared alone
-not_kept : (k : Kind) (s : State) (p : ℕ) (runs : List PageRun) (home : Access) (clears : Bool) → ((n : ℕ) → covers runs n ≡ true → sees s p n ≡ kept k (Some home)) → AreNotReached s (returned k p runs home clears)
-not_kept Share s p runs home clears h = tt
-not_kept Lend s p runs home clears h = λ n c. inr (h n c)
-not_kept Donate s p runs home clears h = λ n c. inr (h n c)
+given_back : (k : Kind) (s : State) (p : ℕ) (runs : List PageRun) (home : Access) (clears : Bool) → ((n : ℕ) → covers runs n ≡ true → sees s p n ≡ kept k (Some home)) → AreTurned s (returned k p runs home clears)
+given_back Share s p runs home clears h = tt
+given_back Lend s p runs home clears h = λ n c. ap is_some (h n c)
+given_back Donate s p runs home clears h = λ n c. ap is_some (h n c)
 
-if_own : (p : ℕ) (a : View) → cond (eqb p p) a None ≡ a
-if_own p a = let self : eqb p p ≡ true = eq-eqb p p refl in rw self refl
-
-reclaimed : (s : State) (c : CallWords) (handle flags : ℕ) → IsReached s → ReclaimPasses s c.caller handle → AreNotReached s (reclaim_rule s c handle flags).edit
-reclaimed s c handle flags r k =
+reclaim_turned : (s : State) (c : CallWords) (handle flags : ℕ) → IsReached s → ReclaimPasses s c.caller handle → AreTurned s (reclaim_rule s c handle flags).edit
+reclaim_turned s c handle flags r k =
     let u = k.transaction in
     let clears = orders_clear flags in
-    let none = not_kept u.kind s u.sender u.ranges u.home clears (λ n covered. lent s c.caller handle r k u.sender n covered ∙ if_own u.sender (kept u.kind (Some u.home))) in
-    subst (λ (o : Option Live). AreNotReached s (option_and_then (returned_by clears) o)) (sym k.found) none
+    let back = given_back u.kind s u.sender u.ranges u.home clears (λ n covered. lent s c.caller handle r k u.sender n covered ∙ if_own u.sender (kept u.kind (Some u.home))) in
+    subst (λ (o : Option Live). AreTurned s (option_and_then (returned_by clears) o)) (sym k.found) back
 
 -- ---- a receiver
 
@@ -167,9 +172,9 @@ module _ (s : State) (p handle : ℕ) (r : IsReached s) (u : Live) (first : find
         | false ↦ λ c. ap after (other_set handle p view s.live u n first c) ∙ if_not_covered (eqb q p) (covers u.ranges n) view (sees s q n) c
       ] refl
 
-  -- a receiver that has retrieved nothing reaches none of its pages
-  not_reached : retrieved u.receivers p ≡ None → (n : ℕ) → covers u.ranges n ≡ true → sees s p n ≡ None
-  not_reached none n c = under p n c ∙ ap (λ (b : Bool). cond b (kept u.kind (home_of s n)) (retrieved u.receivers p)) other ∙ none
+  -- a receiver reaches of its pages what it has retrieved
+  as_retrieved : (n : ℕ) → covers u.ranges n ≡ true → sees s p n ≡ retrieved u.receivers p
+  as_retrieved n c = under p n c ∙ ap (λ (b : Bool). cond b (kept u.kind (home_of s n)) (retrieved u.receivers p)) other
 
 relinquish : (s : State) (c : CallWords) → IsReached s → RelinquishPasses s c → (q n : ℕ) → sees (relinquish_rule s c).next q n ≡ with_edit (relinquish_rule s c).edit (sees s) q n
 relinquish s c r k q n =
@@ -179,8 +184,13 @@ relinquish s c r k q n =
     let first_one = found_first s.live handle (is_received_by p) k.transaction (handles_used_once s r).ascending k.found in
     set_view s p handle r k.transaction first_one k.receiver None clears q n ∙ ap (λ (o : Option Live). with_edit (option_map (given_back_by p clears) o) (sees s) q n) (sym k.found)
 
-relinquished : (s : State) (c : CallWords) → RelinquishPasses s c → AreNotReached s (relinquish_rule s c).edit
-relinquished s c k = subst (λ (o : Option Live). AreNotReached s (option_map (given_back_by c.caller (given_up c).clears) o)) (sym k.found) (λ n here. inl refl)
+relinquish_turned : (s : State) (c : CallWords) → IsReached s → RelinquishPasses s c → AreTurned s (relinquish_rule s c).edit
+relinquish_turned s c r k =
+    let p = c.caller in
+    let handle = (given_up c).handle in
+    let first_one = found_first s.live handle (is_received_by p) k.transaction (handles_used_once s r).ascending k.found in
+    let reached = as_retrieved s p handle r k.transaction first_one k.receiver in
+    subst (λ (o : Option Live). AreTurned s (option_map (given_back_by p (given_up c).clears) o)) (sym k.found) (λ n here. ap is_some (reached n here) ∙ k.retrieved)
 
 -- ---- a retrieve
 
@@ -229,11 +239,11 @@ retrieve s c x r k q n =
     (λ e. given_sees s p r u first_one k.access e q n)
     ∙ ap edit (sym (edit_is s c x k))
 
-reached_now : (s : State) (c : CallWords) (x : Transfer) → IsReached s → RetrievePasses s c x → AreNotReached s (retrieve_rule s c x).edit
-reached_now s c x r k =
+retrieve_turned : (s : State) (c : CallWords) (x : Transfer) → IsReached s → RetrievePasses s c x → AreTurned s (retrieve_rule s c x).edit
+retrieve_turned s c x r k =
     let u = k.transaction in
-    let none = not_reached s c.caller u.handle r u (first_is s c x r k) k.receiver k.nothing_yet in
-    subst (AreNotReached s) (sym (edit_is s c x k)) (λ n here. inr (none n here))
+    let reached = as_retrieved s c.caller u.handle r u (first_is s c x r k) k.receiver in
+    subst (AreTurned s) (sym (edit_is s c x k)) (λ n here. ap is_some (reached n here ∙ k.nothing_yet))
 
 -- ---- all calls
 
@@ -250,20 +260,29 @@ views s c (Retrieve x) is k q n = retrieve s c x is (retrieve_passes s c x k.pas
 views s c Relinquish is k q n = relinquish s c is (relinquish_passes s c k.passed) q n
 views s c (Reclaim handle flags) is k q n = reclaim s c handle flags is (reclaim_passes s c.caller handle flags k.passed) q n
 
--- a send and a relinquish take pages away, a reclaim gives back what its sender did not keep, and a receiver retrieves what it has not retrieved yet
-free : (s : State) (c : CallWords) (r : Request) → IsReached s → PassesTests s c r → AreNotReached s (rule_of s c r).edit
-free s c (Version word) is k = tt
-free s c (Features identifier) is k = tt
-free s c RxRelease is k = tt
-free s c (RxtxMap tx rx count) is k = tt
-free s c (RxtxUnmap word) is k = tt
-free s c IdGet is k = tt
-free s c (Send Lend t) is k = λ n here. inl refl
-free s c (Send Share t) is k = tt
-free s c (Send Donate t) is k = λ n here. inl refl
-free s c (Retrieve x) is k = reached_now s c x is (retrieve_passes s c x k.passed)
-free s c Relinquish is k = relinquished s c (relinquish_passes s c k.passed)
-free s c (Reclaim handle flags) is k = reclaimed s c handle flags is (reclaim_passes s c.caller handle flags k.passed)
+-- a send and a relinquish take away what is reached, a reclaim gives back what its sender did not keep, and a receiver retrieves what it has not retrieved yet
+turned : (s : State) (c : CallWords) (r : Request) → IsReached s → PassesTests s c r → AreTurned s (rule_of s c r).edit
+turned s c (Version word) is k = tt
+turned s c (Features identifier) is k = tt
+turned s c RxRelease is k = tt
+turned s c (RxtxMap tx rx count) is k = tt
+turned s c (RxtxUnmap word) is k = tt
+turned s c IdGet is k = tt
+turned s c (Send Lend t) is k = sent_reached s c Lend t (send_passes s c Lend t k.passed)
+turned s c (Send Share t) is k = tt
+turned s c (Send Donate t) is k = sent_reached s c Donate t (send_passes s c Donate t k.passed)
+turned s c (Retrieve x) is k = retrieve_turned s c x is (retrieve_passes s c x k.passed)
+turned s c Relinquish is k = relinquish_turned s c is (relinquish_passes s c k.passed)
+turned s c (Reclaim handle flags) is k = reclaim_turned s c handle flags is (reclaim_passes s c.caller handle flags k.passed)
+
+either : (to view : View) → is_some view ≡ not (is_some to) → (to ≡ None) ⊎ (view ≡ None)
+either None view e = inl refl
+either (Some a) None e = inr refl
+either (Some a) (Some b) e = absurd cc
+
+not_reached : (s : State) (edit : Option Edit) → AreTurned s edit → AreNotReached s edit
+not_reached s None so = tt
+not_reached s (Some edit) so = λ n here. either edit.to (sees s edit.who n) (so n here)
 
 pub edits_the_view : (s : State) (c : CallWords) (r : Request) → IsReached s → PassesTests s c r → EditsTheView s c r
-edits_the_view s c r is k = record { free = free s c r is k; views = views s c r is k }
+edits_the_view s c r is k = record { free = not_reached s (rule_of s c r).edit (turned s c r is k); turned = turned s c r is k; views = views s c r is k }

@@ -1,6 +1,6 @@
 -- The last donation of a run decides who owns a page, and what it is to its owner.
 use Rattle.std.proofs.Common.{◌≡◌, ℕ, Bool, true, false, cond, List, [], ◌∷◌, Option, Some, None, refl, sym, ap, ◌∙◌}
-use Rattle.std.specs.Option.{option_map, option_map_or, option_and_then}
+use Rattle.std.specs.Option.{option_map_or, option_and_then}
 use Rattle.base.specs.declared.status.Status.{Status}
 use Rattle.base.specs.declared.status.Status.TheVariants.{NotSupported, Denied}
 use Rattle.base.specs.declared.transaction.Kind.{Kind}
@@ -8,11 +8,11 @@ use Rattle.base.specs.declared.transaction.Kind.TheVariants.{Share, Lend, Donate
 use Rattle.base.specs.Access.{Access}
 use Rattle.base.specs.Descriptors.Send as descriptor
 use Rattle.base.specs.Ledger.{owner, home, with_donation_of}
-use Rattle.base.specs.Manifest.{ManifestRows, RegionRow, region_at, granted_in, is_partition}
+use Rattle.base.specs.Manifest.{ManifestRows, is_partition}
 use Rattle.base.specs.Pages.{PageRun, covers}
 use Rattle.base.specs.Refusals.{first_refusal}
 use Rattle.base.specs.State.{State, start, common_home}
-use Rattle.base.specs.Transactions.{Live, Gift, Donation, gift}
+use Rattle.base.specs.Transactions.{Gift, Donation, gift}
 use Rattle.wire.specs.declared.request.Request.{Request}
 use Rattle.wire.specs.declared.request.Request.TheVariants.{Version, Features, RxRelease, RxtxMap, RxtxUnmap, IdGet, Send, Retrieve, Relinquish, Reclaim}
 use Rattle.wire.specs.Requests.{request_of}
@@ -23,7 +23,7 @@ use Rattle.rules.specs.Calls.Send.{sent, opened, with_transaction}
 use Rattle.rules.specs.Calls.Reclaim.{ended}
 use Rattle.rules.specs.Calls.Retrieve.{Retrieval, retrieval_of, with_retrieval_of_kind, with_donation, with_rx_filled, after_retrieve}
 use Rattle.rules.specs.Receivers.{with_retrieval_by}
-use Rattle.rules.specs.Rule.{Rule, refused, all_tests, next_of}
+use Rattle.rules.specs.Rule.{refused, all_tests, next_of}
 use Rattle.rules.specs.Run.{rule_of, rule, refusal, step, state_from}
 use Rattle.rules.specs.Laws.History.{Completed, completed_as, completed_with, completed_by, completed, completed_from, last_given, IsOwnedAsGiven}
 use Rattle.rules.proofs.Given.{owner_after, home_after}

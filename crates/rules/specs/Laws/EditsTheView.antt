@@ -1,5 +1,5 @@
 -- What a call that passes its tests changes of the views.
-use Rattle.std.specs.Prelude.{◌≡◌, ℕ, true, Option, Some, None, ◌⊎◌}
+use Rattle.std.specs.Prelude.{◌≡◌, ℕ, true, not, Option, Some, None, is_some, ◌⊎◌}
 use Rattle.base.specs.Pages.{covers}
 use Rattle.base.specs.Manifest.{is_partition}
 use Rattle.base.specs.Refusals.{first_refusal}
@@ -27,8 +27,15 @@ AreNotReached s None = Unit {0}
 AreNotReached s (Some edit) =
     (n : ℕ) → covers edit.runs n ≡ true → (edit.to ≡ None) ⊎ (sees s edit.who n ≡ None)
 
+-- each page of an edit is reached after it exactly where it was not before
+abbrev pub AreTurned : State → Option Edit → Type 0
+AreTurned s None = Unit {0}
+AreTurned s (Some edit) =
+    (n : ℕ) → covers edit.runs n ≡ true → is_some (sees s edit.who n) ≡ not (is_some edit.to)
+
 -- what each partition reaches after it is what it reached before, with the rule's edit
 pub record EditsTheView (s : State) (c : CallWords) (r : Request) : Type 0 where
   pub free : AreNotReached s (rule_of s c r).edit
+  pub turned : AreTurned s (rule_of s c r).edit
   pub views : (p n : ℕ)
       → sees (rule_of s c r).next p n ≡ with_edit (rule_of s c r).edit (sees s) p n
