@@ -110,6 +110,12 @@ impl Blocks {
         ensures list { self.new.list ≡ take place self.old.list ++ drop (place + 1) self.old.list }
         ensures spare { self.new.spare ≡ self.old.spare + 1 }
     {
+        if place + 1 == self.list.len()
+            && let Some(last) = self.list.pop()
+        {
+            self.spare.push_reserved(last);
+            return;
+        }
         let block = self.list.remove(place);
         self.spare.push_reserved(block);
     }
