@@ -1,5 +1,5 @@
 -- The places of a block, while they are emptied one after another.
-use Rattle.std.proofs.Common.{◌≡◌, ℕ, zero, suc, ◌+◌, ◌<◌, ◌≤◌, List, [], ◌∷◌, ◌++◌, length, replicate, drop, get_or, refl, ap, arith, add-one}
+use Rattle.std.proofs.Common.{◌≡◌, ℕ, zero, suc, ◌+◌, ◌<◌, List, [], ◌∷◌, ◌++◌, length, replicate, drop, get_or, refl, ap, arith, add-one}
 use Rattle.std.proofs.Math.ListN.{set}
 
 -- ---- places that are changed one after another
@@ -21,11 +21,6 @@ module _ {X : Type 0} where
 
   pub swept-next : (x : X) (count : ℕ) (items : List X) → count < length items → set (swept x count items) count x ≡ swept x (count + 1) items
   swept-next x count items below = rw (add-one count) (swept-suc x count items below)
-
-  pub swept-length : (x : X) (count : ℕ) (items : List X) → count ≤ length items → length (swept x count items) ≡ length items
-  swept-length x zero items below = refl
-  swept-length x (suc count) [] below = absurd (omega (arith, below))
-  swept-length x (suc count) (y ∷ items) below = ap suc (swept-length x count items (omega (arith, below)))
 
   swept-length_of : (x : X) (items : List X) → swept x (length items) items ≡ replicate (length items) x
   swept-length_of x [] = refl

@@ -1,11 +1,10 @@
 -- What a table memory keeps at each write, and what its searches find.
-use Rattle.std.proofs.Common.{◌≡◌, ℕ, ◌+◌, ◌<◌, ◌≤◌, ◌^◌, Bool, true, false, List, length, slice_index, slice_set, ◌∙◌, ap, ap₂, replicate, ◌++◌, refl, arith, inl, inr, IsTrue, Some, ◌==◌, ◌≢◌, min}
-use Rattle.std.specs.List.{position}
+use Rattle.std.proofs.Common.{◌≡◌, ℕ, ◌+◌, ◌<◌, ◌≤◌, ◌^◌, Bool, true, false, List, length, slice_index, slice_set, ◌∙◌, ap, ap₂, replicate, ◌++◌, refl, arith, inl, inr, IsTrue, ◌≢◌, min}
 use Rattle.std.proofs.lemmas.Grind.{common_steps}
 use Rattle.std.proofs.lemmas.Bool.{cases_eq, cases_lt}
 use Rattle.std.proofs.lemmas.Bool.Decides.{nat_tests}
 use Rattle.std.proofs.lemmas.List.{length-map}
-use Rattle.base.specs.Manifest.{PartitionRow, ManifestRows, row_of, quotas_of, page_count}
+use Rattle.base.specs.Manifest.{PartitionRow, ManifestRows, quotas_of, page_count}
 use Rattle.manifest.specs.Valid.{is_valid}
 use Rattle.pool.specs.Pool.{Memory, Pages, InShare, HasFree, IsLowestFree, words_of, taken_of, mark, with_mark, share_start, row_quota, pages_of, CountsFree, NoneFreeBelow, new_memory, used_by, used_of}
 use Rattle.pool.specs.declared.table_pool.TablePool.{TablePool}
@@ -63,9 +62,6 @@ taken_of-new roots shares page held = elim (cases_lt page roots) [
 ]
 
 -- ---- rows
-
-pub row_of-found : (ids : List ℕ) (p row : ℕ) → position (λ id. id == p) ids ≡ Some row → (row_of ids p ≡ row) × (row < length ids)
-row_of-found ids p row found = grind (arith, nat_tests, found)
 
 -- where a page is free there is a row
 pub row-within : (m : Pages) (row : ℕ) → HasFree m row → row < length m.quotas

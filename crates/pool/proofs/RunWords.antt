@@ -87,15 +87,19 @@ page-alone page start word step number index next pool at end is =
     ∙ ap (λ n. after_sets page index n (word + step * index) step pool) one
     ∙ ap (λ w. after_sets page index (0 + 1) w step pool) is
 
--- of runs of which there is one
-pub runs-one : (runs : List PageRun) (run : PageRun) (first : ℕ) → length runs ≡ 1 → run ≡ get_or runs 0 run → first ≡ run.first → run.count ≡ 1 → runs ≡ record { first = first; count = 1 } ∷ []
-runs-one [] run first one is begins alone = absurd (omega (arith, one))
-runs-one (r ∷ []) run first one is begins alone = ap (λ x. x ∷ []) (sym is ∙ ap₂ (λ (n k : ℕ). let r : PageRun = record { first = n; count = k } in r) (sym begins) alone)
-runs-one (r ∷ q ∷ rs) run first one is begins alone = absurd (omega (arith, one))
-
 -- a run of one page
 pub run-alone : (run : PageRun) (first : ℕ) → first ≡ run.first → run.count ≡ 1 → record { first = first; count = 1 } ≡ run
 run-alone run first is one = ap₂ (λ (n k : ℕ). let r : PageRun = record { first = n; count = k } in r) is (sym one)
+
+-- runs of which there is one
+pub runs-single : (runs : List PageRun) (run : PageRun) → length runs ≡ 1 → run ≡ get_or runs 0 run → runs ≡ run ∷ []
+runs-single [] run one is = absurd (omega (arith, one))
+runs-single (r ∷ []) run one is = ap (λ x. x ∷ []) (sym is)
+runs-single (r ∷ q ∷ rs) run one is = absurd (omega (arith, one))
+
+-- which has one page
+pub runs-one : (runs : List PageRun) (run : PageRun) (first : ℕ) → length runs ≡ 1 → run ≡ get_or runs 0 run → first ≡ run.first → run.count ≡ 1 → runs ≡ record { first = first; count = 1 } ∷ []
+runs-one runs run first one is begins alone = runs-single runs run one is ∙ ap (λ x. x ∷ []) (sym (run-alone run first begins alone))
 
 -- some runs, and others behind them
 pub after_runs-append : (page start word step : ℕ) (a b : List PageRun) (pool : Pool) → after_runs page start word step (a ++ b) pool ≡ after_runs page start word step b (after_runs page start word step a pool)

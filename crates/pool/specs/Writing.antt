@@ -123,13 +123,6 @@ pub record IsGapMissing (words : List ℕ) (with : TableWords) (runs : List Page
   pub gap : covers (gaps_of with.start runs) (with.start + index) ≡ true
   pub other : words_of words with.page index ≢ with.word + with.step * index
 
--- a word is 0 that stands for a page of some runs, in a page of words of which the first stands for `start`
-pub record HasZero (words : List ℕ) (page start : ℕ) (runs : List PageRun) : Type 0 where
-  pub index : ℕ
-  pub small : index < 512
-  pub covered : covers runs (start + index) ≡ true
-  pub zero : words_of words page index ≡ 0
-
 -- the word at an index is 0 exactly where they are not
 abbrev pub IsTurned : List ℕ → TableWords → ℕ → Type 0
 IsTurned words with i = (words_of words with.page i == 0) ≡ not (with.word == 0)

@@ -7,7 +7,7 @@ ghost use Rattle.pool.specs.declared.operation.Op.TheVariants.{Invalidate};
 
 use crate::log::Log;
 use crate::operation::Op;
-use crate::stretch::{WordAt, write_word, write_words};
+use crate::stretch::{WordAt, turn_all, write_word};
 use crate::word_range::WordRange;
 use crate::word_store::WordStore;
 use base::limits::TABLE_WORDS;
@@ -160,7 +160,7 @@ fn replace_all<S: WordStore>(store: &mut S, log: Log, with: Replacement) -> Log
     ensures standing { S.stands store.new ≡ S.stands store.old }
 {
     if log.nonzero == 0 && with.range.word > 0 {
-        return write_words(store, log, with.range);
+        return turn_all(store, log, with.range);
     }
     replace_others(store, log, with)
 }

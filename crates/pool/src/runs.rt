@@ -7,7 +7,7 @@ ghost use Rattle.pool.specs.Writing.{IsHeld, CanWriteRuns, CanWriteIndexes, Wrot
 
 use crate::log::Log;
 use crate::operation::Op;
-use crate::stretch::{SHORT, WordAt, turn_all, write_word, write_words};
+use crate::stretch::{SHORT, WordAt, turn_all, write_others, write_word};
 use crate::word_range::WordRange;
 use crate::word_store::WordStore;
 use base::limits::TABLE_WORDS;
@@ -184,7 +184,7 @@ fn write_indexes<S: WordStore, const TURNED: bool>(
     if TURNED {
         return turn_all(store, log, range);
     }
-    write_words(store, log, range)
+    write_others(store, log, range)
 }
 
 /// The same. It is no part of the loops over runs and gaps: so the compiler makes two words at once.
@@ -279,6 +279,31 @@ fn write_many<S: WordStore, const TURNED: bool>(
     nonzero
 }
 
+/// Writes the words of a few indexes that are not there, and records each write behind these operations. It answers how many
+/// words of the page are not 0.
+#[inline(always)]
+fn write_few<S: WordStore, const TURNED: bool>(
+    store: &mut S,
+    operations: &mut Vec<Op>,
+    nonzero: u32,
+    indexes: Indexes,
+    with: TableWords,
+) -> u32
+    requires { CanWriteIndexes TURNED (S.words store.old) (S.stands store.old) with indexes.first indexes.end
+        (log_of operations.old nonzero) }
+    ensures wrote { Wrote (indexes_set with indexes.first indexes.end) with.page (indexes.end - indexes.first)
+        (S.words store.old) (S.words store.new) (log_of operations.old nonzero) (log_of operations.new result) }
+    ensures standing { S.stands store.new ≡ S.stands store.old }
+{
+    let log = Log::take(operations, nonzero);
+    let Log {
+        operations: list,
+        nonzero,
+    } = write_indexes::<S, TURNED>(store, log, indexes, with);
+    *operations = list;
+    nonzero
+}
+
 /// Writes the words for the pages of runs that are not there, and records each write behind these operations. Where they are
 /// turned, none is looked at. It answers how many words of the page are not 0. For one page alone the list stays where it is.
 #[inline(always)]
@@ -300,6 +325,11 @@ pub(crate) fn write_runs<S: WordStore, const TURNED: bool>(
         let run = runs[0];
         if run.count() == 1 {
             return write_page::<S, TURNED>(store, operations, nonzero, run.first(), with);
+        }
+        if run.count() <= SHORT
+            && let Some(all) = all_indexes(with.start, run)
+        {
+            return write_few::<S, TURNED>(store, operations, nonzero, all, with);
         }
     }
     write_many::<S, TURNED>(store, operations, nonzero, runs, with)

@@ -5,7 +5,6 @@ ghost use Rattle.pool.specs.Pool.{after_set, words_of, nonzero_in};
 ghost use Rattle.pool.specs.Writing.{range_set, with_range, writes_of, log_of, NoneThere, Turns, MayWrite, MayWriteAt, Records, HasRoom, Grows, IsReady, Wrote};
 
 use crate::log::Log;
-use crate::looks::are_turned;
 use crate::operation::Op;
 use crate::word_range::WordRange;
 use crate::word_store::WordStore;
@@ -159,33 +158,4 @@ pub(crate) fn write_others<S: WordStore>(store: &mut S, mut log: Log, range: Wor
         word += step;
     }
     log
-}
-
-/// Whether it is told at once that all words of a range are turned: by the count of the page's words that are not 0, or by
-/// one look at many of them.
-#[inline(always)]
-fn turn_at_once<S: WordStore>(store: &S, nonzero: u32, range: WordRange) -> bool
-    requires may { MayWrite (S.words store.now) (S.stands store.now) range }
-    requires counted { nonzero ≡ nonzero_in (words_of (S.words store.now)) range.page }
-    ensures { result ≡ true → Turns (S.words store.now) range }
-{
-    if nonzero == 0 && range.word > 0 {
-        return true;
-    }
-    range.end - range.first > SHORT && are_turned(store, range)
-}
-
-/// Writes the words that are not there: all of them without a look at each, where it is told at once that they are turned.
-#[inline(always)]
-pub(crate) fn write_words<S: WordStore>(store: &mut S, log: Log, range: WordRange) -> Log
-    requires may { MayWrite (S.words store.old) (S.stands store.old) range }
-    requires ready { IsReady (S.words store.old) range.page (range.end - range.first) log }
-    ensures wrote { Wrote (range_set range) range.page (range.end - range.first)
-        (S.words store.old) (S.words store.new) log result }
-    ensures standing { S.stands store.new ≡ S.stands store.old }
-{
-    if turn_at_once(store, log.nonzero, range) {
-        return turn_all(store, log, range);
-    }
-    write_others(store, log, range)
 }

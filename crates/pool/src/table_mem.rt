@@ -2,7 +2,7 @@ ghost use Rattle.std.specs.Prelude.{◌≡◌, ◌≢◌, ℕ, ◌+◌, ◌-◌,
 ghost use Rattle.base.specs.Manifest.{page_count};
 ghost use Rattle.base.specs.Pages.{covers};
 ghost use Rattle.pool.specs.Pool.{Pool, IsWhole, HasRow, all_lie_in, InShare, HasFree, IsLowestFree, pages_of, words_of, taken_of, nonzero_in, words_in, new_pool, after_set, after_sets, after_runs, gaps_of, after_replaces, after_invalidate, after_clear, after_take, after_give, emptied, free_of, image_of};
-ghost use Rattle.pool.specs.Writing.{AreGapsThere, IsGapMissing, TurnRuns, TurnGaps, HasZero};
+ghost use Rattle.pool.specs.Writing.{AreGapsThere, IsGapMissing, TurnRuns, TurnGaps};
 
 use crate::image::Image;
 use crate::operation::Op;
@@ -38,6 +38,13 @@ pub trait TableMem {
         requires index_in { index < 512 }
         ensures { result ≡ words_of (state self.now).memory.words page index };
 
+    /// The same of a root, or of a page that is taken, which stands in memory.
+    fn taken_word(&self, page: u32, index: u32) -> u64
+        requires page_in { page < page_count (state self.now).memory.quotas }
+        requires index_in { index < 512 }
+        requires taken { taken_of (state self.now).memory.taken page ≡ true }
+        ensures { result ≡ words_of (state self.now).memory.words page index };
+
     /// How many words of a page are not 0.
     fn nonzero(&self, page: u32) -> u32
         requires { page < page_count (state self.now).memory.quotas }
@@ -51,16 +58,6 @@ pub trait TableMem {
         requires in_range { words.word + words.step * 512 < 2 ^ 64 }
         ensures yes { result ≡ true → AreGapsThere (state self.now).memory.words words runs.now }
         ensures no { result ≡ false → IsGapMissing (state self.now).memory.words words runs.now };
-
-    /// Whether no word of a root, or of a page that is taken, is 0 that stands for a page of the runs. The first
-    /// stands for page `start`, and each other one for a page more than the one before.
-    fn has_all(&self, page: u32, start: u32, runs: &Runs) -> bool
-        requires page_in { page < page_count (state self.now).memory.quotas }
-        requires taken { taken_of (state self.now).memory.taken page ≡ true }
-        requires start_in { start < 2 ^ 27 }
-        ensures yes { result ≡ true → (i : ℕ) → i < 512 → covers runs.now (start + i) ≡ true
-            → words_of (state self.now).memory.words page i ≢ 0 }
-        ensures no { result ≡ false → HasZero (state self.now).memory.words page start runs.now };
 
     /// Writes a word of a root or of a page that is taken.
     fn set_word(&mut self, page: u32, index: u32, word: u64)

@@ -7,7 +7,7 @@ ghost use Rattle.pool.specs.Pool as shares;
 use crate::identifiers::Identifiers;
 use crate::image::Image;
 use crate::log::Log;
-use crate::looks::{are_filled, are_gaps_there};
+use crate::looks::are_gaps_there;
 use crate::operation::Op;
 use crate::places::{quotas_of, share_starts, total};
 use crate::replace::{Replacement, replace_words};
@@ -129,6 +129,10 @@ impl<S: WordStore> TableMem for TablePool<S> {
         self.store.word(page, index)
     }
 
+    fn taken_word(&self, page: u32, index: u32) -> u64 {
+        self.store.standing_word(page, index)
+    }
+
     fn nonzero(&self, page: u32) -> u32 {
         self.nonzero[page as usize]
     }
@@ -136,10 +140,6 @@ impl<S: WordStore> TableMem for TablePool<S> {
     #[inline(always)]
     fn has_gaps(&self, words: TableWords, runs: &Runs) -> bool {
         are_gaps_there(&self.store, runs.list(), words)
-    }
-
-    fn has_all(&self, page: u32, start: u32, runs: &Runs) -> bool {
-        are_filled(&self.store, page, start, runs.list())
     }
 
     fn set_word(&mut self, page: u32, index: u32, word: u64) {

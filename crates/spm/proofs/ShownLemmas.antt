@@ -1,27 +1,30 @@
 -- What walkers see of a call, and what it clears.
-use Rattle.std.proofs.Common.{◌≡◌, ℕ, [], Option, Some, None, Result, Ok, Err, refl, sym, ap, subst, ◌∙◌, inl, inr}
+use Rattle.std.proofs.Common.{◌≡◌, ℕ, [], Option, Some, None, is_some, not, Result, Ok, Err, refl, sym, ap, subst, ◌∙◌, inl, inr}
 use Rattle.std.specs.Prelude.{OnOk, OnErr}
+use Rattle.std.proofs.lemmas.Bool.{ltb-true}
 use mathlib.Core.Path.{fun_ext}
 use Rattle.base.specs.Access.{View}
 use Rattle.base.specs.State.{State, sees}
 use Rattle.pool.specs.Pool.{Pool, emptied, words_of}
 use Rattle.stage2.specs.Slot.{Layout, layout_of}
-use Rattle.stage2.specs.Walk.{Agrees}
+use Rattle.stage2.specs.Orderly.{answer_of}
+use Rattle.stage2.specs.Walk.{Agrees, translation}
+use Rattle.stage2.proofs.Editing.ChunkKeeps.{answer-walked}
 use Rattle.stage2.specs.Moments.{Moments, cleared_by}
 use Rattle.stage2.specs.Edits.{with_pages}
-use Rattle.stage2.specs.Tables.{TablesView, AreFreeFor}
+use Rattle.stage2.specs.Tables.{TablesView, AreFreeFor, view_of}
 use Rattle.stage2.proofs.Walkers.WholeEdit.{moments-none}
 use Rattle.wire.specs.declared.request.Request.{Request}
 use Rattle.rules.specs.Call.{CallWords}
 use Rattle.rules.specs.Rule.{Edit, with_edit}
 use Rattle.rules.specs.Run.{rule_of, IsReached}
-use Rattle.rules.specs.Laws.EditsTheView.{Passes, AreNotReached}
+use Rattle.rules.specs.Laws.EditsTheView.{Passes, AreNotReached, AreTurned}
 use Rattle.rules.specs.Laws.Clears.{AreClearedUnreached}
 use Rattle.rules.proofs.Laws.EditsTheView.{edits_the_view}
 use Rattle.rules.proofs.Laws.Clears.{cleared_unreached}
 use Rattle.spm.specs.Clearing.{clears_in, AreUnreachedByOthers}
 use Rattle.spm.specs.Granted.{IsSameEdit, AreSameEdits}
-use Rattle.spm.specs.Machine.{Machine, WalksAgree, ShowsEdit, ShowsCall, unchanged}
+use Rattle.spm.specs.Machine.{Machine, WalksAgree, AreTurnedIn, ShowsEdit, ShowsCall, unchanged}
 
 -- a list of operations before the call is none of its own
 pub moments-emptied : (layout : Layout) (old new : Pool) (before after : ℕ → ℕ → View) → Moments layout (emptied old) new before after → Moments layout old new before after
@@ -57,6 +60,16 @@ free_alike s a b same free n small here =
       | inl e ↦ inl (same.to ∙ e)
       | inr e ↦ inr (ap (λ p. sees s p n) same.who ∙ e)
     ]
+
+-- the tables say the same of it
+pub turned_alike : (s : State) (t : TablesView) (a b : Option Edit) → t.layout ≡ layout_of s.manifest → WalksAgree s t.pool → AreSameEdits a b → AreTurned s a → AreTurnedIn t b
+turned_alike s t None None placed agrees same turned = tt
+turned_alike s t None (Some b) placed agrees same turned = absurd same
+turned_alike s t (Some a) None placed agrees same turned = absurd same
+turned_alike s t (Some a) (Some b) placed agrees same turned = λ n below here.
+    let walk = ap (λ (l : Layout). translation l (words_of t.pool.memory.words) b.who n) placed ∙ agrees.walks b.who n (ltb-true _ _ below) in
+    let seen : view_of t b.who n ≡ sees s a.who n = ap answer_of walk ∙ answer-walked n (sees s b.who n) ∙ ap (λ p. sees s p n) same.who in
+    ap (λ v. is_some v) seen ∙ turned n (sym (same.pages n) ∙ here) ∙ ap (λ v. not (is_some v)) (sym same.to)
 
 others_alike : (s : State) (a b : Edit) → IsSameEdit a b → AreClearedUnreached s (Some a) → AreUnreachedByOthers b (sees s)
 others_alike s a b same alone ordered p n here other = alone (sym same.clears ∙ ordered) p n (sym (same.pages n) ∙ here) (λ e. other (e ∙ sym same.who))

@@ -4,11 +4,11 @@ ghost use Rattle.std.specs.Prelude.{◌≡◌, ◌+◌, ◌≤◌, length, true,
 ghost use Rattle.base.specs.Manifest.{ManifestRows, is_partition};
 ghost use Rattle.base.specs.Pages.{are_normal};
 ghost use Rattle.stage2.specs.Slot.{layout_of};
-ghost use Rattle.stage2.specs.Tables.{Fits, ReachSo, edit_operations, has_root};
+ghost use Rattle.stage2.specs.Tables.{AreTurnedFor, Fits, ReachSo, edit_operations, has_root};
 ghost use Rattle.pool.specs.Pool.{all_lie_in};
 ghost use Rattle.spm.specs.Clearing.{clears_of, AreRowsOfPartitions, ClearsInCall, ShowsOne};
 ghost use Rattle.spm.specs.Granted.{replied, updated, CanUpdate, needs_room, AreOrderly, IsOrderly, wants_memory};
-ghost use Rattle.spm.specs.Machine.{AreEditedBy, ShowsEdit, fits_in};
+ghost use Rattle.spm.specs.Machine.{AreEditedBy, AreTurnedIn, ShowsEdit, fits_in};
 
 use crate::calls::{buffers, reclaim, relinquish, retrieve, send, version};
 use crate::change::{Change, Edit, Update};
@@ -48,6 +48,7 @@ pub(crate) fn commit<M: TableMem + Drop>(
     requires known { is_partition state.old.manifest p ≡ true }
     requires can { CanUpdate state.old p change.update }
     requires orderly { AreOrderly p change.edit }
+    requires turned { AreTurnedIn tables.old change.edit }
     requires fits { fits_in state.old.manifest tables.old change.edit ≡ true }
     ensures reply { IfOk result (λ reply. reply ≡ replied change.answer) }
     ensures state { OnOk result (state.new ≡ updated state.old p change.update) }
@@ -67,7 +68,7 @@ pub(crate) fn commit<M: TableMem + Drop>(
     match edit {
         Some(edit) => {
             let clears = clear_count(&edit);
-            tables.ready(edit.who, &Runs::of(&edit.runs), edit.to, clears)?;
+            tables.ready_to_turn(edit.who, &Runs::of(&edit.runs), edit.to, clears)?;
             apply(state, p, update)?;
             edit_tables(tables, &edit);
             *spare = edit.runs;
@@ -94,6 +95,7 @@ fn edit_tables<M: TableMem + Drop>(tables: &mut Tables<M>, edit: &Edit)
     requires root { has_root tables.old edit.now.who ≡ true }
     requires rows { AreRowsOfPartitions tables.old.layout.ids }
     requires normal { are_normal edit.now.runs ≡ true }
+    requires turned { AreTurnedFor edit.now.who edit.now.runs edit.now.to tables.old }
     requires fits { Fits edit.now.who edit.now.runs edit.now.to tables.old }
     requires ready { edit_operations edit.now.who edit.now.runs edit.now.to tables.old
         + length (clears_of edit.now) ≤ tables.old.room }
@@ -105,10 +107,10 @@ fn edit_tables<M: TableMem + Drop>(tables: &mut Tables<M>, edit: &Edit)
     match edit.to {
         Some(access) => {
             clear_pages(tables, edit);
-            tables.map(edit.who, &runs, access);
+            tables.turn(edit.who, &runs, Some(access));
         }
         None => {
-            tables.unmap(edit.who, &runs);
+            tables.turn(edit.who, &runs, None);
             clear_pages(tables, edit);
         }
     }

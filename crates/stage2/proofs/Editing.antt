@@ -10,6 +10,7 @@ pub mod Stretches
 pub mod RunWords
 pub mod FourChunkEdits
 pub mod Spelled
+pub mod TurnedRuns
 pub mod ChunkRoom
 pub mod OneChunk
 pub mod MadeEdit

@@ -1,5 +1,5 @@
 -- An edit of one partition's pages: those of runs are reached with an access, or, for None, not at all.
-use Rattle.std.specs.Prelude.{◌≡◌, ℕ, ◌+◌, ◌/◌, ◌^◌, ◌<◌, Bool, true, ◌&&◌, ◌||◌, not, ◌==◌, nat_le, nat_lt, ◌⊎◌, None, List, if◌then◌else◌}
+use Rattle.std.specs.Prelude.{◌≡◌, ℕ, ◌+◌, ◌/◌, ◌^◌, ◌<◌, Bool, true, ◌&&◌, ◌||◌, not, ◌==◌, nat_le, nat_lt, ◌⊎◌, None, is_some, List, if◌then◌else◌}
 use Rattle.std.specs.List.{list_any}
 use Rattle.base.specs.Access.{View}
 use Rattle.base.specs.Need.{is_mixed}
@@ -23,6 +23,11 @@ touches_chunk c runs = list_any (touches_run c) runs
 abbrev pub AreFree : (ℕ → Bool) → List PageRun → View → (ℕ → View) → Type 0
 AreFree which runs access view =
     (n : ℕ) → n < 2 ^ 27 → which n ≡ true → covers runs n ≡ true → (access ≡ None) ⊎ (view n ≡ None)
+
+-- each page of the runs among these is turned: it is to be reached exactly where it is not
+abbrev pub Turns : (ℕ → Bool) → List PageRun → View → (ℕ → View) → Type 0
+Turns which runs access view =
+    (n : ℕ) → which n ≡ true → covers runs n ≡ true → is_some (view n) ≡ not (is_some access)
 
 -- the pages of the runs, and all pages of a chunk that has no table before the edit or after it
 abbrev pub disturbs : List PageRun → (ℕ → View) → (ℕ → View) → ℕ → Bool

@@ -7,7 +7,7 @@ use Rattle.base.specs.Pages.{PageRun, in_run, covers}
 use Rattle.pool.specs.Pool.{Pool, words_of, taken_of, pages_of, used_by, row_quota, all_lie_in}
 use Rattle.stage2.specs.declared.walked.Walked.{Walked}
 use Rattle.stage2.specs.declared.walked.Walked.TheVariants.{None as Unmapped}
-use Rattle.stage2.specs.Edits.{edited, AreFree, disturbed, with_pages}
+use Rattle.stage2.specs.Edits.{edited, AreFree, Turns, disturbed, with_pages}
 use Rattle.stage2.specs.Entries.{word_at}
 use Rattle.stage2.specs.Room.{row_operations}
 use Rattle.stage2.specs.Moments.{cleared_by, OpenCall, with_clear, IsInStepIn, nothing, StaysInStep, Moments}
@@ -68,6 +68,10 @@ Fits p runs access t =
 abbrev pub edit_operations : ℕ → List PageRun → View → TablesView → ℕ
 edit_operations p runs access t =
     if has_root t p then row_operations runs access (view_of t p) else 0
+
+-- each page of the runs is turned: the partition is to reach it exactly where it does not
+abbrev pub AreTurnedFor : ℕ → List PageRun → View → TablesView → Type 0
+AreTurnedFor p runs access t = Turns (λ n. nat_lt n (2 ^ 27)) runs access (view_of t p)
 
 -- the pages of the runs are reached so; each other walk, of all pages of all partitions, gives what it gave
 abbrev pub ReachSo : ℕ → List PageRun → View → TablesView → TablesView → Type 0

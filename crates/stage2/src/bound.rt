@@ -84,10 +84,11 @@ pub(crate) fn most_tables<M: TableMem>(memory: &M, edit: &RowPlan, runs: &Runs) 
 
 /// How many chunks there are from the first that the runs touch to the last.
 fn chunks_between(pages: Span) -> u32
-    requires { pages.end ≤ 2 ^ 27 }
+    requires ordered { pages.first ≤ pages.end }
+    requires most { pages.end ≤ 2 ^ 27 }
     ensures { result ≡ (pages.end + 511) / 512 - pages.first / 512 }
 {
-    ((pages.end + CHUNK_PAGES - 1) / CHUNK_PAGES).saturating_sub(pages.first / CHUNK_PAGES)
+    (pages.end + CHUNK_PAGES - 1) / CHUNK_PAGES - pages.first / CHUNK_PAGES
 }
 
 /// How many table pages an edit of the pages of these runs takes at most: one for each chunk and each
@@ -140,11 +141,10 @@ fn only_chunk(pages: Span) -> Option<Chunk>
         return None;
     }
     let chunk = Chunk::of(Page::new(pages.first));
-    if pages.end <= chunk.end() {
-        Some(chunk)
-    } else {
-        None
+    if chunk.end() < pages.end {
+        return None;
     }
+    Some(chunk)
 }
 
 /// Whether the first of the runs has all pages of a chunk.
@@ -176,7 +176,7 @@ pub(crate) fn few_operations<M: TableMem>(memory: &M, edit: &RowPlan, runs: &Run
     match table_of(&entry) {
         Some(third) => {
             let nonzero = memory.nonzero(third.number());
-            if edit.access.is_some() && nonzero.saturating_add(pages) >= CHUNK_PAGES {
+            if edit.access.is_some() && pages >= CHUNK_PAGES - nonzero {
                 words = words.max(nonzero as usize);
             }
         }

@@ -88,8 +88,8 @@ impl<M: TableMem + Drop> Tables<M> {
         if let Some(access) = access {
             let run = [Run::new(Page::new(first), end - first)];
             let runs = Runs::of(&run);
-            self.ready(p, &runs, Some(access), 0)?;
-            self.map(p, &runs, access);
+            self.ready_to_turn(p, &runs, Some(access), 0)?;
+            self.turn(p, &runs, Some(access));
             self.begin();
         }
         Ok(())

@@ -5,7 +5,7 @@ ghost use Rattle.pool.specs.Pool.{taken_of, HasRow};
 ghost use Rattle.stage2.specs.inner.Change.{block_step};
 ghost use Rattle.stage2.specs.inner.Chunks.{block_answer, IsEntryFor};
 ghost use Rattle.stage2.specs.Edits.{edited};
-ghost use Rattle.stage2.specs.inner.Clauses.{IsAt, IsRowOf, words_left, operations_kept, Puts, Replaces, slot_at, AnswersAll, HasFree, ReplacesBlocks, EditsMixed, OthersAnswer, SetsChunk, SetsInStep, MixesInStep, ChunkInStep, CanEditChunk, IsChunkEdited, CanEditChunks, AreChunksEdited, word_in};
+ghost use Rattle.stage2.specs.inner.Clauses.{IsAt, IsRowOf, TurnsRuns, words_left, operations_kept, Puts, Replaces, slot_at, AnswersAll, HasFree, ReplacesBlocks, EditsMixed, OthersAnswer, SetsChunk, SetsInStep, MixesInStep, ChunkInStep, CanEditChunk, IsChunkEdited, CanEditChunks, AreChunksEdited, word_in};
 ghost use Rattle.stage2.specs.Room.{reached_in};
 ghost use Rattle.stage2.specs.Slot.{Layout, slot};
 ghost use Rattle.stage2.specs.Walk.{next_page};
@@ -160,6 +160,7 @@ fn rewrite_table<M: TableMem>(memory: &mut M, site: &Site, edit: &ChunkEdit, thi
     requires site { IsAt site.now edit.now (M.state memory.old) }
     requires row { IsRowOf site.now edit.now }
     requires table { slot_at site.now edit.now (M.state memory.old) ≡ Next third }
+    requires turned { TurnsRuns third edit.now (M.state memory.old) }
     requires room { operations_kept edit.now ≤ M.room memory.old }
     ensures redoes { EditsMixed site.now edit.now
         (M.state memory.old) (M.state memory.new) }
@@ -349,7 +350,7 @@ fn edit_each_chunk<M: TableMem>(
             index = plain;
         } else {
             let chunk = gigabyte.chunk(piece.first);
-            if let Some(here) = ChunkEdit::new(edit.layout, &rest, chunk, &edit.access) {
+            if let Some(here) = ChunkEdit::new(edit.layout, &rest, chunk, &edit.access, edit.turns) {
                 edit_one_of_many(memory, &site, &here);
             }
             index = piece.first + 1;
@@ -371,7 +372,7 @@ pub(crate) fn edit_chunks<M: TableMem>(
     ensures { AreChunksEdited edit.now gigabyte second runs.now
         (M.state memory.old) (M.room memory.old) (M.state memory.new) (M.room memory.new) }
 {
-    match ChunkEdit::alone(edit.layout, runs, gigabyte, &edit.access) {
+    match ChunkEdit::alone(edit.layout, runs, &edit.access, edit.turns) {
         Some(here) => {
             let site = Site {
                 p: edit.p,

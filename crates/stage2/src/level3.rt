@@ -6,11 +6,11 @@ ghost use Rattle.pool.specs.Pool.{pages_of, words_of, taken_of, after_sets, nonz
 ghost use Rattle.stage2.specs.inner.Change.{entry_for, step_for};
 ghost use Rattle.stage2.specs.inner.Chunks.{planned, Writes};
 ghost use Rattle.stage2.specs.Edits.{edited};
-ghost use Rattle.stage2.specs.inner.Clauses.{AreWordsOf, AreTurned, AreRunsTurned, WritesPlan, IsEmpty, IsUnseen, word_in, words_left, IsStray, OthersAnswer, gaps, covers_in};
+ghost use Rattle.stage2.specs.inner.Clauses.{AreWordsOf, AreTurned, AreRunsTurned, TurnsRuns, WritesPlan, IsEmpty, IsUnseen, word_in, words_left, IsStray, OthersAnswer, gaps, covers_in};
 ghost use Rattle.stage2.specs.Moments.{Settles};
 ghost use Rattle.stage2.specs.Parts.{part_count};
 ghost use Rattle.stage2.specs.Room.{pages_in, reached_in};
-ghost use Rattle.std.specs.Prelude.{◌≡◌, ℕ, ◌+◌, ◌-◌, ◌*◌, ◌<◌, ◌≤◌, true, None, [], ◌||◌, false, Some, is_some, ◌≢◌};
+ghost use Rattle.std.specs.Prelude.{◌≡◌, ℕ, ◌+◌, ◌-◌, ◌*◌, ◌<◌, ◌≤◌, true, None, [], ◌||◌, false, Some, is_some};
 ghost use Rattle.words.specs.Words.{entry_of};
 
 use crate::parts::part_in;
@@ -74,6 +74,23 @@ fn chunk_words(third: TablePage, chunk: Chunk, answer: &Option<Access>) -> Table
 pub(crate) fn write_runs<M: TableMem>(memory: &mut M, third: TablePage, edit: &ChunkEdit)
     requires page_in { third < page_count (M.state memory.old).memory.quotas }
     requires taken { taken_of (M.state memory.old).memory.taken third ≡ true }
+    requires turned { TurnsRuns third edit.now (M.state memory.old) }
+    requires room { pages_in edit.now.runs edit.now.chunk ≤ M.room memory.old }
+    ensures writes { WritesPlan third edit.now.chunk 512 (planned edit.now.runs edit.now.access None)
+        (M.state memory.old) (M.state memory.new) }
+    ensures room { M.room memory.old ≤ M.room memory.new + pages_in edit.now.runs edit.now.chunk }
+{
+    if edit.turns {
+        turn_runs(memory, third, edit);
+    } else {
+        set_runs(memory, third, edit);
+    }
+}
+
+/// The same of words that may be there: each is looked at.
+fn set_runs<M: TableMem>(memory: &mut M, third: TablePage, edit: &ChunkEdit)
+    requires page_in { third < page_count (M.state memory.old).memory.quotas }
+    requires taken { taken_of (M.state memory.old).memory.taken third ≡ true }
     requires room { pages_in edit.now.runs edit.now.chunk ≤ M.room memory.old }
     ensures writes { WritesPlan third edit.now.chunk 512 (planned edit.now.runs edit.now.access None)
         (M.state memory.old) (M.state memory.new) }
@@ -83,8 +100,7 @@ pub(crate) fn write_runs<M: TableMem>(memory: &mut M, third: TablePage, edit: &C
     memory.set_runs(words, &edit.runs);
 }
 
-/// Writes the words for the pages of the runs in a chunk into a table. None of them is there: they are valid exactly
-/// where these are not.
+/// The same of words none of which is there: they are valid exactly where these are not.
 #[inline(always)]
 fn turn_runs<M: TableMem>(memory: &mut M, third: TablePage, edit: &ChunkEdit)
     requires page_in { third < page_count (M.state memory.old).memory.quotas }
@@ -185,22 +201,6 @@ pub(crate) fn has_stray<M: TableMem>(memory: &M, third: TablePage, edit: &ChunkE
         (M.state memory.now) }
 {
     !memory.has_gaps(chunk_words(third, edit.chunk, &edit.access), &edit.runs)
-}
-
-/// Whether no word of the runs' pages in a chunk is 0. Mostly there is one run of a page, whose word is looked at here.
-#[inline(always)]
-pub(crate) fn are_all_mapped<M: TableMem>(memory: &M, edit: &ChunkEdit, third: TablePage) -> bool
-    requires page_in { third < page_count (M.state memory.now).memory.quotas }
-    requires taken { taken_of (M.state memory.now).memory.taken third ≡ true }
-    ensures { result ≡ true → (i : ℕ) → i < 512 → covers edit.now.runs (512 * edit.now.chunk + i) ≡ true
-        → word_in (M.state memory.now) third i ≢ 0 }
-{
-    if let [run] = edit.runs.list() {
-        if run.count() == 1 {
-            return read_word(memory, third, page_index(run.first())) != 0;
-        }
-    }
-    memory.has_all(third.number(), edit.chunk.first().number(), &edit.runs)
 }
 
 /// Invalidates the runs' parts in a chunk.

@@ -3,15 +3,15 @@
 ghost use Rattle.base.specs.Access.{View};
 ghost use Rattle.base.specs.Manifest.{page_count};
 ghost use Rattle.base.specs.Need as needs;
-ghost use Rattle.pool.specs.Pool.{taken_of};
+ghost use Rattle.pool.specs.Pool.{words_of, taken_of, nonzero_in};
 ghost use Rattle.stage2.specs.inner.Chunks.{IsOutcome, block_answer};
 ghost use Rattle.stage2.specs.Edits.{edited};
-ghost use Rattle.stage2.specs.inner.Clauses.{IsSpelled, IsStray, LeavesNone, read_after, tells};
+ghost use Rattle.stage2.specs.inner.Clauses.{IsSpelled, TurnsRuns, IsStray, read_after, tells};
 ghost use Rattle.stage2.specs.declared.walked.Slot.TheVariants.{Next};
-ghost use Rattle.std.specs.Prelude.{◌≡◌, ℕ, ◌/◌, ◌<◌, true, None};
+ghost use Rattle.std.specs.Prelude.{◌≡◌, ℕ, ◌/◌, ◌<◌, ◌≤◌, true, false, None};
 
 use crate::level2::{block_of, table_of};
-use crate::level3::{are_all_mapped, has_stray};
+use crate::level3::has_stray;
 use crate::site::ChunkEdit;
 use crate::table_page::TablePage;
 use crate::walked::Slot;
@@ -44,7 +44,9 @@ pub(crate) fn is_alike_in_block(edit: &ChunkEdit, entry: &Slot) -> bool
 /// the other way.
 pub(crate) fn is_told_mixed<M: TableMem>(memory: &M, edit: &ChunkEdit, third: TablePage) -> bool
     requires { third < page_count (M.state memory.now).memory.quotas }
-    ensures { result ≡ true → IsStray third edit.now (M.state memory.now) }
+    ensures yes { result ≡ true → IsStray third edit.now (M.state memory.now) }
+    ensures no { result ≡ false → edit.now.access ≡ None
+        → nonzero_in (words_of (M.state memory.now).memory.words) third ≤ edit.now.pieces.pages }
 {
     let nonzero = memory.nonzero(third.number());
     match edit.access {
@@ -53,37 +55,24 @@ pub(crate) fn is_told_mixed<M: TableMem>(memory: &M, edit: &ChunkEdit, third: Ta
     }
 }
 
-/// Whether all words of a table that are not 0 are those of runs that are unmapped. The words of the runs are
-/// looked at, as long as they are no more than those beside them.
-#[inline(always)]
-fn is_emptied<M: TableMem>(memory: &M, edit: &ChunkEdit, third: TablePage) -> bool
-    requires table { third < page_count (M.state memory.now).memory.quotas }
-    requires taken { taken_of (M.state memory.now).memory.taken third ≡ true }
-    ensures { result ≡ true
-        → (edit.now.access ≡ None) × (LeavesNone third edit.now (M.state memory.now)) }
-{
-    if edit.access.is_some() {
-        return false;
-    }
-    let pages = edit.pieces.pages;
-    let nonzero = memory.nonzero(third.number());
-    pages <= CHUNK_PAGES / 2 && nonzero == pages && are_all_mapped(memory, edit, third)
-}
-
 /// Whether the pages of a chunk that has a table are all reached alike after an edit. Where the number of words that are not 0 leaves
-/// it open, words are looked at: those of the runs, or those beside them.
+/// it open, those beside the runs are looked at.
 #[inline(always)]
 pub(crate) fn is_alike_in_table<M: TableMem>(memory: &M, edit: &ChunkEdit, third: TablePage) -> bool
     requires table { third < page_count (M.state memory.now).memory.quotas }
     requires taken { taken_of (M.state memory.now).memory.taken third ≡ true }
     requires spelled { IsSpelled edit.now third (M.state memory.now) }
+    requires turned { TurnsRuns third edit.now (M.state memory.now) }
     ensures { IsOutcome edit.now.chunk (read_after edit.now (Next third) (M.state memory.now))
         (tells result edit.now.access) }
 {
     if is_told_mixed(memory, edit, third) {
         return false;
     }
-    is_emptied(memory, edit, third) || !has_stray(memory, third, edit)
+    if edit.turns && edit.access.is_none() {
+        return true;
+    }
+    !has_stray(memory, third, edit)
 }
 
 /// Whether the pages of a chunk are all reached alike after an edit.
@@ -95,6 +84,8 @@ pub(crate) fn becomes_alike<M: TableMem>(memory: &M, edit: &ChunkEdit, entry: &S
         → taken_of (M.state memory.now).memory.taken k ≡ true }
     requires spelled { (k : ℕ) → entry.now ≡ Next k
         → IsSpelled edit.now k (M.state memory.now) }
+    requires turned { (k : ℕ) → entry.now ≡ Next k
+        → TurnsRuns k edit.now (M.state memory.now) }
     ensures { IsOutcome edit.now.chunk (read_after edit.now entry.now (M.state memory.now))
         (tells result edit.now.access) }
 {

@@ -166,6 +166,26 @@ pub(crate) fn count_pieces(runs: &Runs, chunk: Chunk) -> Pieces
     pieces
 }
 
+/// The same of runs that have a page, and all of theirs in the chunk: one run is not cut.
+#[inline(always)]
+pub(crate) fn pieces_within(runs: &Runs, chunk: Chunk) -> Pieces
+    requires some { (n : ℕ) × (covers runs.now n ≡ true) }
+    requires only { (n : ℕ) → covers runs.now n ≡ true → n / 512 ≡ chunk }
+    ensures pages { result.pages ≡ pages_in runs.now chunk }
+    ensures runs { result.runs ≡ part_count chunk runs.now }
+    ensures few { result.runs ≤ result.pages }
+    ensures most { result.pages ≤ 512 }
+    ensures some { 0 < result.pages }
+{
+    if let [run] = runs.list() {
+        return Pieces {
+            pages: run.count(),
+            runs: 1,
+        };
+    }
+    count_pieces(runs, chunk)
+}
+
 /// The pages from the first of the first run to the last of the last one.
 pub(crate) fn bounds(runs: &Runs) -> Span
     ensures ordered { result.first ≤ result.end }

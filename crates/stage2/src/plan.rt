@@ -8,7 +8,7 @@ ghost use Rattle.pool.specs.Pool.{pages_of, taken_of};
 ghost use Rattle.stage2.specs.inner.Chunks.{block_answer};
 ghost use Rattle.stage2.specs.Edits.{edited};
 ghost use Rattle.stage2.specs.inner.Clauses as clauses;
-ghost use Rattle.stage2.specs.inner.Clauses.{IsSpelled, read_before, read_after, view_in, second_in, entry_read, words_left, IsEditPlanned, IsChunkPlanned, ArePlanned, IsRowPlanned};
+ghost use Rattle.stage2.specs.inner.Clauses.{IsSpelled, TurnsIn, TurnsChunk, TurnsRuns, read_before, read_after, view_in, second_in, entry_read, words_left, IsEditPlanned, IsChunkPlanned, ArePlanned, IsRowPlanned};
 ghost use Rattle.stage2.specs.inner.Gigabytes.{gigabyte_growth, Touches};
 ghost use Rattle.stage2.specs.Orderly.{IsCanonical};
 ghost use Rattle.stage2.specs.Parts.{runs_past};
@@ -16,7 +16,7 @@ ghost use Rattle.stage2.specs.Room.{pages_in, reached_in, gigabyte_operations, r
 ghost use Rattle.stage2.specs.Slot.{Layout};
 ghost use Rattle.stage2.specs.Walk.{next_page};
 ghost use Rattle.stage2.specs.declared.walked.Slot.TheVariants.{Next, Bad};
-ghost use Rattle.std.specs.Prelude.{◌≡◌, ◌≢◌, ℕ, ◌+◌, ◌-◌, ◌*◌, ◌/◌, ◌%◌, ◌^◌, ◌<◌, ◌≤◌, ◌&&◌, true, false, Some, None, not, List, length, is_some, if◌then◌else◌};
+ghost use Rattle.std.specs.Prelude.{◌≡◌, ◌≢◌, ℕ, ◌+◌, ◌-◌, ◌*◌, ◌/◌, ◌%◌, ◌^◌, ◌<◌, ◌≤◌, ◌&&◌, true, false, Some, None, not, List, length, is_some, nat_lt, ◌==◌, if◌then◌else◌};
 
 use crate::layout::Layout;
 use crate::level1::{find_table, touches};
@@ -79,6 +79,8 @@ pub(crate) fn entry_at<M: TableMem>(
 ) -> Slot
     requires pages { layout.now.pages ≡ page_count (M.state memory.now).memory.quotas }
     requires table { (j : ℕ) → second.now ≡ Some j → j < layout.now.pages }
+    requires taken { (j : ℕ) → second.now ≡ Some j
+        → taken_of (M.state memory.now).memory.taken j ≡ true }
     requires known { entry_read layout.now second.now (chunk % 512) (M.state memory.now) ≢ Bad }
     ensures same { result ≡ entry_read layout.now second.now (chunk % 512) (M.state memory.now) }
     ensures inside { (k : ℕ) → result ≡ Next k → k < layout.now.pages }
@@ -149,6 +151,7 @@ fn plan_table<M: TableMem>(memory: &M, edit: &ChunkEdit, third: TablePage, looks
     requires table { third < page_count (M.state memory.now).memory.quotas }
     requires taken { taken_of (M.state memory.now).memory.taken third ≡ true }
     requires spelled { IsSpelled edit.now third (M.state memory.now) }
+    requires turned { TurnsRuns third edit.now (M.state memory.now) }
     requires mixed { is_mixed (read_before edit.now (Next third) (M.state memory.now)) edit.now.chunk
         ≡ true }
     ensures { IsEditPlanned (read_before edit.now (Next third) (M.state memory.now)) edit.now
@@ -180,6 +183,8 @@ fn plan_chunk<M: TableMem>(memory: &M, edit: &ChunkEdit, entry: &Slot, looks: bo
         → taken_of (M.state memory.now).memory.taken k ≡ true }
     requires spelled { (k : ℕ) → entry.now ≡ Next k
         → IsSpelled edit.now k (M.state memory.now) }
+    requires turned { (k : ℕ) → entry.now ≡ Next k
+        → TurnsRuns k edit.now (M.state memory.now) }
     requires mixed { is_mixed (read_before edit.now entry.now (M.state memory.now)) edit.now.chunk
         ≡ is_some (next_page entry.now) }
     ensures { IsEditPlanned (read_before edit.now entry.now (M.state memory.now)) edit.now
@@ -203,6 +208,7 @@ fn plan_in<M: TableMem>(
     requires canonical { IsCanonical row.now.layout.now (pages_of (M.state memory.now).memory) }
     requires layout { edit.now.layout.now ≡ row.now.layout.now }
     requires in_range { edit.now.chunk < 2 ^ 18 }
+    requires turned { TurnsChunk edit.now (view_in row.now.layout.now row.now.row (M.state memory.now)) }
     requires table { second_in row.now.layout.now row.now.row (edit.now.chunk / 512) (M.state memory.now) ≡ second.now }
     ensures { IsChunkPlanned (view_in row.now.layout.now row.now.row (M.state memory.now))
         edit.now.runs edit.now.access edit.now.chunk result }
@@ -222,11 +228,12 @@ fn plan_at<M: TableMem>(
     requires canonical { IsCanonical edit.now.layout.now (pages_of (M.state memory.now).memory) }
     requires past { runs_past (512 * chunk) runs.now ≡ runs.now }
     requires in_range { chunk < 2 ^ 18 }
+    requires turned { TurnsIn edit.now (λ n. n / 512 == chunk) runs.now (M.state memory.now) }
     requires table { second_in edit.now.layout.now edit.now.row (chunk / 512) (M.state memory.now) ≡ second.now }
     ensures { IsChunkPlanned (view_in edit.now.layout.now edit.now.row (M.state memory.now))
         runs.now edit.now.access chunk result }
 {
-    match ChunkEdit::new(edit.layout, runs, chunk, &edit.access) {
+    match ChunkEdit::new(edit.layout, runs, chunk, &edit.access, edit.turns) {
         Some(here) => plan_in(memory, edit, second, &here),
         None => Plan::new(0, 0),
     }
@@ -257,6 +264,7 @@ fn plan_chunks<M: TableMem>(
     runs: &Runs,
 ) -> Plan
     requires canonical { IsCanonical edit.now.layout.now (pages_of (M.state memory.now).memory) }
+    requires turned { TurnsIn edit.now (λ n. n / 512 / 512 == gigabyte) runs.now (M.state memory.now) }
     requires table { second_in edit.now.layout.now edit.now.row gigabyte (M.state memory.now) ≡ second.now }
     ensures { ArePlanned edit.now gigabyte runs.now (M.state memory.now) result }
 {
@@ -284,6 +292,7 @@ fn plan_chunks<M: TableMem>(
 fn plan_gigabyte<M: TableMem>(memory: &M, edit: &RowPlan, gigabyte: Gigabyte, runs: &Runs) -> Plan
     requires canonical { IsCanonical edit.now.layout.now (pages_of (M.state memory.now).memory) }
     requires touched { Touches runs.now gigabyte }
+    requires turned { TurnsIn edit.now (λ n. n / 512 / 512 == gigabyte) runs.now (M.state memory.now) }
     ensures tables { let before = view_in edit.now.layout.now edit.now.row (M.state memory.now) in
         result.tables ≡ gigabyte_growth before (edited runs.now edit.now.access before) gigabyte }
     ensures operations { let before = view_in edit.now.layout.now edit.now.row (M.state memory.now) in
@@ -310,6 +319,7 @@ fn plan_gigabyte<M: TableMem>(memory: &M, edit: &RowPlan, gigabyte: Gigabyte, ru
 /// What an edit needs, gigabyte by gigabyte: the tables after it at places where there is none before it, and its operations.
 pub(crate) fn plan_row<M: TableMem>(memory: &M, edit: &RowPlan, runs: &Runs) -> Plan
     requires canonical { IsCanonical edit.now.layout.now (pages_of (M.state memory.now).memory) }
+    requires turned { TurnsIn edit.now (λ n. nat_lt n (2 ^ 27)) runs.now (M.state memory.now) }
     ensures { IsRowPlanned edit.now runs.now (M.state memory.now) result }
 {
     let span = gigabyte_span(runs);

@@ -1,15 +1,15 @@
 //! What the functions of an edit are told.
 
 ghost use Rattle.base.specs.Manifest.{row_of};
-ghost use Rattle.base.specs.Pages.{are_normal};
+ghost use Rattle.base.specs.Pages.{are_normal, covers};
 ghost use Rattle.stage2.specs.Edits.{touches_chunk};
 ghost use Rattle.stage2.specs.Parts.{chunk_runs, part_count, runs_past};
 ghost use Rattle.stage2.specs.Room.{pages_in};
 ghost use Rattle.std.specs.Prelude.{◌≡◌, ◌≢◌, ℕ, ◌*◌, ◌/◌, ◌<◌, ◌≤◌, true, false, Some, None, length, IfSome};
 
 use crate::layout::Layout;
-use crate::parts::{Pieces, bounds, chunk_runs, count_pieces};
-use crate::place::{Chunk, Gigabyte};
+use crate::parts::{Pieces, bounds, chunk_runs, count_pieces, pieces_within};
+use crate::place::Chunk;
 use crate::table_page::{Row, TablePage};
 use base::{Access, Page, PartitionId, Runs};
 
@@ -20,6 +20,8 @@ pub(crate) struct RowEdit<'a> {
     pub(crate) p: PartitionId,
     pub(crate) row: Row,
     pub(crate) access: Option<Access>,
+    /// Whether each page is turned: it is to be reached exactly where it is not.
+    pub(crate) turns: bool,
     pub(crate) ghost own: { row_of layout.now.ids p ≡ row },
     pub(crate) ghost inside: { row < length layout.now.ids },
 }
@@ -32,6 +34,7 @@ pub(crate) struct ChunkEdit<'a, 'b> {
     pub(crate) runs: Runs<'b>,
     pub(crate) pieces: Pieces,
     pub(crate) access: Option<Access>,
+    pub(crate) turns: bool,
     pub(crate) ghost normal: { are_normal runs ≡ true },
     pub(crate) ghost pages: { pieces.pages ≡ pages_in runs chunk },
     pub(crate) ghost count: { pieces.runs ≡ part_count chunk runs },
@@ -48,36 +51,43 @@ impl<'a, 'b> ChunkEdit<'a, 'b> {
         runs: &Runs<'b>,
         chunk: Chunk,
         access: &Option<Access>,
+        turns: bool,
     ) -> Option<Self>
         requires past { runs_past (512 * chunk) runs.now ≡ runs.now }
         ensures some { IfSome result (λ edit. (edit.layout.now ≡ layout.now) × (edit.chunk ≡ chunk)
-            × (edit.runs ≡ chunk_runs chunk runs.now) × (edit.access ≡ access.now)) }
+            × (edit.runs ≡ chunk_runs chunk runs.now) × (edit.access ≡ access.now) × (edit.turns ≡ turns)) }
         ensures none { result ≡ None → touches_chunk chunk runs.now ≡ false }
     {
-        Self::of_own(layout, &chunk_runs(runs, chunk), chunk, access)
+        Self::of_own(layout, &chunk_runs(runs, chunk), chunk, access, turns)
     }
 
-    /// The edit of a chunk of a gigabyte by all of the runs, if they have pages there and nowhere else.
+    /// The edit of the chunk that has all pages of the runs, if there is such a one. They have a page.
     #[inline(always)]
     pub(crate) fn alone(
         layout: &'a Layout,
         runs: &Runs<'b>,
-        gigabyte: Gigabyte,
         access: &Option<Access>,
+        turns: bool,
     ) -> Option<Self>
-        ensures some { IfSome result (λ edit. (edit.layout.now ≡ layout.now) × (edit.chunk / 512 ≡ gigabyte)
-            × (edit.runs ≡ runs.now) × (edit.access ≡ access.now)
-            × ((c : ℕ) → c ≢ edit.chunk → touches_chunk c runs.now ≡ false) × (gigabyte < 512)) }
+        requires { (n : ℕ) × (covers runs.now n ≡ true) }
+        ensures some { IfSome result (λ edit. (edit.layout.now ≡ layout.now)
+            × (edit.runs ≡ runs.now) × (edit.access ≡ access.now) × (edit.turns ≡ turns)
+            × ((n : ℕ) → covers runs.now n ≡ true → n / 512 ≡ edit.chunk)
+            × ((c : ℕ) → c ≢ edit.chunk → touches_chunk c runs.now ≡ false)) }
     {
         let pages = bounds(runs);
-        if pages.first >= pages.end {
-            return None;
-        }
         let chunk = Chunk::of(Page::new(pages.first));
-        if chunk.end() < pages.end || !gigabyte.has(chunk) {
+        if chunk.end() < pages.end {
             return None;
         }
-        Self::of_own(layout, runs, chunk, access)
+        Some(ChunkEdit {
+            layout,
+            chunk,
+            runs: runs.again(),
+            pieces: pieces_within(runs, chunk),
+            access: *access,
+            turns,
+        })
     }
 
     /// The edit of a chunk by these runs, if they have pages there.
@@ -87,9 +97,10 @@ impl<'a, 'b> ChunkEdit<'a, 'b> {
         runs: &Runs<'b>,
         chunk: Chunk,
         access: &Option<Access>,
+        turns: bool,
     ) -> Option<Self>
         ensures some { IfSome result (λ edit. (edit.layout.now ≡ layout.now) × (edit.chunk ≡ chunk)
-            × (edit.runs ≡ runs.now) × (edit.access ≡ access.now)) }
+            × (edit.runs ≡ runs.now) × (edit.access ≡ access.now) × (edit.turns ≡ turns)) }
         ensures none { result ≡ None → touches_chunk chunk runs.now ≡ false }
     {
         let pieces = count_pieces(runs, chunk);
@@ -102,6 +113,7 @@ impl<'a, 'b> ChunkEdit<'a, 'b> {
             runs: runs.again(),
             pieces,
             access: *access,
+            turns,
         })
     }
 }
@@ -120,6 +132,7 @@ pub(crate) struct RowPlan<'a> {
     pub(crate) layout: &'a Layout,
     pub(crate) row: Option<Row>,
     pub(crate) access: Option<Access>,
+    pub(crate) turns: bool,
     /// Whether words of tables may be looked at, to tell which of them stay: else those count that need more.
     pub(crate) looks: bool,
     pub(crate) ghost inside: { (r : ℕ) → row ≡ Some r → r < length layout.now.ids },

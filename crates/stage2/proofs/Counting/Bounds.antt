@@ -1,5 +1,5 @@
 -- An edit takes no more tables than there are chunks and gigabytes from the first that its runs touch to the last.
-use Rattle.std.proofs.Common.{◌≡◌, ℕ, zero, suc, ◌+◌, ◌-◌, ◌/◌, ◌<◌, ◌≤◌, ◌&&◌, not, Bool, true, false, List, sym, ◌∙◌, ◌⊎◌, true≢false, arith, inl, inr}
+use Rattle.std.proofs.Common.{◌*◌, None, ◌≡◌, ℕ, zero, suc, ◌+◌, ◌-◌, ◌/◌, ◌<◌, ◌≤◌, ◌&&◌, not, Bool, true, false, List, sym, ◌∙◌, ◌⊎◌, true≢false, arith, inl, inr}
 use Rattle.std.proofs.lemmas.Bool.{cases_Bool, cases_lt}
 use Rattle.std.proofs.lemmas.Bool.Decides.{nat_tests}
 use Rattle.base.specs.Access.{View}
@@ -84,3 +84,11 @@ module _ (runs : List PageRun) (access : View) (v : ℕ → View) (first end : �
       let gigabytes = count-within takes_gigabyte (first / 512 / 512) ((end + 262143) / 512 / 512) 512 (λ g lt. gigabyte-within g) in
       let chunks = count-within takes_chunk (first / 512) ((end + 511) / 512) 262144 (λ c lt. chunk-within c) in
       omega (arith, gigabytes, chunks)
+
+-- pages between the first and the end of a chunk are its
+pub in-chunk : (runs : List PageRun) (first end c : ℕ) → lie_within first end runs ≡ true → c ≡ first / 512 → end ≤ 512 * c + 512 → (x : ℕ) → covers runs x ≡ true → x / 512 ≡ c
+in-chunk runs first end c within is last x covered =
+    let b = between runs None (λ n. None) first end within x covered in
+    let low = b.0 in
+    let high = b.1 in
+    omega (arith, low, high, is, last)

@@ -1,5 +1,5 @@
 -- An edit whose pages lie in one chunk, and which writes no words of level 3 but theirs.
-use Rattle.std.proofs.Common.{◌≡◌, ◌≢◌, ℕ, ◌+◌, ◌-◌, ◌*◌, ◌/◌, ◌%◌, ◌<◌, ◌≤◌, Bool, true, false, cond, is_some, List, [], ◌∷◌, length, Option, Some, None, refl, sym, ap, ap₂, subst, ◌∙◌, arith, inl, inr}
+use Rattle.std.proofs.Common.{ltb, max, min, ◌≡◌, ◌≢◌, ℕ, ◌+◌, ◌-◌, ◌*◌, ◌/◌, ◌%◌, ◌<◌, ◌≤◌, Bool, true, false, cond, is_some, List, [], ◌∷◌, length, Option, Some, None, refl, sym, ap, ap₂, subst, ◌∙◌, arith, inl, inr}
 use Rattle.std.specs.Option.{option_map_or}
 use Rattle.std.proofs.lemmas.Bool.{cases_Bool, cases_lt}
 use Rattle.std.proofs.lemmas.List.Sums.{sum_by-cons}
@@ -8,8 +8,10 @@ use Rattle.base.specs.Need.{is_mixed, is_alike}
 use Rattle.std.proofs.lemmas.Bool.Decides.{nat_tests}
 use Rattle.base.specs.Pages.{PageRun, in_run, covers}
 use Rattle.pool.specs.Pool.{Pages, nonzero_in}
+use Rattle.pool.proofs.Count.{count_below-some}
 use Rattle.stage2.specs.Edits.{edited}
 use Rattle.stage2.specs.inner.Chunks.{answers_at, answers_of, second_of, entry_in, block_answer, covers_chunk, IsWordFor}
+use Rattle.stage2.specs.inner.Clauses.{is_between}
 use Rattle.stage2.specs.Orderly.{IsCanonical, answer_of}
 use Rattle.stage2.specs.Parts.{part_in, part_count}
 use Rattle.stage2.specs.Room.{pages_among, pages_in, reached_in, table_operations, chunk_operations, gigabyte_operations, row_operations}
@@ -19,7 +21,7 @@ use Rattle.stage2.proofs.Counting.Bounds.{count-within}
 use Rattle.stage2.proofs.Counting.Growth.{entry-view, view-mixed, view-spelled, filled-operations}
 use Rattle.stage2.proofs.Counting.Needs.{mixed-same, mixed-none, unlike-mixed}
 use Rattle.stage2.proofs.Counting.Operations.{table-either, table-words, reached-as, plain-answer}
-use Rattle.stage2.proofs.Counting.Pieces.{count_below-fewer, page-among, zero-beside}
+use Rattle.stage2.proofs.Counting.Pieces.{count_below-fewer, page-among, pages_among-same, pages_among-between, zero-beside}
 use Rattle.stage2.proofs.Runs.ChunkCounts.{nowhere, with-pages, without-pages, operations-nothing}
 use Rattle.stage2.proofs.Runs.Spans.{sum_below-alone}
 use Rattle.stage2.proofs.Tree.KnownWords.{second-known}
@@ -37,6 +39,37 @@ run-pages run c =
     let high : 512 * c + i < run.first + run.count = grind (arith, nat_tests, here) in
     (omega (arith, low), omega (arith, high))) in
     omega (arith, few)
+
+-- a run that has a page, and all of its pages in one chunk
+module _ (run : PageRun) (c : ℕ) (some : (n : ℕ) × (covers (run ∷ []) n ≡ true)) (only : (n : ℕ) → covers (run ∷ []) n ≡ true → n / 512 ≡ c) where
+  counted : 0 < run.count
+  counted = let here = some.1 in grind (arith, nat_tests, here)
+
+  there : (n : ℕ) → run.first ≤ n → n < run.first + run.count → n / 512 ≡ c
+  there n low high = only n (grind (arith, nat_tests, low, high))
+
+  low : 512 * c ≤ run.first
+  low = let here = there run.first (omega arith) (omega (arith, counted)) in omega (arith, here)
+
+  high : run.first + run.count ≤ 512 * c + 512
+  high = let here = there (run.first + run.count - 1) (omega (arith, counted)) (omega (arith, counted)) in omega (arith, here, counted)
+
+  pub run-all : pages_in (run ∷ []) c ≡ run.count
+  run-all =
+      let from = run.first - 512 * c in
+      pages_among-same (is_between from (from + run.count)) (λ i. covers (run ∷ []) (512 * c + i)) (λ i lt. grind (arith, nat_tests, low))
+      ∙ pages_among-between from (from + run.count) (omega arith) (omega (arith, low, high)) ∙ omega arith
+
+  pub run-whole : part_count c (run ∷ []) ≡ 1
+  unfolding part_in
+  run-whole = let lt : ltb (max run.first (512 * c)) (min (run.first + run.count) (512 * c + 512)) ≡ true = grind (arith, nat_tests, low, high, counted) in rw lt refl
+
+-- runs that have a page in a chunk
+pub page-counted : (runs : List PageRun) (c n : ℕ) → covers runs n ≡ true → n / 512 ≡ c → 0 < pages_in runs c
+unfolding pages_among
+page-counted runs c n covered here =
+    let at : 512 * c + n % 512 ≡ n = omega (arith, here) in
+    count_below-some (λ i. covers runs (512 * c + i)) 512 (n % 512) (omega arith) (ap (covers runs) at ∙ covered)
 
 parts-few : (c : ℕ) (runs : List PageRun) → part_count c runs ≤ length runs
 parts-few c [] = omega arith

@@ -145,6 +145,11 @@ module _ (layout : Layout) (m : Pages) (canonical : IsCanonical layout m) (g : �
       let within : j < page_count m.quotas = share_inside m.quotas row j (canonical.orderly.owned (Gigabyte row g) j (inside row refl, below) e) in
       subst (λ x. j < x) (sym canonical.orderly.pages) within
 
+  -- which is taken
+  pub second-held : (row : Option ℕ) → ((r : ℕ) → row ≡ Some r → r < length layout.ids) → (j : ℕ) → second_of layout m.words row g ≡ Some j → m.taken j ≡ true
+  second-held None inside j e = absurd (cc)
+  second-held (Some row) inside j e = canonical.orderly.taken (Gigabyte row g) j (inside row refl, below) e
+
   -- of a gigabyte
   module _ (row : Option ℕ) (inside : (r : ℕ) → row ≡ Some r → r < length layout.ids) (runs : List PageRun) where
     abbrev before : ℕ → View

@@ -185,6 +185,11 @@ zero-beside words k which fewer =
     let out = not-or (which left.0) (not (words k left.0 == 0)) left.2 in
     (left.0, left.1, out.0, grind (arith, nat_tests, out.1))
 
+-- where none of theirs is 0, they are as many at least
+pub words-least : (words : Words) (k : ℕ) (which : ℕ → Bool) → ((i : ℕ) → i < 512 → which i ≡ true → (words k i == 0) ≡ false) → pages_among which ≤ nonzero_in words k
+unfolding pages_among nonzero_in
+words-least words k which some = count_below-fewer which (λ i. not (words k i == 0)) 512 (λ i lt on. ap not (some i lt on))
+
 -- and where there are more of them than those pages, one beside them has another word
 pub word-beside : (words : Words) (k : ℕ) (which : ℕ → Bool) → pages_among which < nonzero_in words k → (i : ℕ) × (i < 512) × (which i ≡ false) × (words k i ≡ 0 → ⊥)
 unfolding pages_among nonzero_in

@@ -1,6 +1,6 @@
 -- The tables of one partition, filled upward.
-use Rattle.std.proofs.Common.{◌≡◌, ℕ, ◌+◌, ◌-◌, ◌^◌, ◌<◌, ◌≤◌, Bool, true, false, cond, eqb, List, get_or, Some, None, refl, sym, ap, subst, ◌∙◌, ◌⊎◌, arith, inl, inr, eq-eqb}
-use Rattle.std.proofs.lemmas.Bool.{cases_lt}
+use Rattle.std.proofs.Common.{◌≡◌, ℕ, ◌+◌, ◌-◌, ◌^◌, ◌<◌, ◌≤◌, Bool, true, false, cond, eqb, List, get_or, Some, None, is_some, refl, sym, ap, subst, ◌∙◌, ◌⊎◌, arith, inl, inr, eq-eqb}
+use Rattle.std.proofs.lemmas.Bool.{cases_lt, ltb-true}
 use Rattle.std.proofs.lemmas.Bool.Decides.{nat_tests}
 use Rattle.base.specs.Access.{Access, View}
 use Rattle.base.specs.Manifest.{row_of}
@@ -78,6 +78,10 @@ module _ (layout : Layout) (view : ℕ → View) (p first number : ℕ) (access 
           absurd (cc)
     ];
     inside = h.inside;
+    turned = λ n small covered.
+        let below = ltb-true _ _ small in
+        let from : first ≤ n = grind (arith, nat_tests, covered) in
+        ap (λ v. is_some v) (before n below ∙ below-out view first n from);
     fits =
         let all = fronts-fit view (view_of t p) (edited (pending_runs first number access) access (view_of t p)) first number h.edge edge before same-edit in
         let quota = quota-of layout t p h.placed h.canonical in

@@ -36,28 +36,6 @@ writes-gaps k c runs other a b empty so = record {
     here i x small false out given =
         so.here i x small (ap (λ t. cond t None (Some other)) out ∙ sym (ap (λ t. cond t (Some None) (Some other)) out) ∙ given)
 
--- the words of the runs' pages, and then those beside
-pub writes-both : (k c : ℕ) (runs : List PageRun) (access other : View) (a b e : Pages) → Writes k c (planned runs access None) a b → Writes k c (gaps runs other) b e → Writes k c (planned runs access (Some other)) a e
-writes-both k c runs access other a b e so next = record {
-  ids = next.ids ∙ so.ids;
-  quotas = next.quotas ∙ so.quotas;
-  taken = next.taken ∙ so.taken;
-  others = λ q i beside. next.others q i beside ∙ so.others q i beside;
-  here = λ i x small given. here i x small (covers runs (512 * c + i)) refl given;
-  stays = λ i small none. absurd (never (covers runs (512 * c + i)) none);
-}
-  where
-    never : (t : Bool) → cond t (Some access) (Some other) ≡ None → ⊥
-    never true e = cc
-    never false e = cc
-
-    here : (i : ℕ) (x : View) → i < 512 → (t : Bool) → covers runs (512 * c + i) ≡ t → planned runs access (Some other) (512 * c + i) ≡ Some x → IsWordFor (512 * c + i) x (e.words k i)
-    here i x small true in_it given =
-        rw (next.stays i small (ap (λ t. cond t None (Some other)) in_it))
-        (so.here i x small (ap (λ t. cond t (Some access) None) in_it ∙ sym (ap (λ t. cond t (Some access) (Some other)) in_it) ∙ given))
-    here i x small false out given =
-        next.here i x small (ap (λ t. cond t None (Some other)) out ∙ sym (ap (λ t. cond t (Some access) (Some other)) out) ∙ given)
-
 -- ---- gaps as runs
 
 module _ (k c : ℕ) (runs : List PageRun) (answer : View) where

@@ -4,9 +4,9 @@ use Rattle.base.specs.Access.{View}
 use Rattle.pool.specs.Pool.{Pool, pages_of}
 use Rattle.stage2.specs.declared.site.ChunkEdit.{ChunkEdit}
 use Rattle.stage2.specs.declared.site.Site.{Site}
-use Rattle.stage2.specs.Edits.{edited, touches_chunk, AreFree, disturbs}
+use Rattle.stage2.specs.Edits.{edited, touches_chunk, AreFree, Turns, disturbs}
 use Rattle.stage2.specs.inner.Chunks.{answers_in, IsGrowing, IsSite, Redoes_in}
-use Rattle.stage2.specs.inner.Clauses.{IsAt, GrowsChunk, EditsChunk, ChunkInStep, operations_in_table}
+use Rattle.stage2.specs.inner.Clauses.{IsAt, TurnsChunk, chunk_view, GrowsChunk, EditsChunk, ChunkInStep, operations_in_table}
 use Rattle.stage2.specs.Moments.{StaysInStep}
 use Rattle.stage2.specs.Room.{table_operations}
 use Rattle.stage2.specs.Slot.{Layout}
@@ -23,6 +23,9 @@ module _ (s : Site) (h : ChunkEdit) (layout : Layout) (c : ℕ) (access : View) 
 
   pub site-made : IsSite layout s.row c s.second (pages_of old.memory) → IsAt s h old
   site-made so = rw (l, at) so
+
+  pub turned-made : (h.turns ≡ true → Turns (λ n. eqb (n / 512) c) h.runs access (answers_in layout s.row c s.second (pages_of old.memory))) → TurnsChunk h (chunk_view s h old)
+  turned-made so = rw (l, at, a) so
 
   pub grows-made : GrowsChunk s h old → IsGrowing (answers_in layout s.row c s.second (pages_of old.memory)) (edited h.runs access (answers_in layout s.row c s.second (pages_of old.memory))) c
   grows-made so = rw (l, at, a) at so

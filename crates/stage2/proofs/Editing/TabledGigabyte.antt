@@ -4,7 +4,7 @@ use Rattle.base.specs.Manifest.{row_of, page_count}
 use Rattle.base.specs.Pages.{PageRun}
 use Rattle.pool.specs.Pool.{Pages, Pool, pages_of}
 use Rattle.pool.proofs.Shares.{share_inside}
-use Rattle.stage2.specs.Edits.{edited, disturbed}
+use Rattle.stage2.specs.Edits.{edited, Turns, disturbed}
 use Rattle.stage2.specs.Orderly.{IsOrderly, answers, linked}
 use Rattle.stage2.specs.Walk.{walked, Gigabyte, table_at}
 use Rattle.stage2.specs.declared.site.RowEdit.{RowEdit}
@@ -34,6 +34,8 @@ module _ {e : RowEdit} {j g : ℕ} {runs : List PageRun} {first : Pool} {r0 : �
   tabled-can = record {
     orderly = subst (λ (x : Pages). IsOrderly e.layout.now x) (sym same) can.canonical.orderly;
     second = subst (λ (x : Pages). table_at e.layout.now x.words (Gigabyte e.row g) ≡ Some j) (sym same) table;
+    touched = can.touched;
+    turned = λ turns. subst (λ (x : Pages). Turns (λ n. eqb (n / 512 / 512) g) runs e.access (answers e.layout.now x.words e.row)) (sym same) (can.turned turns);
     fits = fits-tabled e.layout.now e.row g j (pages_of first.memory) can.canonical e.inside below table runs e.access can.fits;
     room = let all = costs in let room = can.room in omega (arith, all, room);
   }

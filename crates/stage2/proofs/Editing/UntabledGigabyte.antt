@@ -1,12 +1,13 @@
 -- The edit of a gigabyte that gets its level 2 table, from that of its chunks.
 use Rattle.std.proofs.Common.{◌≡◌, ℕ, ◌+◌, ◌/◌, ◌%◌, ◌<◌, Bool, true, false, ◌&&◌, eqb, cond, is_some, None, Some, List, sym, ap, subst, ◌∙◌, arith}
+use Rattle.std.proofs.lemmas.Bool.{eqb-true}
 use Rattle.std.proofs.lemmas.Bool.Decides.{nat_tests}
 use Rattle.base.specs.Access.{View}
 use Rattle.base.specs.Pages.{PageRun}
 use Rattle.pool.specs.Pool.{Pages, Pool, IsWhole, pages_of, words_of, taken_of, with_mark, after_take, IsLowestFree}
 use Rattle.pool.specs.declared.operation.Op.TheVariants.{Set}
 use Rattle.words.specs.Words.{table_word_of}
-use Rattle.stage2.specs.Edits.{AreFree, edited, disturbed}
+use Rattle.stage2.specs.Edits.{AreFree, Turns, edited, disturbed}
 use Rattle.stage2.specs.Moments.{StaysInStep, IsLogged}
 use Rattle.stage2.specs.Orderly.{IsOrderly, answers, answer_of, linked}
 use Rattle.stage2.specs.Walk.{walk, walked, Gigabyte, table_at}
@@ -52,6 +53,9 @@ module _ {e : RowEdit} {g : ℕ} {runs : List PageRun} {first : Pool} {r0 : ℕ}
           subst (λ (x : Pages). IsOrderly e.layout.now (linked e.layout.now e.row g j x)) (sym marked)
           (rooted e.layout.now e.row g (table_word_of (e.layout.now.base + j)) (pages_of first.memory) (linked e.layout.now e.row g j (with_mark j true (pages_of first.memory))) (link-rooted e.layout.now e.row g j (pages_of first.memory) link));
       second = subst (λ (x : Pages). table_at e.layout.now (linked e.layout.now e.row g j x).words (Gigabyte e.row g) ≡ Some j) (sym marked) (link-table e.layout.now e.row g j (pages_of first.memory) link);
+      touched = can.touched;
+      turned = λ turns. subst (λ (x : Pages). Turns (λ n. eqb (n / 512 / 512) g) runs e.access (answers e.layout.now (linked e.layout.now e.row g j x).words e.row)) (sym marked)
+          (λ n at covered. ap (λ a. is_some a) (same-answers e.layout.now e.row g j runs e.access (pages_of first.memory) can.canonical below link can.touched maps n (let here = eqb-true _ _ at in let small = below in omega (arith, here, small))) ∙ can.turned turns n at covered);
       fits = subst (λ (x : Pages). Fits e.layout.now e.row g j runs e.access x) (sym marked) (record { fits = link-fits e.layout.now e.row g j runs e.access (pages_of first.memory) can.canonical below link can.touched maps can.fits.fits });
       room = let all = costs in let room = can.room in omega (arith, all, room, kept);
     }

@@ -2,7 +2,7 @@
 use Rattle.std.proofs.Common.{◌≡◌, ◌≢◌, ℕ, zero, suc, ◌+◌, ◌-◌, ◌*◌, ◌/◌, ◌%◌, ◌<◌, ◌≤◌, eqb, true, false, cond, None, List, sym, ap, subst, ◌∙◌, arith}
 use Rattle.base.specs.Access.{View}
 use Rattle.base.specs.Manifest.{page_count, row_of}
-use Rattle.base.specs.Pages.{PageRun}
+use Rattle.base.specs.Pages.{PageRun, covers}
 use Rattle.pool.specs.Pool.{Pool, IsWhole, pages_of, words_of, taken_of, after_replaces}
 use Rattle.stage2.specs.Edits.{edited, touches_chunk, AreFree}
 use Rattle.stage2.specs.Moments.{StaysInStep}
@@ -16,7 +16,7 @@ use Rattle.stage2.specs.declared.site.RowEdit.{RowEdit}
 use Rattle.stage2.specs.declared.site.Site.{Site}
 use Rattle.stage2.specs.inner.Change.{block_step}
 use Rattle.stage2.specs.inner.Chunks.{answers_in, covers_chunk}
-use Rattle.stage2.specs.inner.Clauses.{IsAt, GrowsChunk, HasFree, CanEditChunk, IsChunkEdited, CanEditChunks, AreChunksEdited, ReplacesBlocks, linked_view, operations_in_table}
+use Rattle.stage2.specs.inner.Clauses.{IsAt, TurnsChunk, chunk_view, GrowsChunk, HasFree, CanEditChunk, IsChunkEdited, CanEditChunks, AreChunksEdited, ReplacesBlocks, linked_view, operations_in_table}
 use Rattle.stage2.specs.inner.Gigabytes.{IsUnderway}
 use Rattle.stage2.specs.inner.Pieces.{IsNextPiece}
 use Rattle.stage2.specs.inner.Steps.{IsSeated, disturbed_below}
@@ -24,13 +24,14 @@ use Rattle.stage2.proofs.Counting.Needs.{filled-touches}
 use Rattle.stage2.proofs.Counting.Operations.{chunk-same}
 use Rattle.stage2.proofs.Editing.ChunkByChunk.{underway-start, underway-edit, still-answers, has-free, sum_below-more, sum_below-up, site}
 use Rattle.stage2.proofs.Editing.FilledChunks.{edited-many, stays-many}
+use Rattle.stage2.proofs.Editing.Gigabyte.{touched-below}
 use Rattle.stage2.proofs.Editing.FourChunkEdits.{second-inside, second-taken}
-use Rattle.stage2.proofs.Editing.MadeEdit.{touches-made, site-made, grows-made, room-made, edits-made, step-made}
+use Rattle.stage2.proofs.Editing.MadeEdit.{touches-made, site-made, turned-made, grows-made, room-made, edits-made, step-made}
 use Rattle.stage2.proofs.Runs.Between.{AreLeft, left-all, left-later, left-past}
 use Rattle.stage2.proofs.Runs.Left.{left-touches}
-use Rattle.stage2.proofs.Runs.OwnRuns.{AreOwn, own-chunk, own-all, chunk-growing, chunk-redoes, chunk-free, chunk-stays}
+use Rattle.stage2.proofs.Runs.OwnRuns.{AreOwn, own-chunk, own-all, chunk-growing, chunk-redoes, chunk-free, chunk-turns, chunk-stays}
 use Rattle.stage2.proofs.Runs.Spans.{underway-gap, stays-gap}
-use Rattle.stage2.proofs.Walkers.ChunkSteps.{march-edit, march-seated, march-free}
+use Rattle.stage2.proofs.Walkers.ChunkSteps.{march-edit, march-seated, march-free, march-turns}
 use Rattle.stage2.proofs.Walkers.ZeroedTables.{stays-none}
 
 -- the answers after the edit
@@ -109,7 +110,7 @@ module _ {e : RowEdit} {j g : ℕ} {runs : List PageRun} {first : Pool} {r0 : �
     own-here {part} own = own-chunk (512 * g + i) runs part (own ∙ so.left.parts (512 * g + i) (omega arith))
 
     -- the next chunk
-    module _ (lt : i < 512) (h : ChunkEdit) (layout : h.layout.now ≡ e.layout.now) (at : h.chunk ≡ 512 * g + i) (own : AreOwn (512 * g + i) h.runs runs) (access : h.access ≡ e.access) where
+    module _ (lt : i < 512) (h : ChunkEdit) (layout : h.layout.now ≡ e.layout.now) (at : h.chunk ≡ 512 * g + i) (own : AreOwn (512 * g + i) h.runs runs) (access : h.access ≡ e.access) (turns : h.turns ≡ e.turns) where
       abbrev v : ℕ → View
       v = answers_in e.layout.now e.row (512 * g + i) j (pages_of now.memory)
 
@@ -131,6 +132,12 @@ module _ {e : RowEdit} {j g : ℕ} {runs : List PageRun} {first : Pool} {r0 : �
           sym (ap (λ t. cond t (3 + table_operations h.runs e.access v (512 * g + i)) 0) (sym touched) ∙ same)
           ∙ ap (λ n. 3 + n) (sym (room-made seat h e.layout.now (512 * g + i) e.access layout at access now now))
 
+      here-turned : TurnsChunk h (chunk_view seat h now)
+      here-turned =
+          turned-made seat h e.layout.now (512 * g + i) e.access layout at access now now
+          (λ yes. chunk-turns (512 * g + i) runs h.runs e.access own.covered v
+          (march-turns e.layout.now e.row g j runs e.access (pages_of first.memory) e.inside below i lt (pages_of now.memory) so.underway (can.turned (sym turns ∙ yes))))
+
       here-room : 3 + operations_in_table seat h now ≤ r
       here-room =
           let enough = can.room in
@@ -141,7 +148,7 @@ module _ {e : RowEdit} {j g : ℕ} {runs : List PageRun} {first : Pool} {r0 : �
           omega (arith, more, up, room, one, enough)
 
       pub here-can : CanEditChunk seat h now r
-      here-can = record { site = here-site; row = ap (λ (l : Layout). row_of l.ids e.p) layout ∙ e.own; free = here-free; room = here-room }
+      here-can = record { site = here-site; turned = here-turned; row = ap (λ (l : Layout). row_of l.ids e.p) layout ∙ e.own; free = here-free; room = here-room }
 
       pub here-next : {new : Pool} {r2 : ℕ} → IsChunkEdited seat h now r new r2 → IsUpTo e j g runs first r0 (i + 1) rest new r2
       here-next {new} done =
@@ -217,11 +224,15 @@ module _ {e : RowEdit} {j g : ℕ} {runs : List PageRun} {first : Pool} {r0 : �
             room = omega (arith, room, costs, less, ahead);
           }
 
-  -- ---- a chunk that is the only one that runs touch
+-- ---- a chunk that is the only one that runs touch
 
-  module _ (h : ChunkEdit) (layout : h.layout.now ≡ e.layout.now) (here : h.chunk / 512 ≡ g) (own : h.runs ≡ runs) (access : h.access ≡ e.access) (others : (k : ℕ) → k ≢ h.chunk → touches_chunk k runs ≡ false) where
+module _ {e : RowEdit} {j g : ℕ} {runs : List PageRun} {first : Pool} {r0 : ℕ} (can : CanEditChunks e g j runs first r0) where
+  below : g < 512
+  below = touched-below runs g can.touched
+
+  module _ (h : ChunkEdit) (layout : h.layout.now ≡ e.layout.now) (only : (n : ℕ) → covers runs n ≡ true → n / 512 ≡ h.chunk) (own : h.runs ≡ runs) (access : h.access ≡ e.access) (turns : h.turns ≡ e.turns) (others : (k : ℕ) → k ≢ h.chunk → touches_chunk k runs ≡ false) where
     at : h.chunk ≡ 512 * g + h.chunk % 512
-    at = omega (arith, here)
+    at = let touched = can.touched in let here = touched.here in let there = only touched.page touched.covered in omega (arith, here, there)
 
     apart : (x : ℕ) → x ≢ h.chunk % 512 → touches_chunk (512 * g + x) runs ≡ false
     apart x differs = others (512 * g + x) (λ same. differs (omega (arith, same, at)))
@@ -230,11 +241,11 @@ module _ {e : RowEdit} {j g : ℕ} {runs : List PageRun} {first : Pool} {r0 : �
     owns = own-all (512 * g + h.chunk % 512) runs h.runs own
 
     under : IsUpTo e j g runs first r0 (h.chunk % 512) runs first r0
-    under = gap at-start (h.chunk % 512) (omega arith) (omega arith) (λ x from to. apart x (λ same. omega (arith, same, to))) runs (left-all (512 * g + h.chunk % 512) runs)
+    under = gap can below (at-start can below) (h.chunk % 512) (omega arith) (omega arith) (λ x from to. apart x (λ same. omega (arith, same, to))) runs (left-all (512 * g + h.chunk % 512) runs)
 
-    pub alone-can : CanEditChunk seat h first r0
-    alone-can = here-can under (omega arith) h layout at owns access
+    pub alone-can : CanEditChunk (record { p = e.p; row = e.row; second = j }) h first r0
+    alone-can = here-can can below under (omega arith) h layout at owns access turns
 
     -- with it all are edited
-    pub alone-all : {new : Pool} {r : ℕ} → IsChunkEdited seat h first r0 new r → AreChunksEdited e g j runs first r0 new r
-    alone-all done = at-end (here-next under (omega arith) h layout at owns access done) (λ x from small. apart x (λ same. omega (arith, same, from)))
+    pub alone-all : {new : Pool} {r : ℕ} → IsChunkEdited (record { p = e.p; row = e.row; second = j }) h first r0 new r → AreChunksEdited e g j runs first r0 new r
+    alone-all done = at-end can below (here-next can below under (omega arith) h layout at owns access turns done) (λ x from small. apart x (λ same. omega (arith, same, from)))

@@ -14,9 +14,9 @@ use Rattle.stage2.specs.inner.Clauses.{row_view, row_after, CanEditGigabyte, IsG
 use Rattle.stage2.specs.inner.Gigabytes.{IsPast, Touches, LieInGigabyte}
 use Rattle.stage2.proofs.Editing.ChunkByChunk.{sum_below-more, sum_below-up}
 use Rattle.stage2.proofs.Editing.GigabyteByGigabyte.{past-none, past-fits, past-operations, past-edit, past-all}
-use Rattle.stage2.proofs.Runs.OwnRuns.{gigabyte-covers, gigabyte-operations, gigabyte-fits, gigabyte-edits, gigabyte-free, gigabyte-stays}
+use Rattle.stage2.proofs.Runs.OwnRuns.{gigabyte-covers, gigabyte-operations, gigabyte-fits, gigabyte-edits, gigabyte-free, gigabyte-turns, gigabyte-stays}
 use Rattle.stage2.proofs.Runs.Spans.{past-gap, cross-gap}
-use Rattle.stage2.proofs.Walkers.GigabyteSteps.{disturbed_before, cross-edit, cross-free, cross-all}
+use Rattle.stage2.proofs.Walkers.GigabyteSteps.{disturbed_before, cross-edit, cross-free, cross-turns, cross-all}
 use Rattle.stage2.proofs.Walkers.ZeroedTables.{stays-none}
 
 -- the operations of a gigabyte at most
@@ -74,6 +74,7 @@ module _ {e : RowEdit} {runs : List PageRun} {first : Pool} {r0 : ℕ} where
       row-can can touched = record {
         canonical = so.past.canonical;
         touched = touched;
+        turned = λ turns. cross-turns e.layout.now e.row runs e.access (pages_of first.memory) e.inside i lt (pages_of now.memory) so.past (can.turned turns);
         fits = past-fits e.layout.now e.row runs e.access (pages_of first.memory) e.inside i lt (pages_of now.memory) so.past can.canonical can.fits;
         room =
             let more = sum_below-more (cost e runs first) i in
@@ -108,6 +109,7 @@ module _ {g : ℕ} {runs part : List PageRun} (is : part ≡ gigabyte_runs g run
     part-can can touched = record {
       canonical = can.canonical;
       touched = touched;
+      turned = λ turns. gigabyte-turns e.layout.now e.row g runs part e.access is (row_view e.layout.now e.row now) (can.turned turns);
       fits = gigabyte-fits e.layout.now e.row g runs part e.access is (pages_of now.memory) can.fits;
       room = let room = can.room in let same = gigabyte-operations g runs part is e.access (row_view e.layout.now e.row now) in omega (arith, room, same);
     }

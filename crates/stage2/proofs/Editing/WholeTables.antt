@@ -9,20 +9,20 @@ use Rattle.base.specs.Manifest.{row_of}
 use Rattle.base.specs.Need.{is_mixed, is_reached, need, grow}
 use Rattle.base.specs.Pages.{PageRun, in_run, covers}
 use Rattle.pool.specs.declared.operation.Op.TheVariants.{Clear}
-use Rattle.pool.specs.Pool.{Pool, pages_of, words_of, taken_of, used_by, row_quota, free_of, after_clear, all_lie_in}
+use Rattle.pool.specs.Pool.{Memory, Pool, pages_of, words_of, taken_of, used_by, row_quota, free_of, after_clear, all_lie_in}
 use Rattle.pool.proofs.Count.{count_below-same, count_below-none, count_below-some}
 use Rattle.pool.proofs.Shares.{row_quota-none, used_by-le}
 use Rattle.stage2.specs.declared.walked.Walked.{Walked}
 use Rattle.stage2.specs.declared.walked.Walked.TheVariants.{None as Unmapped}
-use Rattle.stage2.specs.Edits.{edited, AreFree, disturbed, with_pages}
+use Rattle.stage2.specs.Edits.{edited, AreFree, Turns, disturbed, with_pages}
 use Rattle.stage2.specs.inner.Chunks.{answers_of}
 use Rattle.stage2.specs.inner.Gigabytes.{EditsRow, FitsRow}
 use Rattle.stage2.specs.Moments.{cleared_by, StaysInStep}
 use Rattle.stage2.specs.Orderly.{IsCanonical, answers, answer_of}
 use Rattle.stage2.specs.Room.{row_operations}
 use Rattle.stage2.specs.Slot.{Layout}
-use Rattle.stage2.specs.Tables.{TablesView, walk_in, view_of, has_root, AreCanonical, Fits, edit_operations, ReachSo, ShowsMoments, ClearsNothing, EditsInStep, ClearsInStep}
-use Rattle.stage2.specs.Walk.{walk, walk_across, walked}
+use Rattle.stage2.specs.Tables.{TablesView, walk_in, view_of, has_root, AreCanonical, AreTurnedFor, Fits, edit_operations, ReachSo, ShowsMoments, ClearsNothing, EditsInStep, ClearsInStep}
+use Rattle.stage2.specs.Walk.{walk, walk_across, walked, translation}
 use Rattle.stage2.proofs.Walkers.WholeCall.{moments-edited, clears-nothing}
 use Rattle.stage2.proofs.Walkers.ZeroedTables.{counted-op, stays-none}
 use Rattle.stage2.proofs.Editing.RowOfPartition.{edited-walks}
@@ -30,7 +30,7 @@ use Rattle.stage2.proofs.Tree.EntryWords.{entries}
 use Rattle.stage2.proofs.Walkers.InStep.{orderly-clearing}
 use Rattle.stage2.proofs.Counting.Needs.{mixed-same, mixed-none, reached-same, reached-none, reached-some}
 use Rattle.stage2.proofs.Editing.GigabyteByGigabyte.{used-need}
-use Rattle.stage2.proofs.Tree.Rows.{IsRow, row-found}
+use Rattle.stage2.proofs.Tree.Rows.{IsRow, row-found, no-row}
 use Rattle.stage2.proofs.Walkers.WholeEdit.{moments-none}
 use Rattle.base.proofs.Booleans.{both}
 
@@ -266,6 +266,18 @@ free-and-need t p h =
     outside row ids quotas e f = grind (arith, nat_tests, e, f)
 
 -- ---- what an edit asks
+
+-- pages are turned for the row that was found
+pub turned-found : (t : TablesView) (p : ℕ) (runs : List PageRun) (access : View) (row : Option ℕ) → row ≡ position (λ id. eqb id p) t.layout.ids → AreTurnedFor p runs access t
+    → Turns (λ n. ltb n (2 ^ 27)) runs access (answers_of t.layout (words_of t.pool.memory.words) row)
+turned-found t p runs access None e turned = λ n small covered. ap (λ a. is_some (answer_of a)) (sym (no-row t.layout (words_of t.pool.memory.words) p n (sym e))) ∙ turned n small covered
+turned-found t p runs access (Some row) e turned = subst (λ r. Turns (λ n. ltb n (2 ^ 27)) runs access (answers t.layout (words_of t.pool.memory.words) r)) (sym (row-found t.layout.ids p row (sym e)).is) turned
+
+-- it is said of the layout and the words alone
+pub turned-same : (p : ℕ) (runs : List PageRun) (access : View) (t u : TablesView) → u.layout ≡ t.layout → u.pool.memory ≡ t.pool.memory → AreTurnedFor p runs access t → AreTurnedFor p runs access u
+turned-same p runs access t u layout memory turned = λ n small covered.
+    ap (λ (m : Memory). is_some (answer_of (translation u.layout (words_of m.words) p n))) memory
+    ∙ ap (λ (l : Layout). is_some (answer_of (translation l (words_of t.pool.memory.words) p n))) layout ∙ turned n small covered
 
 pub fits-row : (t : TablesView) (p row : ℕ) (runs : List PageRun) (access : View) → IsRow t.layout.ids p row → Fits p runs access t → FitsRow t.layout row runs access (pages_of t.pool.memory)
 fits-row t p row runs access is fits =

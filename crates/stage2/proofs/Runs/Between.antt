@@ -1,5 +1,5 @@
 -- The runs with pages from one up to another are found by two halvings, as runs stand upward.
-use Rattle.std.proofs.Common.{◌≡◌, ℕ, zero, suc, ◌+◌, ◌*◌, ◌<◌, ◌≤◌, true, false, not, ◌&&◌, ◌||◌, Bool, cond, eqb, leb, ltb, List, [], ◌∷◌, get_or, length, take, drop, refl, arith, ap, ◌∙◌, inl, inr}
+use Rattle.std.proofs.Common.{◌≡◌, ℕ, zero, suc, ◌+◌, ◌*◌, ◌<◌, ◌≤◌, true, false, ◌&&◌, ◌||◌, Bool, leb, ltb, List, [], ◌∷◌, get_or, length, take, drop, refl, arith, ap, ◌∙◌, inl, inr}
 use Rattle.std.proofs.lemmas.Bool.{cases_Bool, ltb-true, and_parts}
 use Rattle.std.proofs.lemmas.Bool.Decides.{nat_tests}
 use Rattle.std.specs.List.{list_any}
@@ -108,19 +108,6 @@ past-later page later (r ∷ runs) le = elim (cases_Bool (ltb page (end_of r))) 
       rw (over, out) (past-later page later runs le)
 ]
 
--- a page is in one of the runs exactly where one of them has a page from it up to the next
-pub covered-between : (runs : List PageRun) (n : ℕ) → covers runs n ≡ not (eqb (length (runs_between n (n + 1) runs)) 0)
-covered-between [] n = refl
-covered-between (r ∷ runs) n =
-    let test : (ltb n (end_of r) && ltb r.first (n + 1)) ≡ in_run r n = grind (arith, nat_tests) in
-    rw test (elim (in_run r n) as (λ b. (b || covers runs n) ≡ not (eqb (length (cond b (r ∷ runs_between n (n + 1) runs) (runs_between n (n + 1) runs))) 0)) [
-      | true ↦ let some : eqb (length (r ∷ runs_between n (n + 1) runs)) 0 ≡ false = not_none (length (runs_between n (n + 1) runs)) in rw some refl
-      | false ↦ covered-between runs n
-    ])
-  where
-    not_none : (k : ℕ) → eqb (suc k) 0 ≡ false
-    not_none k = grind (arith, nat_tests)
-
 -- ---- the first of runs
 
 -- runs that begin above a page don't have it
@@ -141,10 +128,6 @@ first-tells (r ∷ runs) run n normal some is lt =
   where
     inside : (first count n : ℕ) → n < first + count → ((leb first n && ltb n (first + count)) || false) ≡ leb first n
     inside first count n lt = grind (arith, nat_tests)
-
--- runs don't have the pages before the first
-pub before-first : (runs : List PageRun) (run : PageRun) (n : ℕ) → are_normal runs ≡ true → 0 < length runs → run ≡ get_or runs 0 run → n < run.first → covers runs n ≡ false
-before-first runs run n normal some is lt = first-tells runs run n normal some is (omega (arith, lt)) ∙ grind (arith, nat_tests, lt)
 
 -- what a run is known to be that is the first of those with pages from one up to another
 pub record IsFirstBetween (first end : ℕ) (run : PageRun) (runs : List PageRun) : Type 0 where

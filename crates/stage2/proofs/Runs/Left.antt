@@ -15,7 +15,7 @@ module _ (c : ℕ) (rest runs : List PageRun) (left : AreLeft c rest runs) where
   same : chunk_runs c rest ≡ chunk_runs c runs
   same = left.parts c (omega arith)
 
-  left-covers : (n : ℕ) → n / 512 ≡ c → covers rest n ≡ covers runs n
+  pub left-covers : (n : ℕ) → n / 512 ≡ c → covers rest n ≡ covers runs n
   left-covers n at = sym (chunk-covers c rest (chunk_runs c rest) refl n at) ∙ chunk-covers c runs (chunk_runs c rest) same n at
 
   pub left-touches : touches_chunk c rest ≡ touches_chunk c runs

@@ -11,7 +11,7 @@ use Rattle.base.specs.Pages.{PageRun, in_run, covers}
 use Rattle.pool.specs.Pool.{Pool, Pages}
 use Rattle.pool.proofs.Count.{count_below-same}
 use Rattle.stage2.specs.declared.walked.Walked.{Walked}
-use Rattle.stage2.specs.Edits.{edited, touches_run, touches_chunk, AreFree, disturbs, disturbed}
+use Rattle.stage2.specs.Edits.{edited, touches_run, touches_chunk, AreFree, Turns, disturbs, disturbed}
 use Rattle.stage2.specs.inner.Chunks.{Redoes, Redoes_in, IsGrowing}
 use Rattle.stage2.specs.inner.Gigabytes.{grows_at, gigabyte_growth, FitsGigabyte, EditsGigabyte}
 use Rattle.stage2.specs.Moments.{StaysInStep}
@@ -81,6 +81,9 @@ module _ (c : ℕ) (runs part : List PageRun) (access : View) (same : (n : ℕ) 
 
   pub chunk-free : (v : ℕ → View) → AreFree (λ n. eqb (n / 512) c) runs access v → AreFree (λ n. eqb (n / 512) c) part access v
   chunk-free v free n small at covered = free n small at (sym (same n (eqb-true _ _ at)) ∙ covered)
+
+  pub chunk-turns : (v : ℕ → View) → Turns (λ n. eqb (n / 512) c) runs access v → Turns (λ n. eqb (n / 512) c) part access v
+  chunk-turns v turns n at covered = turns n at (sym (same n (eqb-true _ _ at)) ∙ covered)
 
   disturbs-part : (v : ℕ → View) (n : ℕ) → n / 512 ≡ c → disturbs part v (edited part access v) n ≡ disturbs runs v (edited runs access v) n
   disturbs-part v n at = ap₂ (λ x y. x || not (is_mixed v (n / 512) && y)) (same n at) (ap (is_mixed (edited part access v)) at ∙ chunk-mixed v ∙ sym (ap (is_mixed (edited runs access v)) at))
@@ -181,6 +184,9 @@ module _ (layout : Layout) (row g : ℕ) (runs part : List PageRun) (access : Vi
 
   pub gigabyte-free : (v : ℕ → View) → AreFree (λ n. eqb (n / 512 / 512) g) runs access v → AreFree (λ n. eqb (n / 512 / 512) g) part access v
   gigabyte-free v free n small at covered = free n small at (sym (same g runs part access is n (eqb-true _ _ at)) ∙ covered)
+
+  pub gigabyte-turns : (v : ℕ → View) → Turns (λ n. eqb (n / 512 / 512) g) runs access v → Turns (λ n. eqb (n / 512 / 512) g) part access v
+  gigabyte-turns v turns n at covered = turns n at (sym (same g runs part access is n (eqb-true _ _ at)) ∙ covered)
 
   disturbed-same : (v : ℕ → View) (n : ℕ) → n / 512 / 512 ≡ g → disturbed part v (edited part access v) n ≡ disturbed runs v (edited runs access v) n
   disturbed-same v n at = ap₂ (λ x y. x && y) (gigabyte-touches g runs part is (n / 512) at) (disturbs-part (n / 512) runs part access (λ m here. same g runs part access is m (ap (λ x. x / 512) here ∙ at)) v n refl)

@@ -3,9 +3,7 @@ use Rattle.std.proofs.Common.{◌≡◌, ℕ, zero, suc, ◌≢◌, ◌+◌, ◌
 use Rattle.std.proofs.lemmas.Bool.{cases_Bool}
 use Rattle.base.specs.Access.{View}
 use Rattle.base.specs.Pages.{PageRun, covers}
-use Rattle.base.specs.Counts.{count_below}
 use Rattle.pool.specs.Pool.{Pool, Pages}
-use Rattle.pool.proofs.Count.{count_below-none, count_below-tail, count_below-more}
 use Rattle.stage2.specs.Slot.{Layout}
 use Rattle.stage2.specs.Walk.{walked}
 use Rattle.stage2.specs.Edits.{edited, touches_chunk}
@@ -17,7 +15,7 @@ use Rattle.stage2.specs.inner.Steps.{disturbed_below}
 use Rattle.stage2.proofs.Walkers.GigabyteSteps.{disturbed_before, cross-skip}
 use Rattle.stage2.proofs.Walkers.ChunkSteps.{march-skip}
 use Rattle.stage2.proofs.Editing.GigabyteByGigabyte.{past-skip}
-use Rattle.stage2.proofs.Editing.ChunkByChunk.{bit, sum_below-more, underway-skip, untouched}
+use Rattle.stage2.proofs.Editing.ChunkByChunk.{sum_below-more, underway-skip, untouched}
 
 -- ---- spans
 
@@ -97,13 +95,6 @@ sum_below-alone f n i lt others =
     let all : i + 1 + (n - (i + 1)) ≡ n = omega (arith, lt) in
     let same : sum_below f (i + 1 + (n - (i + 1))) ≡ sum_below f n = ap (sum_below f) all in
     omega (arith, before, more, after, same)
-
-pub count_below-alone : (f : ℕ → Bool) (n i : ℕ) → i < n → ((k : ℕ) → k < n → k ≢ i → f k ≡ false) → count_below f n ≡ bit (f i)
-count_below-alone f n i lt others =
-    let before = count_below-none f i (λ k small. others k (omega (arith, small, lt)) (λ e. omega (arith, e, small))) in
-    let more = count_below-more f i in
-    let after = count_below-tail f (i + 1) n (omega (arith, lt)) (λ x from small. others x small (λ e. omega (arith, e, from))) in
-    omega (arith, before, more, after)
 
 -- ---- gigabytes
 

@@ -1,5 +1,5 @@
 -- The edits of the chunks of a gigabyte, and of gigabytes, one after another, as walks under way see them.
-use Rattle.std.proofs.Common.{◌≡◌, ℕ, ◌+◌, ◌*◌, ◌/◌, ◌<◌, Bool, true, false, ◌&&◌, ◌||◌, eqb, cond, List, length, refl, arith, ap, sym, ◌∙◌, inl, inr}
+use Rattle.std.proofs.Common.{◌≡◌, ℕ, ◌+◌, ◌*◌, ◌/◌, ◌<◌, Bool, true, false, ◌&&◌, ◌||◌, eqb, cond, is_some, List, length, refl, arith, ap, sym, ◌∙◌, inl, inr}
 use Rattle.std.proofs.lemmas.Bool.{cases_Bool, eqb-true}
 use Rattle.std.proofs.lemmas.Bool.Decides.{nat_tests}
 use Rattle.base.specs.Pages.{PageRun, covers}
@@ -8,7 +8,7 @@ use Rattle.pool.specs.Pool.{Pool, Pages}
 use Rattle.stage2.specs.Slot.{Layout}
 use Rattle.stage2.specs.Walk.{walked}
 use Rattle.stage2.specs.Orderly.{answers, linked}
-use Rattle.stage2.specs.Edits.{edited, touches_chunk, AreFree, disturbs, disturbed}
+use Rattle.stage2.specs.Edits.{edited, touches_chunk, AreFree, Turns, disturbs, disturbed}
 use Rattle.stage2.specs.inner.Chunks.{answers_in}
 use Rattle.stage2.specs.inner.Gigabytes.{IsUnderway}
 use Rattle.stage2.specs.Moments.{StaysInStep}
@@ -37,6 +37,12 @@ module _ (layout : Layout) (row g j : ℕ) (runs : List PageRun) (access : View)
         | inl none ↦ inl none
         | inr none ↦ inr (still-answers layout row g j runs access old inside below i lt mid h n small here ∙ none)
       ]
+
+  pub march-turns : Turns (λ n. eqb (n / 512 / 512) g) runs access (answers layout (linked layout row g j old).words row) → Turns (λ n. eqb (n / 512) (512 * g + i)) runs access (answers_in layout row (512 * g + i) j mid)
+  march-turns turns n at covered =
+      let here : n / 512 ≡ 512 * g + i = eqb-true _ _ at in
+      let inside_g : n / 512 / 512 ≡ g = omega (arith, here, lt) in
+      ap (λ a. is_some a) (still-answers layout row g j runs access old inside below i lt mid h n (omega (arith, here, below, lt)) here) ∙ turns n (grind (arith, nat_tests)) covered
 
   pub march-edit : (a b c : Pool) → touches_chunk (512 * g + i) runs ≡ true
       → StaysInStep layout row (disturbed_below g i runs (answers layout (linked layout row g j old).words row) (edited runs access (answers layout (linked layout row g j old).words row))) (λ n. walked n (edited runs access (answers layout (linked layout row g j old).words row) n)) a b

@@ -1,5 +1,5 @@
 -- The edits of the gigabytes of a row, one after another, as walks under way see them.
-use Rattle.std.proofs.Common.{◌≡◌, ℕ, ◌+◌, ◌*◌, ◌/◌, ◌<◌, Bool, true, false, ◌&&◌, ◌||◌, eqb, ltb, List, length, refl, arith, ap, ◌∙◌, inl, inr}
+use Rattle.std.proofs.Common.{◌^◌, lt-ltb, is_some, ◌≡◌, ℕ, ◌+◌, ◌*◌, ◌/◌, ◌<◌, Bool, true, false, ◌&&◌, ◌||◌, eqb, ltb, List, length, refl, arith, ap, ◌∙◌, inl, inr}
 use Rattle.std.proofs.lemmas.Bool.{eqb-true}
 use Rattle.std.proofs.lemmas.Bool.Decides.{nat_tests}
 use Rattle.base.specs.Pages.{PageRun}
@@ -9,7 +9,7 @@ use Rattle.stage2.specs.Slot.{Layout}
 use Rattle.stage2.specs.Walk.{walked}
 use Rattle.base.specs.Need.{is_mixed}
 use Rattle.stage2.specs.Orderly.{answers}
-use Rattle.stage2.specs.Edits.{edited, AreFree, disturbed}
+use Rattle.stage2.specs.Edits.{edited, AreFree, Turns, disturbed}
 use Rattle.stage2.specs.inner.Gigabytes.{IsPast}
 use Rattle.stage2.specs.Moments.{StaysInStep}
 use Rattle.stage2.proofs.Editing.GigabyteByGigabyte.{still-answers, still-edited}
@@ -43,6 +43,11 @@ module _ (layout : Layout) (row : ℕ) (runs : List PageRun) (access : View) (ol
     | inl none ↦ inl none
     | inr none ↦ inr (still-answers layout row runs access old inside g lt mid h n (eqb-true _ _ at) ∙ none)
   ]
+
+  pub cross-turns : Turns (λ n. ltb n (2 ^ 27)) runs access (answers layout old.words row) → Turns (λ n. eqb (n / 512 / 512) g) runs access (answers layout mid.words row)
+  cross-turns turns n at covered =
+      let here : n / 512 / 512 ≡ g = eqb-true _ _ at in
+      ap (λ a. is_some a) (still-answers layout row runs access old inside g lt mid h n here) ∙ turns n (lt-ltb n (2 ^ 27) (omega (arith, here, lt))) covered
 
   pub cross-edit : (a b c : Pool)
       → StaysInStep layout row (disturbed_before g runs (answers layout old.words row) (edited runs access (answers layout old.words row))) (λ n. walked n (edited runs access (answers layout old.words row) n)) a b

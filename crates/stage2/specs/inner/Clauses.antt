@@ -16,7 +16,7 @@ use Rattle.stage2.specs.declared.site.Site.{Site}
 use Rattle.stage2.specs.declared.walked.Walked.{Walked}
 use Rattle.stage2.specs.declared.walked.Walked.TheVariants.{None as Unmapped}
 use Rattle.stage2.specs.inner.Change.{block_step}
-use Rattle.stage2.specs.Edits.{edited, AreFree, disturbs, disturbed}
+use Rattle.stage2.specs.Edits.{edited, AreFree, Turns, disturbs, disturbed}
 use Rattle.stage2.specs.inner.Chunks.{IsEntryFor, IsWordFor, Writes, answers_at, answers_in, answers_of, second_of, entry_in, IsOutcome, IsGrowing, IsSite, Redoes_in}
 use Rattle.stage2.specs.inner.Gigabytes.{grows_at, Touches, Fits, FitsGigabyte, FitsRow, IsUnderway, EditsGigabyte, EditsRow}
 use Rattle.stage2.specs.inner.History.{Made, Filled, replaced}
@@ -60,6 +60,14 @@ abbrev pub AreRunsTurned : ℕ → ChunkEdit → Pool → Type 0
 AreRunsTurned k e pool =
     (i : ℕ) → i < 512 → covers e.runs (512 * e.chunk + i) ≡ true
     → (words_of pool.memory.words k i == 0) ≡ is_some e.access
+
+-- which they are where the edit turns its pages
+abbrev pub TurnsRuns : ℕ → ChunkEdit → Pool → Type 0
+TurnsRuns k e pool = e.turns ≡ true → AreRunsTurned k e pool
+
+-- and so are its pages, by what is reached before
+abbrev pub TurnsChunk : ChunkEdit → (ℕ → View) → Type 0
+TurnsChunk e view = e.turns ≡ true → Turns (λ n. n / 512 == e.chunk) e.runs e.access view
 
 -- the words of a chunk's pages from one up to another, counted from its first
 abbrev pub some_pages : ℕ → ℕ → ℕ → View → ℕ → Option View
@@ -146,12 +154,6 @@ EditsMixed s e old new =
     IsOutcome e.chunk (chunk_after s e old) None
     → EditsChunk s e old new
 
--- the words of pages in none of the runs are 0
-abbrev pub LeavesNone : ℕ → ChunkEdit → Pool → Type 0
-LeavesNone k e pool =
-    (i : ℕ) → i < 512 → covers e.runs (512 * e.chunk + i) ≡ false
-    → words_of pool.memory.words k i ≡ 0
-
 -- the operations of an edit of which it stays: the words of the runs' pages, and an invalidation of each run that is unmapped
 abbrev pub operations_kept : ChunkEdit → ℕ
 operations_kept e =
@@ -231,6 +233,7 @@ ChunkInStep s e old new =
 pub record CanEditChunk (s : Site) (e : ChunkEdit) (pool : Pool) (left : ℕ) : Type 0 where
   pub site : IsAt s e pool
   pub row : IsRowOf s e
+  pub turned : TurnsChunk e (chunk_view s e pool)
   pub free : GrowsChunk s e pool → HasFree s.row pool
   pub room : 3 + operations_in_table s e pool ≤ left
 
@@ -282,10 +285,12 @@ ChunksInStep e g j runs old new =
 abbrev pub FitsChunks : RowEdit → ℕ → ℕ → List PageRun → Pool → Type 0
 FitsChunks e g j runs pool = Fits e.layout.now e.row g j runs e.access (pages_of pool.memory)
 
--- the chunks of runs can be edited: the tables are orderly once their level 2 table is linked, its own fit, and there is room for the operations
+-- the chunks of runs can be edited: the tables are orderly once their level 2 table is linked, they have pages there, its own fit, and there is room for the operations
 pub record CanEditChunks (e : RowEdit) (g j : ℕ) (runs : List PageRun) (pool : Pool) (left : ℕ) : Type 0 where
   pub orderly : IsLinkedOrderly e g j pool
   pub second : IsSecond e g j pool
+  pub touched : Touches runs g
+  pub turned : e.turns ≡ true → Turns (λ n. n / 512 / 512 == g) runs e.access (linked_view e g j pool)
   pub fits : FitsChunks e g j runs pool
   pub room : operations_in_chunks e g j runs pool ≤ left
 
@@ -386,6 +391,7 @@ GigabyteInStep e g runs old new =
 pub record CanEditGigabyte (e : RowEdit) (g : ℕ) (runs : List PageRun) (pool : Pool) (left : ℕ) : Type 0 where
   pub canonical : IsCanonical e.layout.now (pages_of pool.memory)
   pub touched : Touches runs g
+  pub turned : e.turns ≡ true → Turns (λ n. n / 512 / 512 == g) runs e.access (row_view e.layout.now e.row pool)
   pub fits : FitsInGigabyte e g runs pool
   pub room : operations_in_gigabyte e g runs pool ≤ left
 
@@ -408,9 +414,10 @@ RowInStep e runs old new =
     (disturbed runs (row_view e.layout.now e.row old) (row_after e runs old))
     (λ n. walked n (row_after e runs old n)) old new
 
--- a row can be edited: the tables are canonical, its own fit, and there is room for the operations
+-- a row can be edited: the tables are canonical, its pages are turned where the edit says so, its own fit, and there is room for the operations
 pub record CanEditRow (e : RowEdit) (runs : List PageRun) (pool : Pool) (left : ℕ) : Type 0 where
   pub canonical : IsCanonical e.layout.now (pages_of pool.memory)
+  pub turned : e.turns ≡ true → Turns (λ n. nat_lt n (2 ^ 27)) runs e.access (row_view e.layout.now e.row pool)
   pub fits : FitsInRow e runs pool
   pub room : operations_in_row e runs pool ≤ left
 
@@ -427,6 +434,11 @@ view_in layout row pool = answers_of layout (words_of pool.memory.words) row
 
 abbrev pub second_in : Layout → Option ℕ → ℕ → Pool → Option ℕ
 second_in layout row g pool = second_of layout (words_of pool.memory.words) row g
+
+-- pages of its runs are turned, where the edit turns them
+abbrev pub TurnsIn : RowPlan → (ℕ → Bool) → List PageRun → Pool → Type 0
+TurnsIn e which runs pool =
+    e.turns ≡ true → Turns which runs e.access (view_in e.layout.now e.row pool)
 
 -- a chunk's level 2 word in the table of its gigabyte, if that has one
 abbrev pub entry_read : Layout → Option ℕ → ℕ → Pool → Slot

@@ -4,7 +4,7 @@ use Rattle.base.specs.Access.{Access, View}
 use Rattle.base.specs.Manifest.{row_of}
 use Rattle.base.specs.Pages.{PageRun}
 use Rattle.stage2.specs.Slot.{Layout}
-use Rattle.stage2.specs.Tables.{TablesView, walk_in, AreCanonical, Fits}
+use Rattle.stage2.specs.Tables.{TablesView, walk_in, AreCanonical, AreTurnedFor, Fits}
 use Rattle.stage2.specs.Walk.{walked}
 use Rattle.stage2.specs.declared.walked.Walked.TheVariants.{None as Unmapped}
 
@@ -29,6 +29,7 @@ pending_runs first end (Some a) = record { first = first; count = end - first } 
 pub record CanMap (p first end : ℕ) (access : Access) (t : TablesView) : Type 0 where
   pub some : first < end
   pub inside : end ≤ 2 ^ 27
+  pub turned : AreTurnedFor p (pending_runs first end (Some access)) (Some access) t
   pub fits : Fits p (pending_runs first end (Some access)) (Some access) t
 
 -- The pages below the pending ones are mapped as the view has them; the pending ones, up to `number`, are all reached alike.

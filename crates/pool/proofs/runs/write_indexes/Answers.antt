@@ -2,6 +2,7 @@ use Rattle.std.proofs.Common.{◌≡◌, ◌==◌, ◌-◌, ◌*◌, ◌+◌, no
 use Rattle.std.proofs.lemmas.Bool.Decides.{nat_tests}
 use Rattle.pool.specs.Writing.{indexes_set}
 use Rattle.pool.proofs.RunWords.{sets-none}
+use Rattle.pool.proofs.Stretches.{length-sets_of-le}
 use Rattle.pool.proofs.Turned.{turned-range}
 use Rattle.pool.proofs.Wrote.{wrote-none, may-range}
 use Rattle.pool.proofs.runs.write_indexes.Goals as goal
@@ -26,11 +27,16 @@ turn_all-requires g c =
 pub returns-then-this-ne0-clause-wrote : goal.returns-then-this-ne0-clause-wrote
 returns-then-this-ne0-clause-wrote g c = rw c.range-range.ensures at c.turn_all.ensures.wrote
 
-pub write_words-requires : goal.write_words-requires
-write_words-requires g c = rw c.range-range.ensures record {
-  may = may-range c.args.with c.args.indexes.first c.args.indexes.end c.requires.may c.if-first-end.false c.requires.most;
-  ready = c.requires.ready;
-}
+pub write_others-requires : goal.write_others-requires
+write_others-requires g c =
+    let w = c.args.with in
+    let first = c.args.indexes.first in
+    let end = c.args.indexes.end in
+    let most = length-sets_of-le (g.S.WordStore.words c.args.store.now) w.page first (end - first) (w.word + w.step * first) w.step in
+    rw c.range-range.ensures record {
+      may = may-range w first end c.requires.may c.if-first-end.false c.requires.most;
+      ready = record { counted = c.requires.ready.counted; room = omega (arith, most, c.requires.ready.room) };
+    }
 
 pub returns-clause-wrote : goal.returns-clause-wrote
-returns-clause-wrote g c = rw c.range-range.ensures at c.write_words.ensures.wrote
+returns-clause-wrote g c = rw c.range-range.ensures at c.write_others.ensures.wrote

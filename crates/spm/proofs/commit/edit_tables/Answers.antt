@@ -14,22 +14,22 @@ pub returns-in-Some-clause-shown : goal.returns-in-Some-clause-shown
 returns-in-Some-clause-shown g c =
     let old = c.args.tables.now in
     let mid = c.clear_pages.new.tables in
-    let new = c.map.new.self in
+    let new = c.turn.new.self in
     let edit = c.args.edit.now in
     let who = ap (λ (e : Edit). e.who) c.edit.view_is in
     let runs = c.of-runs.ensures ∙ c.deref.ensures.value ∙ ap (λ (e : Edit). e.runs) c.edit.view_is in
     let to = sym c.in-Some.is ∙ ap (λ (e : Edit). e.to) c.edit.view_is in
-    mapped-shown edit old mid new c.requires.root c.requires.rows c.in-Some.access (sym to) c.clear_pages.ensures.layout c.clear_pages.ensures.memory c.map.ensures.layout
-    (of_edit (λ p rs a. ReachSo p rs a mid new) edit _ _ _ who runs to c.map.ensures.walks) (of_edit (λ p rs a. EditsInStep p rs a mid new) edit _ _ _ who runs to c.map.ensures.in_step) c.clear_pages.ensures.in_step c.map.ensures.canonical.listed
+    mapped-shown edit old mid new c.requires.root c.requires.rows c.in-Some.access (sym to) c.clear_pages.ensures.layout c.clear_pages.ensures.memory c.turn.ensures.layout
+    (of_edit (λ p rs a. ReachSo p rs a mid new) edit _ _ _ who runs to c.turn.ensures.walks) (of_edit (λ p rs a. EditsInStep p rs a mid new) edit _ _ _ who runs to c.turn.ensures.in_step) c.clear_pages.ensures.in_step c.turn.ensures.canonical.listed
 
 pub returns-in-None-clause-shown : goal.returns-in-None-clause-shown
 returns-in-None-clause-shown g c =
     let old = c.args.tables.now in
-    let mid = c.unmap.new.self in
+    let mid = c.turn-in-None.new.self in
     let new = c.clear_pages-in-None.new.tables in
     let edit = c.args.edit.now in
     let who = ap (λ (e : Edit). e.who) c.edit.view_is in
     let runs = c.of-runs.ensures ∙ c.deref.ensures.value ∙ ap (λ (e : Edit). e.runs) c.edit.view_is in
     let to = sym c.in-None.is ∙ ap (λ (e : Edit). e.to) c.edit.view_is in
-    unmapped-shown edit old mid new c.requires.root c.requires.rows (sym to) c.unmap.ensures.layout c.clear_pages-in-None.ensures.layout c.clear_pages-in-None.ensures.memory
-    (of_edit (λ p rs a. ReachSo p rs a old mid) edit _ _ _ who runs to c.unmap.ensures.walks) (of_edit (λ p rs a. EditsInStep p rs a old mid) edit _ _ _ who runs to c.unmap.ensures.in_step) c.clear_pages-in-None.ensures.in_step (c.clear_pages-in-None.ensures.listed c.unmap.ensures.canonical.listed)
+    unmapped-shown edit old mid new c.requires.root c.requires.rows (sym to) c.turn-in-None.ensures.layout c.clear_pages-in-None.ensures.layout c.clear_pages-in-None.ensures.memory
+    (of_edit (λ p rs a. ReachSo p rs a old mid) edit _ _ _ who runs to c.turn-in-None.ensures.walks) (of_edit (λ p rs a. EditsInStep p rs a old mid) edit _ _ _ who runs to c.turn-in-None.ensures.in_step) c.clear_pages-in-None.ensures.in_step (c.clear_pages-in-None.ensures.listed c.turn-in-None.ensures.canonical.listed)

@@ -1,25 +1,17 @@
-use Rattle.std.proofs.Common.{◌≡◌, ℕ, ◌+◌, ◌*◌, ◌/◌, ◌%◌, ◌≤◌, true, false, is_some, length, List, None, Some, refl, sym, ap, ◌∙◌, arith}
+use Rattle.std.proofs.Common.{◌≡◌, ℕ, ◌+◌, ◌*◌, ◌/◌, ◌%◌, ◌≤◌, false, is_some, length, None, Some, refl, sym, ap, ◌∙◌, arith}
 use Rattle.base.specs.Access.{View}
-use Rattle.base.specs.Pages.{PageRun, covers}
-use Rattle.stage2.specs.Parts.{lie_within}
-use Rattle.pool.specs.Pool.{pages_of, nonzero_in}
+use Rattle.base.specs.Pages.{covers}
+use Rattle.pool.specs.Pool.{pages_of, words_of, nonzero_in}
 use Rattle.stage2.specs.inner.Chunks.{answers_of, second_of, block_answer}
 use Rattle.stage2.specs.Walk.{next_page}
 use Rattle.stage2.specs.Room.{pages_in}
-use Rattle.stage2.proofs.Counting.Bounds.{between}
+use Rattle.stage2.proofs.Counting.Bounds.{in-chunk}
 use Rattle.stage2.proofs.Counting.FewOperations.{few-unmapped, few-mapped, few-either, few-hung, few-filled, entry-known, entry-mixed, entry-plain, entry-words, entry-beside, entry-filled}
-use Rattle.stage2.proofs.Counting.Growth.{second-inside}
+use Rattle.stage2.proofs.Counting.Growth.{second-inside, second-held}
+use Rattle.stage2.proofs.Counting.Pieces.{nonzero-most}
 use Rattle.stage2.proofs.Editing.FourChunkEdits.{is-next}
-use Rattle.stage2.proofs.bound.few_operations.Goals.{in-Some+then-is_some+then-saturating_add-ge-CHUNK_PAGES, in-Some+else-is_some, else-is_some-via-then-is_some+else-saturating_add-ge-CHUNK_PAGES, else-is_some-via-else-is_some, in-None+else-is_filled+else-is_some-2}
+use Rattle.stage2.proofs.bound.few_operations.Goals.{in-Some+then-is_some+then-pages-nonzero, in-Some+else-is_some, else-is_some-via-then-is_some+else-pages-nonzero, else-is_some-via-else-is_some, in-None+else-is_filled+else-is_some-2}
 use Rattle.stage2.proofs.bound.few_operations.Goals as goal
-
--- pages between the first and the end of a chunk are its
-in_chunk : (runs : List PageRun) (first end c : ℕ) → lie_within first end runs ≡ true → c ≡ first / 512 → end ≤ 512 * c + 512 → (x : ℕ) → covers runs x ≡ true → x / 512 ≡ c
-in_chunk runs first end c within is last x covered =
-    let b = between runs None (λ n. None) first end within x covered in
-    let low = b.0 in
-    let high = b.1 in
-    omega (arith, low, high, is, last)
 
 nothing : (a : View) → is_some a ≡ false → a ≡ None
 nothing None e = refl
@@ -33,6 +25,14 @@ entry_at-entry-requires-clause-table g c = λ j is.
     let at : c.of-gigabyte.result ≡ chunk / 512 = omega (arith, c.of-gigabyte.ensures, c.first.ensures.same) in
     second-inside c.args.edit.now.layout.now (pages_of (g.M.TableMem.state c.args.memory.now).memory) c.requires.canonical (chunk / 512) (omega (arith, below)) c.args.edit.now.row c.args.edit.now.inside j (rw (← at) (sym c.second_at-second.ensures ∙ is))
 
+pub entry_at-entry-requires-clause-taken : goal.entry_at-entry-requires-clause-taken
+entry_at-entry-requires-clause-taken g c = λ j is.
+    let chunk = c.in_ok-chunk.chunk in
+    let here = c.in_ok-chunk.ensures in
+    let below = here.1 in
+    let at : c.of-gigabyte.result ≡ chunk / 512 = omega (arith, c.of-gigabyte.ensures, c.first.ensures.same) in
+    second-held c.args.edit.now.layout.now (pages_of (g.M.TableMem.state c.args.memory.now).memory) c.requires.canonical (chunk / 512) (omega (arith, below)) c.args.edit.now.row c.args.edit.now.inside j (rw (← at) (sym c.second_at-second.ensures ∙ is))
+
 pub entry_at-entry-requires-clause-known : goal.entry_at-entry-requires-clause-known
 entry_at-entry-requires-clause-known g c =
     let chunk = c.in_ok-chunk.chunk in
@@ -40,6 +40,13 @@ entry_at-entry-requires-clause-known g c =
     let below = here.1 in
     let at : c.of-gigabyte.result ≡ chunk / 512 = omega (arith, c.of-gigabyte.ensures, c.first.ensures.same) in
     entry-known c.args.edit.now.layout.now (pages_of (g.M.TableMem.state c.args.memory.now).memory) c.requires.canonical (chunk / 512) (chunk % 512) (omega (arith, below)) (omega arith) c.args.edit.now.row c.args.edit.now.inside c.second_at-second.result (rw (← at) (sym c.second_at-second.ensures))
+
+pub overflow_sub-nonzero : goal.overflow_sub-nonzero
+overflow_sub-nonzero g c =
+    let words = words_of (g.M.TableMem.state c.args.memory.now).memory.words in
+    let most = nonzero-most words c.in-Some.third in
+    let nonzero = c.nonzero-nonzero.ensures ∙ ap (nonzero_in words) c.number.ensures in
+    omega (arith, most, nonzero)
 
 pub returns-then-is_filled-clause-bound : goal.returns-then-is_filled-clause-bound
 returns-then-is_filled-clause-bound g c =
@@ -52,7 +59,7 @@ returns-then-is_filled-clause-bound g c =
     let hangs : second_of e.layout.now m.words e.row (chunk / 512) ≡ c.second_at-second.result = rw (← at) (sym c.second_at-second.ensures) in
     let none = ap next_page (sym c.entry_at-entry.ensures.same) ∙ sym c.table_of.ensures ∙ c.in-None.is in
     let three = entry-filled e.layout.now m c.requires.canonical e.row e.inside c.second_at-second.result chunk here.1 hangs runs e.access none (c.is_filled.ensures c.if-is_filled.true) in
-    few-filled runs e.access (answers_of e.layout.now m.words e.row) chunk here.1 (in_chunk runs _ _ chunk c.bounds.ensures.within here.0 here.2) three
+    few-filled runs e.access (answers_of e.layout.now m.words e.row) chunk here.1 (in-chunk runs _ _ chunk c.bounds.ensures.within here.0 here.2) three
 
 pub returns-clause-bound : goal.returns-clause-bound
 returns-clause-bound g c =
@@ -64,7 +71,7 @@ returns-clause-bound g c =
     let here = c.in_ok-chunk.ensures in
     let at : c.of-gigabyte.result ≡ chunk / 512 = omega (arith, c.of-gigabyte.ensures, c.first.ensures.same) in
     let hangs : second_of e.layout.now m.words e.row (chunk / 512) ≡ c.second_at-second.result = rw (← at) (sym c.second_at-second.ensures) in
-    let only = in_chunk runs _ _ chunk c.bounds.ensures.within here.0 here.2 in
+    let only = in-chunk runs _ _ chunk c.bounds.ensures.within here.0 here.2 in
     let before : ℕ → View = answers_of e.layout.now m.words e.row in
     let read = ap next_page (sym c.entry_at-entry.ensures.same) ∙ sym c.table_of.ensures in
     let mixed = entry-mixed e.layout.now m c.requires.canonical e.row e.inside c.second_at-second.result chunk here.1 hangs in
@@ -72,7 +79,7 @@ returns-clause-bound g c =
     let many = ap length c.list.ensures.same in
     let enough : pages_in runs chunk + length runs ≤ length c.list.result.now + c.count_pages-pages.result = omega (arith, pages, many) in
     elim c.match-table_of.branch [
-      | in-Some+then-is_some+then-saturating_add-ge-CHUNK_PAGES w ↦
+      | in-Some+then-is_some+then-pages-nonzero w ↦
           let next = read ∙ w.in-Some.is in
           let words = entry-words e.layout.now m c.requires.canonical e.row e.inside c.second_at-second.result chunk here.1 hangs w.in-Some.third (is-next _ _ next) in
           let nonzero : w.nonzero-nonzero.result ≡ nonzero_in m.words w.in-Some.third = w.nonzero-nonzero.ensures ∙ ap (nonzero_in m.words) w.number.ensures in
@@ -82,10 +89,10 @@ returns-clause-bound g c =
           let next = read ∙ w.in-Some.is in
           let was = mixed ∙ ap (λ o. is_some o) next in
           elim w.else-is_some.branch [
-            | else-is_some-via-then-is_some+else-saturating_add-ge-CHUNK_PAGES v ↦
-                let few = v.if-saturating_add-ge-CHUNK_PAGES.false in
+            | else-is_some-via-then-is_some+else-pages-nonzero v ↦
+                let few = v.if-pages-nonzero.false in
                 let nonzero : w.nonzero-nonzero.result ≡ nonzero_in m.words w.in-Some.third = w.nonzero-nonzero.ensures ∙ ap (nonzero_in m.words) w.number.ensures in
-                let beside = entry-beside e.layout.now m c.requires.canonical e.row e.inside c.second_at-second.result chunk here.1 hangs w.in-Some.third (is-next _ _ next) (λ i. covers runs (512 * chunk + i)) (omega (arith, few, pages, nonzero, v.saturating_add.ensures)) in
+                let beside = entry-beside e.layout.now m c.requires.canonical e.row e.inside c.second_at-second.result chunk here.1 hangs w.in-Some.third (is-next _ _ next) (λ i. covers runs (512 * chunk + i)) (omega (arith, few, pages, nonzero)) in
                 let most = few-mapped runs access before chunk here.1 only _ enough was (sym w.is_some.ensures ∙ v.if-is_some.true) beside in
                 omega (arith, most, w.words-is)
             | else-is_some-via-else-is_some v ↦

@@ -1,7 +1,8 @@
 use Rattle.std.proofs.Common.{◌<◌, arith, sym, subst, ◌∙◌}
 use Rattle.pool.specs.Pool.{pages_of}
-use Rattle.stage2.proofs.Editing.FourChunkEdits.{second-inside, entry-known, third-taken}
+use Rattle.stage2.proofs.Editing.FourChunkEdits.{second-inside, second-taken, entry-known, third-taken, is-next}
 use Rattle.stage2.proofs.Editing.OneChunk.{spelled-read, sets, drops, keeps, hangs}
+use Rattle.stage2.proofs.Editing.TurnedRuns.{turned-read}
 use Rattle.stage2.proofs.level2.edit_chunk.Goals as goal
 
 pub read_chunk-entry-requires-clause-table : goal.read_chunk-entry-requires-clause-table
@@ -10,6 +11,12 @@ read_chunk-entry-requires-clause-table g c =
     let e = c.args.edit.now in
     let inside = second-inside e.layout.now s.row e.chunk s.second (pages_of (g.M.TableMem.state c.args.memory.now).memory) c.requires.site in
     subst (λ x. s.second < x) (sym c.requires.site.orderly.pages) inside
+
+pub read_chunk-entry-requires-clause-taken : goal.read_chunk-entry-requires-clause-taken
+read_chunk-entry-requires-clause-taken g c =
+    let s = c.args.site.now in
+    let e = c.args.edit.now in
+    second-taken e.layout.now s.row e.chunk s.second (pages_of (g.M.TableMem.state c.args.memory.now).memory) c.requires.site
 
 pub read_chunk-entry-requires-clause-known : goal.read_chunk-entry-requires-clause-known
 read_chunk-entry-requires-clause-known g c =
@@ -25,6 +32,13 @@ becomes_alike-requires-clause-taken g c = λ k next.
 
 pub becomes_alike-requires-clause-spelled : goal.becomes_alike-requires-clause-spelled
 becomes_alike-requires-clause-spelled g c = spelled-read c.args.site.now c.args.edit.now (g.M.TableMem.state c.args.memory.now) c.requires.site c.read_chunk-entry.ensures.same
+
+pub becomes_alike-requires-clause-turned : goal.becomes_alike-requires-clause-turned
+becomes_alike-requires-clause-turned g c = λ k next.
+    let s = c.args.site.now in
+    let e = c.args.edit.now in
+    let pool = g.M.TableMem.state c.args.memory.now in
+    turned-read s e pool c.requires.site c.read_chunk-entry.ensures.same k next (spelled-read s e pool c.requires.site c.read_chunk-entry.ensures.same k next) c.requires.turned
 
 -- ---- a table is given back
 
@@ -51,6 +65,15 @@ returns-in-None g c = record {
 }
 
 -- ---- a table stays
+
+pub rewrite_table-requires-clause-turned : goal.rewrite_table-requires-clause-turned
+rewrite_table-requires-clause-turned g c =
+    let s = c.args.site.now in
+    let e = c.args.edit.now in
+    let pool = g.M.TableMem.state c.args.memory.now in
+    let k = c.in-Some-table.third in
+    let next = is-next c.read_chunk-entry.result k (sym c.table_of-table.ensures ∙ c.in-Some-table.is) in
+    turned-read s e pool c.requires.site c.read_chunk-entry.ensures.same k next (spelled-read s e pool c.requires.site c.read_chunk-entry.ensures.same k next) c.requires.turned
 
 pub rewrite_table-requires-clause-room : goal.rewrite_table-requires-clause-room
 rewrite_table-requires-clause-room g c = let words = (keeps c.args.site.now c.args.edit.now (g.M.TableMem.state c.args.memory.now) c.requires.site c.read_chunk-entry.ensures.same c.becomes_alike.ensures c.table_of-table.ensures c.if-becomes_alike.false c.in-Some-table.is).words in let room = c.requires.room in omega (arith, words, room)

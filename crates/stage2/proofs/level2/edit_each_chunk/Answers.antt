@@ -65,7 +65,7 @@ edit_one_of_many-requires g c =
     let so = at-piece c.requires below (c.loop-piece.invariant.up_to below) c.in-Some.ensures.some in
     let here = c.in-Some-new.ensures.some in
     let own = own-here c.requires below so (here.2 ∙ ap (λ k. chunk_runs k c.in-Some.piece.runs) c.chunk-chunk.ensures.same) in
-    here-can c.requires below so c.in-Some.ensures.some.small c.in-Some-new.here here.0 (here.1 ∙ c.chunk-chunk.ensures.same) own here.3
+    here-can c.requires below so c.in-Some.ensures.some.small c.in-Some-new.here here.0 (here.1 ∙ c.chunk-chunk.ensures.same) own here.3 here.4
 
 pub loop-piece-preserved : goal.loop-piece-preserved
 loop-piece-preserved g c =
@@ -76,7 +76,7 @@ loop-piece-preserved g c =
           let here = w.in-Some-new.ensures.some in
           let own = own-here c.requires below so (here.2 ∙ ap (λ k. chunk_runs k c.in-Some.piece.runs) c.chunk-chunk.ensures.same) in
           rw w.memory-is (record {
-            up_to = λ _. here-next c.requires below so c.in-Some.ensures.some.small w.in-Some-new.here here.0 (here.1 ∙ c.chunk-chunk.ensures.same) own here.3 w.edit_one_of_many.ensures;
+            up_to = λ _. here-next c.requires below so c.in-Some.ensures.some.small w.in-Some-new.here here.0 (here.1 ∙ c.chunk-chunk.ensures.same) own here.3 here.4 w.edit_one_of_many.ensures;
           })
       | in_default-new w ↦ rw w.memory-is (record {
         up_to = λ _. at-untouched c.requires below so c.in-Some.ensures.some.small (subst (λ x. touches_chunk x c.in-Some.piece.runs ≡ false) c.chunk-chunk.ensures.same (c.new.ensures.none w.in_default-new.is));

@@ -1,5 +1,5 @@
 use Rattle.std.proofs.Common.{◌≡◌, ℕ, ◌+◌, ◌*◌, sym, ap, ◌∙◌, arith}
-use Rattle.std.proofs.lemmas.Bool.{ltb-true}
+use Rattle.std.proofs.lemmas.Bool.{ltb-true, ltb-false}
 use Rattle.base.specs.Pages.{covers}
 use Rattle.words.proofs.RoundTrip.{entry-zero}
 use Rattle.words.specs.Words.{entry_of}
@@ -20,8 +20,8 @@ overflow_add-result g c =
     omega (arith, nonzero, few, pages)
 
 -- a word beside the runs is 0, and the runs are mapped
-pub returns-in-Some : goal.returns-in-Some
-returns-in-Some g c = λ fewer.
+pub returns-in-Some-clause-yes : goal.returns-in-Some-clause-yes
+returns-in-Some-clause-yes g c = λ fewer.
     let e = c.args.edit.now in
     let words = words_of (g.M.TableMem.state c.args.memory.now).memory.words in
     let few = ltb-true _ _ fewer in
@@ -35,9 +35,12 @@ returns-in-Some g c = λ fewer.
       other = λ p. let bad = sym (entry-zero 3) ∙ ap (entry_of 3) (sym zero.3) ∙ p.entry ∙ ap (entry_for (512 * e.chunk + zero.0)) c.in-Some.is in cc;
     }
 
+pub returns-in-Some-clause-no : goal.returns-in-Some-clause-no
+returns-in-Some-clause-no g c = λ _ none. let bad = sym none ∙ c.in-Some.is in absurd (cc)
+
 -- one is not 0, and they are unmapped
-pub returns-in-None : goal.returns-in-None
-returns-in-None g c = λ more.
+pub returns-in-None-clause-yes : goal.returns-in-None-clause-yes
+returns-in-None-clause-yes g c = λ more.
     let e = c.args.edit.now in
     let words = words_of (g.M.TableMem.state c.args.memory.now).memory.words in
     let some = ltb-true _ _ more in
@@ -50,3 +53,10 @@ returns-in-None g c = λ more.
       out = found.2;
       other = λ p. found.3 (p.zero c.in-None.is);
     }
+
+pub returns-in-None-clause-no : goal.returns-in-None-clause-no
+returns-in-None-clause-no g c = λ no_more none.
+    let words = words_of (g.M.TableMem.state c.args.memory.now).memory.words in
+    let nonzero = counted c.nonzero-nonzero.result c.number.result c.args.third words c.nonzero-nonzero.ensures c.number.ensures in
+    let most = ltb-false _ _ no_more in
+    omega (arith, nonzero, most)

@@ -1,9 +1,11 @@
-use Rattle.std.proofs.Common.{◌≡◌, ℕ, ◌+◌, ◌*◌, ◌<◌, ◌≤◌, true, refl, sym, ap, subst, ◌∙◌, arith}
+use Rattle.std.proofs.Common.{◌/◌, ◌≡◌, ℕ, ◌+◌, ◌*◌, ◌<◌, ◌≤◌, true, refl, sym, ap, subst, ◌∙◌, arith, eq-eqb}
+use Rattle.std.proofs.lemmas.Bool.{eqb-true}
 use Rattle.pool.specs.Pool.{pages_of}
 use Rattle.stage2.specs.inner.Chunks.{covers_chunk}
 use Rattle.stage2.proofs.Counting.Growth.{filled-grows, filled-operations, second-inside}
 use Rattle.stage2.proofs.Counting.UpToPiece.{planned-start, planned-piece, planned-end, planned-filled, planned-one}
 use Rattle.stage2.proofs.Runs.Between.{past-past}
+use Rattle.stage2.proofs.Runs.Left.{left-covers}
 use Rattle.stage2.proofs.plan.plan_chunks.Goals as goal
 
 pub loop-piece-init : goal.loop-piece-init
@@ -44,6 +46,14 @@ pub plan_at-more-requires-clause-past : goal.plan_at-more-requires-clause-past
 plan_at-more-requires-clause-past g c =
     let next = c.in-Some.ensures.some in
     past-past (512 * (512 * c.args.gigabyte + c.in-Some.piece.first)) (512 * c.chunk.result) c.loop-piece.rest c.in-Some.piece.runs (sym (ap (λ k. 512 * k) c.chunk.ensures.same)) next.past
+
+pub plan_at-more-requires-clause-turned : goal.plan_at-more-requires-clause-turned
+plan_at-more-requires-clause-turned g c = λ yes n at covered.
+    let so = planned-piece c.loop-piece.invariant.planned c.in-Some.ensures.some in
+    let x = 512 * c.args.gigabyte + c.in-Some.piece.first in
+    let here : n / 512 ≡ x = eqb-true _ _ at ∙ c.chunk.ensures.same in
+    let small = c.in-Some.ensures.some.small in
+    c.requires.turned yes n (eq-eqb (n / 512 / 512) c.args.gigabyte (omega (arith, here, small))) (sym (left-covers x c.in-Some.piece.runs c.args.runs.now so.left n here) ∙ covered)
 
 pub loop-piece-preserved : goal.loop-piece-preserved
 loop-piece-preserved g c =

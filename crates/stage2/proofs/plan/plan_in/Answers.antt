@@ -1,24 +1,31 @@
 use Rattle.std.proofs.Common.{◌≡◌, ◌≤◌, ◌<◌, ℕ, ◌+◌, ◌*◌, ◌%◌, ◌/◌, not, is_some, ◌&&◌, cond, refl, sym, ap, subst, ◌∙◌, arith}
 use Rattle.base.specs.Access.{View}
 use Rattle.pool.specs.Pool.{pages_of}
-use Rattle.stage2.specs.Slot.{Slot}
+use Rattle.stage2.specs.Slot.{Layout, Slot, Next}
 use Rattle.stage2.specs.Walk.{next_page}
 use Rattle.base.specs.Need.{is_mixed}
 use Rattle.stage2.specs.Edits.{edited}
 use Rattle.stage2.specs.inner.Chunks.{answers_at, answers_of, entry_in}
+use Rattle.stage2.specs.inner.Clauses.{IsSpelled}
 use Rattle.stage2.specs.inner.Gigabytes.{grows_at}
 use Rattle.stage2.specs.Room.{table_operations, chunk_operations}
 use Rattle.stage2.proofs.Editing.ChunkByChunk.{bit}
 use Rattle.stage2.proofs.Editing.MadeEdit.{touches-made}
-use Rattle.stage2.proofs.Counting.Growth.{grows-entry, second-inside, entry-view, view-mixed, view-spelled, view-taken}
+use Rattle.stage2.proofs.Counting.Growth.{grows-entry, second-inside, second-held, entry-view, view-mixed, view-spelled, view-taken}
 use Rattle.stage2.proofs.Counting.Operations.{chunk-same}
 use Rattle.stage2.proofs.Counting.FewOperations.{entry-known}
+use Rattle.stage2.proofs.Editing.TurnedRuns.{runs-turned}
 use Rattle.stage2.proofs.plan.plan_in.Goals as goal
 
 pub entry_at-entry-requires-clause-table : goal.entry_at-entry-requires-clause-table
 entry_at-entry-requires-clause-table g c = λ j e.
     let chunk = c.args.edit.now.chunk in
     second-inside c.args.row.now.layout.now (pages_of (g.M.TableMem.state c.args.memory.now).memory) c.requires.canonical (chunk / 512) (omega (arith, c.requires.in_range)) c.args.row.now.row c.args.row.now.inside j (c.requires.table ∙ e)
+
+pub entry_at-entry-requires-clause-taken : goal.entry_at-entry-requires-clause-taken
+entry_at-entry-requires-clause-taken g c = λ j e.
+    let chunk = c.args.edit.now.chunk in
+    second-held c.args.row.now.layout.now (pages_of (g.M.TableMem.state c.args.memory.now).memory) c.requires.canonical (chunk / 512) (omega (arith, c.requires.in_range)) c.args.row.now.row c.args.row.now.inside j (c.requires.table ∙ e)
 
 pub entry_at-entry-requires-clause-known : goal.entry_at-entry-requires-clause-known
 entry_at-entry-requires-clause-known g c =
@@ -36,6 +43,23 @@ plan_chunk-requires-clause-spelled g c = λ k next n there.
     let chunk = c.args.edit.now.chunk in
     rw c.requires.layout (view-spelled c.args.row.now.layout.now (pages_of (g.M.TableMem.state c.args.memory.now).memory) c.requires.canonical (chunk / 512) (omega (arith, c.requires.in_range)) c.args.row.now.row c.args.row.now.inside c.args.second.now (chunk % 512) (omega arith) c.requires.table k
     (sym c.entry_at-entry.ensures.same ∙ next) n (omega (arith, there)))
+
+pub plan_chunk-requires-clause-turned : goal.plan_chunk-requires-clause-turned
+plan_chunk-requires-clause-turned g c = λ k next.
+    let e = c.args.edit.now in
+    let chunk = e.chunk in
+    let layout = c.args.row.now.layout.now in
+    let pool = g.M.TableMem.state c.args.memory.now in
+    let m = pages_of pool.memory in
+    let below : chunk / 512 < 512 = omega (arith, c.requires.in_range) in
+    let read = sym c.entry_at-entry.ensures.same ∙ next in
+    let before : ℕ → View = answers_of layout m.words c.args.row.now.row in
+    let spelled : IsSpelled e k pool = λ n there.
+    rw c.requires.layout (view-spelled layout m c.requires.canonical (chunk / 512) below c.args.row.now.row c.args.row.now.inside c.args.second.now (chunk % 512) (omega arith) c.requires.table k read n (omega (arith, there))) in
+    runs-turned e k pool before spelled
+    (λ n there. sym (entry-view layout m c.requires.canonical (chunk / 512) below c.args.row.now.row c.args.row.now.inside c.args.second.now (chunk % 512) n (omega arith) c.requires.table (omega (arith, there)))
+    ∙ ap (λ (s : Slot). answers_at layout m.words s n) read ∙ ap (λ (l : Layout). answers_at l m.words (Next k) n) (sym c.requires.layout))
+    c.requires.turned
 
 pub plan_chunk-requires-clause-mixed : goal.plan_chunk-requires-clause-mixed
 plan_chunk-requires-clause-mixed g c =

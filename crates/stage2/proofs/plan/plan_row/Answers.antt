@@ -1,4 +1,5 @@
-use Rattle.std.proofs.Common.{◌≡◌, ℕ, ◌+◌, ◌-◌, ◌*◌, ◌/◌, ◌≤◌, false, inl, inr, sym, ap, ◌∙◌, arith}
+use Rattle.std.proofs.Common.{◌^◌, lt-ltb, ◌≡◌, ℕ, ◌+◌, ◌-◌, ◌*◌, ◌/◌, ◌≤◌, false, inl, inr, sym, ap, ◌∙◌, arith}
+use Rattle.std.proofs.lemmas.Bool.{eqb-true}
 use Rattle.pool.specs.Pool.{pages_of}
 use Rattle.stage2.specs.Edits.{edited}
 use Rattle.stage2.specs.inner.Chunks.{answers_of}
@@ -18,6 +19,16 @@ use Rattle.stage2.proofs.plan.plan_row.Goals.{then-touches, else-touches}
 
 pub plan_gigabyte-more-requires-clause-touched : goal.plan_gigabyte-more-requires-clause-touched
 plan_gigabyte-more-requires-clause-touched g c = c.touches.ensures.yes c.if-touches.true c.new-gigabyte.result c.args.runs.now c.gigabyte_runs-part.ensures
+
+pub plan_gigabyte-more-requires-clause-turned : goal.plan_gigabyte-more-requires-clause-turned
+plan_gigabyte-more-requires-clause-turned g c = λ yes n at covered.
+    let number = c.loop-number.number in
+    let here = c.new-gigabyte.ensures in
+    let is = rw here at c.gigabyte_runs-part.ensures in
+    let there : n / 512 / 512 ≡ number = eqb-true _ _ at ∙ here in
+    let below = c.loop-number-test.true in
+    let most = c.gigabyte_span-span.ensures.most in
+    c.requires.turned yes n (lt-ltb n (2 ^ 27) (omega (arith, there, below, most))) (sym (gigabyte-covers number c.args.runs.now c.gigabyte_runs-part.result is n there) ∙ covered)
 
 pub loop-number-init : goal.loop-number-init
 loop-number-init g c =

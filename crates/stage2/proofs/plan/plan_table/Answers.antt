@@ -72,6 +72,6 @@ pub returns-then-is_told_mixed : goal.returns-then-is_told_mixed
 returns-then-is_told_mixed g c =
     let e = c.args.edit.now in
     let pool = g.M.TableMem.state c.args.memory.now in
-    let all = kept e.runs e.access (read_before e (Next c.args.third) pool) e.chunk c.requires.mixed (stray-mixed e c.args.third pool c.requires.spelled (c.is_told_mixed.ensures c.if-is_told_mixed.true)) in
+    let all = kept e.runs e.access (read_before e (Next c.args.third) pool) e.chunk c.requires.mixed (stray-mixed e c.args.third pool c.requires.spelled (c.is_told_mixed.ensures.yes c.if-is_told_mixed.true)) in
     let same = c.operations_kept-kept.ensures.same in
     edit-planned false c.operations_kept-kept.result c.new.ensures (omega (arith, all, same)) (λ yes. omega (arith, all, same)) (omega (arith, c.operations_kept-kept.ensures.most))

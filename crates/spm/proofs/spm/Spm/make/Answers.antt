@@ -1,11 +1,12 @@
 use Rattle.std.proofs.Common.{◌≡◌, refl, sym, ap, subst, ◌∙◌}
 use Rattle.base.specs.declared.status.Status.TheVariants.{NoMemory}
-use Rattle.rules.specs.Run.{step}
+use Rattle.rules.specs.Run.{rule_of, step}
+use Rattle.rules.proofs.Laws.EditsTheView.{edits_the_view}
 use Rattle.spm.specs.Granted.{updated}
 use Rattle.spm.specs.Machine.{Machine, WalksAgree, ShowsCall}
 use Rattle.spm.proofs.ConsistencyLemmas.{commit_kept}
 use Rattle.spm.proofs.MadeLemmas.{IsMade, IsUnfit, made, unfit}
-use Rattle.spm.proofs.ShownLemmas.{commit-shown, commit-cleared, same-shown}
+use Rattle.spm.proofs.ShownLemmas.{commit-shown, commit-cleared, same-shown, turned_alike}
 use Rattle.spm.proofs.ClearingLemmas.{rows_of_partitions}
 use Rattle.spm.proofs.ClearedLemmas.{refused_clears, clears_on_ok}
 use Rattle.spm.proofs.spm.Spm.make.Given.{Over}
@@ -60,6 +61,14 @@ change_unfit g c =
 
 pub commit-requires-clause-rows : goal.commit-requires-clause-rows
 commit-requires-clause-rows g c = rows_of_partitions c.self.inside.state.manifest c.self.inside.tables.layout c.self.invariant.layout_of_manifest c.self.invariant.reached.valid
+
+pub commit-requires-clause-turned : goal.commit-requires-clause-turned
+commit-requires-clause-turned g c =
+    let s = c.self.inside.state in
+    let t = c.self.inside.tables in
+    let is = made c.args.self.now s t c.args.call.now c.args.change c.self.view_is c.requires.granted c.self.invariant (sym (c.fits.ensures s.manifest c.self.invariant.layout_of_manifest) ∙ c.if-fits.true) in
+    turned_alike s t (rule_of s c.args.call.now is.request).edit c.args.change.edit c.self.invariant.layout_of_manifest c.self.invariant.agrees is.same
+    (edits_the_view s c.args.call.now is.request c.self.invariant.reached is.passes.tests).turned
 
 pub returns-then-fits-clause-clears : goal.returns-then-fits-clause-clears
 returns-then-fits-clause-clears g c =

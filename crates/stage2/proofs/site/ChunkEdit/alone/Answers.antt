@@ -1,10 +1,11 @@
-use Rattle.std.proofs.Common.{◌≡◌, ◌≢◌, ℕ, ◌+◌, ◌*◌, ◌/◌, ◌≤◌, true, false, leb, ltb, ◌&&◌, List, ap, sym, ◌∙◌, arith, inl, inr}
-use Rattle.std.proofs.lemmas.Bool.{cases_Bool, eqb-true}
+use Rattle.std.proofs.Common.{None, refl, ◌≡◌, ◌≢◌, ℕ, ◌+◌, ◌*◌, ◌/◌, ◌≤◌, true, false, leb, ltb, ◌&&◌, List, ap, sym, ◌∙◌, arith, inl, inr}
+use Rattle.std.proofs.lemmas.Bool.{cases_Bool}
 use Rattle.std.proofs.lemmas.Bool.Decides.{nat_tests}
-use Rattle.std.proofs.lemmas.Option.{IfSome_then}
-use Rattle.base.specs.Pages.{PageRun}
+use Rattle.base.specs.Pages.{PageRun, are_normal}
 use Rattle.stage2.specs.Edits.{touches_run, touches_chunk}
-use Rattle.stage2.specs.Parts.{lie_within}
+use Rattle.stage2.specs.Parts.{lie_within, part_count}
+use Rattle.stage2.specs.Room.{pages_in}
+use Rattle.stage2.proofs.Counting.Bounds.{between, in-chunk}
 use Rattle.stage2.proofs.Runs.Normal.{any-within}
 use Rattle.stage2.proofs.site.ChunkEdit.alone.Goals as goal
 
@@ -21,20 +22,46 @@ elsewhere runs first end c k within is last differs = elim (cases_Bool (touches_
     there : (a n : ℕ) → (ltb 0 n && (leb (a / 512) k && ltb k ((a + n + 511) / 512))) ≡ true → first ≤ a → a + n ≤ end → k ≡ c
     there a n t low high = grind (arith, nat_tests, t, low, high, is, last)
 
+pub new-requires : goal.new-requires
+new-requires c =
+    let b = between c.args.runs.now None (λ x. None) c.bounds-pages.result.first c.bounds-pages.result.end c.bounds-pages.ensures.within c.requires.0 c.requires.1 in
+    let low = b.0 in
+    let high = b.1 in
+    let most = c.bounds-pages.ensures.most in
+    omega (arith, low, high, most)
+
+pub pieces_within-requires-clause-only : goal.pieces_within-requires-clause-only
+pieces_within-requires-clause-only c =
+    let pages = c.bounds-pages in
+    in-chunk c.args.runs.now pages.result.first pages.result.end c.of-chunk.result pages.ensures.within (c.of-chunk.ensures ∙ ap (λ n. n / 512) c.new.ensures) (let last = c.if-end-pages.false in omega (arith, last, c.end.ensures.same))
+
+pub invariant_of-result : goal.invariant_of-result
+invariant_of-result c =
+    let pieces = c.pieces_within.ensures in
+    let again = sym c.again.ensures in
+    record {
+      normal = ap are_normal c.again.ensures ∙ c.bounds-pages.ensures.normal;
+      pages = pieces.pages ∙ ap (λ (rs : List PageRun). pages_in rs c.of-chunk.result) again;
+      count = pieces.runs ∙ ap (part_count c.of-chunk.result) again;
+      few = pieces.few;
+      most = pieces.most;
+      touched = pieces.some;
+    }
+
 pub returns : goal.returns
 returns c =
     let runs = c.args.runs.now in
     let chunk = c.of-chunk.result in
     let pages = c.bounds-pages in
+    let is : chunk ≡ pages.result.first / 512 = c.of-chunk.ensures ∙ ap (λ n. n / 512) c.new.ensures in
+    let most : pages.result.end ≤ 512 * chunk + 512 = let last = c.if-end-pages.false in omega (arith, last, c.end.ensures.same) in
     record {
-      some = IfSome_then c.of_own.result c.of_own.ensures.some
-          (λ edit so. (
-            so.0,
-            ap (λ k. k / 512) so.1 ∙ eqb-true _ _ (sym c.has.ensures.same ∙ c.if-not-has.false),
-            so.2,
-            so.3,
-            λ k differs. elsewhere runs pages.result.first pages.result.end chunk k pages.ensures.within (c.of-chunk.ensures ∙ ap (λ n. n / 512) c.new.ensures)
-                (let last = c.if-end-pages.false in omega (arith, last, c.end.ensures.same)) (λ e. differs (e ∙ sym so.1)),
-            c.has.ensures.in_range,
-          ));
+      some = (
+        refl,
+        c.again.ensures,
+        refl,
+        refl,
+        in-chunk runs pages.result.first pages.result.end chunk pages.ensures.within is most,
+        λ k differs. elsewhere runs pages.result.first pages.result.end chunk k pages.ensures.within is most differs,
+      );
     }

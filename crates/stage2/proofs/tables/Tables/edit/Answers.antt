@@ -1,7 +1,7 @@
-use Rattle.std.proofs.Common.{◌≡◌, ◌≤◌, false, eqb, sym, ap, subst, ◌∙◌, position, length}
-use Rattle.stage2.specs.Tables.{TablesView, has_root, AreCanonical, Fits, edit_operations}
+use Rattle.std.proofs.Common.{Some, ◌≡◌, ◌≤◌, false, eqb, sym, ap, subst, ◌∙◌, position, length}
+use Rattle.stage2.specs.Tables.{TablesView, has_root, AreCanonical, AreTurnedFor, Fits, edit_operations}
 use Rattle.stage2.proofs.Tree.Rows.{row-found}
-use Rattle.stage2.proofs.Editing.WholeTables.{view, are-canonical, IsEdited, edited-rooted, edited-rootless, found-none, fits-row, room-row, rootless-edit}
+use Rattle.stage2.proofs.Editing.WholeTables.{view, are-canonical, IsEdited, edited-rooted, edited-rootless, found-none, turned-found, fits-row, room-row, rootless-edit}
 use Rattle.stage2.proofs.tables.Tables.edit.Given.{Over}
 use Rattle.stage2.proofs.tables.Tables.edit.Goals as goal
 
@@ -13,6 +13,8 @@ edit_row-requires g c =
     let now = view layout (g.M.TableMem.state m) (g.M.TableMem.room m) in
     record {
       canonical = c.self.invariant;
+      turned = λ yes. turned-found now c.args.p c.args.runs.now c.args.access.now (Some c.in-Some.row) (sym (sym c.row.ensures.row ∙ c.in-Some.is))
+          (subst (λ (t : TablesView). AreTurnedFor c.args.p c.args.runs.now c.args.access.now t) (sym c.self.view_is) (c.requires.turned yes));
       fits = fits-row now c.args.p c.in-Some.row c.args.runs.now c.args.access.now row
           (subst (λ (t : TablesView). Fits c.args.p c.args.runs.now c.args.access.now t) (sym c.self.view_is) c.requires.fits);
       room = room-row now c.args.p c.in-Some.row c.args.runs.now c.args.access.now row

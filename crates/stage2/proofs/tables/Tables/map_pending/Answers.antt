@@ -1,7 +1,9 @@
 use Rattle.std.proofs.Common.{◌≡◌, ℕ, ◌-◌, [], ◌∷◌, Some, sym, ap, subst, ◌∙◌, arith}
 use Rattle.base.specs.Pages.{PageRun}
-use Rattle.stage2.specs.Tables.{Fits}
+use Rattle.pool.specs.Pool.{Pool}
+use Rattle.stage2.specs.Tables.{Fits, AreTurnedFor}
 use Rattle.stage2.proofs.Editing.FillUpward.{fits-same}
+use Rattle.stage2.proofs.Editing.WholeTables.{turned-same}
 use Rattle.stage2.proofs.tables.Tables.map_pending.Goals as goal
 
 pub new-requires : goal.new-requires
@@ -16,9 +18,20 @@ new-requires-in-Some-clause-some g c = let can = c.requires.fits c.in-Some.acces
 pub new-requires-in-Some-clause-in_range : goal.new-requires-in-Some-clause-in_range
 new-requires-in-Some-clause-in_range g c = let can = c.requires.fits c.in-Some.access c.in-Some.is in let a = can.some in let b = can.inside in let d = c.new.ensures in omega (arith, a, b, d)
 
-pub map-requires-clause-fits : goal.map-requires-clause-fits
-map-requires-clause-fits g c =
+pub ready_to_turn-requires-clause-turned : goal.ready_to_turn-requires-clause-turned
+ready_to_turn-requires-clause-turned g c =
+    let run : c.new-in-Some.result ≡ record { first = c.args.first; count = c.args.end - c.args.first } = c.new-in-Some.ensures ∙ ap (λ (f : ℕ). record { first = f; count = c.args.end - c.args.first }) c.new.ensures in
+    rw (c.of-runs.ensures, run) (c.requires.fits c.in-Some.access c.in-Some.is).turned
+
+pub turn-requires-clause-turned : goal.turn-requires-clause-turned
+turn-requires-clause-turned g c =
+    let run : c.new-in-Some.result ≡ record { first = c.args.first; count = c.args.end - c.args.first } = c.new-in-Some.ensures ∙ ap (λ (f : ℕ). record { first = f; count = c.args.end - c.args.first }) c.new.ensures in
+    rw c.of-runs.ensures (turned-same c.args.p (c.new-in-Some.result ∷ []) (Some c.in-Some.access) c.args.self.now c.ready_to_turn.new.self c.ready_to_turn.ensures.layout (ap (λ (x : Pool). x.memory) c.ready_to_turn.ensures.pool)
+    (subst (λ (r : PageRun). AreTurnedFor c.args.p (r ∷ []) (Some c.in-Some.access) c.args.self.now) (sym run) (c.requires.fits c.in-Some.access c.in-Some.is).turned))
+
+pub turn-requires-clause-fits : goal.turn-requires-clause-fits
+turn-requires-clause-fits g c =
     let can = c.requires.fits c.in-Some.access c.in-Some.is in
     let run : c.new-in-Some.result ≡ record { first = c.args.first; count = c.args.end - c.args.first } = c.new-in-Some.ensures ∙ ap (λ (f : ℕ). record { first = f; count = c.args.end - c.args.first }) c.new.ensures in
-    rw c.of-runs.ensures (fits-same c.args.p (c.new-in-Some.result ∷ []) (Some c.in-Some.access) c.args.self.now c.ready.new.self c.ready.ensures.layout c.ready.ensures.pool
+    rw c.of-runs.ensures (fits-same c.args.p (c.new-in-Some.result ∷ []) (Some c.in-Some.access) c.args.self.now c.ready_to_turn.new.self c.ready_to_turn.ensures.layout c.ready_to_turn.ensures.pool
     (subst (λ (r : PageRun). Fits c.args.p (r ∷ []) (Some c.in-Some.access) c.args.self.now) (sym run) can.fits))

@@ -1,20 +1,25 @@
-use Rattle.std.proofs.Common.{ap, ◌∙◌, arith}
+use Rattle.std.proofs.Common.{sym, ap, subst, ◌∙◌, arith}
 use Rattle.base.specs.Need.{grow}
 use Rattle.stage2.specs.Edits.{edited}
 use Rattle.stage2.specs.Sound.{TablesView}
-use Rattle.stage2.specs.Tables.{view_of, edit_operations}
-use Rattle.stage2.proofs.Editing.WholeTables.{view, grow-found, room-found}
+use Rattle.stage2.specs.Tables.{view_of, edit_operations, AreTurnedFor}
+use Rattle.stage2.proofs.Editing.WholeTables.{view, turned-found, grow-found, room-found}
 use Rattle.stage2.proofs.tables.Tables.plan.Goals as goal
+
+pub plan_row-requires-clause-turned : goal.plan_row-requires-clause-turned
+plan_row-requires-clause-turned g c = λ yes.
+    turned-found (view c.self.inside.layout (g.M.TableMem.state c.self.inside.memory) (g.M.TableMem.room c.self.inside.memory)) c.args.p c.args.runs.now c.args.aim.access c.row.result c.row.ensures.row
+    (subst (λ (t : TablesView). AreTurnedFor c.args.p c.args.runs.now c.args.aim.access t) (sym c.self.view_is) (c.requires.turned yes))
 
 pub returns-clause-tables : goal.returns-clause-tables
 returns-clause-tables g c =
     c.plan_row.ensures.tables
-    ∙ grow-found (view c.self.inside.layout (g.M.TableMem.state c.self.inside.memory) (g.M.TableMem.room c.self.inside.memory)) c.args.p c.args.runs.now c.args.access.now c.row.result c.row.ensures.row
-    ∙ ap (λ (t : TablesView). grow (view_of t c.args.p) (edited c.args.runs.now c.args.access.now (view_of t c.args.p))) c.self.view_is
+    ∙ grow-found (view c.self.inside.layout (g.M.TableMem.state c.self.inside.memory) (g.M.TableMem.room c.self.inside.memory)) c.args.p c.args.runs.now c.args.aim.access c.row.result c.row.ensures.row
+    ∙ ap (λ (t : TablesView). grow (view_of t c.args.p) (edited c.args.runs.now c.args.aim.access (view_of t c.args.p))) c.self.view_is
 
 pub returns-clause-operations : goal.returns-clause-operations
 returns-clause-operations g c =
     let t = view c.self.inside.layout (g.M.TableMem.state c.self.inside.memory) (g.M.TableMem.room c.self.inside.memory) in
-    let most = room-found t c.args.p c.args.runs.now c.args.access.now c.row.result c.row.ensures.row in
-    let same = ap (λ (t : TablesView). edit_operations c.args.p c.args.runs.now c.args.access.now t) c.self.view_is in
+    let most = room-found t c.args.p c.args.runs.now c.args.aim.access c.row.result c.row.ensures.row in
+    let same = ap (λ (t : TablesView). edit_operations c.args.p c.args.runs.now c.args.aim.access t) c.self.view_is in
     omega (arith, most, same, c.plan_row.ensures.operations)

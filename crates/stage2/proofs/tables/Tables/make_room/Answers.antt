@@ -1,11 +1,11 @@
 use Rattle.std.proofs.Common.{◌≡◌, ap, subst, arith}
 use Rattle.stage2.specs.Tables.{TablesView, AreCanonical, view_of}
 use Rattle.stage2.proofs.Editing.WholeTables.{view, are-canonical, room-most}
-use Rattle.stage2.proofs.tables.Tables.ready.Goals as goal
+use Rattle.stage2.proofs.tables.Tables.make_room.Goals as goal
 
 pub returns-then-has_room-clause-room : goal.returns-then-has_room-clause-room
 returns-then-has_room-clause-room g c =
-    let most = room-most c.args.self.now c.args.p c.args.runs.now c.args.access c.most_operations.result (c.most_operations.ensures.bound (view_of c.args.self.now c.args.p) c.args.access) in
+    let most = room-most c.args.self.now c.args.p c.args.runs.now c.args.aim.access c.most_operations.result (c.most_operations.ensures.bound (view_of c.args.self.now c.args.p) c.args.aim.access) in
     let room : g.M.TableMem.room c.self.inside.memory ≡ c.args.self.now.room = ap (λ (t : TablesView). t.room) c.self.view_is in
     let has = c.has_room.ensures c.if-has_room.true in
     omega (arith, most, room, has)

@@ -2,7 +2,7 @@ use Rattle.std.proofs.Common.{arith}
 use Rattle.pool.proofs.Gaps.{rise-normal}
 use Rattle.stage2.proofs.Editing.RunWords.{runs-written}
 use Rattle.stage2.proofs.Counting.Pieces.{words-pages}
-use Rattle.stage2.proofs.level3.write_runs.Goals as goal
+use Rattle.stage2.proofs.level3.set_runs.Goals as goal
 
 pub set_runs-requires-clause-ready : goal.set_runs-requires-clause-ready
 set_runs-requires-clause-ready g c =
