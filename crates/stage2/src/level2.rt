@@ -350,7 +350,13 @@ fn edit_each_chunk<M: TableMem>(
             index = plain;
         } else {
             let chunk = gigabyte.chunk(piece.first);
-            if let Some(here) = ChunkEdit::new(edit.layout, &rest, chunk, &edit.access, edit.turns) {
+            if let Some(here) = ChunkEdit::new(
+                edit.layout,
+                &rest,
+                chunk,
+                &edit.access,
+                edit.turns,
+            ) {
                 edit_one_of_many(memory, &site, &here);
             }
             index = piece.first + 1;

@@ -1,5 +1,4 @@
-use Rattle.std.proofs.Common.{ap, sym, ◌∙◌}
-use Rattle.base.specs.Pages.{are_disjoint}
+use Rattle.std.proofs.Common.{ap, ◌∙◌}
 use Rattle.base.specs.Transactions.{Live}
 use Rattle.rules.specs.Calls.Retrieve.{asked, responding}
 use Rattle.spm.proofs.ReceiverLemmas.{its_ranges, its_limits, retrieve_granted}
