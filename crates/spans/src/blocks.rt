@@ -110,6 +110,7 @@ impl Blocks {
         ensures list { self.new.list ≡ take place self.old.list ++ drop (place + 1) self.old.list }
         ensures spare { self.new.spare ≡ self.old.spare + 1 }
     {
+        // No other moves.
         if place + 1 == self.list.len()
             && let Some(last) = self.list.pop()
         {

@@ -69,6 +69,7 @@ pub(crate) fn is_alike_in_table<M: TableMem>(memory: &M, edit: &ChunkEdit, third
     if is_told_mixed(memory, edit, third) {
         return false;
     }
+    // None of the runs' words is 0, and the table has no more.
     if edit.turns && edit.access.is_none() {
         return true;
     }
