@@ -72,27 +72,6 @@ fn runs_before<'a>(runs: &Runs<'a>, end: u32) -> Runs<'a>
     Runs::of(&list[..begun(list, end)])
 }
 
-/// Those of the runs that have a page from one up to another, of whatever runs.
-fn runs_among<'a>(runs: &Runs<'a>, first: u32, end: u32) -> Runs<'a>
-    ensures { result ≡ parts.runs_between first end runs.now }
-{
-    runs_before(&runs_past(runs, first), end)
-}
-
-/// The same. One run alone is told by its bounds, without a call.
-#[inline(always)]
-pub(crate) fn runs_between<'a>(runs: &Runs<'a>, first: u32, end: u32) -> Runs<'a>
-    ensures { result ≡ parts.runs_between first end runs.now }
-{
-    let list = runs.list();
-    if list.len() == 1 {
-        let run = list[0];
-        let is_between = first < run.end() && run.first().number() < end;
-        return Runs::of(&list[..usize::from(is_between)]);
-    }
-    runs_among(runs, first, end)
-}
-
 /// Those of the runs that have a page in a chunk, of whatever runs that end behind its first page.
 pub(crate) fn chunk_runs<'a>(runs: &Runs<'a>, chunk: Chunk) -> Runs<'a>
     requires past { parts.runs_past (512 * chunk) runs.now ≡ runs.now }
@@ -102,11 +81,10 @@ pub(crate) fn chunk_runs<'a>(runs: &Runs<'a>, chunk: Chunk) -> Runs<'a>
 }
 
 /// Those of the runs that have a page in a gigabyte.
-#[inline(always)]
 pub(crate) fn gigabyte_runs<'a>(runs: &Runs<'a>, gigabyte: Gigabyte) -> Runs<'a>
     ensures { result ≡ parts.gigabyte_runs gigabyte runs.now }
 {
-    runs_between(runs, gigabyte.first().number(), gigabyte.end())
+    runs_before(&runs_past(runs, gigabyte.first().number()), gigabyte.end())
 }
 
 /// How many pages of a chunk runs have, and how many of the runs have some.
