@@ -1,5 +1,5 @@
 -- What clauses see of the tables of all partitions, and of an edit of one partition's pages.
-use Rattle.std.specs.Prelude.{◌≡◌, ℕ, ◌+◌, ◌^◌, ◌≤◌, ◌<◌, Bool, true, false, ◌&&◌, ◌==◌, if◌then◌else◌, nat_lt, ◌⊎◌, List, [], length, Some, None}
+use Rattle.std.specs.Prelude.{◌≡◌, ℕ, ◌+◌, ◌^◌, ◌≤◌, ◌<◌, Bool, true, false, ◌&&◌, ◌==◌, if◌then◌else◌, nat_lt, ◌⊎◌, List, [], length, Some, None, Result, OnOk}
 use Rattle.base.specs.Access.{View}
 use Rattle.base.specs.Manifest.{row_of}
 use Rattle.base.specs.Need.{need, grow}
@@ -135,3 +135,27 @@ abbrev pub ClearsInStep : PageRun → TablesView → TablesView → Type 0
 ClearsInStep run old new =
     AreUnmappedForAll run old → (e : OpenCall) → e.layout ≡ old.layout → IsInStepIn e nothing old.pool
     → IsInStepIn (with_clear run e) nothing new.pool
+
+-- ---- an edit as a whole
+
+-- its list has been made ready for it, and for so many clears, or the heap refused that; nothing else is changed
+pub record IsMadeReady {T E : Type 0} (p : ℕ) (runs : List PageRun) (access : View) (clears : ℕ) (result : Result T E) (old new : TablesView) : Type 0 where
+  pub layout : new.layout ≡ old.layout
+  pub pool : new.pool ≡ old.pool
+  pub room : OnOk result (edit_operations p runs access new + clears ≤ new.room)
+  pub canonical : AreCanonical new
+
+-- it can be made: it fits, and there is room for its operations
+pub record CanEdit (p : ℕ) (runs : List PageRun) (access : View) (t : TablesView) : Type 0 where
+  pub fits : Fits p runs access t
+  pub ready : edit_operations p runs access t ≤ t.room
+
+-- it is made: its pages are reached so and all others as before, walkers see what they may, and the tables are canonical again
+pub record AreEdited (p : ℕ) (runs : List PageRun) (access : View) (old new : TablesView) : Type 0 where
+  pub layout : new.layout ≡ old.layout
+  pub walks : ReachSo p runs access old new
+  pub moments : ShowsMoments p runs access old new
+  pub clears : ClearsNothing p runs access old new
+  pub in_step : EditsInStep p runs access old new
+  pub room : old.room ≤ new.room + edit_operations p runs access old
+  pub canonical : AreCanonical new

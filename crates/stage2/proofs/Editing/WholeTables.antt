@@ -21,7 +21,7 @@ use Rattle.stage2.specs.Moments.{cleared_by, StaysInStep}
 use Rattle.stage2.specs.Orderly.{IsCanonical, answers, answer_of}
 use Rattle.stage2.specs.Room.{row_operations}
 use Rattle.stage2.specs.Slot.{Layout}
-use Rattle.stage2.specs.Tables.{TablesView, walk_in, view_of, has_root, AreCanonical, AreTurnedFor, Fits, edit_operations, ReachSo, ShowsMoments, ClearsNothing, EditsInStep, ClearsInStep}
+use Rattle.stage2.specs.Tables.{TablesView, walk_in, view_of, has_root, AreCanonical, AreTurnedFor, Fits, edit_operations, IsMadeReady, AreEdited, ReachSo, ShowsMoments, EditsInStep, ClearsInStep}
 use Rattle.stage2.specs.Walk.{walk, walk_across, walked, translation}
 use Rattle.stage2.proofs.Walkers.WholeCall.{moments-edited, clears-nothing}
 use Rattle.stage2.proofs.Walkers.ZeroedTables.{counted-op, stays-none}
@@ -152,14 +152,6 @@ rootless-moments t p runs access none out begun before starts free =
 
 -- ---- an edit
 
--- what the clauses say of it
-pub record IsEdited (p : ℕ) (runs : List PageRun) (access : View) (old new : TablesView) : Type 0 where
-  pub walks : ReachSo p runs access old new
-  pub moments : ShowsMoments p runs access old new
-  pub clears : ClearsNothing p runs access old new
-  pub in_step : EditsInStep p runs access old new
-  pub room : old.room ≤ new.room + edit_operations p runs access old
-
 -- the view of these tables
 abbrev pub view : Layout → Pool → ℕ → TablesView
 view layout pool room = record { layout = layout; pool = pool; room = room }
@@ -168,6 +160,18 @@ view layout pool room = record { layout = layout; pool = pool; room = room }
 on-ok : {T E : Type 0} (result : Result T E) {A B : Type 0} → (A → B) → OnOk result A → OnOk result B
 on-ok (Ok x) f a = f a
 on-ok (Err e) f a = a
+
+-- tables whose words stay canonical
+pub canonical-now : (layout : Layout) {made : Pool} (now : Pool) (room : ℕ) → now ≡ made → IsCanonical layout (pages_of made.memory) → ((q i : ℕ) → taken_of now.memory.taken q ≡ false → words_of now.memory.words q i ≡ 0) → all_lie_in now ≡ true → AreCanonical (view layout now room)
+canonical-now layout now room is canonical free within = are-canonical (view layout now room) (subst (λ (x : Pool). IsCanonical layout (pages_of x.memory)) (sym is) canonical) free within
+
+-- the tables of a value, once it is opened
+pub canonical-inside : (layout : Layout) (pool : Pool) (room : ℕ) (t : TablesView) → view layout pool room ≡ t → IsCanonical layout (pages_of pool.memory) → ((q i : ℕ) → taken_of pool.memory.taken q ≡ false → words_of pool.memory.words q i ≡ 0) → all_lie_in pool ≡ true → AreCanonical t
+canonical-inside layout pool room t is canonical free within = subst (λ (t : TablesView). AreCanonical t) is (are-canonical (view layout pool room) canonical free within)
+
+-- a list that has room is ready as it is
+pub ready-already : {T E : Type 0} (done : T) (p : ℕ) (runs : List PageRun) (access : View) (clears : ℕ) (t : TablesView) → edit_operations p runs access t + clears ≤ t.room → AreCanonical t → IsMadeReady {E = E} p runs access clears (Ok done) t t
+ready-already done p runs access clears t room canonical = record { layout = refl; pool = refl; room = room; canonical = canonical }
 
 -- room for the operations that are planned is room for those of the edit
 pub room-made : {T E : Type 0} (result : Result T E) (p : ℕ) (runs : List PageRun) (access : View) (layout : Layout) (now before : Pool) (room had planned clears : ℕ) (old : TablesView)
@@ -182,30 +186,35 @@ pub edited-rooted : (layout : Layout) (old new : Pool) (room left p row : ℕ) (
     → EditsRow layout row (edited runs access (answers layout (pages_of old.memory).words row)) (pages_of old.memory) (pages_of new.memory)
     → (AreFree (λ n. true) runs access (answers layout (words_of old.memory.words) row)
     → StaysInStep layout row (disturbed runs (answers layout (words_of old.memory.words) row) (edited runs access (answers layout (words_of old.memory.words) row))) (λ n. walked n (edited runs access (answers layout (words_of old.memory.words) row) n)) old new)
-    → all_lie_in new ≡ true → room ≤ left + row_operations runs access (answers layout (words_of old.memory.words) row) → IsEdited p runs access (view layout old room) (view layout new left)
-edited-rooted layout old new room left p row runs access is canonical edits stays within enough =
+    → ((q i : ℕ) → taken_of new.memory.taken q ≡ false → words_of new.memory.words q i ≡ 0) → all_lie_in new ≡ true → room ≤ left + row_operations runs access (answers layout (words_of old.memory.words) row)
+    → AreEdited p runs access (view layout old room) (view layout new left)
+edited-rooted layout old new room left p row runs access is canonical edits stays free within enough =
     let walks = edited-walks layout p row runs access (pages_of old.memory) (pages_of new.memory) is canonical.orderly edits in
     let root : has_root (view layout old room) p ≡ true = below-root layout.ids p row is in
     let in_step : EditsInStep p runs access (view layout old room) (view layout new left) = subst (λ r. AreFree (λ n. true) runs access (answers layout (words_of old.memory.words) r)
     → StaysInStep layout r (disturbed runs (answers layout (words_of old.memory.words) r) (edited runs access (answers layout (words_of old.memory.words) r))) (λ n. walked n (edited runs access (answers layout (words_of old.memory.words) r) n)) old new) is.is stays in
     record {
+      layout = refl;
       walks = walks;
       moments = moments-edited (view layout old room) (view layout new left) p runs access root refl walks in_step within;
       clears = clears-nothing (view layout old room) (view layout new left) p runs access in_step;
       in_step = in_step;
       room = let all : room ≤ left + row_operations runs access (view_of (view layout old room) p) = subst (λ r. room ≤ left + row_operations runs access (answers layout (words_of old.memory.words) r)) is.is enough in rw root all;
+      canonical = are-canonical (view layout new left) edits.canonical free within;
     }
   where
     below-root : (ids : List ℕ) (p row : ℕ) → IsRow ids p row → ltb (row_of ids p) (length ids) ≡ true
     below-root ids p row is = let a = is.is in let b = is.inside in grind (arith, nat_tests)
 
-pub edited-rootless : (t : TablesView) (p : ℕ) (runs : List PageRun) (access : View) → has_root t p ≡ false → StaysOut p runs access → IsEdited p runs access t t
-edited-rootless t p runs access none out = record {
+pub edited-rootless : (t : TablesView) (p : ℕ) (runs : List PageRun) (access : View) → has_root t p ≡ false → StaysOut p runs access → AreCanonical t → AreEdited p runs access t t
+edited-rootless t p runs access none out canonical = record {
+  layout = refl;
   walks = rootless-walks t p runs access none out;
   moments = rootless-moments t p runs access none out;
   clears = λ begun free. ap cleared_by begun;
   in_step = λ free. stays-none t.layout (row_of t.layout.ids p) (disturbed runs (view_of t p) (edited runs access (view_of t p))) (λ n. walked n (edited runs access (view_of t p) n)) t.pool;
   room = omega arith;
+  canonical = canonical;
 }
 
 -- ---- a clear

@@ -1,12 +1,12 @@
-use Rattle.std.proofs.Common.{sym, subst}
-use Rattle.pool.specs.Pool.{Pool, pages_of}
-use Rattle.stage2.specs.Orderly.{IsCanonical}
+use Rattle.std.proofs.Common.{subst}
 use Rattle.stage2.specs.Tables.{TablesView, ClearsInStep}
-use Rattle.stage2.proofs.Editing.WholeTables.{view, are-canonical, cleared-in_step}
+use Rattle.stage2.proofs.Editing.WholeTables.{view, canonical-now, cleared-in_step}
 use Rattle.stage2.proofs.tables.Tables.clear.Goals as goal
 
 pub returns-clause-canonical : goal.returns-clause-canonical
-returns-clause-canonical g c = are-canonical (view c.self.inside.layout (g.M.TableMem.state c.clear.new.self) (g.M.TableMem.room c.clear.new.self)) (subst (λ (x : Pool). IsCanonical c.self.inside.layout (pages_of x.memory)) (sym c.clear.ensures.state) c.self.invariant) (g.met.M.TableMem.free_is_zero c.clear.new.self) (g.met.M.TableMem.operations_lie_within c.clear.new.self)
+returns-clause-canonical g c =
+    let new = c.clear.new.self in
+    canonical-now c.self.inside.layout (g.M.TableMem.state new) (g.M.TableMem.room new) c.clear.ensures.state c.self.invariant (g.met.M.TableMem.free_is_zero new) (g.met.M.TableMem.operations_lie_within new)
 
 pub returns-clause-in_step : goal.returns-clause-in_step
 returns-clause-in_step g c =

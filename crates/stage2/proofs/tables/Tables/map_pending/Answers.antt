@@ -1,4 +1,4 @@
-use Rattle.std.proofs.Common.{◌≡◌, ℕ, ◌-◌, [], ◌∷◌, Some, sym, ap, subst, ◌∙◌, arith}
+use Rattle.std.proofs.Common.{◌≡◌, ℕ, ◌-◌, List, [], ◌∷◌, Some, sym, ap, subst, ◌∙◌, arith}
 use Rattle.base.specs.Pages.{PageRun}
 use Rattle.pool.specs.Pool.{Pool}
 use Rattle.stage2.specs.Tables.{Fits, AreTurnedFor}
@@ -23,15 +23,18 @@ ready_to_turn-requires-clause-turned g c =
     let run : c.new-in-Some.result ≡ record { first = c.args.first; count = c.args.end - c.args.first } = c.new-in-Some.ensures ∙ ap (λ (f : ℕ). record { first = f; count = c.args.end - c.args.first }) c.new.ensures in
     rw (c.of-runs.ensures, run) (c.requires.fits c.in-Some.access c.in-Some.is).turned
 
-pub turn-requires-clause-turned : goal.turn-requires-clause-turned
-turn-requires-clause-turned g c =
-    let run : c.new-in-Some.result ≡ record { first = c.args.first; count = c.args.end - c.args.first } = c.new-in-Some.ensures ∙ ap (λ (f : ℕ). record { first = f; count = c.args.end - c.args.first }) c.new.ensures in
-    rw c.of-runs.ensures (turned-same c.args.p (c.new-in-Some.result ∷ []) (Some c.in-Some.access) c.args.self.now c.ready_to_turn.new.self c.ready_to_turn.ensures.layout (ap (λ (x : Pool). x.memory) c.ready_to_turn.ensures.pool)
-    (subst (λ (r : PageRun). AreTurnedFor c.args.p (r ∷ []) (Some c.in-Some.access) c.args.self.now) (sym run) (c.requires.fits c.in-Some.access c.in-Some.is).turned))
-
-pub turn-requires-clause-fits : goal.turn-requires-clause-fits
-turn-requires-clause-fits g c =
+-- the pages that are turned, and the edit that fits, where the list is made ready
+pub turn-requires : goal.turn-requires
+turn-requires g c =
     let can = c.requires.fits c.in-Some.access c.in-Some.is in
+    let ready = c.in_ok-ready_to_turn.ensures in
     let run : c.new-in-Some.result ≡ record { first = c.args.first; count = c.args.end - c.args.first } = c.new-in-Some.ensures ∙ ap (λ (f : ℕ). record { first = f; count = c.args.end - c.args.first }) c.new.ensures in
-    rw c.of-runs.ensures (fits-same c.args.p (c.new-in-Some.result ∷ []) (Some c.in-Some.access) c.args.self.now c.ready_to_turn.new.self c.ready_to_turn.ensures.layout c.ready_to_turn.ensures.pool
-    (subst (λ (r : PageRun). Fits c.args.p (r ∷ []) (Some c.in-Some.access) c.args.self.now) (sym run) can.fits))
+    let room = rw (c.of-runs.ensures, run) at ready.room in
+    let runs : List PageRun = record { first = c.args.first; count = c.args.end - c.args.first } ∷ [] in
+    rw (c.of-runs.ensures, run) record {
+      turned = turned-same c.args.p runs (Some c.in-Some.access) c.args.self.now c.ready_to_turn.new.self ready.layout (ap (λ (x : Pool). x.memory) ready.pool) can.turned;
+      can = record {
+        fits = fits-same c.args.p runs (Some c.in-Some.access) c.args.self.now c.ready_to_turn.new.self ready.layout ready.pool can.fits;
+        ready = omega (arith, room);
+      };
+    }

@@ -2,14 +2,14 @@ use Rattle.std.proofs.Common.{map, subst, ap, ◌∙◌}
 use Rattle.stage2.specs.Reading.{shown}
 use Rattle.stage2.specs.Readings.{Reading, entries_of, reading_of}
 use Rattle.stage2.specs.Tables.{TablesView, AreCanonical}
-use Rattle.stage2.proofs.Editing.WholeTables.{view, are-canonical}
+use Rattle.stage2.proofs.Editing.WholeTables.{canonical-inside}
 use Rattle.stage2.proofs.Reading.Listing.{all-shown}
 use Rattle.stage2.proofs.tables.Tables.reader.Goals as goal
 
 pub returns-clause-canonical : goal.returns-clause-canonical
 returns-clause-canonical g c =
     let m = c.self.inside.memory in
-    subst (λ (t : TablesView). AreCanonical t) c.self.view_is (are-canonical (view c.self.inside.layout (g.M.TableMem.state m) (g.M.TableMem.room m)) c.self.invariant (g.met.M.TableMem.free_is_zero m) (g.met.M.TableMem.operations_lie_within m))
+    canonical-inside _ _ _ c.args.self.now c.self.view_is c.self.invariant (g.met.M.TableMem.free_is_zero m) (g.met.M.TableMem.operations_lie_within m)
 
 pub returns-clause-shown : goal.returns-clause-shown
 returns-clause-shown g c = λ p.
