@@ -5,7 +5,7 @@ ghost use Rattle.pool.specs.Pool.{taken_of, HasRow};
 ghost use Rattle.stage2.specs.inner.Change.{block_step};
 ghost use Rattle.stage2.specs.inner.Chunks.{block_answer, IsEntryFor};
 ghost use Rattle.stage2.specs.Edits.{edited};
-ghost use Rattle.stage2.specs.inner.Clauses.{IsAt, IsRowOf, TurnsRuns, words_left, operations_kept, Puts, Replaces, slot_at, AnswersAll, HasFree, ReplacesBlocks, EditsMixed, OthersAnswer, SetsChunk, SetsInStep, MixesInStep, ChunkInStep, CanEditChunk, IsChunkEdited, CanEditChunks, AreChunksEdited, word_in};
+ghost use Rattle.stage2.specs.inner.Clauses.{Puts, Replaces, slot_at, AnswersAll, BecomesAlike, BecomesMixed, ReplacesBlocks, CanEditChunk, IsChunkEdited, CanEditChunks, AreChunksEdited, word_in};
 ghost use Rattle.stage2.specs.Room.{reached_in};
 ghost use Rattle.stage2.specs.Slot.{Layout, slot};
 ghost use Rattle.stage2.specs.Walk.{next_page};
@@ -106,15 +106,11 @@ pub(crate) fn set_blocks<M: TableMem>(
 /// Makes a chunk that has no table one block, or invalid.
 #[inline(always)]
 fn set_block<M: TableMem>(memory: &mut M, site: &Site, edit: &ChunkEdit)
-    requires site { IsAt site.now edit.now (M.state memory.old) }
-    requires row { IsRowOf site.now edit.now }
+    requires can { CanEditChunk site.now edit.now (M.state memory.old) (M.room memory.old) }
+    requires alike { BecomesAlike site.now edit.now (M.state memory.old) }
     requires none { next_page (slot_at site.now edit.now (M.state memory.old)) ≡ None }
-    requires room { 3 ≤ M.room memory.old }
-    ensures redoes { SetsChunk site.now edit.now
-        (M.state memory.old) (M.state memory.new) }
-    ensures in_step { SetsInStep site.now edit.now
-        (M.state memory.old) (M.state memory.new) }
-    ensures room { M.room memory.old ≤ M.room memory.new + 3 }
+    ensures { IsChunkEdited site.now edit.now
+        (M.state memory.old) (M.room memory.old) (M.state memory.new) (M.room memory.new) }
 {
     let Site { p, second, .. } = *site;
     replace_entry(
@@ -129,18 +125,11 @@ fn set_block<M: TableMem>(memory: &mut M, site: &Site, edit: &ChunkEdit)
 /// Makes a chunk that has a table one block, or invalid, and gives the table back.
 #[inline(always)]
 fn drop_table<M: TableMem>(memory: &mut M, site: &Site, edit: &ChunkEdit, third: TablePage)
-    requires site { IsAt site.now edit.now (M.state memory.old) }
-    requires row { IsRowOf site.now edit.now }
-    requires left { OthersAnswer third edit.now.chunk edit.now.runs edit.now.access (M.state memory.old) }
+    requires can { CanEditChunk site.now edit.now (M.state memory.old) (M.room memory.old) }
+    requires alike { BecomesAlike site.now edit.now (M.state memory.old) }
     requires table { slot_at site.now edit.now (M.state memory.old) ≡ Next third }
-    requires room { 3 + words_left third edit.now (M.state memory.old)
-        ≤ M.room memory.old }
-    ensures redoes { SetsChunk site.now edit.now
-        (M.state memory.old) (M.state memory.new) }
-    ensures in_step { SetsInStep site.now edit.now
-        (M.state memory.old) (M.state memory.new) }
-    ensures room { M.room memory.old ≤ M.room memory.new
-        + (3 + words_left third edit.now (M.state memory.old)) }
+    ensures { IsChunkEdited site.now edit.now
+        (M.state memory.old) (M.room memory.old) (M.state memory.new) (M.room memory.new) }
 {
     let Site { p, second, .. } = *site;
     replace_entry(
@@ -157,16 +146,11 @@ fn drop_table<M: TableMem>(memory: &mut M, site: &Site, edit: &ChunkEdit, third:
 /// Edits the pages of a chunk whose table stays. Where they are unmapped, they are invalidated run by run.
 #[inline(always)]
 fn rewrite_table<M: TableMem>(memory: &mut M, site: &Site, edit: &ChunkEdit, third: TablePage)
-    requires site { IsAt site.now edit.now (M.state memory.old) }
-    requires row { IsRowOf site.now edit.now }
+    requires can { CanEditChunk site.now edit.now (M.state memory.old) (M.room memory.old) }
+    requires mixed { BecomesMixed site.now edit.now (M.state memory.old) }
     requires table { slot_at site.now edit.now (M.state memory.old) ≡ Next third }
-    requires turned { TurnsRuns third edit.now (M.state memory.old) }
-    requires room { operations_kept edit.now ≤ M.room memory.old }
-    ensures redoes { EditsMixed site.now edit.now
-        (M.state memory.old) (M.state memory.new) }
-    ensures in_step { ChunkInStep site.now edit.now
-        (M.state memory.old) (M.state memory.new) }
-    ensures room { M.room memory.old ≤ M.room memory.new + operations_kept edit.now }
+    ensures { IsChunkEdited site.now edit.now
+        (M.state memory.old) (M.room memory.old) (M.state memory.new) (M.room memory.new) }
 {
     write_runs(memory, third, edit);
     if edit.access.is_none() {
@@ -177,20 +161,12 @@ fn rewrite_table<M: TableMem>(memory: &mut M, site: &Site, edit: &ChunkEdit, thi
 /// Hangs a table in a chunk that has none, whose pages have this answer before the edit.
 #[inline(always)]
 fn hang_table<M: TableMem>(memory: &mut M, site: &Site, edit: &ChunkEdit, before: &Option<Access>)
-    requires site { IsAt site.now edit.now (M.state memory.old) }
-    requires row { IsRowOf site.now edit.now }
+    requires can { CanEditChunk site.now edit.now (M.state memory.old) (M.room memory.old) }
+    requires mixed { BecomesMixed site.now edit.now (M.state memory.old) }
     requires none { next_page (slot_at site.now edit.now (M.state memory.old)) ≡ None }
     requires before { AnswersAll site.now edit.now before.now (M.state memory.old) }
-    requires free { HasFree site.now.row (M.state memory.old) }
-    requires some { (is_some before.now || is_some edit.now.access) ≡ true }
-    requires room { 3 + reached_in (edited edit.now.runs edit.now.access (λ n. before.now)) edit.now.chunk
-        ≤ M.room memory.old }
-    ensures redoes { EditsMixed site.now edit.now
-        (M.state memory.old) (M.state memory.new) }
-    ensures in_step { MixesInStep site.now edit.now
-        (M.state memory.old) (M.state memory.new) }
-    ensures room { M.room memory.old ≤ M.room memory.new
-        + (3 + reached_in (edited edit.now.runs edit.now.access (λ n. before.now)) edit.now.chunk) }
+    ensures { IsChunkEdited site.now edit.now
+        (M.state memory.old) (M.room memory.old) (M.state memory.new) (M.room memory.new) }
 {
     let Site { p, second, .. } = *site;
     let third = take_page(memory, site.row);

@@ -376,10 +376,6 @@ module _ (layout : Layout) (row c j : ℕ) (m : Pages) (h : IsSite layout row c 
   outcome-read runs access read o found is e outcome =
       subst (IsOutcome c (edited runs access (answers layout old row))) e (outcome-entry runs access o (subst (λ (s : Slot). IsOutcome c (edited runs access (answers_at layout m.words s)) o) is outcome))
 
-  -- a chunk that has no table, as read
-  pub unhung : (read : Slot) (table : Option ℕ) → read ≡ entry → table ≡ next_page read → table ≡ None → next_page entry ≡ None
-  unhung read table is e none = ap next_page (sym is) ∙ sym e ∙ none
-
   pub growing : (new : ℕ → View) → next_page entry ≡ None → IsOutcome c new None → IsGrowing (answers layout old row) new c
   growing new none outcome = record {
     now = sym outcome.mixed;

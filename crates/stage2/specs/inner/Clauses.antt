@@ -143,16 +143,18 @@ EditsChunk s e old new =
     Redoes_in e.layout.now s.row e.chunk s.second (chunk_after s e old) (pages_of old.memory)
     (pages_of new.memory)
 
+-- after the edit all its pages are reached as those of the runs are
+abbrev pub BecomesAlike : Site → ChunkEdit → Pool → Type 0
+BecomesAlike s e pool = IsOutcome e.chunk (chunk_after s e pool) (Some e.access)
+
+-- or they are not all reached alike
+abbrev pub BecomesMixed : Site → ChunkEdit → Pool → Type 0
+BecomesMixed s e pool = IsOutcome e.chunk (chunk_after s e pool) None
+
 -- the operations on its level 3 table
 abbrev pub operations_in_table : Site → ChunkEdit → Pool → ℕ
 operations_in_table s e pool =
     table_operations e.runs e.access (chunk_view s e pool) e.chunk
-
--- where they don't answer all alike then
-abbrev pub EditsMixed : Site → ChunkEdit → Pool → Pool → Type 0
-EditsMixed s e old new =
-    IsOutcome e.chunk (chunk_after s e old) None
-    → EditsChunk s e old new
 
 -- the operations of an edit of which it stays: the words of the runs' pages, and an invalidation of each run that is unmapped
 abbrev pub operations_kept : ChunkEdit → ℕ
@@ -187,12 +189,6 @@ OthersAnswer k c runs answer pool =
     (i : ℕ) → i < 512 → covers runs (512 * c + i) ≡ false
     → IsWordFor (512 * c + i) answer (words_of pool.memory.words k i)
 
--- they all get one answer
-abbrev pub SetsChunk : Site → ChunkEdit → Pool → Pool → Type 0
-SetsChunk s e old new =
-    (view : ℕ → View) → IsOutcome e.chunk view (Some e.access)
-    → Redoes_in e.layout.now s.row e.chunk s.second view (pages_of old.memory) (pages_of new.memory)
-
 -- the root's word of its gigabyte links table j, or is 0 still
 abbrev pub IsSeatedAt : Site → ChunkEdit → Pool → Type 0
 IsSeatedAt s e pool = IsSeated e.layout.now s.row (e.chunk / 512) s.second (pages_of pool.memory)
@@ -201,16 +197,6 @@ IsSeatedAt s e pool = IsSeated e.layout.now s.row (e.chunk / 512) s.second (page
 abbrev pub StaysAtChunk : Layout → ℕ → ℕ → (ℕ → View) → Pool → Pool → Type 0
 StaysAtChunk layout row c view old new =
     StaysInStep layout row (λ n. n / 512 == c) (λ n. walked n (view n)) old new
-
-abbrev pub SetsInStep : Site → ChunkEdit → Pool → Pool → Type 0
-SetsInStep s e old new =
-    (view : ℕ → View) → IsOutcome e.chunk view (Some e.access) → IsSeatedAt s e old
-    → StaysAtChunk e.layout.now s.row e.chunk view old new
-
-abbrev pub MixesInStep : Site → ChunkEdit → Pool → Pool → Type 0
-MixesInStep s e old new =
-    IsOutcome e.chunk (chunk_after s e old) None → IsSeatedAt s e old
-    → StaysAtChunk e.layout.now s.row e.chunk (chunk_after s e old) old new
 
 -- of its pages, those of a map are not mapped before
 abbrev pub AreFreeIn : Site → ChunkEdit → Pool → Type 0

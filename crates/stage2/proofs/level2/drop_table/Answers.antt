@@ -2,121 +2,123 @@ use Rattle.std.proofs.Common.{◌≡◌, ℕ, ◌/◌, ◌%◌, ◌<◌, Bool, c
 use Rattle.base.specs.Manifest.{page_count}
 use Rattle.pool.specs.Pool.{Pages, Pool, Words, pages_of, words_of, put, InShare}
 use Rattle.stage2.specs.declared.walked.Walked.{Walked}
-use Rattle.stage2.specs.Walk.{walked}
 use Rattle.stage2.specs.inner.Chunks.{planned, IsWordFor}
+use Rattle.stage2.specs.inner.Clauses.{StaysAtChunk, IsSeatedAt, chunk_after}
 use Rattle.stage2.specs.Moments.{StaysInStep}
+use Rattle.stage2.specs.Room.{pages_in}
+use Rattle.stage2.specs.Walk.{walked}
 use Rattle.stage2.proofs.Tree.WalkFrame.{IsUnheld}
 use Rattle.stage2.proofs.Walkers.ZeroedTables.{stays-after, stays-taken}
 use Rattle.stage2.proofs.Walkers.StepLists.{stays-replaced, stays-filled, unheld-word}
 use Rattle.stage2.proofs.Walkers.SeatedChunks.{hung-seen, gives-block, block-no-table, third-alone, third-loose}
 use Rattle.stage2.proofs.Editing.FourChunkEdits.{second-inside, second-taken, third-inside, third-taken, third-share, left-kept, left-words, drop-zero, does-drop}
+use Rattle.stage2.proofs.Editing.OneChunk.{in-step-alike, others, dropped}
 use Rattle.stage2.proofs.Tree.TakenPages.{pages_of-give}
 use Rattle.stage2.proofs.Tree.Rows.{has-row}
-use Rattle.stage2.specs.Room.{pages_in}
 use Rattle.stage2.proofs.level2.drop_table.Goals as goal
 
 pub replace_entry-requires-clause-page_in : goal.replace_entry-requires-clause-page_in
-replace_entry-requires-clause-page_in g c = second-inside c.args.edit.now.layout.now c.args.site.now.row c.args.edit.now.chunk c.args.site.now.second (pages_of (g.M.TableMem.state c.args.memory.now).memory) c.requires.site
+replace_entry-requires-clause-page_in g c = second-inside c.args.edit.now.layout.now c.args.site.now.row c.args.edit.now.chunk c.args.site.now.second (pages_of (g.M.TableMem.state c.args.memory.now).memory) c.requires.can.site
 
 pub replace_entry-requires-clause-taken : goal.replace_entry-requires-clause-taken
-replace_entry-requires-clause-taken g c = second-taken c.args.edit.now.layout.now c.args.site.now.row c.args.edit.now.chunk c.args.site.now.second (pages_of (g.M.TableMem.state c.args.memory.now).memory) c.requires.site
+replace_entry-requires-clause-taken g c = second-taken c.args.edit.now.layout.now c.args.site.now.row c.args.edit.now.chunk c.args.site.now.second (pages_of (g.M.TableMem.state c.args.memory.now).memory) c.requires.can.site
 
-pub empty_table-requires-clause-page_in : goal.empty_table-requires-clause-page_in
-empty_table-requires-clause-page_in g c =
-    let m = pages_of (g.M.TableMem.state c.args.memory.now).memory in
-    let inside = third-inside c.args.edit.now.layout.now c.args.site.now.row c.args.edit.now.chunk c.args.site.now.second m c.requires.site c.args.third c.requires.table in
-    subst (λ (x : Pages). c.args.third < page_count x.quotas) (sym c.replace_entry.ensures.pages) inside
+pub replace_entry-requires-clause-partition : goal.replace_entry-requires-clause-partition
+replace_entry-requires-clause-partition g c = has-row c.args.edit.now.layout.now (g.M.TableMem.state c.args.memory.now).memory c.args.site.now.p c.args.site.now.row c.requires.can.site.orderly.ids c.requires.can.row c.requires.can.site.partition
 
-pub empty_table-requires-clause-taken : goal.empty_table-requires-clause-taken
-empty_table-requires-clause-taken g c =
-    let m = pages_of (g.M.TableMem.state c.args.memory.now).memory in
-    ap (λ (x : Pages). x.taken c.args.third) c.replace_entry.ensures.pages ∙ third-taken c.args.edit.now.layout.now c.args.site.now.row c.args.edit.now.chunk c.args.site.now.second m c.requires.site c.args.third c.requires.table
-
-pub empty_table-requires-clause-left : goal.empty_table-requires-clause-left
-empty_table-requires-clause-left g c = λ i small out.
+pub empty_table-requires : goal.empty_table-requires
+empty_table-requires g c =
+    let s = c.args.site.now in
     let e = c.args.edit.now in
-    let kept = left-kept c.args.edit.now.layout.now c.args.site.now.row c.args.edit.now.chunk c.args.site.now.second (pages_of (g.M.TableMem.state c.args.memory.now).memory) c.requires.site c.args.third c.block_word.result (pages_of (g.M.TableMem.state c.replace_entry.new.memory).memory) c.requires.table c.replace_entry.ensures.pages i in
-    subst (IsWordFor (512 * e.chunk + i) e.access) (sym kept) (c.requires.left i small out)
+    let layout = e.layout.now in
+    let k = c.args.third in
+    let old = g.M.TableMem.state c.args.memory.now in
+    let m = pages_of old.memory in
+    let m1 = pages_of (g.M.TableMem.state c.replace_entry.new.memory).memory in
+    let can = c.requires.can in
+    let put = c.replace_entry.ensures.pages in
+    let same = ap (λ n. cond (is_some e.access) n (pages_in e.runs e.chunk)) (left-words layout s.row e.chunk s.second m can.site k c.block_word.result m1 c.requires.table put) in
+    let gone = dropped s e old can.site c.requires.table c.requires.alike in
+    let room = can.room in
+    let left = c.replace_entry.ensures.room in
+    record {
+      page_in = subst (λ (x : Pages). k < page_count x.quotas) (sym put) (third-inside layout s.row e.chunk s.second m can.site k c.requires.table);
+      taken = ap (λ (x : Pages). x.taken k) put ∙ third-taken layout s.row e.chunk s.second m can.site k c.requires.table;
+      left = λ i small out.
+          subst (IsWordFor (512 * e.chunk + i) e.access) (sym (left-kept layout s.row e.chunk s.second m can.site k c.block_word.result m1 c.requires.table put i))
+          (others s e old can.site c.requires.table c.requires.alike i small out);
+      room = omega (arith, same, gone, room, left);
+    }
 
-pub give_page-requires-clause-inside : goal.give_page-requires-clause-inside
-give_page-requires-clause-inside g c =
+pub give_page-requires : goal.give_page-requires
+give_page-requires g c =
+    let s = c.args.site.now in
+    let e = c.args.edit.now in
+    let layout = e.layout.now in
+    let k = c.args.third in
     let m = pages_of (g.M.TableMem.state c.args.memory.now).memory in
     let m1 = pages_of (g.M.TableMem.state c.replace_entry.new.memory).memory in
     let m2 = pages_of (g.M.TableMem.state c.empty_table.new.memory).memory in
-    let share : InShare m.quotas c.args.site.now.row c.args.third = third-share c.args.edit.now.layout.now c.args.site.now.row c.args.edit.now.chunk c.args.site.now.second m c.requires.site c.args.third c.requires.table in
-    let quotas : m2.quotas ≡ m.quotas = c.empty_table.ensures.writes.words.quotas ∙ ap (λ (x : Pages). x.quotas) c.replace_entry.ensures.pages in
-    subst (λ x. InShare x c.args.site.now.row c.args.third) (sym quotas) share
+    let site = c.requires.can.site in
+    let emptied = c.empty_table.ensures.writes.words in
+    let put = c.replace_entry.ensures.pages in
+    record {
+      inside = subst (λ x. InShare x s.row k) (sym (emptied.quotas ∙ ap (λ (x : Pages). x.quotas) put)) (third-share layout s.row e.chunk s.second m site k c.requires.table);
+      taken = ap (λ f. f k) emptied.taken ∙ ap (λ (x : Pages). x.taken k) put ∙ third-taken layout s.row e.chunk s.second m site k c.requires.table;
+      empty = drop-zero layout s.row e.chunk s.second m site k m1 m2 emptied;
+    }
 
-pub give_page-requires-clause-taken : goal.give_page-requires-clause-taken
-give_page-requires-clause-taken g c =
-    let m = pages_of (g.M.TableMem.state c.args.memory.now).memory in
-    ap (λ f. f c.args.third) c.empty_table.ensures.writes.words.taken ∙ ap (λ (x : Pages). x.taken c.args.third) c.replace_entry.ensures.pages ∙ third-taken c.args.edit.now.layout.now c.args.site.now.row c.args.edit.now.chunk c.args.site.now.second m c.requires.site c.args.third c.requires.table
-
-pub give_page-requires-clause-empty : goal.give_page-requires-clause-empty
-give_page-requires-clause-empty g c =
-    let m = pages_of (g.M.TableMem.state c.args.memory.now).memory in
-    drop-zero c.args.edit.now.layout.now c.args.site.now.row c.args.edit.now.chunk c.args.site.now.second m c.requires.site c.args.third (pages_of (g.M.TableMem.state c.replace_entry.new.memory).memory) (pages_of (g.M.TableMem.state c.empty_table.new.memory).memory) c.empty_table.ensures.writes.words
-
-pub returns-clause-redoes : goal.returns-clause-redoes
-returns-clause-redoes g c = λ view outcome.
-    let m = pages_of (g.M.TableMem.state c.args.memory.now).memory in
-    let m1 = pages_of (g.M.TableMem.state c.replace_entry.new.memory).memory in
-    let m2 = pages_of (g.M.TableMem.state c.empty_table.new.memory).memory in
-    let inside : c.args.third < page_count m.quotas = third-inside c.args.edit.now.layout.now c.args.site.now.row c.args.edit.now.chunk c.args.site.now.second m c.requires.site c.args.third c.requires.table in
-    let quotas : m2.quotas ≡ m.quotas = c.empty_table.ensures.writes.words.quotas ∙ ap (λ (x : Pages). x.quotas) c.replace_entry.ensures.pages in
-    does-drop c.args.edit.now.layout.now c.args.site.now.row c.args.edit.now.chunk c.args.site.now.second m c.requires.site
-    view c.args.edit.now.access c.block_word.result c.args.third m1 m2 (pages_of (g.M.TableMem.state c.give_page.new.memory).memory) c.requires.table c.block_word.ensures c.replace_entry.ensures.pages c.empty_table.ensures.writes.words
-    (pages_of-give (g.M.TableMem.state c.empty_table.new.memory) (g.M.TableMem.state c.give_page.new.memory) c.args.third (g.met.M.TableMem.whole c.empty_table.new.memory) (subst (λ x. c.args.third < page_count x) (sym quotas) inside) c.give_page.ensures.state)
-    outcome
-
-pub returns-clause-in_step : goal.returns-clause-in_step
-returns-clause-in_step g c = λ view outcome seated.
-    let layout = c.args.edit.now.layout.now in
-    let row = c.args.site.now.row in
-    let chunk = c.args.edit.now.chunk in
-    let j = c.args.site.now.second in
+pub returns : goal.returns
+returns g c =
+    let s = c.args.site.now in
+    let e = c.args.edit.now in
+    let layout = e.layout.now in
+    let row = s.row in
+    let chunk = e.chunk in
+    let j = s.second in
     let k = c.args.third in
     let word = c.block_word.result in
-    let site = c.requires.site in
+    let can = c.requires.can in
+    let site = can.site in
+    let alike = c.requires.alike in
+    let table = c.requires.table in
     let x = g.M.TableMem.state c.args.memory.now in
     let y = g.M.TableMem.state c.replace_entry.new.memory in
     let z = g.M.TableMem.state c.empty_table.new.memory in
-    let e = g.M.TableMem.state c.give_page.new.memory in
+    let end = g.M.TableMem.state c.give_page.new.memory in
     let m = pages_of x.memory in
+    let view : ℕ → _ = chunk_after s e x in
     let which : ℕ → Bool = λ n. eqb (n / 512) chunk in
     let answer : ℕ → Walked = λ n. walked n (view n) in
-    let none = block-no-table layout chunk word c.args.edit.now.access c.block_word.ensures in
-    let hung = hung-seen layout row chunk j m site seated in
-    let first : StaysInStep layout row which answer x y =
-    stays-replaced layout row c.args.site.now.p chunk j word answer x y site.partition site.chunk hung c.requires.row
-    (λ q next. absurd (cc))
-    (λ n small at. gives-block layout (put j (chunk % 512) word (words_of x.memory.words)) chunk word view c.args.edit.now.access c.block_word.ensures outcome n at)
-    c.replace_entry.ensures.history in
-    let loose : IsUnheld layout (put j (chunk % 512) word (words_of x.memory.words)) k =
-    unheld-word layout (words_of x.memory.words) row chunk j word k site.partition site.chunk hung none (third-alone layout row chunk j m site seated k c.requires.table) (third-loose layout row chunk j m site seated k c.requires.table) in
-    let wrote : words_of y.memory.words ≡ put j (chunk % 512) word (words_of x.memory.words) = ap (λ (s : Pages). s.words) c.replace_entry.ensures.pages in
-    let second : StaysInStep layout row which answer y z =
-    stays-filled layout row k chunk 512 (planned [] None (Some None)) which answer y z c.empty_table.ensures.writes.made (subst (λ (w : Words). IsUnheld layout w k) (sym wrote) loose) in
-    let third : StaysInStep layout row which answer z e =
-    stays-taken layout row which answer z e (ap (λ (s : Pool). words_of s.memory.words) c.give_page.ensures.state) (ap (λ (s : Pool). s.operations) c.give_page.ensures.state) (ap (λ (s : Pool). s.made) c.give_page.ensures.state) in
-    stays-after layout row which answer x z e (stays-after layout row which answer x y z first second) third
-
-pub replace_entry-requires-clause-partition : goal.replace_entry-requires-clause-partition
-replace_entry-requires-clause-partition g c = has-row c.args.edit.now.layout.now (g.M.TableMem.state c.args.memory.now).memory c.args.site.now.p c.args.site.now.row c.requires.site.orderly.ids c.requires.row c.requires.site.partition
-
-pub empty_table-requires-clause-room : goal.empty_table-requires-clause-room
-empty_table-requires-clause-room g c =
-    let same = ap (λ n. cond (is_some c.args.edit.now.access) n (pages_in c.args.edit.now.runs c.args.edit.now.chunk))
-    (left-words c.args.edit.now.layout.now c.args.site.now.row c.args.edit.now.chunk c.args.site.now.second (pages_of (g.M.TableMem.state c.args.memory.now).memory) c.requires.site c.args.third c.block_word.result (pages_of (g.M.TableMem.state c.replace_entry.new.memory).memory) c.requires.table c.replace_entry.ensures.pages) in
-    let room = c.requires.room in
-    let left = c.replace_entry.ensures.room in
-    omega (arith, same, room, left)
-
-pub returns-clause-room : goal.returns-clause-room
-returns-clause-room g c =
-    let same = ap (λ n. cond (is_some c.args.edit.now.access) n (pages_in c.args.edit.now.runs c.args.edit.now.chunk))
-    (left-words c.args.edit.now.layout.now c.args.site.now.row c.args.edit.now.chunk c.args.site.now.second (pages_of (g.M.TableMem.state c.args.memory.now).memory) c.requires.site c.args.third c.block_word.result (pages_of (g.M.TableMem.state c.replace_entry.new.memory).memory) c.requires.table c.replace_entry.ensures.pages) in
-    let first = c.replace_entry.ensures.room in
-    let second = c.empty_table.ensures.room in
+    let put_there = c.replace_entry.ensures.pages in
+    let emptied = c.empty_table.ensures.writes in
+    let given = c.give_page.ensures.state in
+    let stays : IsSeatedAt s e x → StaysAtChunk layout row chunk view x end = λ seated.
+        let none = block-no-table layout chunk word e.access c.block_word.ensures in
+        let hung = hung-seen layout row chunk j m site seated in
+        let first : StaysInStep layout row which answer x y =
+        stays-replaced layout row s.p chunk j word answer x y site.partition site.chunk hung can.row
+        (λ q next. absurd (cc))
+        (λ n small at. gives-block layout (put j (chunk % 512) word (words_of x.memory.words)) chunk word view e.access c.block_word.ensures alike n at)
+        c.replace_entry.ensures.history in
+        let loose : IsUnheld layout (put j (chunk % 512) word (words_of x.memory.words)) k =
+        unheld-word layout (words_of x.memory.words) row chunk j word k site.partition site.chunk hung none (third-alone layout row chunk j m site seated k table) (third-loose layout row chunk j m site seated k table) in
+        let wrote : words_of y.memory.words ≡ put j (chunk % 512) word (words_of x.memory.words) = ap (λ (s : Pages). s.words) put_there in
+        let second : StaysInStep layout row which answer y z =
+        stays-filled layout row k chunk 512 (planned [] None (Some None)) which answer y z emptied.made (subst (λ (w : Words). IsUnheld layout w k) (sym wrote) loose) in
+        let third : StaysInStep layout row which answer z end =
+        stays-taken layout row which answer z end (ap (λ (s : Pool). words_of s.memory.words) given) (ap (λ (s : Pool). s.operations) given) (ap (λ (s : Pool). s.made) given) in
+        stays-after layout row which answer x z end (stays-after layout row which answer x y z first second) third in
+    let inside = third-inside layout row chunk j m site k table in
+    let quotas = emptied.words.quotas ∙ ap (λ (x : Pages). x.quotas) put_there in
+    let same = ap (λ n. cond (is_some e.access) n (pages_in e.runs chunk)) (left-words layout row chunk j m site k word (pages_of y.memory) table put_there) in
+    let gone = dropped s e x site table alike in
+    let before = c.replace_entry.ensures.room in
+    let within = c.empty_table.ensures.room in
     let last = c.give_page.ensures.room in
-    omega (arith, same, first, second, last)
+    record {
+      edits = does-drop layout row chunk j m site view e.access word k (pages_of y.memory) (pages_of z.memory) (pages_of end.memory) table c.block_word.ensures put_there emptied.words
+          (pages_of-give z end k (g.met.M.TableMem.whole c.empty_table.new.memory) (subst (λ x. k < page_count x) (sym quotas) inside) given) alike;
+      in_step = in-step-alike s e x site alike stays;
+      room = omega (arith, same, gone, before, within, last);
+    }

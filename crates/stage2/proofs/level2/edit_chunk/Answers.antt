@@ -1,7 +1,8 @@
-use Rattle.std.proofs.Common.{◌<◌, arith, sym, subst, ◌∙◌}
+use Rattle.std.proofs.Common.{◌<◌, sym, ap, subst, ◌∙◌}
 use Rattle.pool.specs.Pool.{pages_of}
-use Rattle.stage2.proofs.Editing.FourChunkEdits.{second-inside, second-taken, entry-known, third-taken, is-next}
-use Rattle.stage2.proofs.Editing.OneChunk.{spelled-read, sets, drops, keeps, hangs}
+use Rattle.stage2.specs.Walk.{next_page}
+use Rattle.stage2.proofs.Editing.FourChunkEdits.{second-inside, second-taken, entry-known, third-taken}
+use Rattle.stage2.proofs.Editing.OneChunk.{spelled, told-alike, told-mixed, read-before}
 use Rattle.stage2.proofs.Editing.TurnedRuns.{turned-read}
 use Rattle.stage2.proofs.level2.edit_chunk.Goals as goal
 
@@ -31,77 +32,33 @@ becomes_alike-requires-clause-taken g c = λ k next.
     third-taken e.layout.now s.row e.chunk s.second (pages_of (g.M.TableMem.state c.args.memory.now).memory) c.requires.site k (sym c.read_chunk-entry.ensures.same ∙ next)
 
 pub becomes_alike-requires-clause-spelled : goal.becomes_alike-requires-clause-spelled
-becomes_alike-requires-clause-spelled g c = spelled-read c.args.site.now c.args.edit.now (g.M.TableMem.state c.args.memory.now) c.requires.site c.read_chunk-entry.ensures.same
+becomes_alike-requires-clause-spelled g c = λ k next. spelled c.args.site.now c.args.edit.now (g.M.TableMem.state c.args.memory.now) c.requires.site (sym c.read_chunk-entry.ensures.same ∙ next)
 
 pub becomes_alike-requires-clause-turned : goal.becomes_alike-requires-clause-turned
 becomes_alike-requires-clause-turned g c = λ k next.
     let s = c.args.site.now in
     let e = c.args.edit.now in
     let pool = g.M.TableMem.state c.args.memory.now in
-    turned-read s e pool c.requires.site c.read_chunk-entry.ensures.same k next (spelled-read s e pool c.requires.site c.read_chunk-entry.ensures.same k next) c.requires.turned
+    let same = c.read_chunk-entry.ensures.same in
+    turned-read s e pool c.requires.site same k next (spelled s e pool c.requires.site (sym same ∙ next)) c.requires.turned
 
--- ---- a table is given back
+-- ---- all pages are reached alike then
 
-pub drop_table-requires-clause-left : goal.drop_table-requires-clause-left
-drop_table-requires-clause-left g c = (drops c.args.site.now c.args.edit.now (g.M.TableMem.state c.args.memory.now) c.requires.site c.read_chunk-entry.ensures.same c.becomes_alike.ensures c.table_of-table.ensures c.if-becomes_alike.true c.in-Some.is).left
+pub drop_table-requires-clause-alike : goal.drop_table-requires-clause-alike
+drop_table-requires-clause-alike g c = told-alike c.args.site.now c.args.edit.now (g.M.TableMem.state c.args.memory.now) c.requires.site c.read_chunk-entry.ensures.same c.becomes_alike.ensures c.if-becomes_alike.true
 
-pub drop_table-requires-clause-room : goal.drop_table-requires-clause-room
-drop_table-requires-clause-room g c = let words = (drops c.args.site.now c.args.edit.now (g.M.TableMem.state c.args.memory.now) c.requires.site c.read_chunk-entry.ensures.same c.becomes_alike.ensures c.table_of-table.ensures c.if-becomes_alike.true c.in-Some.is).words in let room = c.requires.room in omega (arith, words, room)
+pub set_block-requires-clause-alike : goal.set_block-requires-clause-alike
+set_block-requires-clause-alike g c = told-alike c.args.site.now c.args.edit.now (g.M.TableMem.state c.args.memory.now) c.requires.site c.read_chunk-entry.ensures.same c.becomes_alike.ensures c.if-becomes_alike.true
 
-pub returns-in-Some : goal.returns-in-Some
-returns-in-Some g c = record {
-  edits = (sets c.args.site.now c.args.edit.now (g.M.TableMem.state c.args.memory.now) c.requires.site c.read_chunk-entry.ensures.same c.becomes_alike.ensures c.if-becomes_alike.true).edits (g.M.TableMem.state c.drop_table.new.memory) c.drop_table.ensures.redoes;
-  in_step = (sets c.args.site.now c.args.edit.now (g.M.TableMem.state c.args.memory.now) c.requires.site c.read_chunk-entry.ensures.same c.becomes_alike.ensures c.if-becomes_alike.true).steps (g.M.TableMem.state c.drop_table.new.memory) c.drop_table.ensures.in_step;
-  room = let words = (drops c.args.site.now c.args.edit.now (g.M.TableMem.state c.args.memory.now) c.requires.site c.read_chunk-entry.ensures.same c.becomes_alike.ensures c.table_of-table.ensures c.if-becomes_alike.true c.in-Some.is).words in let room = c.drop_table.ensures.room in omega (arith, words, room);
-}
+-- ---- they are not
 
--- ---- there is none, and none is hung
+pub rewrite_table-requires-clause-mixed : goal.rewrite_table-requires-clause-mixed
+rewrite_table-requires-clause-mixed g c = told-mixed c.args.site.now c.args.edit.now (g.M.TableMem.state c.args.memory.now) c.requires.site c.read_chunk-entry.ensures.same c.becomes_alike.ensures c.if-becomes_alike.false
 
-pub returns-in-None : goal.returns-in-None
-returns-in-None g c = record {
-  edits = (sets c.args.site.now c.args.edit.now (g.M.TableMem.state c.args.memory.now) c.requires.site c.read_chunk-entry.ensures.same c.becomes_alike.ensures c.if-becomes_alike.true).edits (g.M.TableMem.state c.set_block.new.memory) c.set_block.ensures.redoes;
-  in_step = (sets c.args.site.now c.args.edit.now (g.M.TableMem.state c.args.memory.now) c.requires.site c.read_chunk-entry.ensures.same c.becomes_alike.ensures c.if-becomes_alike.true).steps (g.M.TableMem.state c.set_block.new.memory) c.set_block.ensures.in_step;
-  room = let room = c.set_block.ensures.room in omega (arith, room);
-}
-
--- ---- a table stays
-
-pub rewrite_table-requires-clause-turned : goal.rewrite_table-requires-clause-turned
-rewrite_table-requires-clause-turned g c =
-    let s = c.args.site.now in
-    let e = c.args.edit.now in
-    let pool = g.M.TableMem.state c.args.memory.now in
-    let k = c.in-Some-table.third in
-    let next = is-next c.read_chunk-entry.result k (sym c.table_of-table.ensures ∙ c.in-Some-table.is) in
-    turned-read s e pool c.requires.site c.read_chunk-entry.ensures.same k next (spelled-read s e pool c.requires.site c.read_chunk-entry.ensures.same k next) c.requires.turned
-
-pub rewrite_table-requires-clause-room : goal.rewrite_table-requires-clause-room
-rewrite_table-requires-clause-room g c = let words = (keeps c.args.site.now c.args.edit.now (g.M.TableMem.state c.args.memory.now) c.requires.site c.read_chunk-entry.ensures.same c.becomes_alike.ensures c.table_of-table.ensures c.if-becomes_alike.false c.in-Some-table.is).words in let room = c.requires.room in omega (arith, words, room)
-
-pub returns-in-Some-table : goal.returns-in-Some-table
-returns-in-Some-table g c = record {
-  edits = (keeps c.args.site.now c.args.edit.now (g.M.TableMem.state c.args.memory.now) c.requires.site c.read_chunk-entry.ensures.same c.becomes_alike.ensures c.table_of-table.ensures c.if-becomes_alike.false c.in-Some-table.is).edits (g.M.TableMem.state c.rewrite_table.new.memory) c.rewrite_table.ensures.redoes;
-  in_step = c.rewrite_table.ensures.in_step;
-  room = let words = (keeps c.args.site.now c.args.edit.now (g.M.TableMem.state c.args.memory.now) c.requires.site c.read_chunk-entry.ensures.same c.becomes_alike.ensures c.table_of-table.ensures c.if-becomes_alike.false c.in-Some-table.is).words in let room = c.rewrite_table.ensures.room in omega (arith, words, room);
-}
-
--- ---- a table is hung
+pub hang_table-requires-clause-mixed : goal.hang_table-requires-clause-mixed
+hang_table-requires-clause-mixed g c = told-mixed c.args.site.now c.args.edit.now (g.M.TableMem.state c.args.memory.now) c.requires.site c.read_chunk-entry.ensures.same c.becomes_alike.ensures c.if-becomes_alike.false
 
 pub hang_table-requires-clause-before : goal.hang_table-requires-clause-before
-hang_table-requires-clause-before g c = (hangs c.args.site.now c.args.edit.now (g.M.TableMem.state c.args.memory.now) c.requires.site c.read_chunk-entry.ensures.same c.becomes_alike.ensures c.table_of-table.ensures c.if-becomes_alike.false c.in-None-table.is c.block_of-before.ensures).all
-
-pub hang_table-requires-clause-free : goal.hang_table-requires-clause-free
-hang_table-requires-clause-free g c = c.requires.free (hangs c.args.site.now c.args.edit.now (g.M.TableMem.state c.args.memory.now) c.requires.site c.read_chunk-entry.ensures.same c.becomes_alike.ensures c.table_of-table.ensures c.if-becomes_alike.false c.in-None-table.is c.block_of-before.ensures).grows
-
-pub hang_table-requires-clause-some : goal.hang_table-requires-clause-some
-hang_table-requires-clause-some g c = (hangs c.args.site.now c.args.edit.now (g.M.TableMem.state c.args.memory.now) c.requires.site c.read_chunk-entry.ensures.same c.becomes_alike.ensures c.table_of-table.ensures c.if-becomes_alike.false c.in-None-table.is c.block_of-before.ensures).some
-
-pub hang_table-requires-clause-room : goal.hang_table-requires-clause-room
-hang_table-requires-clause-room g c = let words = (hangs c.args.site.now c.args.edit.now (g.M.TableMem.state c.args.memory.now) c.requires.site c.read_chunk-entry.ensures.same c.becomes_alike.ensures c.table_of-table.ensures c.if-becomes_alike.false c.in-None-table.is c.block_of-before.ensures).words in let room = c.requires.room in omega (arith, words, room)
-
-pub returns-in-None-table : goal.returns-in-None-table
-returns-in-None-table g c = record {
-  edits = (hangs c.args.site.now c.args.edit.now (g.M.TableMem.state c.args.memory.now) c.requires.site c.read_chunk-entry.ensures.same c.becomes_alike.ensures c.table_of-table.ensures c.if-becomes_alike.false c.in-None-table.is c.block_of-before.ensures).edits (g.M.TableMem.state c.hang_table.new.memory) c.hang_table.ensures.redoes;
-  in_step = (hangs c.args.site.now c.args.edit.now (g.M.TableMem.state c.args.memory.now) c.requires.site c.read_chunk-entry.ensures.same c.becomes_alike.ensures c.table_of-table.ensures c.if-becomes_alike.false c.in-None-table.is c.block_of-before.ensures).steps (g.M.TableMem.state c.hang_table.new.memory) c.hang_table.ensures.in_step;
-  room = let words = (hangs c.args.site.now c.args.edit.now (g.M.TableMem.state c.args.memory.now) c.requires.site c.read_chunk-entry.ensures.same c.becomes_alike.ensures c.table_of-table.ensures c.if-becomes_alike.false c.in-None-table.is c.block_of-before.ensures).words in let room = c.hang_table.ensures.room in omega (arith, words, room);
-}
+hang_table-requires-clause-before g c =
+    let same = c.read_chunk-entry.ensures.same in
+    read-before c.args.site.now c.args.edit.now (g.M.TableMem.state c.args.memory.now) c.requires.site same (ap next_page (sym same) ∙ sym c.table_of-table.ensures ∙ c.in-None-table.is) c.block_of-before.ensures
