@@ -3,10 +3,10 @@
 ghost use Rattle.base.specs.Access.{View};
 ghost use Rattle.base.specs.Manifest.{page_count};
 ghost use Rattle.base.specs.Need as needs;
-ghost use Rattle.pool.specs.Pool.{words_of, taken_of, nonzero_in};
+ghost use Rattle.pool.specs.Pool.{words_of, nonzero_in};
 ghost use Rattle.stage2.specs.inner.Chunks.{IsOutcome, block_answer};
 ghost use Rattle.stage2.specs.Edits.{edited};
-ghost use Rattle.stage2.specs.inner.Clauses.{IsSpelled, TurnsRuns, IsStray, read_after, tells};
+ghost use Rattle.stage2.specs.inner.Clauses.{IsTableOf, IsStray, read_after, tells};
 ghost use Rattle.stage2.specs.declared.walked.Slot.TheVariants.{Next};
 ghost use Rattle.std.specs.Prelude.{◌≡◌, ℕ, ◌/◌, ◌<◌, ◌≤◌, true, false, None};
 
@@ -59,10 +59,7 @@ pub(crate) fn is_told_mixed<M: TableMem>(memory: &M, edit: &ChunkEdit, third: Ta
 /// it open, those beside the runs are looked at.
 #[inline(always)]
 pub(crate) fn is_alike_in_table<M: TableMem>(memory: &M, edit: &ChunkEdit, third: TablePage) -> bool
-    requires table { third < page_count (M.state memory.now).memory.quotas }
-    requires taken { taken_of (M.state memory.now).memory.taken third ≡ true }
-    requires spelled { IsSpelled edit.now third (M.state memory.now) }
-    requires turned { TurnsRuns third edit.now (M.state memory.now) }
+    requires { IsTableOf edit.now third (M.state memory.now) }
     ensures { IsOutcome edit.now.chunk (read_after edit.now (Next third) (M.state memory.now))
         (tells result edit.now.access) }
 {
@@ -79,14 +76,7 @@ pub(crate) fn is_alike_in_table<M: TableMem>(memory: &M, edit: &ChunkEdit, third
 /// Whether the pages of a chunk are all reached alike after an edit.
 #[inline(always)]
 pub(crate) fn becomes_alike<M: TableMem>(memory: &M, edit: &ChunkEdit, entry: &Slot) -> bool
-    requires table { (k : ℕ) → entry.now ≡ Next k
-        → k < page_count (M.state memory.now).memory.quotas }
-    requires taken { (k : ℕ) → entry.now ≡ Next k
-        → taken_of (M.state memory.now).memory.taken k ≡ true }
-    requires spelled { (k : ℕ) → entry.now ≡ Next k
-        → IsSpelled edit.now k (M.state memory.now) }
-    requires turned { (k : ℕ) → entry.now ≡ Next k
-        → TurnsRuns k edit.now (M.state memory.now) }
+    requires { (k : ℕ) → entry.now ≡ Next k → IsTableOf edit.now k (M.state memory.now) }
     ensures { IsOutcome edit.now.chunk (read_after edit.now entry.now (M.state memory.now))
         (tells result edit.now.access) }
 {

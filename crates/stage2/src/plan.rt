@@ -8,7 +8,7 @@ ghost use Rattle.pool.specs.Pool.{pages_of, taken_of};
 ghost use Rattle.stage2.specs.inner.Chunks.{block_answer};
 ghost use Rattle.stage2.specs.Edits.{edited};
 ghost use Rattle.stage2.specs.inner.Clauses as clauses;
-ghost use Rattle.stage2.specs.inner.Clauses.{IsSpelled, TurnsIn, TurnsChunk, TurnsRuns, read_before, read_after, view_in, second_in, entry_read, words_left, IsEditPlanned, IsChunkPlanned, ArePlanned, IsRowPlanned};
+ghost use Rattle.stage2.specs.inner.Clauses.{IsTableOf, TurnsIn, TurnsChunk, read_before, read_after, view_in, second_in, entry_read, words_left, IsEditPlanned, IsChunkPlanned, ArePlanned, IsRowPlanned};
 ghost use Rattle.stage2.specs.inner.Gigabytes.{gigabyte_growth, Touches};
 ghost use Rattle.stage2.specs.Orderly.{IsCanonical};
 ghost use Rattle.stage2.specs.Parts.{runs_past};
@@ -148,10 +148,7 @@ fn operations_gone<M: TableMem>(memory: &M, edit: &ChunkEdit, third: TablePage) 
 /// operations whether the table stays.
 #[inline(always)]
 fn plan_table<M: TableMem>(memory: &M, edit: &ChunkEdit, third: TablePage, looks: bool) -> Plan
-    requires table { third < page_count (M.state memory.now).memory.quotas }
-    requires taken { taken_of (M.state memory.now).memory.taken third ≡ true }
-    requires spelled { IsSpelled edit.now third (M.state memory.now) }
-    requires turned { TurnsRuns third edit.now (M.state memory.now) }
+    requires table { IsTableOf edit.now third (M.state memory.now) }
     requires mixed { is_mixed (read_before edit.now (Next third) (M.state memory.now)) edit.now.chunk
         ≡ true }
     ensures { IsEditPlanned (read_before edit.now (Next third) (M.state memory.now)) edit.now
@@ -177,14 +174,7 @@ fn plan_table<M: TableMem>(memory: &M, edit: &ChunkEdit, third: TablePage, looks
 /// What the edit of a chunk needs that has pages of the runs.
 #[inline(always)]
 fn plan_chunk<M: TableMem>(memory: &M, edit: &ChunkEdit, entry: &Slot, looks: bool) -> Plan
-    requires table { (k : ℕ) → entry.now ≡ Next k
-        → k < page_count (M.state memory.now).memory.quotas }
-    requires taken { (k : ℕ) → entry.now ≡ Next k
-        → taken_of (M.state memory.now).memory.taken k ≡ true }
-    requires spelled { (k : ℕ) → entry.now ≡ Next k
-        → IsSpelled edit.now k (M.state memory.now) }
-    requires turned { (k : ℕ) → entry.now ≡ Next k
-        → TurnsRuns k edit.now (M.state memory.now) }
+    requires table { (k : ℕ) → entry.now ≡ Next k → IsTableOf edit.now k (M.state memory.now) }
     requires mixed { is_mixed (read_before edit.now entry.now (M.state memory.now)) edit.now.chunk
         ≡ is_some (next_page entry.now) }
     ensures { IsEditPlanned (read_before edit.now entry.now (M.state memory.now)) edit.now

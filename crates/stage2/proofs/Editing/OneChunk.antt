@@ -1,18 +1,19 @@
 -- The edit of one chunk at its site: what its word and its outcome tell of it.
-use Rattle.std.proofs.Common.{◌≡◌, ℕ, ◌+◌, ◌||◌, Bool, true, false, is_some, Some, None, sym, ap, ◌∙◌, ◌*◌, ◌/◌, arith, ◌%◌}
+use Rattle.std.proofs.Common.{◌≡◌, ℕ, ◌+◌, ◌||◌, Bool, true, false, is_some, Some, None, refl, sym, ap, ◌∙◌, ◌*◌, ◌/◌, arith, ◌%◌}
 use Rattle.base.specs.Access.{View}
 use Rattle.pool.specs.Pool.{Pool, pages_of}
 use Rattle.stage2.specs.declared.site.ChunkEdit.{ChunkEdit}
 use Rattle.stage2.specs.declared.site.Site.{Site}
 use Rattle.stage2.specs.Edits.{edited}
 use Rattle.stage2.specs.inner.Chunks.{block_answer, IsOutcome}
-use Rattle.stage2.specs.inner.Clauses.{IsAt, IsSpelled, IsSeatedAt, StaysAtChunk, AnswersAll, OthersAnswer, BecomesAlike, BecomesMixed, GrowsChunk, ChunkInStep, slot_at, read_after, chunk_view, chunk_after, words_left, operations_in_table, operations_kept, tells}
+use Rattle.stage2.specs.inner.Clauses.{IsAt, IsSpelled, IsTableOf, TurnsChunk, IsSeatedAt, StaysAtChunk, AnswersAll, OthersAnswer, BecomesAlike, BecomesMixed, GrowsChunk, ChunkInStep, slot_at, read_after, chunk_view, chunk_after, words_left, operations_in_table, operations_kept, tells}
 use Rattle.stage2.specs.Room.{reached_in}
 use Rattle.stage2.specs.Slot.{Slot, Next}
 use Rattle.stage2.specs.Walk.{next_page}
 use Rattle.stage2.proofs.Editing.ChunkRoom.{dropped-words, kept-words, hung-words, hung-some}
-use Rattle.stage2.proofs.Editing.FourChunkEdits.{outcome-read, others-before, growing, before-block}
+use Rattle.stage2.proofs.Editing.FourChunkEdits.{outcome-read, others-before, third-inside, third-taken, growing, before-block}
 use Rattle.stage2.proofs.Editing.Spelled.{spelled-words}
+use Rattle.stage2.proofs.Editing.TurnedRuns.{turned-read}
 use Rattle.stage2.proofs.Walkers.Disturbed.{stays-whole, unmixed-after, unmixed-before}
 
 module _ (s : Site) (e : ChunkEdit) (pool : Pool) (at : IsAt s e pool) where
@@ -36,8 +37,16 @@ module _ (s : Site) (e : ChunkEdit) (pool : Pool) (at : IsAt s e pool) where
 
   -- a chunk that has a table
   module _ {k : ℕ} (table : slot_at s e pool ≡ Next k) where
-    pub spelled : IsSpelled e k pool
+    spelled : IsSpelled e k pool
     spelled = spelled-words e.layout.now s.row e.chunk s.second (pages_of pool.memory) at k table
+
+    pub is-table : TurnsChunk e (chunk_view s e pool) → IsTableOf e k pool
+    is-table turns = record {
+      inside = third-inside e.layout.now s.row e.chunk s.second (pages_of pool.memory) at k table;
+      taken = third-taken e.layout.now s.row e.chunk s.second (pages_of pool.memory) at k table;
+      spelled = spelled;
+      turned = turned-read s e pool at refl k table spelled turns;
+    }
 
     pub others : BecomesAlike s e pool → OthersAnswer k e.chunk e.runs e.access pool
     others alike i small out =

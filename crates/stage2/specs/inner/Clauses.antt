@@ -2,7 +2,7 @@
 use Rattle.std.specs.Prelude.{◌≡◌, ◌≢◌, ℕ, ◌+◌, ◌-◌, ◌*◌, ◌/◌, ◌%◌, ◌^◌, ◌<◌, ◌≤◌, Bool, nat_le, nat_lt, true, false, not, ◌&&◌, ◌==◌, if◌then◌else◌, is_some, Option, Some, None, List, length}
 use Rattle.base.specs.Access.{View}
 use Rattle.base.specs.Counts.{count_below}
-use Rattle.base.specs.Manifest.{row_of}
+use Rattle.base.specs.Manifest.{page_count, row_of}
 use Rattle.base.specs.Need.{grow}
 use Rattle.base.specs.Pages.{PageRun, covers}
 use Rattle.pool.specs.Pool as memory
@@ -171,6 +171,13 @@ abbrev pub IsSpelled : ChunkEdit → ℕ → Pool → Type 0
 IsSpelled e k pool =
     (n : ℕ) → n / 512 ≡ e.chunk
     → IsWordFor n (answers_at e.layout.now (words_of pool.memory.words) (Next k) n) (words_of pool.memory.words k (n % 512))
+
+-- what is known of the table of a chunk that is edited: its page is taken, each word is its page's, and those of the runs are turned where the edit turns them
+pub record IsTableOf (e : ChunkEdit) (k : ℕ) (pool : Pool) : Type 0 where
+  pub inside : k < page_count pool.memory.quotas
+  pub taken : taken_of pool.memory.taken k ≡ true
+  pub spelled : IsSpelled e k pool
+  pub turned : TurnsRuns k e pool
 
 -- all pages answer as the runs' pages do after an edit, or they don't answer alike
 abbrev pub tells : Bool → View → Option View

@@ -1,9 +1,8 @@
 use Rattle.std.proofs.Common.{◌<◌, sym, ap, subst, ◌∙◌}
 use Rattle.pool.specs.Pool.{pages_of}
 use Rattle.stage2.specs.Walk.{next_page}
-use Rattle.stage2.proofs.Editing.FourChunkEdits.{second-inside, second-taken, entry-known, third-taken}
-use Rattle.stage2.proofs.Editing.OneChunk.{spelled, told-alike, told-mixed, read-before}
-use Rattle.stage2.proofs.Editing.TurnedRuns.{turned-read}
+use Rattle.stage2.proofs.Editing.FourChunkEdits.{second-inside, second-taken, entry-known}
+use Rattle.stage2.proofs.Editing.OneChunk.{is-table, told-alike, told-mixed, read-before}
 use Rattle.stage2.proofs.level2.edit_chunk.Goals as goal
 
 pub read_chunk-entry-requires-clause-table : goal.read_chunk-entry-requires-clause-table
@@ -25,22 +24,8 @@ read_chunk-entry-requires-clause-known g c =
     let e = c.args.edit.now in
     entry-known e.layout.now s.row e.chunk s.second (pages_of (g.M.TableMem.state c.args.memory.now).memory) c.requires.site
 
-pub becomes_alike-requires-clause-taken : goal.becomes_alike-requires-clause-taken
-becomes_alike-requires-clause-taken g c = λ k next.
-    let s = c.args.site.now in
-    let e = c.args.edit.now in
-    third-taken e.layout.now s.row e.chunk s.second (pages_of (g.M.TableMem.state c.args.memory.now).memory) c.requires.site k (sym c.read_chunk-entry.ensures.same ∙ next)
-
-pub becomes_alike-requires-clause-spelled : goal.becomes_alike-requires-clause-spelled
-becomes_alike-requires-clause-spelled g c = λ k next. spelled c.args.site.now c.args.edit.now (g.M.TableMem.state c.args.memory.now) c.requires.site (sym c.read_chunk-entry.ensures.same ∙ next)
-
-pub becomes_alike-requires-clause-turned : goal.becomes_alike-requires-clause-turned
-becomes_alike-requires-clause-turned g c = λ k next.
-    let s = c.args.site.now in
-    let e = c.args.edit.now in
-    let pool = g.M.TableMem.state c.args.memory.now in
-    let same = c.read_chunk-entry.ensures.same in
-    turned-read s e pool c.requires.site same k next (spelled s e pool c.requires.site (sym same ∙ next)) c.requires.turned
+pub becomes_alike-requires : goal.becomes_alike-requires
+becomes_alike-requires g c = λ k next. is-table c.args.site.now c.args.edit.now (g.M.TableMem.state c.args.memory.now) c.requires.site (sym c.read_chunk-entry.ensures.same ∙ next) c.requires.turned
 
 -- ---- all pages are reached alike then
 

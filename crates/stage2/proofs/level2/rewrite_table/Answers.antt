@@ -8,9 +8,8 @@ use Rattle.stage2.specs.inner.Chunks.{Redoes_in, planned, answers_in}
 use Rattle.stage2.specs.inner.Clauses.{chunk_view, chunk_after}
 use Rattle.stage2.specs.Parts.{part_count}
 use Rattle.stage2.specs.Walk.{walked}
-use Rattle.stage2.proofs.Editing.FourChunkEdits.{third-inside, third-taken, does-rewrite}
-use Rattle.stage2.proofs.Editing.OneChunk.{spelled, kept}
-use Rattle.stage2.proofs.Editing.TurnedRuns.{turned-read}
+use Rattle.stage2.proofs.Editing.FourChunkEdits.{does-rewrite}
+use Rattle.stage2.proofs.Editing.OneChunk.{is-table, kept}
 use Rattle.stage2.proofs.Tree.Rows.{has-row}
 use Rattle.stage2.proofs.Walkers.Disturbed.{stays-covered}
 use Rattle.stage2.proofs.Walkers.Level3Rewrite.{PlansOnly, plans-runs, stays-made, clears-made, clears-filled}
@@ -23,15 +22,15 @@ pub write_runs-requires : goal.write_runs-requires
 write_runs-requires g c =
     let s = c.args.site.now in
     let e = c.args.edit.now in
-    let k = c.args.third in
     let old = g.M.TableMem.state c.args.memory.now in
     let can = c.requires.can in
     let words = kept s e old can.site c.requires.table c.requires.mixed in
     let room = can.room in
+    let third = is-table s e old can.site c.requires.table can.turned in
     record {
-      page_in = third-inside e.layout.now s.row e.chunk s.second (pages_of old.memory) can.site k c.requires.table;
-      taken = third-taken e.layout.now s.row e.chunk s.second (pages_of old.memory) can.site k c.requires.table;
-      turned = turned-read s e old can.site refl k c.requires.table (spelled s e old can.site c.requires.table) can.turned;
+      page_in = third.inside;
+      taken = third.taken;
+      turned = third.turned;
       room = omega (arith, words, room);
     }
 

@@ -3,7 +3,11 @@ use Rattle.pool.specs.Pool.{words_of}
 use Rattle.stage2.specs.inner.Chunks.{answers_at}
 use Rattle.stage2.specs.Walk.{next_page}
 use Rattle.stage2.proofs.Counting.Operations.{plain-answer}
+use Rattle.stage2.proofs.Editing.FourChunkEdits.{is-next}
 use Rattle.stage2.proofs.outcome.becomes_alike.Goals as goal
+
+pub is_alike_in_table-requires : goal.is_alike_in_table-requires
+is_alike_in_table-requires g c = c.requires c.in-Some.third (is-next c.args.entry.now c.in-Some.third (sym c.table_of.ensures ∙ c.in-Some.is))
 
 pub returns-in-None : goal.returns-in-None
 returns-in-None g c =

@@ -10,6 +10,9 @@ use Rattle.stage2.proofs.Editing.ChunkByChunk.{bit}
 use Rattle.stage2.proofs.Editing.FourChunkEdits.{is-next}
 use Rattle.stage2.proofs.plan.plan_chunk.Goals as goal
 
+pub plan_table-requires-clause-table : goal.plan_table-requires-clause-table
+plan_table-requires-clause-table g c = c.requires.table c.in-Some.third (is-next c.args.entry.now c.in-Some.third (sym c.table_of.ensures ∙ c.in-Some.is))
+
 pub returns-in-Some : goal.returns-in-Some
 returns-in-Some g c =
     let e = c.args.edit.now in

@@ -32,34 +32,29 @@ entry_at-entry-requires-clause-known g c =
     let chunk = c.args.edit.now.chunk in
     entry-known c.args.row.now.layout.now (pages_of (g.M.TableMem.state c.args.memory.now).memory) c.requires.canonical (chunk / 512) (chunk % 512) (omega (arith, c.requires.in_range)) (omega arith) c.args.row.now.row c.args.row.now.inside c.args.second.now c.requires.table
 
-pub plan_chunk-requires-clause-taken : goal.plan_chunk-requires-clause-taken
-plan_chunk-requires-clause-taken g c = λ k next.
-    let chunk = c.args.edit.now.chunk in
-    view-taken c.args.row.now.layout.now (pages_of (g.M.TableMem.state c.args.memory.now).memory) c.requires.canonical (chunk / 512) (omega (arith, c.requires.in_range)) c.args.row.now.row c.args.row.now.inside c.args.second.now (chunk % 512) (omega arith) c.requires.table k
-    (sym c.entry_at-entry.ensures.same ∙ next)
-
-pub plan_chunk-requires-clause-spelled : goal.plan_chunk-requires-clause-spelled
-plan_chunk-requires-clause-spelled g c = λ k next n there.
-    let chunk = c.args.edit.now.chunk in
-    rw c.requires.layout (view-spelled c.args.row.now.layout.now (pages_of (g.M.TableMem.state c.args.memory.now).memory) c.requires.canonical (chunk / 512) (omega (arith, c.requires.in_range)) c.args.row.now.row c.args.row.now.inside c.args.second.now (chunk % 512) (omega arith) c.requires.table k
-    (sym c.entry_at-entry.ensures.same ∙ next) n (omega (arith, there)))
-
-pub plan_chunk-requires-clause-turned : goal.plan_chunk-requires-clause-turned
-plan_chunk-requires-clause-turned g c = λ k next.
+pub plan_chunk-requires-clause-table : goal.plan_chunk-requires-clause-table
+plan_chunk-requires-clause-table g c = λ k next.
     let e = c.args.edit.now in
     let chunk = e.chunk in
     let layout = c.args.row.now.layout.now in
     let pool = g.M.TableMem.state c.args.memory.now in
     let m = pages_of pool.memory in
+    let row = c.args.row.now.row in
+    let inside = c.args.row.now.inside in
+    let second = c.args.second.now in
     let below : chunk / 512 < 512 = omega (arith, c.requires.in_range) in
     let read = sym c.entry_at-entry.ensures.same ∙ next in
-    let before : ℕ → View = answers_of layout m.words c.args.row.now.row in
     let spelled : IsSpelled e k pool = λ n there.
-    rw c.requires.layout (view-spelled layout m c.requires.canonical (chunk / 512) below c.args.row.now.row c.args.row.now.inside c.args.second.now (chunk % 512) (omega arith) c.requires.table k read n (omega (arith, there))) in
-    runs-turned e k pool before spelled
-    (λ n there. sym (entry-view layout m c.requires.canonical (chunk / 512) below c.args.row.now.row c.args.row.now.inside c.args.second.now (chunk % 512) n (omega arith) c.requires.table (omega (arith, there)))
-    ∙ ap (λ (s : Slot). answers_at layout m.words s n) read ∙ ap (λ (l : Layout). answers_at l m.words (Next k) n) (sym c.requires.layout))
-    c.requires.turned
+    rw c.requires.layout (view-spelled layout m c.requires.canonical (chunk / 512) below row inside second (chunk % 512) (omega arith) c.requires.table k read n (omega (arith, there))) in
+    record {
+      inside = let third = c.entry_at-entry.ensures.inside k next in omega (arith, third, c.requires.canonical.orderly.pages);
+      taken = view-taken layout m c.requires.canonical (chunk / 512) below row inside second (chunk % 512) (omega arith) c.requires.table k read;
+      spelled = spelled;
+      turned = runs-turned e k pool (answers_of layout m.words row) spelled
+          (λ n there. sym (entry-view layout m c.requires.canonical (chunk / 512) below row inside second (chunk % 512) n (omega arith) c.requires.table (omega (arith, there)))
+          ∙ ap (λ (s : Slot). answers_at layout m.words s n) read ∙ ap (λ (l : Layout). answers_at l m.words (Next k) n) (sym c.requires.layout))
+          c.requires.turned;
+    }
 
 pub plan_chunk-requires-clause-mixed : goal.plan_chunk-requires-clause-mixed
 plan_chunk-requires-clause-mixed g c =

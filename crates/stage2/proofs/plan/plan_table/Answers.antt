@@ -22,7 +22,7 @@ returns-then-not-looks g c =
     let e = c.args.edit.now in
     let pool = g.M.TableMem.state c.args.memory.now in
     let view : ℕ → View = read_before e (Next c.args.third) pool in
-    let gone = gone-words e c.args.third c.operations_gone-gone.result pool c.requires.spelled c.operations_gone-gone.ensures.same in
+    let gone = gone-words e c.args.third c.operations_gone-gone.result pool c.requires.table.spelled c.operations_gone-gone.ensures.same in
     let page = one e in
     let lt = page.1 in
     let either = table-either e.runs e.access view e.chunk (512 * e.chunk + page.0) c.requires.mixed (omega (arith, lt)) page.2 in
@@ -35,7 +35,7 @@ returns-then-most-min-le-SURPLUS g c =
     let e = c.args.edit.now in
     let pool = g.M.TableMem.state c.args.memory.now in
     let view : ℕ → View = read_before e (Next c.args.third) pool in
-    let gone = gone-words e c.args.third c.operations_gone-gone.result pool c.requires.spelled c.operations_gone-gone.ensures.same in
+    let gone = gone-words e c.args.third c.operations_gone-gone.result pool c.requires.table.spelled c.operations_gone-gone.ensures.same in
     let page = one e in
     let lt = page.1 in
     let t = table_operations e.runs e.access view e.chunk in
@@ -52,7 +52,7 @@ returns-then-is_alike_in_table g c =
     let e = c.args.edit.now in
     let pool = g.M.TableMem.state c.args.memory.now in
     let view : ℕ → View = read_before e (Next c.args.third) pool in
-    let gone = gone-words e c.args.third c.operations_gone-gone.result pool c.requires.spelled c.operations_gone-gone.ensures.same in
+    let gone = gone-words e c.args.third c.operations_gone-gone.result pool c.requires.table.spelled c.operations_gone-gone.ensures.same in
     let outcome = subst (λ b. IsOutcome e.chunk (read_after e (Next c.args.third) pool) (tells b e.access)) c.if-is_alike_in_table.true c.is_alike_in_table.ensures in
     let all = dropped e.runs e.access view e.chunk e.access c.requires.mixed outcome in
     edit-planned false c.operations_gone-gone.result c.new-then-is_alike_in_table.ensures (omega (arith, all, gone)) (λ yes. omega (arith, all, gone)) (omega (arith, c.operations_gone-gone.ensures.most))
@@ -72,6 +72,6 @@ pub returns-then-is_told_mixed : goal.returns-then-is_told_mixed
 returns-then-is_told_mixed g c =
     let e = c.args.edit.now in
     let pool = g.M.TableMem.state c.args.memory.now in
-    let all = kept e.runs e.access (read_before e (Next c.args.third) pool) e.chunk c.requires.mixed (stray-mixed e c.args.third pool c.requires.spelled (c.is_told_mixed.ensures.yes c.if-is_told_mixed.true)) in
+    let all = kept e.runs e.access (read_before e (Next c.args.third) pool) e.chunk c.requires.mixed (stray-mixed e c.args.third pool c.requires.table.spelled (c.is_told_mixed.ensures.yes c.if-is_told_mixed.true)) in
     let same = c.operations_kept-kept.ensures.same in
     edit-planned false c.operations_kept-kept.result c.new.ensures (omega (arith, all, same)) (λ yes. omega (arith, all, same)) (omega (arith, c.operations_kept-kept.ensures.most))
