@@ -46,9 +46,3 @@ returns-clause-in_step g c = λ layout which answer forest partition is unmapped
     stays-after layout c.args.row which answer old cut new
     (stays-unlinked layout c.args.row c.args.p c.args.gigabyte which answer old mid cut forest partition is unmapped wrote (rw (c.root.ensures, c.index.ensures.same) at c.put_word.ensures.logged) same logged)
     (stays-taken layout c.args.row which answer cut new (ap (λ (s : Pool). words_of s.memory.words) c.give_page.ensures.state) (ap (λ (s : Pool). s.operations) c.give_page.ensures.state) (ap (λ (s : Pool). s.made) c.give_page.ensures.state))
-
-pub invalidate-requires-clause-partition : goal.invalidate-requires-clause-partition
-invalidate-requires-clause-partition g c =
-    let old = g.M.TableMem.state c.args.memory.now in
-    let inside : row_in old.memory c.args.p < length old.memory.ids = rw ((g.met.M.TableMem.whole c.args.memory.now).ids, c.requires.can.own) c.requires.can.root in
-    subst (λ (x : Pages). row_of x.ids c.args.p < length x.ids) (sym c.put_word.ensures.pages) inside

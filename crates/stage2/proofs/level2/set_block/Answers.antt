@@ -15,9 +15,6 @@ replace_entry-requires-clause-page_in g c = second-inside c.args.edit.now.layout
 pub replace_entry-requires-clause-taken : goal.replace_entry-requires-clause-taken
 replace_entry-requires-clause-taken g c = second-taken c.args.edit.now.layout.now c.args.site.now.row c.args.edit.now.chunk c.args.site.now.second (pages_of (g.M.TableMem.state c.args.memory.now).memory) c.requires.can.site
 
-pub replace_entry-requires-clause-partition : goal.replace_entry-requires-clause-partition
-replace_entry-requires-clause-partition g c = has-row c.args.edit.now.layout.now (g.M.TableMem.state c.args.memory.now).memory c.args.site.now.p c.args.site.now.row c.requires.can.site.orderly.ids c.requires.can.row c.requires.can.site.partition
-
 pub returns : goal.returns
 returns g c =
     let s = c.args.site.now in

@@ -12,10 +12,6 @@ use Rattle.stage2.proofs.level3.fill_table.Goals as goal
 
 -- ---- nothing was reached
 
-pub turn_runs-requires-clause-turned : goal.turn_runs-requires-clause-turned
-turn_runs-requires-clause-turned g c = λ i small covered.
-    ap (λ w. w == 0) (c.requires.empty i small) ∙ sym (ap (λ b. is_some b || is_some c.args.edit.now.access) (sym c.in-None-default.is-0) ∙ c.requires.some)
-
 pub returns-in-None-default-clause-words : goal.returns-in-None-default-clause-words
 returns-in-None-default-clause-words g c =
     let e = c.args.edit.now in

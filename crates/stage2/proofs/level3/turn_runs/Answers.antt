@@ -11,15 +11,6 @@ turn_runs-requires-clause-ready g c =
     let room = c.requires.room in
     rw c.chunk_words-words.ensures.start (omega (arith, words, room))
 
-pub turn_runs-requires-clause-turned : goal.turn_runs-requires-clause-turned
-turn_runs-requires-clause-turned g c =
-    let w = c.chunk_words-words.ensures in
-    let word = word_in (g.M.TableMem.state c.args.memory.now) in
-    record {
-      zeros = w.zeros;
-      each = λ i small covered. ap (λ k. word k i == 0) w.page ∙ c.requires.turned i small (rw w.start at covered) ∙ sym w.valid;
-    }
-
 pub returns-clause-writes : goal.returns-clause-writes
 returns-clause-writes g c =
     let e = c.args.edit.now in

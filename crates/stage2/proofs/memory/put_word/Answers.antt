@@ -15,6 +15,3 @@ returns-clause-history g c =
     let pages : pages_of (g.M.TableMem.state c.set_word.new.self).memory ≡ with_put c.args.table c.args.index c.args.word (pages_of m) =
     rw (c.set_word.ensures.state, c.number.ensures) (pages_of-set m c.args.table c.args.index c.args.word (g.met.M.TableMem.whole c.args.memory.now) c.requires.page_in c.requires.index_in) in
     made-set (g.M.TableMem.state c.args.memory.now) (g.M.TableMem.state c.set_word.new.self) c.args.table c.args.index c.args.word (rw c.number.ensures at c.set_word.ensures.state) (ap (λ (x : Pages). x.words) pages)
-
-pub returns-clause-logged : goal.returns-clause-logged
-returns-clause-logged g c = rw (c.set_word.ensures.state, c.number.ensures) (record { operations = refl; made = refl })

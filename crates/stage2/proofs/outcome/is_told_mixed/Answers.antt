@@ -35,9 +35,6 @@ returns-in-Some-clause-yes g c = λ fewer.
       other = λ p. let bad = sym (entry-zero 3) ∙ ap (entry_of 3) (sym zero.3) ∙ p.entry ∙ ap (entry_for (512 * e.chunk + zero.0)) c.in-Some.is in cc;
     }
 
-pub returns-in-Some-clause-no : goal.returns-in-Some-clause-no
-returns-in-Some-clause-no g c = λ _ none. let bad = sym none ∙ c.in-Some.is in absurd (cc)
-
 -- one is not 0, and they are unmapped
 pub returns-in-None-clause-yes : goal.returns-in-None-clause-yes
 returns-in-None-clause-yes g c = λ more.
@@ -53,10 +50,3 @@ returns-in-None-clause-yes g c = λ more.
       out = found.2;
       other = λ p. found.3 (p.zero c.in-None.is);
     }
-
-pub returns-in-None-clause-no : goal.returns-in-None-clause-no
-returns-in-None-clause-no g c = λ no_more none.
-    let words = words_of (g.M.TableMem.state c.args.memory.now).memory.words in
-    let nonzero = counted c.nonzero-nonzero.result c.number.result c.args.third words c.nonzero-nonzero.ensures c.number.ensures in
-    let most = ltb-false _ _ no_more in
-    omega (arith, nonzero, most)

@@ -39,16 +39,6 @@ loop-run-preserved c =
       few = omega (arith, so.few, piece.few);
     }
 
-pub returns-clause-pages : goal.returns-clause-pages
-returns-clause-pages c =
-    let all : take c.loop-run.run-index c.list-list.result.now ≡ c.list-list.result.now = take-all c.list-list.result.now c.loop-run.run-index c.loop-run-test.false c.loop-run.auto.run-index-end in
-    c.loop-run.invariant.pages ∙ ap (λ (rs : List PageRun). pages_in rs c.args.chunk) (all ∙ c.list-list.ensures.same)
-
-pub returns-clause-runs : goal.returns-clause-runs
-returns-clause-runs c =
-    let all : take c.loop-run.run-index c.list-list.result.now ≡ c.list-list.result.now = take-all c.list-list.result.now c.loop-run.run-index c.loop-run-test.false c.loop-run.auto.run-index-end in
-    c.loop-run.invariant.runs ∙ ap (part_count c.args.chunk) (all ∙ c.list-list.ensures.same)
-
 pub returns-clause-most : goal.returns-clause-most
 returns-clause-most c =
     let so = c.loop-run.invariant.pages in

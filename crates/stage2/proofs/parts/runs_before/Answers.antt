@@ -5,6 +5,3 @@ use Rattle.stage2.proofs.parts.runs_before.Goals as goal
 
 pub of-requires : goal.of-requires
 of-requires c = normal-take c.begun.result c.list-list.result.now c.list-list.ensures.normal
-
-pub returns : goal.returns
-returns c = c.of.ensures ∙ c.begun.ensures.same ∙ ap (runs_before c.args.end) c.list-list.ensures.same

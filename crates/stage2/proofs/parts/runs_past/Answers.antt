@@ -7,6 +7,3 @@ use Rattle.stage2.proofs.parts.runs_past.Goals as goal
 
 pub of-requires : goal.of-requires
 of-requires c = ap are_normal (take_rest c.list-list.result.now c.ended.result) ∙ normal-drop c.ended.result c.list-list.result.now c.list-list.ensures.normal
-
-pub returns : goal.returns
-returns c = c.of.ensures ∙ take_rest c.list-list.result.now c.ended.result ∙ c.ended.ensures.same ∙ ap (runs_past c.args.first) c.list-list.ensures.same

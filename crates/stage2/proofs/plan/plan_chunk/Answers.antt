@@ -13,18 +13,6 @@ use Rattle.stage2.proofs.plan.plan_chunk.Goals as goal
 pub plan_table-requires-clause-table : goal.plan_table-requires-clause-table
 plan_table-requires-clause-table g c = c.requires.table c.in-Some.third (is-next c.args.entry.now c.in-Some.third (sym c.table_of.ensures ∙ c.in-Some.is))
 
-pub returns-in-Some : goal.returns-in-Some
-returns-in-Some g c =
-    let e = c.args.edit.now in
-    let pool = g.M.TableMem.state c.args.memory.now in
-    let entry = c.args.entry.now in
-    let k = c.in-Some.third in
-    let looks = c.args.looks in
-    let is = is-next entry k (sym c.table_of.ensures ∙ c.in-Some.is) in
-    let none = and-false (is_mixed (read_after e (Next k) pool) e.chunk) in
-    subst (λ (s : Slot). IsEditPlanned (read_before e s pool) e (is_mixed (read_after e s pool) e.chunk && not (is_some (next_page s))) looks c.plan_table.result) (sym is)
-    (subst (λ b. IsEditPlanned (read_before e (Next k) pool) e b looks c.plan_table.result) (sym none) c.plan_table.ensures)
-
 pub returns-in-None : goal.returns-in-None
 returns-in-None g c =
     let e = c.args.edit.now in

@@ -10,11 +10,6 @@ use Rattle.stage2.proofs.Counting.Growth.{growth-tabled, growth-mapped, growth-u
 use Rattle.stage2.specs.declared.plan.Plan.{Plan}
 use Rattle.stage2.proofs.plan.plan_gigabyte.Goals as goal
 
-pub returns-in-Some-clause-tables : goal.returns-in-Some-clause-tables
-returns-in-Some-clause-tables g c =
-    ap (λ (p : Plan). p.tables) c.new.ensures ∙ c.plan_chunks-chunks.ensures.tables
-    ∙ sym (growth-tabled c.args.edit.now.layout.now (pages_of (g.M.TableMem.state c.args.memory.now).memory) c.requires.canonical c.args.gigabyte (touched-below c.args.runs.now c.args.gigabyte c.requires.touched) c.args.edit.now.row c.args.edit.now.inside c.args.runs.now c.args.edit.now.access c.in-Some.field-0 (sym c.second_at-second.ensures ∙ c.in-Some.is))
-
 pub returns-then-is_some-clause-tables : goal.returns-then-is_some-clause-tables
 returns-then-is_some-clause-tables g c =
     ap (λ (p : Plan). p.tables) c.new-then-is_some.ensures ∙ ap (λ x. x + 1) c.plan_chunks-chunks.ensures.tables

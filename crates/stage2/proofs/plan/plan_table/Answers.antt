@@ -58,14 +58,6 @@ returns-then-is_alike_in_table g c =
     edit-planned false c.operations_gone-gone.result c.new-then-is_alike_in_table.ensures (omega (arith, all, gone)) (λ yes. omega (arith, all, gone)) (omega (arith, c.operations_gone-gone.ensures.most))
 
 -- one that stays
-pub returns-else-is_alike_in_table : goal.returns-else-is_alike_in_table
-returns-else-is_alike_in_table g c =
-    let e = c.args.edit.now in
-    let pool = g.M.TableMem.state c.args.memory.now in
-    let outcome = subst (λ b. IsOutcome e.chunk (read_after e (Next c.args.third) pool) (tells b e.access)) c.if-is_alike_in_table.false c.is_alike_in_table.ensures in
-    let all = kept e.runs e.access (read_before e (Next c.args.third) pool) e.chunk c.requires.mixed outcome in
-    let same = c.operations_kept-kept.ensures.same in
-    edit-planned false c.operations_kept-kept.result c.new-else-is_alike_in_table.ensures (omega (arith, all, same)) (λ yes. omega (arith, all, same)) (omega (arith, c.operations_kept-kept.ensures.most))
 
 -- one that stays, as its count tells
 pub returns-then-is_told_mixed : goal.returns-then-is_told_mixed

@@ -9,10 +9,6 @@ pub returns-in-None-None-clause-same : goal.returns-in-None-None-clause-same
 returns-in-None-None-clause-same c = λ runs k pages.
     sym (ap₂ (λ (a b : View). reached_in (edited runs a (λ n. b)) k) c.in-None-None.is-1 c.in-None-None.is-0 ∙ new-none runs k)
 
-pub returns-in-None-Some-clause-same : goal.returns-in-None-Some-clause-same
-returns-in-None-Some-clause-same c = λ runs k pages.
-    pages ∙ sym (ap (λ (b : View). reached_in (edited runs c.args.access.now (λ n. b)) k) c.in-None-Some.is-0 ∙ new-mapped runs c.args.access.now k (ap (λ a. is_some a) c.in-None-Some.is-1))
-
 pub returns-in-Some-None-clause-same : goal.returns-in-Some-None-clause-same
 returns-in-Some-None-clause-same c = λ runs k pages.
     let all = new-unmapped runs c.args.access.now c.args.before.now k c.in-Some-None.is-1 (ap (λ a. is_some a) c.in-Some-None.is-0) in

@@ -35,19 +35,6 @@ pieces_within-requires-clause-only c =
     let pages = c.bounds-pages in
     in-chunk c.args.runs.now pages.result.first pages.result.end c.of-chunk.result pages.ensures.within (c.of-chunk.ensures ∙ ap (λ n. n / 512) c.new.ensures) (let last = c.if-end-pages.false in omega (arith, last, c.end.ensures.same))
 
-pub invariant_of-result : goal.invariant_of-result
-invariant_of-result c =
-    let pieces = c.pieces_within.ensures in
-    let again = sym c.again.ensures in
-    record {
-      normal = ap are_normal c.again.ensures ∙ c.bounds-pages.ensures.normal;
-      pages = pieces.pages ∙ ap (λ (rs : List PageRun). pages_in rs c.of-chunk.result) again;
-      count = pieces.runs ∙ ap (part_count c.of-chunk.result) again;
-      few = pieces.few;
-      most = pieces.most;
-      touched = pieces.some;
-    }
-
 pub returns : goal.returns
 returns c =
     let runs = c.args.runs.now in

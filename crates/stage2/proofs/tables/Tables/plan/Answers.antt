@@ -16,10 +16,3 @@ returns-clause-tables g c =
     c.plan_row.ensures.tables
     ∙ grow-found (view c.self.inside.layout (g.M.TableMem.state c.self.inside.memory) (g.M.TableMem.room c.self.inside.memory)) c.args.p c.args.runs.now c.args.aim.access c.row.result c.row.ensures.row
     ∙ ap (λ (t : TablesView). grow (view_of t c.args.p) (edited c.args.runs.now c.args.aim.access (view_of t c.args.p))) c.self.view_is
-
-pub returns-clause-operations : goal.returns-clause-operations
-returns-clause-operations g c =
-    let t = view c.self.inside.layout (g.M.TableMem.state c.self.inside.memory) (g.M.TableMem.room c.self.inside.memory) in
-    let most = room-found t c.args.p c.args.runs.now c.args.aim.access c.row.result c.row.ensures.row in
-    let same = ap (λ (t : TablesView). edit_operations c.args.p c.args.runs.now c.args.aim.access t) c.self.view_is in
-    omega (arith, most, same, c.plan_row.ensures.operations)
