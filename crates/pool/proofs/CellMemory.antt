@@ -2,8 +2,9 @@
 --     word_had, word_made, mark_had, mark_made      a value of one pointer, and one of no bytes
 --     slot_out, slot_in, slot_seen      one place is taken out of the row, put back, or seen
 --     of_room, to_room      room for an array is a row of empty places
+--     place_fits      how far a place is from the first
 use mathlib.Core.Path.{◌≡◌, refl, sym, ap, subst, ◌∙◌}
-use Prim.Native.Nat.{ℕ, zero, suc, ◌+◌, ◌*◌, ◌<◌, ◌≤◌}
+use Prim.Native.Nat.{ℕ, zero, suc, ◌+◌, ◌*◌, ◌^◌, ◌<◌, ◌≤◌}
 use native.Mathlib.Omega.{arith}
 use native.Mathlib.Nat.{zero-mul, suc-mul}
 use mathlib.Core.List.{List, [], ◌∷◌, ◌++◌}
@@ -34,6 +35,7 @@ use borrow.Table.OneValue.{part_in, part_out}
 use Rattle.std.specs.Prelude.{Option, Some, None}
 use Rattle.std.specs.Mem.{type_size}
 use Rattle.core.proofs.mem.Param.{El, R, el_x, elτ}
+use Rattle.core.proofs.ptr.Rows.{times_below, one_below}
 use Rattle.std_alloc.proofs.RcSteps.{Good, word}
 use Rattle.pool.specs.CellOwnership.{slot, slots, slot_lent, slots_lent}
 use Rattle.pool.specs.contracts.cells.Cells as C-type
@@ -123,6 +125,12 @@ module _ (Y : RattleType) (L : Laws Y) {M : Type 1} {𝓤 : Ura M} {𝓛 : Logic
       peeks t (param 0 Y) (Is (param 0 Y)) (shows 𝓛 (param 0 Y)) x vs (λ is.
       let one = alone (layout Y) vs (((param_laws 0 Y L).lawful 𝓛).typed x vs is) in
       rewrite t 0 (λ (us : List Val). ‵ (Y.own_val x us)) one.1.0 refl $ k one.0 one.1.0 one.1.1)
+
+-- a place begins less than 2 ^ 64 bytes into its block
+pub place_fits : (index count size : ℕ) → index < count → count * size < 2 ^ 63 → (size < 2 ^ 64) × (index * size < 2 ^ 64)
+place_fits index count size within small =
+    let one = one_below count size (2 ^ 63) (omega arith) small in
+    let far = times_below index count size (2 ^ 63) (omega arith) small in (omega arith, omega arith)
 
 pub filled_within : {X : Type 0} (cs : List (Option X)) (i : ℕ) (x : X) → get_or cs i None ≡ Some x → i < length cs
 filled_within [] i x e = cc
