@@ -17,6 +17,7 @@ pub mod Applying
 mod Contents
 mod Held
 mod Rows
+mod WalkNames
 mod CellMemory
 mod CellSharing
 mod Within

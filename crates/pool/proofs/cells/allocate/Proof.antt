@@ -1,76 +1,23 @@
 -- `allocate` cuts the new block into empty places, and keeps the right to free it.
-use mathlib.Core.Path.{◌≡◌, refl, sym, ap, subst}
+use Rattle.pool.proofs.WalkNames.{◌≡◌, refl, sym, ap, subst, ℕ, ◌*◌, ◌<◌, ◌^◌, arith, List, [], ◌∷◌, ◌++◌, lit<, Fn, Body, named, w64, inst_fn, Val, vint, vstruct, vcons, vnil, ftrue, flft, Env, WpFn, fact, tables, ‵, raw, ◌⊛◌, later, await, at_ret, ◌$◌, ◌∵◌, !, qed, move, keep, use0, use1, use2, use3, split, join, fsplit, fsplit3, fjoin, feq_l, suffices, frame, done, whole, agg, stop, fld, lit, of_opd, and_then, no_more, first, exec, returns, enter, alloc_all, pass_all, free_all, look_at, get, get_in, sets, sets_last, is, env, yes, RattleType, owns, layout, Ptr, block_ptr, ShrRef, RefOf, plain, nothing, says, Stays, stay_dropped, walk_of, ends_at, Goes-dropped, after, Good, word, word-Good, length, flt_l, flt_i, bin, usize, None, El, R, elτ, as_written, Incl-trans, replicate, length-replicate, ty_array, align, capped, capped_fits, Wp, after_seq, at_return, ◌⊑◌, any_q, size_word, align_word, switches_on, get_tag, lands_as, owned, calls_at, IfOk, Ok, Err, Al, Answer-typed, Takes, at_takes, Answered, Takes-goes, Takes-gives, answers, head, arm_body, first_Good, prop, regoal, drop, Sq, heard, framed, proved_at}
 use mathlib.Core.Bool.{true, false}
-use Prim.Native.Nat.{ℕ, ◌*◌, ◌<◌, ◌^◌}
-use native.Mathlib.Omega.{arith}
-use mathlib.Core.List.{List, [], ◌∷◌, ◌++◌}
-use lib.Dec.{lit<}
-use mir.Syntax.{Fn, Body, named, w64}
-use mir.MapTy.{inst_fn}
-use mir.Val.{Val, vint, vstruct, vcons, vnil}
-use base.Fml.{ftrue, flft}
-use prog.Wp.{Env, WpFn}
-use contract.Monad.{fact}
-use contract.Running.{tables}
-use types.Kit.{‵, raw, ◌⊛◌, later, await, at_ret, ◌$◌, ◌∵◌, !, qed, move, keep, use0, use1, use2, use3, split, join, fsplit, fsplit3, fjoin, feq_l, suffices, frame, done}
-use types.Part.{whole, agg}
-use types.Run.{stop, fld, lit, of_opd, and_then, no_more, first, exec, returns, enter}
-use types.ByLocal.{alloc_all, pass_all, free_all, look_at, get, get_in, sets, sets_last, is, env}
-use denote.Exit.{yes}
-use denote.RattleType.{RattleType, owns}
-use denote.Param.{layout}
-use denote.RawPtr.{Ptr, block_ptr}
-use denote.Ref.{ShrRef}
-use denote.Builtin.{RefOf}
-use denote.Signature.{plain}
-use denote.Steps.{nothing}
 use denote.Struct.Tuple.{Tuple}
-use denote.Triple.Walked.{says, Stays, stay_dropped, walk_of, ends_at, Goes-dropped}
-use Rattle.std_alloc.proofs.VecSteps.Shapes.{after}
-use Rattle.std_alloc.proofs.RcSteps.{Good, word, word-Good}
-use lib.ListN.{length}
-use types.Kit.{flt_l, flt_i}
-use types.Run.{bin}
-use denote.Builtin.{usize}
-use Rattle.std.specs.Prelude.{None}
-use Rattle.core.proofs.mem.Param.{El, R, elτ}
-use Rattle.std_alloc.proofs.RawLayout.{as_written}
 use Rattle.pool.specs.CellOwnership.{slots}
-use Rattle.pool.proofs.CellMemory.{Cr, Bs, Mark, sz, mark, mark_made, word_made}
-use base.Fml.{Incl-trans}
-use lib.ListN.{replicate, length-replicate}
-use mir.Syntax.{ty_array}
-use prog.Memory.{align, capped}
-use prog.Capped.{capped_fits}
-use prog.Wp.{Wp, after_seq, at_return}
-use contract.BorrowLft.{◌⊑◌}
-use types.Kit.{Post as After, any_q}
+use Rattle.pool.proofs.CellMemory.{Cr, Bs, Mark, sz, mark, mark_made, word_made, three_val, three_of, of_room}
+use types.Kit.{Post as After}
 use types.Match.{live, vrt, in_variant}
-use types.Run.{size_word, align_word, switches_on}
-use types.ByLocal.{get_tag, lands_as}
 use denote.Laws.{Is}
-use denote.Steps.{owned}
 use denote.Struct.Struct.{Struct, Struct-Makes}
-use denote.Struct.Declared as Declared
-use denote.Triple.Call.{calls_at}
-use Rattle.std.specs.Prelude.{IfOk, Ok, Err}
 use Rattle.std.specs.Vec.Ownership.{FitsInBlock}
+use Rattle.core.proofs.slots.Leases.{uncapped, block_ty, block_size, block_align, args, P}
+use Rattle.std_alloc.proofs.ResultValues.{ok_of, err_of}
+use Rattle.pool.specs.contracts.cells.allocate.Key.{name as #self}
+use denote.Struct.Declared as Declared
 use Rattle.core.specs.contracts.result.Result as RS
 use Rattle.core.specs.contracts.alloc.AllocError as AE
-use Rattle.core.proofs.alloc.Calls.{Al, Answer-typed, Takes, at_takes, Answered, Takes-goes, Takes-gives, answers}
-use Rattle.core.proofs.slots.Leases.{uncapped, block_ty, block_size, block_align, args, P}
-use Rattle.std_alloc.proofs.VecSteps.Shapes.{head, arm_body}
-use Rattle.std_alloc.proofs.ResultValues.{ok_of, err_of}
-use Rattle.std_alloc.proofs.RcSteps.{first_Good}
-use Rattle.pool.proofs.CellMemory.{three_val, three_of, of_room}
 use Rattle.pool.specs.contracts.cells.Deed as D-type
 use Rattle.pool.specs.contracts.cells.allocate as F
-use Rattle.pool.specs.contracts.cells.allocate.Key.{name as #self}
 use Rattle.pool.proofs.cells.allocate.Statement as stated
-use types.Kit.{prop, regoal, drop, Sq}
-use denote.Steps.{heard}
-use denote.Triple.Table.{framed}
-use Rattle.std.proofs.raw_atomic.Walks.{proved_at}
 use Rattle.pool.proofs.cells.allocate.Code as code
 
 pub allocate_spec : {M : Type 1} → stated.statement M

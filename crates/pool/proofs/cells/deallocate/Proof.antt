@@ -1,62 +1,12 @@
 -- `deallocate` makes the block of its empty places, and hands it back with the allocator's token.
-use mathlib.Core.Path.{◌≡◌, refl, sym, ap, subst, ◌∙◌}
-use Prim.Native.Nat.{ℕ, ◌*◌, ◌<◌, ◌^◌}
-use native.Mathlib.Omega.{arith}
-use mathlib.Core.List.{List, [], ◌∷◌, ◌++◌}
-use mir.Syntax.{Fn, named, w64}
-use mir.MapTy.{inst_fn}
-use mir.Val.{Val, vint, vunit}
-use base.Logic.{never, id⊢}
-use base.Fml.{ftrue, froom, flft}
-use prog.Wp.{WpFn}
-use contract.Monad.{fact}
-use contract.Running.{tables}
-use types.Kit.{‵, raw, ◌⊛◌, given, later, await, learn, at_ret, ◌$◌, ◌∵◌, !, qed, move, keep, use1, split, join, group, rewrite, fsplit, fsplit3, fjoin, feq_i, feq_l, suffices, done}
-use types.Part.{whole, sub}
-use types.Run.{stop, fld, unit_lit, of_opd, and_then, no_more, first, blocks, exec, returns, enter}
-use types.ByLocal.{alloc_all, pass_all, free_all, look_at, get, get_in, sets, is, env}
-use denote.Exit.{yes, no}
-use denote.RattleType.{owns}
-use denote.RawPtr.{Ptr, ptr_val, in_a_block}
-use denote.Ref.{ShrRef}
-use denote.Builtin.{RefOf}
-use denote.Signature.{plain}
-use denote.Steps.{nothing}
-use denote.Triple.Walked.{Stays, stay_dropped, walk_of, ends_at, Goes-dropped}
-use Rattle.core.proofs.alloc.Calls.{Goes-blank}
-use Rattle.std_alloc.proofs.VecSteps.Shapes.{after}
-use Rattle.std_alloc.proofs.RcSteps.{word-Good}
-use types.Kit.{flt_l}
-use types.Run.{bin}
-use denote.Builtin.{usize}
-use Rattle.std.specs.Prelude.{None}
-use Rattle.core.proofs.mem.Param.{El, R, elτ}
-use Rattle.std_alloc.proofs.RawLayout.{as_raw}
-use Rattle.pool.specs.CellOwnership.{cells_own}
-use Rattle.pool.proofs.CellMemory.{Cr, Bs, sz, Place, mark_had, word_had}
-use base.Fml.{Incl-trans}
-use lib.Dec.{T}
-use lib.ListN.{replicate, length-replicate}
-use mir.Syntax.{ty_unit, ty_array}
-use mir.Val.{has_ty, WT}
-use prog.Memory.{align, capped}
-use prog.Capped.{capped_fits}
-use contract.BorrowLft.{◌⊑◌}
-use types.Run.{size_word, align_word}
-use types.ByLocal.{lands_last}
-use denote.Triple.Call.{calls_at_last}
-use Rattle.core.proofs.alloc.Calls.{Al, token, Gives, at_gives, Gives-goes, Gives-Gives}
+use Rattle.pool.proofs.WalkNames.{◌≡◌, refl, sym, ap, subst, ◌∙◌, ℕ, ◌*◌, ◌<◌, ◌^◌, arith, List, [], ◌∷◌, ◌++◌, Fn, named, w64, inst_fn, Val, vint, vunit, never, id⊢, ftrue, froom, flft, WpFn, fact, tables, ‵, raw, ◌⊛◌, given, later, await, learn, at_ret, ◌$◌, ◌∵◌, !, qed, move, keep, use1, split, join, group, rewrite, fsplit, fsplit3, fjoin, feq_i, feq_l, suffices, done, whole, sub, stop, fld, unit_lit, of_opd, and_then, no_more, first, blocks, exec, returns, enter, alloc_all, pass_all, free_all, look_at, get, get_in, sets, is, env, yes, no, owns, Ptr, ptr_val, in_a_block, ShrRef, RefOf, plain, nothing, Stays, stay_dropped, walk_of, ends_at, Goes-dropped, Goes-blank, after, word-Good, flt_l, bin, usize, None, El, R, elτ, as_raw, Incl-trans, T, replicate, length-replicate, ty_unit, ty_array, has_ty, WT, align, capped, capped_fits, ◌⊑◌, size_word, align_word, lands_last, calls_at_last, Al, token, Gives, at_gives, Gives-goes, Gives-Gives, prop, regoal, drop, heard, framed, proved_at}
+use Rattle.pool.specs.CellOwnership.{cells_own, deed_owns}
+use Rattle.pool.proofs.CellMemory.{Cr, Bs, sz, Place, mark_had, word_had, to_room}
 use Rattle.core.proofs.slots.Leases.{uncapped, block_ty, block_size, block_align, args, P}
-use Rattle.pool.specs.CellOwnership.{deed_owns}
-use Rattle.pool.proofs.CellMemory.{to_room}
+use Rattle.pool.specs.contracts.cells.deallocate.Key.{name as #self}
 use Rattle.pool.specs.contracts.cells.Deed as D-type
 use Rattle.pool.specs.contracts.cells.deallocate as F
-use Rattle.pool.specs.contracts.cells.deallocate.Key.{name as #self}
 use Rattle.pool.proofs.cells.deallocate.Statement as stated
-use types.Kit.{prop, regoal, drop}
-use denote.Steps.{heard}
-use denote.Triple.Table.{framed}
-use Rattle.std.proofs.raw_atomic.Walks.{proved_at}
 use Rattle.pool.proofs.cells.deallocate.Code as code
 
 pub deallocate_spec : {M : Type 1} → stated.statement M

@@ -1,50 +1,12 @@
 -- `get` shows one value that the places lend.
-use mathlib.Core.Path.{◌≡◌, refl, ◌∙◌}
-use Prim.Native.Nat.{◌+◌, ◌*◌}
-use mathlib.Core.List.{List, [], ◌∷◌, ◌++◌}
-use base.Fraction.{full_share}
-use mir.Syntax.{Fn, named}
-use mir.MapTy.{inst_fn}
-use mir.Val.{Val, vptr}
-use base.Logic.{never, id⊢}
-use base.Fml.{ftrue, fat, flft}
-use prog.Wp.{WpFn}
-use contract.Monad.{fact}
-use contract.Running.{tables}
-use types.Kit.{‵, ◌⊛◌, at_ret, ◌$◌, ◌∵◌, !, qed, move, keep, drop, use1, split, join, rewrite, fsplit, fjoin, feq_i, feq_l, suffices, frame, done}
-use types.Part.{whole, sub}
-use types.Run.{stop, fld, of_opd, addr, first, blocks, exec, returns, enter}
-use types.ByLocal.{alloc_all, pass_all, free_all, look_at, get, get_in, through, sets, sets_last, env}
-use denote.Exit.{yes, no}
-use denote.RattleType.{owns}
-use denote.Param.{layout}
-use denote.RawPtr.{Ptr, in_a_block}
-use denote.Ref.{ShrRef}
-use denote.Builtin.{RefOf}
-use denote.Signature.{plain}
+use Rattle.pool.proofs.WalkNames.{◌≡◌, refl, ◌∙◌, ◌+◌, ◌*◌, List, [], ◌∷◌, ◌++◌, full_share, Fn, named, inst_fn, Val, vptr, never, id⊢, ftrue, fat, flft, WpFn, fact, tables, ‵, ◌⊛◌, at_ret, ◌$◌, ◌∵◌, !, qed, move, keep, drop, use1, split, join, rewrite, fsplit, fjoin, feq_i, feq_l, suffices, frame, done, whole, sub, stop, fld, of_opd, addr, first, blocks, exec, returns, enter, alloc_all, pass_all, free_all, look_at, get, get_in, through, sets, sets_last, env, yes, no, owns, layout, Ptr, in_a_block, ShrRef, RefOf, plain, nothing, says, Stays, stay_dropped, walk_of, ends_at, Goes-dropped, after, word, word-Good, length, get_or, flt_l, prop, regoal, proved_at, bin, size_lit, take_at, give_at, usize, None, El, R, args, ◌⊑◌, raw, heard}
 use denote.Opens.{hide, unhide}
-use denote.Steps.{nothing}
-use denote.Triple.Walked.{says, Stays, stay_dropped, walk_of, ends_at, Goes-dropped}
-use Rattle.std_alloc.proofs.VecSteps.Shapes.{after}
-use Rattle.std_alloc.proofs.RcSteps.{word, word-Good}
-use lib.ListN.{length, get_or}
-use types.Kit.{flt_l, prop, regoal}
-use Rattle.std.proofs.raw_atomic.Walks.{proved_at}
-use types.Run.{bin, size_lit}
-use types.ByLocal.{take_at, give_at}
-use denote.Builtin.{usize}
-use Rattle.std.specs.Prelude.{None}
-use Rattle.core.proofs.mem.Param.{El, R, args}
-use Rattle.pool.proofs.CellMemory.{place_fits}
+use Rattle.pool.proofs.CellMemory.{place_fits, Cr, Bs, sz, Place, word_had, filled_within, slot_seen}
 use Rattle.pool.specs.Cells.{IsFilled}
 use Rattle.pool.specs.CellOwnership.{slot_lent, cells_lent}
-use Rattle.pool.proofs.CellMemory.{Cr, Bs, sz, Place, word_had, filled_within, slot_seen}
 use Rattle.pool.specs.contracts.cells.Cells.get.Key.{name as #self}
 use Rattle.pool.specs.contracts.cells.Cells.get as F
 use Rattle.pool.proofs.cells.Cells.get.Statement as stated
-use contract.BorrowLft.{◌⊑◌}
-use types.Kit.{raw}
-use denote.Steps.{heard}
 use Rattle.pool.proofs.cells.Cells.get.Code as code
 
 pub get_spec : {M : Type 1} → stated.statement M

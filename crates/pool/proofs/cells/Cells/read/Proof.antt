@@ -1,49 +1,11 @@
 -- `read` moves a value out, and its place is empty.
-use mathlib.Core.Path.{◌≡◌, refl, sym, subst, ◌∙◌}
-use Prim.Native.Nat.{◌+◌, ◌*◌, ◌<◌, ◌^◌}
-use mathlib.Core.List.{List, [], ◌∷◌, ◌++◌}
-use base.Fraction.{full_share}
-use mir.Syntax.{Fn, named}
-use mir.MapTy.{inst_fn}
-use mir.Val.{Val, vptr}
-use base.Logic.{never, id⊢}
-use base.Fml.{ftrue, fat, froom, flft}
-use prog.Wp.{WpFn}
-use contract.Monad.{fact}
-use contract.Running.{tables}
-use types.Kit.{‵, ◌⊛◌, some, given, pick, learn, at_ret, ◌$◌, ◌∵◌, !, qed, move, keep, use1, use2, split, join, rewrite, fsplit, fsplit3, fjoin, fjoin3, feq_i, feq_l, suffices, frame, done}
-use types.Part.{whole, sub}
-use types.Run.{look, stop, fld, load, of_opd, first, blocks, exec, returns, enter}
-use types.ByLocal.{alloc_all, pass_all, free_all, look_at, get, get_in, through, sets, sets_last, env}
-use denote.Exit.{yes, no}
-use denote.RattleType.{owns}
-use denote.Param.{layout}
-use denote.RawPtr.{Ptr, in_a_block}
-use denote.Ref.{MutRef}
-use denote.Signature.{plain}
-use denote.Steps.{nothing, opens, closes}
-use denote.Triple.Walked.{Stays, stay_dropped, stay_ref, walk_of, ends_at, Goes-dropped, Goes-ref}
-use Rattle.std_alloc.proofs.VecSteps.Shapes.{after}
-use Rattle.std_alloc.proofs.RcSteps.{Good, word, word-Good}
-use lib.ListN.{length, set, get_or, length-set}
-use types.Kit.{flt_l, flt_i}
-use types.Run.{bin, size_lit}
-use types.ByLocal.{take_at, give_at}
-use denote.Builtin.{usize}
-use Rattle.std.specs.Prelude.{None}
-use Rattle.core.proofs.mem.Param.{El, R, args, elτ}
-use Rattle.pool.proofs.CellMemory.{place_fits}
-use Rattle.std_alloc.proofs.RawLayout.{as_raw}
+use Rattle.pool.proofs.WalkNames.{◌≡◌, refl, sym, subst, ◌∙◌, ◌+◌, ◌*◌, ◌<◌, ◌^◌, List, [], ◌∷◌, ◌++◌, full_share, Fn, named, inst_fn, Val, vptr, never, id⊢, ftrue, fat, froom, flft, WpFn, fact, tables, ‵, ◌⊛◌, some, given, pick, learn, at_ret, ◌$◌, ◌∵◌, !, qed, move, keep, use1, use2, split, join, rewrite, fsplit, fsplit3, fjoin, fjoin3, feq_i, feq_l, suffices, frame, done, whole, sub, look, stop, fld, load, of_opd, first, blocks, exec, returns, enter, alloc_all, pass_all, free_all, look_at, get, get_in, through, sets, sets_last, env, yes, no, owns, layout, Ptr, in_a_block, MutRef, plain, nothing, opens, closes, Stays, stay_dropped, stay_ref, walk_of, ends_at, Goes-dropped, Goes-ref, after, Good, word, word-Good, length, set, get_or, length-set, flt_l, flt_i, bin, size_lit, take_at, give_at, usize, None, El, R, args, elτ, as_raw, ◌⊑◌, raw, prop, regoal, drop, heard, proved_at}
+use Rattle.pool.proofs.CellMemory.{place_fits, Cr, Bs, sz, Place, word_had, says_both, value_out, filled_within, Besides, slot_out, slot_in}
 use Rattle.pool.specs.Cells.{IsFilled}
 use Rattle.pool.specs.CellOwnership.{slot, slots, cells_own}
-use Rattle.pool.proofs.CellMemory.{Cr, Bs, sz, Place, word_had, says_both, value_out, filled_within, Besides, slot_out, slot_in}
 use Rattle.pool.specs.contracts.cells.Cells.read.Key.{name as #self}
 use Rattle.pool.specs.contracts.cells.Cells.read as F
 use Rattle.pool.proofs.cells.Cells.read.Statement as stated
-use contract.BorrowLft.{◌⊑◌}
-use types.Kit.{raw, prop, regoal, drop}
-use denote.Steps.{heard}
-use Rattle.std.proofs.raw_atomic.Walks.{proved_at}
 use Rattle.pool.proofs.cells.Cells.read.Code as code
 
 pub read_spec : {M : Type 1} → stated.statement M
