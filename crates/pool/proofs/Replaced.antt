@@ -98,20 +98,13 @@ keeps-replaces p page first (suc n) word step start a small room =
     keeps-more page a b (after_make page (first + n) (word + step * n) (after_break p page (first + n) run b)) so
     (keeps-more page b (after_break p page (first + n) run b) (after_make page (first + n) (word + step * n) (after_break p page (first + n) run b)) broken (keeps-make page (first + n) (word + step * n) (after_break p page (first + n) run b) (omega (arith, small)) (omega (arith, room, long, longer))))
 
-pool-of : List ℕ → List ℕ → List ℕ → List Bool → List Op → ℕ → Pool
-pool-of ids quotas words taken operations made =
-    record { memory = record { ids = ids; quotas = quotas; words = words; taken = taken }; operations = operations; made = made }
-
 -- two pools that agree in all
 pub pools-same : (a b : Pool) → a.memory.ids ≡ b.memory.ids → a.memory.quotas ≡ b.memory.quotas → a.memory.words ≡ b.memory.words → a.memory.taken ≡ b.memory.taken → a.operations ≡ b.operations → a.made ≡ b.made → a ≡ b
-unfolding pool-of
-pools-same a b ids quotas words taken operations made =
-    ap (λ (x : List ℕ). pool-of x a.memory.quotas a.memory.words a.memory.taken a.operations a.made) ids
-    ∙ ap (λ (x : List ℕ). pool-of b.memory.ids x a.memory.words a.memory.taken a.operations a.made) quotas
-    ∙ ap (λ (x : List ℕ). pool-of b.memory.ids b.memory.quotas x a.memory.taken a.operations a.made) words
-    ∙ ap (λ (x : List Bool). pool-of b.memory.ids b.memory.quotas b.memory.words x a.operations a.made) taken
-    ∙ ap (λ (x : List Op). pool-of b.memory.ids b.memory.quotas b.memory.words b.memory.taken x a.made) operations
-    ∙ ap (λ (x : ℕ). pool-of b.memory.ids b.memory.quotas b.memory.words b.memory.taken b.operations x) made
+pools-same a b ids quotas words taken operations made = λ i. record {
+  memory = record { ids = ids i; quotas = quotas i; words = words i; taken = taken i };
+  operations = operations i;
+  made = made i;
+}
 
 -- none, and one more
 pub replaces-none : (p page first word step start : ℕ) (a : Pool) → after_replaces p page first 0 word step start a ≡ a

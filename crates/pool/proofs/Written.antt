@@ -3,19 +3,31 @@ use Rattle.std.proofs.Common.{◌≡◌, ◌≢◌, ℕ, ◌+◌, ◌*◌, ◌%�
 use Rattle.std.specs.List.{list_all}
 use Rattle.std.proofs.lemmas.List.{length-reverse}
 use Rattle.base.specs.Manifest.{page_count}
+use Rattle.base.specs.Pages.{PageRun}
 use Rattle.pool.specs.Pool.{Pool, words_of, taken_of, lies_in, CountsFree, CountsNonzero, NoneFreeBelow}
 use Rattle.pool.specs.Shown.{IsShown}
-use Rattle.pool.specs.Writing.{Wrote, log_of}
+use Rattle.pool.specs.Writing.{Wrote, log_of, runs_set}
 use Rattle.pool.specs.declared.log.Log.{Log}
+use Rattle.pool.specs.declared.runs.TableWords.{TableWords}
 use Rattle.pool.specs.declared.table_pool.TablePool.{TablePool}
 use Rattle.pool.specs.declared.word_store.WordStore.{Ghosts}
 use Rattle.pool.proofs.Kept.{memory_in}
 use Rattle.pool.proofs.Nonzero.{counts_nonzero-page}
 use Rattle.pool.proofs.Replaced.{Keeps, pools-same}
+use Rattle.pool.proofs.RunWords.{keeps-runs}
+use Rattle.pool.proofs.Within.{within-runs}
 
 -- the pool that it shows, but for the count of operations
 abbrev pub pool_in : {S : Type 0} {g : Ghosts S} → TablePool S g → ℕ → Pool
 pool_in m made = record { memory = memory_in m; operations = reverse m.operations.items; made = made }
+
+-- and the one that it shows with these words and this log
+abbrev pub pool_after : {S : Type 0} {g : Ghosts S} → TablePool S g → List ℕ → Log → Pool
+pool_after old words log = record {
+  memory = record { ids = old.ids; quotas = old.quotas.items; words = words; taken = old.taken };
+  operations = reverse log.operations.items;
+  made = (old.made_before + length log.operations.items) % 2 ^ 64;
+}
 
 -- what holds of it then
 abbrev pub Holds : {S : Type 0} {g : Ghosts S} → TablePool S g → ℕ → List ℕ → (ℕ → Bool) → Log → Type 0
@@ -60,8 +72,7 @@ module _ {S : Type 0} {g : Ghosts S} (old : TablePool S g) (page : ℕ) (inside 
       }
 
   -- it shows what the step makes
-  pub state : (let pool : Pool = record { memory = record { ids = old.ids; quotas = old.quotas.items; words = new; taken = old.taken }; operations = reverse after.operations.items; made = (old.made_before + length after.operations.items) % 2 ^ 64 } in pool)
-      ≡ step (pool_in old ((old.made_before + length old.operations.items) % 2 ^ 64))
+  pub state : pool_after old new after ≡ step (pool_in old ((old.made_before + length old.operations.items) % 2 ^ 64))
   state =
       let made = (old.made_before + length old.operations.items) % 2 ^ 64 in
       let pool = step (pool_in old made) in
@@ -70,5 +81,17 @@ module _ {S : Type 0} {g : Ghosts S} (old : TablePool S g) (page : ℕ) (inside 
       let was : length (reverse old.operations.items) ≡ length old.operations.items = length-reverse old.operations.items in
       let count = kept.made old.made_before (ap (λ k. (old.made_before + k) % 2 ^ 64) (sym was)) in
       let long : length after.operations.items ≡ length pool.operations = sym (length-reverse after.operations.items) ∙ ap length is.operations in
-      pools-same (record { memory = record { ids = old.ids; quotas = old.quotas.items; words = new; taken = old.taken }; operations = reverse after.operations.items; made = (old.made_before + length after.operations.items) % 2 ^ 64 }) pool
+      pools-same (pool_after old new after) pool
       (sym kept.ids) (sym kept.quotas) is.words (sym kept.taken) is.operations (ap (λ k. (old.made_before + k) % 2 ^ 64) long ∙ sym count)
+
+-- the same of words for the pages of runs
+module _ {S : Type 0} {g : Ghosts S} (old : TablePool S g) (with : TableWords) (runs : List PageRun) (inside : with.page < page_count old.quotas.items)
+    {most count : ℕ} {new : List ℕ} {after : Log} (wrote : Wrote (runs_set with runs) with.page most (g.words old.store) new (log_of old.operations count) after) where
+  keeps : (a : Pool) → 512 * with.page + 512 ≤ length a.memory.words → Keeps with.page a (runs_set with runs a)
+  keeps a room = keeps-runs with.page with.start with.word with.step runs a room
+
+  pub runs-stay : {stands : ℕ → Bool} → stands ≡ g.stands old.store → taken_of old.taken with.page ≡ true → Holds old with.page new stands after
+  runs-stay stood held = stays old with.page inside wrote keeps stood held (within-runs old.ids old.quotas.items with.page with.start with.word with.step runs (pool_in old 0) inside old.within)
+
+  pub runs-state : pool_after old new after ≡ runs_set with runs (pool_in old ((old.made_before + length old.operations.items) % 2 ^ 64))
+  runs-state = state old with.page inside wrote keeps

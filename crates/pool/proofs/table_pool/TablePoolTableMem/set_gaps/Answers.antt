@@ -1,19 +1,11 @@
 use Rattle.pool.specs.Pool.{gaps_of}
-use Rattle.pool.proofs.RunWords.{keeps-runs}
-use Rattle.pool.proofs.Within.{within-runs}
-use Rattle.pool.proofs.Written.{stays, state, pool_in}
+use Rattle.pool.proofs.Written.{runs-stay, runs-state}
 use Rattle.pool.proofs.table_pool.TablePoolTableMem.set_gaps.Goals as goal
 
 pub invariant_of-self : goal.invariant_of-self
 invariant_of-self g c =
-    let old = c.args.self.now in
-    let w = c.args.words in
-    let runs = gaps_of c.args.words.start c.args.runs.now in
-    stays old w.page c.requires.page_in (rw c.take-log.ensures at (rw c.list.ensures.same at c.turn_gaps-operations.ensures.wrote)) (λ a room. keeps-runs w.page w.start w.word w.step runs a room) c.turn_gaps-operations.ensures.standing c.requires.taken (within-runs old.ids old.quotas.items w.page w.start w.word w.step runs (pool_in old 0) c.requires.page_in old.within)
+    runs-stay c.args.self.now c.args.words (gaps_of c.args.words.start c.args.runs.now) c.requires.page_in (rw (c.take-log.ensures, c.list.ensures.same) at c.turn_gaps-operations.ensures.wrote) c.turn_gaps-operations.ensures.standing c.requires.taken
 
 pub returns-clause-state : goal.returns-clause-state
 returns-clause-state g c =
-    let old = c.args.self.now in
-    let w = c.args.words in
-    let runs = gaps_of c.args.words.start c.args.runs.now in
-    state old w.page c.requires.page_in (rw c.take-log.ensures at (rw c.list.ensures.same at c.turn_gaps-operations.ensures.wrote)) (λ a room. keeps-runs w.page w.start w.word w.step runs a room)
+    runs-state c.args.self.now c.args.words (gaps_of c.args.words.start c.args.runs.now) c.requires.page_in (rw (c.take-log.ensures, c.list.ensures.same) at c.turn_gaps-operations.ensures.wrote)
