@@ -1,6 +1,6 @@
-use Rattle.std.proofs.Common.{◌≡◌, ◌<◌, ◌∙◌, ap, sym, length, get_or, arith, replicate, None}
+use Rattle.std.proofs.Common.{◌<◌, ◌∙◌, ap, sym, length, get_or, arith, None}
 use Rattle.std.proofs.Math.ListN.{set}
-use Rattle.pool.proofs.Contents.{swept-here, swept-next, swept-all}
+use Rattle.pool.proofs.Contents.{swept-here, swept-next}
 use Rattle.pool.proofs.Held.{filled-place, empty-place, swept-empty}
 use Rattle.pool.proofs.block.empty.Goals.{then-is_marked, else-is_marked}
 use Rattle.pool.proofs.block.empty.Goals as goal
@@ -24,9 +24,3 @@ loop-place-preserved c =
       | else-is_marked w ↦
           rw w.cells-is (c.loop-place.invariant.0, c.loop-place.invariant.1 ∙ swept-empty old place below (empty-place c.args.marks.now old place c.requires.marked (sym c.is_marked.ensures ∙ w.if-is_marked.false)))
     ]
-
-pub returns-clause-empty : goal.returns-clause-empty
-returns-clause-empty c =
-    let old = c.args.cells.now.slots in
-    let count : c.loop-place.place ≡ c.args.count = omega (arith, c.loop-place-test.false, c.loop-place.auto.place-end) in
-    c.loop-place.invariant.1 ∙ swept-all None c.loop-place.place old (c.requires.counted ∙ sym count) ∙ ap (λ n. replicate n None) count

@@ -1,6 +1,5 @@
 use Rattle.std.proofs.Common.{◌≡◌, ◌+◌, ◌*◌, ◌∙◌, ap, sym, length, get_or, arith, refl, inr, Some, None}
 use Rattle.std.proofs.Math.ListN.{set}
-use Rattle.pool.specs.Cells.{with_zeros}
 use Rattle.pool.proofs.Held.{length-zeros, zeros-none, zeros-next, zeros-beside}
 use Rattle.pool.proofs.block.fill_page.Goals as goal
 
@@ -24,8 +23,3 @@ loop-index-preserved c =
       place = c.write.ensures.0 ∙ c.loop-index.invariant.place;
       slots = c.write.ensures.1 ∙ ap (λ ds. set ds (512 * c.args.page + i) (Some 0)) c.loop-index.invariant.slots ∙ sym (zeros-next old c.args.page i);
     }
-
-pub returns-clause-slots : goal.returns-clause-slots
-returns-clause-slots c =
-    let end : c.loop-index.index ≡ 512 = omega (arith, c.loop-index-test.false, c.loop-index.auto.index-end) in
-    c.loop-index.invariant.slots ∙ ap (λ n. with_zeros c.args.cells.now.slots c.args.page n) end

@@ -1,7 +1,6 @@
-use Rattle.std.proofs.Common.{◌≡◌, ◌+◌, ◌-◌, ◌*◌, ◌++◌, reverse, slice_set, sym, ap, ◌∙◌, refl, arith}
+use Rattle.std.proofs.Common.{◌≡◌, ◌+◌, ◌-◌, ◌*◌, slice_set, sym, ap, ◌∙◌, refl, arith}
 use Rattle.pool.specs.Cells.{held}
-use Rattle.pool.specs.Pool.{sets_of}
-use Rattle.pool.proofs.Recorded.{records-none, records-next, next-in_range}
+use Rattle.pool.proofs.Recorded.{records-none, records-next}
 use Rattle.pool.proofs.Stretches.{words_set-none, words_set-next}
 use Rattle.pool.proofs.block.put_and_record.Goals as goal
 
@@ -20,10 +19,6 @@ loop-index-init c =
       capacity = refl;
       grows = omega arith;
     }
-
-pub put_word-requires : goal.put_word-requires
-put_word-requires c =
-    record { place = c.requires.place ∙ sym c.loop-index.invariant.place; filled = c.loop-index.invariant.filled; index_in = omega (arith, c.requires.index_in, c.loop-index-test.true) }
 
 pub loop-index-preserved : goal.loop-index-preserved
 loop-index-preserved c =
@@ -48,12 +43,3 @@ loop-index-preserved c =
       capacity = c.push_reserved.ensures.capacity ∙ before.capacity;
       grows = omega (arith, before.grows, c.push_reserved.ensures.len);
     }
-
-pub overflow_add-word : goal.overflow_add-word
-overflow_add-word c = omega (arith, next-in_range c.args.range c.loop-index.index c.loop-index.word c.loop-index.auto.index c.loop-index-test.true c.loop-index.invariant.word c.requires.in_range)
-
-pub returns-clause-records : goal.returns-clause-records
-returns-clause-records c = λ words inside differ.
-    let r = c.args.range in
-    let all : r.end - r.first ≡ c.loop-index.index - r.first = omega (arith, c.loop-index-test.false, c.loop-index.auto.index-end, c.requires.ordered) in
-    c.loop-index.invariant.made words inside differ ∙ ap (λ n. sets_of words r.page r.first n r.word r.step ++ reverse c.args.operations.items) (sym all)

@@ -15,10 +15,6 @@ loop-index-init c =
       next = rw none (omega arith);
     }
 
-pub put_word-requires : goal.put_word-requires
-put_word-requires c =
-    record { place = c.requires.place ∙ sym c.loop-index.invariant.place; filled = c.loop-index.invariant.filled; index_in = omega (arith, c.requires.index_in, c.loop-index-test.true) }
-
 pub loop-index-preserved : goal.loop-index-preserved
 loop-index-preserved c =
     let r = c.args.range in

@@ -1,20 +1,9 @@
-use Rattle.std.proofs.Common.{◌≡◌, ◌+◌, ◌-◌, ◌*◌, ◌≤◌, Bool, true, false, ◌&&◌, ◌==◌, arith, sym, ap, ◌∙◌, inl, inr}
-use Rattle.std.proofs.Math.Nat.{mul-le-mul_left}
+use Rattle.std.proofs.Common.{◌≡◌, ◌+◌, ◌-◌, ◌*◌, Bool, true, false, ◌&&◌, ◌==◌, arith, sym, ap, ◌∙◌, inl, inr}
 use Rattle.std.proofs.lemmas.Bool.{and_parts, cases_Bool, cases_eq, eqb-true}
 use Rattle.std.proofs.lemmas.Bool.Decides.{nat_tests}
 use Rattle.pool.specs.Pool.{words_of}
 use Rattle.pool.proofs.Nonzero.{word-read}
 use Rattle.pool.proofs.looks.are_there.Goals as goal
-
-pub loop-index-init : goal.loop-index-init
-loop-index-init g c =
-    let s = c.args.range in
-    let none : s.first - s.first ≡ 0 = omega arith in
-    record {
-      yes = λ are x lt. absurd (omega (arith, none, lt));
-      no = λ are. absurd (cc);
-      word = rw none (omega arith);
-    }
 
 failed : (a b : Bool) → a ≡ true → (a && b) ≡ false → b ≡ false
 failed true b e f = f
@@ -55,20 +44,3 @@ loop-index-preserved g c =
       ];
       word = omega (arith, next);
     }
-
-pub overflow_add-word : goal.overflow_add-word
-overflow_add-word g c =
-    let s = c.args.range in
-    let n = c.loop-index.index - s.first in
-    let most = mul-le-mul_left s.step (let le : n + 1 ≤ s.end - s.first = omega (arith, c.loop-index.auto.index, c.loop-index-test.true) in le) in
-    let next = c.loop-index.invariant.word in
-    let sum : s.step * (n + 1) ≡ s.step * n + s.step = omega arith in
-    omega (arith, most, next, sum, c.requires.in_range)
-
-pub returns-clause-yes : goal.returns-clause-yes
-returns-clause-yes g c = λ e x lt. c.loop-index.invariant.yes e x (omega (arith, lt, c.loop-index-test.false))
-
-pub returns-clause-no : goal.returns-clause-no
-returns-clause-no g c = λ e.
-    let missing = c.loop-index.invariant.no e in
-    record { index = missing.index; small = (let lt = missing.small in omega (arith, lt, c.requires.ordered, c.loop-index.auto.index-end)); other = missing.other }

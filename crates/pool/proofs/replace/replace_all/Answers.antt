@@ -5,9 +5,6 @@ use Rattle.pool.proofs.Turned.{turns-empty}
 use Rattle.pool.proofs.Wrote.{wrote-as}
 use Rattle.pool.proofs.replace.replace_all.Goals as goal
 
-pub turn_all-requires-clause-ready : goal.turn_all-requires-clause-ready
-turn_all-requires-clause-ready g c = record { counted = c.requires.ready.counted; room = omega (arith, c.requires.ready.room) }
-
 pub returns-then-with-gt0-clause-wrote : goal.returns-then-with-gt0-clause-wrote
 returns-then-with-gt0-clause-wrote g c =
     let w = c.args.with in

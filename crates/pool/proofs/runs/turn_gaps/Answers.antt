@@ -2,16 +2,8 @@ use Rattle.std.proofs.Common.{◌≡◌, ◌+◌, ◌≤◌, ◌++◌, [], drop,
 use Rattle.std.proofs.lemmas.List.{append-nil}
 use Rattle.pool.specs.Pool.{index_from, gap, gaps_from}
 use Rattle.pool.proofs.Gaps.{gaps-left, gaps-done, gaps-behind}
-use Rattle.pool.proofs.Wrote.{left-all, left-can, left-less, left-none, can-gap, wrote-gap, wrote-beside, turned-rest}
+use Rattle.pool.proofs.Wrote.{left-can, left-less, left-none, can-gap, wrote-gap, wrote-beside, turned-rest}
 use Rattle.pool.proofs.runs.turn_gaps.Goals as goal
-
-pub loop-run-init : goal.loop-run-init
-loop-run-init g c = record {
-  left = left-all c.args.with _ (g.S.WordStore.words c.args.store.now) c.args.log c.requires.ready.counted;
-  standing = refl;
-  turned = c.requires.turned refl;
-  most = omega arith;
-}
 
 pub write_apart-log-requires : goal.write_apart-log-requires
 write_apart-log-requires g c =

@@ -24,9 +24,6 @@ turn_all-requires g c =
       ready = c.requires.ready;
     }
 
-pub returns-then-this-ne0-clause-wrote : goal.returns-then-this-ne0-clause-wrote
-returns-then-this-ne0-clause-wrote g c = rw c.range-range.ensures at c.turn_all.ensures.wrote
-
 pub write_others-requires : goal.write_others-requires
 write_others-requires g c =
     let w = c.args.with in
@@ -37,6 +34,3 @@ write_others-requires g c =
       may = may-range w first end c.requires.may c.if-first-end.false c.requires.most;
       ready = record { counted = c.requires.ready.counted; room = omega (arith, most, c.requires.ready.room) };
     }
-
-pub returns-clause-wrote : goal.returns-clause-wrote
-returns-clause-wrote g c = rw c.range-range.ensures at c.write_others.ensures.wrote

@@ -3,7 +3,6 @@ use Rattle.std.proofs.lemmas.Bool.Decides.{nat_tests}
 use Rattle.pool.specs.Pool.{words_of}
 use Rattle.pool.specs.Writing.{log_of, page_alone, runs_set}
 use Rattle.pool.proofs.Alone.{alone-outside, alone-words, alone-set, alone-stays}
-use Rattle.pool.proofs.Turned.{turned-alone, turned-word}
 use Rattle.pool.proofs.Wrote.{wrote-none, wrote-as}
 use Rattle.pool.proofs.runs.write_page.Goals as goal
 
@@ -13,14 +12,6 @@ returns-then-index-ge-TABLE_WORDS-clause-wrote g c =
     let page = c.args.page in
     wrote-none (runs_set w (page_alone page ∷ [])) w.page _ (g.S.WordStore.words c.args.store.now) (log_of c.args.operations.now c.args.nonzero) c.requires.ready.counted (λ pool _.
     alone-outside w page (c.index_at-index.ensures.beside c.if-index-ge-TABLE_WORDS.true) pool)
-
-pub word_before-before-requires-clause-turned : goal.word_before-before-requires-clause-turned
-word_before-before-requires-clause-turned g c = λ known.
-    let w = c.args.with in
-    let i = c.index_at-index.result in
-    let turned = c.requires.turned known in
-    let words = g.S.WordStore.words c.args.store.now in
-    rw c.from.ensures (turned-word words w i i turned.zeros (turned-alone words w c.args.page i c.if-index-ge-TABLE_WORDS.false (c.index_at-index.ensures.within c.if-index-ge-TABLE_WORDS.false) turned))
 
 -- where the word before is the new one, or is not, so is the word that stands there
 is_there : (before word next : ℕ) → (before == next) ≡ (word == next) → before ≡ next → word ≡ next
@@ -39,15 +30,6 @@ returns-then-before-at-clause-wrote g c =
     wrote-none (runs_set w (page_alone page ∷ [])) w.page _ (g.S.WordStore.words c.args.store.now) (log_of c.args.operations.now c.args.nonzero) c.requires.ready.counted (λ pool same.
     let inside : 512 * w.page + i < length pool.memory.words = (let long = ap length same in omega (arith, long, c.requires.may.page_in.inside, small)) in
     alone-stays w page i small (c.index_at-index.ensures.within small) pool inside (ap (λ l. words_of l w.page i) same ∙ there))
-
-pub write_word-requires : goal.write_word-requires
-write_word-requires g c =
-    let small = c.if-index-ge-TABLE_WORDS.false in
-    let one = alone-words c.args.with c.args.page c.index_at-index.result small (c.index_at-index.ensures.within small) in
-    record {
-      may = record { index_in = small; page_in = c.requires.may.page_in; turned = c.word_before-before.ensures.zero };
-      ready = record { counted = c.requires.ready.counted; room = omega (arith, one, c.requires.ready.room) };
-    }
 
 pub returns-clause-wrote : goal.returns-clause-wrote
 returns-clause-wrote g c =

@@ -1,6 +1,5 @@
-use Rattle.std.proofs.Common.{◌≡◌, ◌+◌, ◌-◌, ◌++◌, reverse, sym, ap, ◌∙◌, arith, refl}
-use Rattle.pool.specs.Pool.{sets_of}
-use Rattle.pool.proofs.Recorded.{records-none, records-next, next-in_range}
+use Rattle.std.proofs.Common.{◌≡◌, ◌+◌, ◌-◌, ◌∙◌, arith, refl}
+use Rattle.pool.proofs.Recorded.{records-none, records-next}
 use Rattle.pool.proofs.stretch.record_all.Goals as goal
 
 pub loop-index-init : goal.loop-index-init
@@ -27,12 +26,3 @@ loop-index-preserved c =
       capacity = c.push_reserved.ensures.capacity ∙ before.capacity;
       len = omega (arith, before.len, c.push_reserved.ensures.len);
     }
-
-pub overflow_add-word : goal.overflow_add-word
-overflow_add-word c = omega (arith, next-in_range c.args.range c.loop-index.index c.loop-index.word c.loop-index.auto.index c.loop-index-test.true c.loop-index.invariant.word c.requires.in_range)
-
-pub returns-clause-records : goal.returns-clause-records
-returns-clause-records c = λ words inside differ.
-    let s = c.args.range in
-    let all : s.end - s.first ≡ c.loop-index.index - s.first = omega (arith, c.loop-index-test.false, c.loop-index.auto.index-end, c.requires.ordered) in
-    c.loop-index.invariant.made words inside differ ∙ ap (λ n. sets_of words s.page s.first n s.word s.step ++ reverse c.args.operations.items) (sym all)

@@ -18,9 +18,6 @@ loop-index-init g c =
       standing = refl;
     }
 
-pub standing_word-before-requires-clause-inside : goal.standing_word-before-requires-clause-inside
-standing_word-before-requires-clause-inside g c = omega (arith, c.loop-index.invariant.wrote.whole, c.requires.may.page_in.inside)
-
 pub write_word-requires-clause-may : goal.write_word-requires-clause-may
 write_word-requires-clause-may g c =
     let small : c.loop-index.index < 512 = omega (arith, c.requires.may.index_in, c.loop-index-test.true) in
@@ -81,9 +78,3 @@ loop-index-preserved g c =
             standing = before.standing;
           }
     ]
-
-pub returns-clause-wrote : goal.returns-clause-wrote
-returns-clause-wrote g c =
-    let s = c.args.range in
-    let end : c.loop-index.index ≡ s.end = omega (arith, c.loop-index-test.false, c.loop-index.auto.index-end, c.requires.may.ordered) in
-    rw (← end) c.loop-index.invariant.wrote

@@ -1,15 +1,8 @@
-use Rattle.std.proofs.Common.{◌<◌, ◌∙◌, sym, ap, refl, arith, inl, inr, length, true, false}
-use Rattle.std.proofs.lemmas.Bool.{cases_eq}
-use Rattle.std.proofs.lemmas.List.{get_or_read, length-set, get_or-set_same, get_or-set_other}
+use Rattle.std.proofs.Common.{◌<◌, ◌∙◌, sym, ap, refl, arith, length, true, false}
+use Rattle.std.proofs.lemmas.List.{get_or_read, length-set}
 use Rattle.pool.specs.Cells.{held}
 use Rattle.pool.proofs.Held.{length-zeros, held-zeros, marked-fill}
 use Rattle.pool.proofs.block.Block.hold.Goals as goal
-
-pub fill_page-requires-clause-empty : goal.fill_page-requires-clause-empty
-fill_page-requires-clause-empty c =
-    let block = c.args.self.now in
-    let inside : c.args.page < length block.marks.items = omega (arith, block.sized, c.requires) in
-    block.marked.empty c.args.page (sym (get_or_read block.marks.items _ _ inside c.index.ensures false) ∙ c.if-not-index.true)
 
 pub invariant_of-self-clause-marked : goal.invariant_of-self-clause-marked
 invariant_of-self-clause-marked c =
@@ -34,22 +27,3 @@ returns-then-not-index-clause-words c =
     let inside : c.args.page < length block.marks.items = omega (arith, block.sized, c.requires) in
     let empty = block.marked.empty c.args.page (sym (get_or_read block.marks.items _ _ inside c.index.ensures false) ∙ c.if-not-index.true) in
     ap held c.fill_page.ensures.slots ∙ held-zeros block.cells.slots c.args.page 512 (omega arith) empty
-
-pub returns-then-not-index-clause-filled : goal.returns-then-not-index-clause-filled
-returns-then-not-index-clause-filled c =
-    let block = c.args.self.now in
-    get_or-set_same block.marks.items c.args.page true false (omega (arith, block.sized, c.requires))
-
-pub returns-then-not-index-clause-kept : goal.returns-then-not-index-clause-kept
-returns-then-not-index-clause-kept c = λ q stood.
-    let block = c.args.self.now in
-    elim (cases_eq q c.args.page) [
-      | inl same ↦ rw same (get_or-set_same block.marks.items c.args.page true false (omega (arith, block.sized, c.requires)))
-      | inr other ↦ get_or-set_other block.marks.items c.args.page q true false other ∙ stood
-    ]
-
-pub returns-else-not-index-clause-filled : goal.returns-else-not-index-clause-filled
-returns-else-not-index-clause-filled c =
-    let block = c.args.self.now in
-    let inside : c.args.page < length block.marks.items = omega (arith, block.sized, c.requires) in
-    sym (get_or_read block.marks.items _ _ inside c.index.ensures false) ∙ c.if-not-index.false

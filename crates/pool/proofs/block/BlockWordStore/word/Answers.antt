@@ -1,6 +1,6 @@
 use Rattle.std.proofs.Common.{◌+◌, ◌*◌, ◌<◌, ◌∙◌, sym, arith, length, false}
 use Rattle.std.proofs.lemmas.List.{get_or_read}
-use Rattle.pool.proofs.Held.{length-held, filled-at, held-at, held-none}
+use Rattle.pool.proofs.Held.{length-held, filled-at, held-none}
 use Rattle.pool.proofs.block.BlockWordStore.word.Goals as goal
 
 pub get-requires : goal.get-requires
@@ -10,9 +10,6 @@ get-requires c =
     let inside : c.args.page < length block.marks.items = omega (arith, block.sized, c.requires.inside, long, block.counted) in
     let mark = sym (get_or_read block.marks.items _ _ inside c.index.ensures false) ∙ c.if-index.true in
     (sym block.cells_placed, filled-at block.cells.slots c.args.page c.args.index (block.marked.filled c.args.page mark) c.requires.index_in)
-
-pub returns-then-index : goal.returns-then-index
-returns-then-index c = sym (held-at c.args.self.now.cells.slots (512 * c.args.page + c.args.index) _ c.get.ensures)
 
 pub returns-else-index : goal.returns-else-index
 returns-else-index c =

@@ -2,23 +2,9 @@ use Rattle.std.proofs.Common.{◌≡◌, false, ◌+◌, ◌∙◌, ◌<◌, len
 use Rattle.std.proofs.lemmas.List.{get_or_read}
 use Rattle.std.proofs.Math.ListN.{length-set}
 use Rattle.pool.proofs.Words.{words_of-beyond}
-use Rattle.pool.proofs.Shares.{share_inside, share_end}
-use Rattle.pool.proofs.Kept.{free_zero-mark, roots-mark, standing-mark, memory_in, counts-give, counts-below, below-give}
+use Rattle.pool.proofs.Shares.{share_inside}
+use Rattle.pool.proofs.Kept.{free_zero-mark, roots-mark, standing-mark, memory_in, counts-give, below-give}
 use Rattle.pool.proofs.table_pool.TablePoolTableMem.give_page.Goals as goal
-
-pub unmark-requires : goal.unmark-requires
-unmark-requires g c = let old = c.args.self.now in omega (arith, old.taken_whole, share_inside _ _ _ c.requires.inside)
-
-pub overflow_add-index_mut : goal.overflow_add-index_mut
-overflow_add-index_mut g c =
-    let old = c.args.self.now in
-    let row = c.args.row in
-    let share = c.requires.inside in
-    let rows = old.free_counted.rows in
-    let here = get_or_read old.free.items _ _ (omega (arith, share.partition, rows)) c.index_mut.ensures.value 0 in
-    let most = counts-below (memory_in old) old.free.items row c.args.page old.free_counted share c.requires.taken in
-    let end = share_end old.quotas.items row share.partition in
-    omega (arith, here, most, end, old.fits)
 
 pub invariant_of-self : goal.invariant_of-self
 invariant_of-self g c =

@@ -17,32 +17,12 @@ next_unmarked-page-requires g c =
     let old = c.args.self.now in
     rw (begins old c.args.row c.index.result.now c.requires.free c.index.ensures) (some-unmarked (memory_in old) old.lowest.items c.args.row old.none_free_below old.taken_whole c.requires.free)
 
-pub mark-requires : goal.mark-requires
-mark-requires g c =
-    let old = c.args.self.now in
-    let memory = memory_in old in
-    let lowest = found-lowest memory old.lowest.items c.args.row c.next_unmarked-page.result old.none_free_below c.requires.free (rw (begins old c.args.row c.index.result.now c.requires.free c.index.ensures) at c.next_unmarked-page.ensures) in
-    let inside : c.next_unmarked-page.result < length old.taken = omega (arith, old.taken_whole, share_inside old.quotas.items c.args.row c.next_unmarked-page.result lowest.inside) in
-    inside
-
 pub returns-clause-lowest : goal.returns-clause-lowest
 returns-clause-lowest g c =
     let old = c.args.self.now in
     let memory = memory_in old in
     let lowest = found-lowest memory old.lowest.items c.args.row c.next_unmarked-page.result old.none_free_below c.requires.free (rw (begins old c.args.row c.index.result.now c.requires.free c.index.ensures) at c.next_unmarked-page.ensures) in
     lowest
-
-pub overflow_sub-index_mut : goal.overflow_sub-index_mut
-overflow_sub-index_mut g c =
-    let old = c.args.self.now in
-    let memory = memory_in old in
-    let row = c.args.row in
-    let within = row-within (pages_in old) row c.requires.free in
-    let rows = old.free_counted.rows in
-    let here : c.index_mut.result.now ≡ slice_index old.free.items row = get_or_read old.free.items _ _ (omega (arith, within, rows)) c.index_mut.ensures.value 0 in
-    let counted = old.free_counted.each row within in
-    let some = c.requires.free in
-    omega (arith, here, counted, some)
 
 pub invariant_of-self : goal.invariant_of-self
 invariant_of-self g c =
