@@ -7,16 +7,9 @@ use Rattle.pool.proofs.block.put_word.Goals as goal
 pub read-old-requires : goal.read-old-requires
 read-old-requires c = (c.requires.place, filled-at c.args.cells.now.slots c.args.page c.args.index c.requires.filled c.requires.index_in)
 
-pub returns : goal.returns
-returns c =
+pub returns-clause-words : goal.returns-clause-words
+returns-clause-words c =
     let slots = c.args.cells.now.slots in
     let place = 512 * c.args.page + c.args.index in
-    let here : IsFilled slots place = filled-at slots c.args.page c.args.index c.requires.filled c.requires.index_in in
     let written : c.write.new.self.slots ≡ set (set slots place None) place (Some c.args.word) = rw c.read-old.ensures.slots.1 at c.write.ensures.1 in
-    rw written record {
-      place = c.write.ensures.0 ∙ c.read-old.ensures.slots.0;
-      len = length-put slots place c.args.word;
-      filled = filled-set slots c.args.page place c.args.word here c.requires.filled;
-      words = held-set slots place c.args.word;
-      marked = λ marks old. marked-set marks slots place c.args.word here old;
-    }
+    rw written (held-set slots place c.args.word)

@@ -15,14 +15,8 @@ returns-then-first-end-clause-wrote g c =
     let none : end - first ≡ 0 = omega (arith, c.if-first-end.true) in
     wrote-none (indexes_set w first end) w.page (end - first) (g.S.WordStore.words c.args.store.now) c.args.log c.requires.ready.counted (λ pool _. rw none (sets-none w.page first (w.word + w.step * first) w.step pool))
 
-pub turn_all-requires : goal.turn_all-requires
-turn_all-requires g c =
-    let known : not (g.row.TURNED == 0) ≡ true = grind (arith, nat_tests, c.if-this-ne0.true) in
-    rw c.range-range.ensures record {
-      may = may-range c.args.with c.args.indexes.first c.args.indexes.end c.requires.may c.if-first-end.false c.requires.most;
-      turned = turned-range (g.S.WordStore.words c.args.store.now) c.args.with c.args.indexes.first c.args.indexes.end (c.requires.zeros known) (c.requires.each known);
-      ready = c.requires.ready;
-    }
+pub turn_all-requires-clause-may : goal.turn_all-requires-clause-may
+turn_all-requires-clause-may g c = rw c.range-range.ensures (may-range c.args.with c.args.indexes.first c.args.indexes.end c.requires.may c.if-first-end.false c.requires.most)
 
 pub write_others-requires : goal.write_others-requires
 write_others-requires g c =
