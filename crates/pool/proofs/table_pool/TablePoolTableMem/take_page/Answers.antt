@@ -1,9 +1,10 @@
 use Rattle.std.proofs.Common.{◌≡◌, ℕ, ◌-◌, ◌<◌, ◌∙◌, arith, length, slice_index, get_or, ap, true}
 use Rattle.std.proofs.lemmas.List.{get_or_read}
 use Rattle.std.proofs.Math.ListN.{length-set}
-use Rattle.pool.specs.Pool.{HasFree}
+use Rattle.pool.specs.Pool.{HasFree, IsLowestFree}
 use Rattle.pool.specs.declared.table_pool.TablePool.{TablePool}
 use Rattle.pool.specs.declared.word_store.WordStore.{Ghosts}
+use Rattle.marks.specs.Marks.{IsFirstUnmarked}
 use Rattle.pool.proofs.Shares.{share_inside}
 use Rattle.pool.proofs.Kept.{memory_in, pages_in, free_zero-mark, roots-mark, standing-mark, some-unmarked, found-lowest, row-within, counts-take, below-take}
 use Rattle.pool.proofs.table_pool.TablePoolTableMem.take_page.Goals as goal
@@ -12,23 +13,23 @@ use Rattle.pool.proofs.table_pool.TablePoolTableMem.take_page.Goals as goal
 begins : {S : Type 0} {g : Ghosts S} (old : TablePool S g) (row start : ℕ) → HasFree (pages_in old) row → start ≡ get_or old.lowest.items row start → start ≡ slice_index old.lowest.items row
 begins old row start free read = get_or_read old.lowest.items row start (omega (arith, row-within (pages_in old) row free, old.none_free_below.rows)) read 0
 
+-- the page that is found is the lowest free one
+found : {S : Type 0} {g : Ghosts S} (old : TablePool S g) (row start page : ℕ) → HasFree (pages_in old) row → start ≡ get_or old.lowest.items row start → IsFirstUnmarked old.taken start page → IsLowestFree (pages_in old) row page
+found old row start page free read first = found-lowest (memory_in old) old.lowest.items row page old.none_free_below free (rw (begins old row start free read) at first)
+
 pub next_unmarked-page-requires : goal.next_unmarked-page-requires
 next_unmarked-page-requires g c =
     let old = c.args.self.now in
     rw (begins old c.args.row c.index.result.now c.requires.free c.index.ensures) (some-unmarked (memory_in old) old.lowest.items c.args.row old.none_free_below old.taken_whole c.requires.free)
 
 pub returns-clause-lowest : goal.returns-clause-lowest
-returns-clause-lowest g c =
-    let old = c.args.self.now in
-    let memory = memory_in old in
-    let lowest = found-lowest memory old.lowest.items c.args.row c.next_unmarked-page.result old.none_free_below c.requires.free (rw (begins old c.args.row c.index.result.now c.requires.free c.index.ensures) at c.next_unmarked-page.ensures) in
-    lowest
+returns-clause-lowest g c = found c.args.self.now c.args.row c.index.result.now c.next_unmarked-page.result c.requires.free c.index.ensures c.next_unmarked-page.ensures
 
 pub invariant_of-self : goal.invariant_of-self
 invariant_of-self g c =
     let old = c.args.self.now in
     let memory = memory_in old in
-    let lowest = found-lowest memory old.lowest.items c.args.row c.next_unmarked-page.result old.none_free_below c.requires.free (rw (begins old c.args.row c.index.result.now c.requires.free c.index.ensures) at c.next_unmarked-page.ensures) in
+    let lowest = found old c.args.row c.index.result.now c.next_unmarked-page.result c.requires.free c.index.ensures c.next_unmarked-page.ensures in
     let page = c.next_unmarked-page.result in
     let inside : page < length old.taken = omega (arith, old.taken_whole, share_inside old.quotas.items c.args.row page lowest.inside) in
     let row = c.args.row in
