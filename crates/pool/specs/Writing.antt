@@ -1,9 +1,12 @@
 -- What the writers of a page's words ask for, and what they do.
 use Rattle.std.specs.Prelude.{◌≡◌, ◌≢◌, ℕ, ◌+◌, ◌-◌, ◌*◌, ◌<◌, ◌≤◌, ◌^◌, ◌++◌, ◌==◌, not, Bool, true, List, length, reverse, Vec, vec_len, vec_capacity}
 use Rattle.std.specs.declared.alloc.Global.{Global}
+use denote.RawPtr.{Ptr}
 use Rattle.base.specs.Pages.{PageRun, covers}
+use Rattle.pool.specs.Cells.{held, IsPageFilled, AreMarked}
 use Rattle.pool.specs.Pool.{Pool, words_of, words_in, nonzero_in, words_set, sets_of, after_sets, after_runs, gaps_of, after_replaces}
 use Rattle.pool.specs.Shown.{IsShown, AllDiffer}
+use Rattle.pool.specs.declared.cells.Cells.{Cells}
 use Rattle.pool.specs.declared.log.Log.{Log}
 use Rattle.pool.specs.declared.operation.Op.{Op}
 use Rattle.pool.specs.declared.replace.Replacement.{Replacement}
@@ -93,6 +96,28 @@ pub record MayWrite (words : List ℕ) (stands : ℕ → Bool) (range : WordRang
 -- the writes of those that are not there are recorded behind operations
 abbrev pub Records : List ℕ → WordRange → List Op → List Op → Type 0
 Records words range old new = reverse new ≡ writes_of words range ++ reverse old
+
+-- they are, whatever the words were, if none of these was there
+pub record RecordsAll (range : WordRange) (old new : Vec Op Global) : Type 0 where
+  pub records : (words : List ℕ) → 512 * range.page + 512 ≤ length words → NoneThere words range → Records words range old.items new.items
+  pub grows : Grows (range.end - range.first) old new
+
+-- they may be put into the places of a block, whose page is filled
+pub record MayPut (base : Ptr) (cells : Cells ℕ) (range : WordRange) : Type 0 where
+  pub place : base ≡ cells.at
+  pub filled : IsPageFilled cells.slots range.page
+  pub ordered : range.first ≤ range.end
+  pub index_in : range.end ≤ 512
+  pub inside : 512 * range.page + 512 ≤ length cells.slots
+  pub in_range : range.word + range.step * (range.end - range.first) < 2 ^ 64
+
+-- they are put there
+pub record Puts (range : WordRange) (old new : Cells ℕ) : Type 0 where
+  pub place : new.at ≡ old.at
+  pub len : length new.slots ≡ length old.slots
+  pub filled : IsPageFilled new.slots range.page
+  pub words : held new.slots ≡ with_range (held old.slots) range
+  pub marked : (marks : List Bool) → AreMarked marks old.slots → AreMarked marks new.slots
 
 -- ---- one word
 

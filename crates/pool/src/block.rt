@@ -1,7 +1,7 @@
 ghost use Rattle.std.specs.Prelude.{◌≡◌, ◌≢◌, ℕ, ◌+◌, ◌-◌, ◌*◌, ◌/◌, ◌^◌, ◌<◌, ◌≤◌, List, Bool, None, true, false, length, replicate, slice_index, slice_index_or, slice_set, IfOk};
 ghost use Rattle.pool.specs.Cells.{held, with_zeros, IsPageFilled, IsPageEmpty, AreMarked};
 ghost use Rattle.pool.specs.Pool.{words_of};
-ghost use Rattle.pool.specs.Writing.{with_range, HasRoom, NoneThere, Records, Grows};
+ghost use Rattle.pool.specs.Writing.{HasRoom, MayPut, Puts, RecordsAll};
 
 use crate::cells::{Base, Cells, Deed, allocate, deallocate};
 use crate::operation::Op;
@@ -103,17 +103,8 @@ fn put_word(base: Base<u64>, cells: &mut Cells<u64>, page: u32, index: u32, word
 /// is written.
 #[inline(always)]
 fn put_words(base: Base<u64>, cells: &mut Cells<u64>, range: WordRange)
-    requires place { base.ptr ≡ cells.old.at }
-    requires filled { IsPageFilled cells.old.slots range.page }
-    requires ordered { range.first ≤ range.end }
-    requires index_in { range.end ≤ 512 }
-    requires inside { 512 * range.page + 512 ≤ length cells.old.slots }
-    requires in_range { range.word + range.step * (range.end - range.first) < 2 ^ 64 }
-    ensures place { cells.new.at ≡ cells.old.at }
-    ensures len { length cells.new.slots ≡ length cells.old.slots }
-    ensures words { held cells.new.slots ≡ with_range (held cells.old.slots) range }
-    ensures marked { (marks : List Bool)
-        → AreMarked marks cells.old.slots → AreMarked marks cells.new.slots }
+    requires { MayPut base.ptr cells.old range }
+    ensures { Puts range cells.old cells.new }
 {
     let mut next = range.word;
     for index in range.first..range.end {
@@ -130,21 +121,10 @@ fn put_and_record(
     mut operations: Vec<Op>,
     range: WordRange,
 ) -> Vec<Op>
-    requires place { base.ptr ≡ cells.old.at }
-    requires filled { IsPageFilled cells.old.slots range.page }
-    requires ordered { range.first ≤ range.end }
-    requires index_in { range.end ≤ 512 }
-    requires inside { 512 * range.page + 512 ≤ length cells.old.slots }
-    requires in_range { range.word + range.step * (range.end - range.first) < 2 ^ 64 }
+    requires may { MayPut base.ptr cells.old range }
     requires ready { HasRoom operations (range.end - range.first) }
-    ensures place { cells.new.at ≡ cells.old.at }
-    ensures len { length cells.new.slots ≡ length cells.old.slots }
-    ensures words { held cells.new.slots ≡ with_range (held cells.old.slots) range }
-    ensures marked { (marks : List Bool)
-        → AreMarked marks cells.old.slots → AreMarked marks cells.new.slots }
-    ensures records { (words : List ℕ) → 512 * range.page + 512 ≤ length words → NoneThere words range
-        → Records words range operations.items result.items }
-    ensures grows { Grows (range.end - range.first) operations result }
+    ensures put { Puts range cells.old cells.new }
+    ensures recorded { RecordsAll range operations result }
 {
     let page = range.page;
     let mut word = range.word;

@@ -2,7 +2,7 @@
 
 ghost use Rattle.std.specs.Prelude.{◌≡◌, ℕ, List, ◌+◌, ◌-◌, ◌*◌, ◌^◌, ◌<◌, ◌≤◌, ◌⊎◌, length, if◌then◌else◌, ◌==◌, true};
 ghost use Rattle.pool.specs.Pool.{after_set, words_of, nonzero_in};
-ghost use Rattle.pool.specs.Writing.{range_set, with_range, writes_of, log_of, NoneThere, Turns, MayWrite, MayWriteAt, Records, HasRoom, Grows, IsReady, Wrote};
+ghost use Rattle.pool.specs.Writing.{range_set, with_range, writes_of, log_of, NoneThere, Turns, MayWrite, MayWriteAt, Records, RecordsAll, HasRoom, Grows, IsReady, Wrote};
 
 use crate::log::Log;
 use crate::operation::Op;
@@ -75,9 +75,7 @@ pub(crate) fn record_all(mut operations: Vec<Op>, range: WordRange) -> Vec<Op>
     requires index_in { range.end ≤ 512 }
     requires in_range { range.word + range.step * (range.end - range.first) < 2 ^ 64 }
     requires ready { HasRoom operations (range.end - range.first) }
-    ensures records { (words : List ℕ) → 512 * range.page + 512 ≤ length words → NoneThere words range
-        → Records words range operations.items result.items }
-    ensures grows { Grows (range.end - range.first) operations result }
+    ensures { RecordsAll range operations result }
 {
     let mut word = range.word;
     for index in range.first..range.end {
