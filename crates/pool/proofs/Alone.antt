@@ -5,8 +5,8 @@ use Rattle.pool.specs.Writing.{page_alone, runs_set}
 use Rattle.pool.specs.declared.runs.TableWords.{TableWords}
 use Rattle.pool.proofs.Nonzero.{word-read}
 use Rattle.pool.proofs.RunWords.{after_run-outside, page-alone, sets-none}
-use Rattle.pool.proofs.Stretches.{words_set-none}
-use Rattle.pool.proofs.Wrote.{sets-more, sets-pass, alone-run}
+use Rattle.pool.proofs.Stretches.{words_set-none, sets-more, sets-pass}
+use Rattle.pool.proofs.Wrote.{alone-run}
 
 -- none of them is its
 pub alone-outside : (with : TableWords) (page : ℕ) → (page < with.start) ⊎ (with.start + 512 ≤ page) → (pool : Pool) → runs_set with (page_alone page ∷ []) pool ≡ pool

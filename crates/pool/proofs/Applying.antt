@@ -5,12 +5,9 @@ use Rattle.pool.specs.declared.operation.Op.TheVariants.{Set}
 use Rattle.pool.specs.Pool.{ImageWords, IsInImage, applied, words_of}
 use Rattle.pool.proofs.Words.{words_of-set}
 
-at-set : (image : ImageWords) (page index word : ℕ) → length image.words ≡ 512 * image.pages → IsInImage (Set page index word) image → words_of (slice_set image.words (512 * page + index) word) ≡ applied (Set page index word) (words_of image.words)
-at-set image page index word whole inside = words_of-set image.words image.pages page index word whole inside.0 inside.1
-
 pub applied-set : (op : Op) (copy image : ImageWords) (page index word : ℕ) → op ≡ Set page index word → copy ≡ image → length copy.words ≡ 512 * copy.pages → IsInImage op image
     → words_of (slice_set copy.words (512 * page + index) word) ≡ applied op (words_of image.words)
 applied-set op copy image page index word is same =
     let P : ImageWords → Type 0 = λ x. length copy.words ≡ 512 * copy.pages → IsInImage op x → words_of (slice_set copy.words (512 * page + index) word) ≡ applied op (words_of x.words) in
     let Q : Op → Type 0 = λ o. length copy.words ≡ 512 * copy.pages → IsInImage o copy → words_of (slice_set copy.words (512 * page + index) word) ≡ applied o (words_of copy.words) in
-    subst P same (subst Q (sym is) (at-set copy page index word))
+    subst P same (subst Q (sym is) (λ whole inside. words_of-set copy.words copy.pages page index word whole inside.0 inside.1))

@@ -9,17 +9,11 @@ use Rattle.pool.proofs.RunWords.{after_runs-none, after_runs-next, words_in-appe
 
 -- ---- one gap
 
-lt-test : (a b : ℕ) → a < b → nat_lt a b ≡ true
-lt-test a b lt = grind (arith, nat_tests, lt)
-
-ge-test : (a b : ℕ) → b ≤ a → nat_lt a b ≡ false
-ge-test a b le = grind (arith, nat_tests, le)
-
 pub gap-some : (start first end : ℕ) → first < end → gap start first end ≡ record { first = start + first; count = end - first } ∷ []
-gap-some start first end lt = rw (lt-test first end lt) refl
+gap-some start first end lt = let test : nat_lt first end ≡ true = grind (arith, nat_tests, lt) in rw test refl
 
 pub gap-none : (start first end : ℕ) → end ≤ first → gap start first end ≡ []
-gap-none start first end le = rw (ge-test first end le) refl
+gap-none start first end le = let test : nat_lt first end ≡ false = grind (arith, nat_tests, le) in rw test refl
 
 pub gaps-none : (start first : ℕ) → gaps_from start first [] ≡ gap start first 512
 unfolding gaps_from

@@ -91,12 +91,9 @@ pub zeros-none : (cs : List (Option ℕ)) (page : ℕ) → with_zeros cs page 0 
 unfolding with_zeros
 zeros-none cs page = refl
 
-zeros-suc : (cs : List (Option ℕ)) (page n : ℕ) → with_zeros cs page (suc n) ≡ set (with_zeros cs page n) (512 * page + n) (Some 0)
-unfolding with_zeros
-zeros-suc cs page n = refl
-
 pub zeros-next : (cs : List (Option ℕ)) (page n : ℕ) → with_zeros cs page (n + 1) ≡ set (with_zeros cs page n) (512 * page + n) (Some 0)
-zeros-next cs page n = rw (add-one n) (zeros-suc cs page n)
+unfolding with_zeros
+zeros-next cs page n = rw add-one refl
 
 pub zeros-beside : (cs : List (Option ℕ)) (page n k : ℕ) → (k < 512 * page) ⊎ (512 * page + n ≤ k) → get_or (with_zeros cs page n) k None ≡ get_or cs k None
 unfolding with_zeros

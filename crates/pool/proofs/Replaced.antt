@@ -7,7 +7,7 @@ use Rattle.base.specs.Pages.{PageRun}
 use Rattle.pool.specs.Pool.{Words, Pool, words_of, nonzero_in, words_set, sets_of, after_set, after_sets, after_invalidate, after_break, after_make, after_replaces}
 use Rattle.pool.proofs.Words.{words_of-set_at, put-other_index, put-other_page}
 use Rattle.pool.proofs.Nonzero.{word-read, nonzero-zeros}
-use Rattle.pool.proofs.Stretches.{words_set-beside}
+use Rattle.pool.proofs.Stretches.{words_set-beside, sets-more}
 
 -- ---- one word
 
@@ -157,13 +157,6 @@ replaces-beside p page first (suc n) word step start i a small room behind =
 -- ---- words that are replaced in a page whose words are all 0
 
 -- none is broken, and each is written
-after_sets-more : (page first n word step : ℕ) (a : Pool) → slice_index (words_set a.memory.words page first n word step) (512 * page + (first + n)) ≢ word + step * n
-    → after_sets page first (suc n) word step a ≡ after_set page (first + n) (word + step * n) (after_sets page first n word step a)
-unfolding words_set sets_of
-after_sets-more page first n word step a differs =
-    let test : (slice_index (words_set a.memory.words page first n word step) (512 * page + (first + n)) == word + step * n) ≡ false = grind (arith, nat_tests, differs) in
-    rw test refl
-
 pub replaces-fresh : (p page first n word step start : ℕ) (a : Pool) → first + n ≤ 512 → 512 * page + 512 ≤ length a.memory.words → nonzero_in (words_of a.memory.words) page ≡ 0 → 0 < word
     → after_replaces p page first n word step start a ≡ after_sets page first n word step a
 unfolding after_replaces words_set sets_of
@@ -179,4 +172,4 @@ replaces-fresh p page first (suc n) word step start a small room none some =
     let read = word-read b.memory.words page (first + n) (slice_index b.memory.words (512 * page + (first + n))) (omega (arith, small)) refl in
     let differs : slice_index b.memory.words (512 * page + (first + n)) ≢ next = λ is. absurd (let zero = sym is ∙ read ∙ was in omega (arith, zero, some)) in
     ap (λ (q : Pool). after_make page (first + n) next (after_break p page (first + n) run q)) rest
-    ∙ (rw (zero_test, some_test) (sym (after_sets-more page first n word step a differs)))
+    ∙ (rw (zero_test, some_test) (sym (rw add-one at (sets-more page first n word step (first + n) next a refl refl differs))))

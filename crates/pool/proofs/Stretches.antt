@@ -4,7 +4,7 @@ use Rattle.std.proofs.Math.Nat.{mul-le-mul_left}
 use Rattle.std.proofs.lemmas.Bool.{cases_eq, cases_Bool}
 use Rattle.std.proofs.lemmas.Bool.Decides.{nat_tests}
 use Rattle.std.proofs.lemmas.List.{length-set, length-append, length-reverse, append_assoc}
-use Rattle.pool.specs.Pool.{Words, put, words_of, nonzero_in, words_set, sets_of, counted}
+use Rattle.pool.specs.Pool.{Pool, Words, put, words_of, nonzero_in, words_set, sets_of, counted, after_set, after_sets}
 use Rattle.pool.specs.declared.operation.Op.{Op}
 use Rattle.pool.specs.declared.operation.Op.TheVariants.{Set}
 use Rattle.pool.proofs.Words.{words_of-set_at, put-same, put-other_index, put-other_page}
@@ -52,6 +52,25 @@ pub set-same : (items : List ℕ) (place word : ℕ) → place < length items �
 set-same [] place word inside is = refl
 set-same (x ∷ items) zero word inside is = ap (λ y. y ∷ items) (sym is)
 set-same (x ∷ items) (suc place) word inside is = ap (λ rest. x ∷ rest) (set-same items place word (omega arith) is)
+
+-- one more, which is not there
+pub sets-more : (page first n word step index next : ℕ) (pool : Pool) → first + n ≡ index → word + step * n ≡ next → slice_index (words_set pool.memory.words page first n word step) (512 * page + index) ≢ next
+    → after_sets page first (n + 1) word step pool ≡ after_set page index next (after_sets page first n word step pool)
+unfolding words_set sets_of
+sets-more page first n word step index next pool is there differs =
+    let test : (slice_index (words_set pool.memory.words page first n word step) (512 * page + index) == next) ≡ false = grind (arith, nat_tests, differs) in
+    rw (add-one, is, there, test) refl
+
+-- or which is
+pub sets-pass : (page first n word step index next : ℕ) (pool : Pool) → first + n ≡ index → word + step * n ≡ next → 512 * page + index < length pool.memory.words → slice_index (words_set pool.memory.words page first n word step) (512 * page + index) ≡ next
+    → after_sets page first (n + 1) word step pool ≡ after_sets page first n word step pool
+unfolding words_set sets_of
+sets-pass page first n word step index next pool is there inside same =
+    let set = words_set pool.memory.words page first n word step in
+    let test : (slice_index set (512 * page + index) == next) ≡ true = grind (arith, nat_tests, same) in
+    let long = length-words_set pool.memory.words page first n word step in
+    let stays : slice_set set (512 * page + index) next ≡ set = set-same set (512 * page + index) next (omega (arith, long, inside)) same in
+    rw (add-one, is, there, test, stays) refl
 
 -- the words of another page stay
 pub words_set-other : (words : List ℕ) (page first n word step q i : ℕ) → 512 * page + 512 ≤ length words → first + n ≤ 512 → q ≢ page

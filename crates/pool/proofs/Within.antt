@@ -10,6 +10,7 @@ use Rattle.base.specs.Pages.{PageRun}
 use Rattle.pool.specs.Pool.{Pool, words_of, lies_in, words_set, sets_of, index_from, after_run, after_runs, after_break, after_make, after_replaces}
 use Rattle.pool.specs.declared.operation.Op.{Op}
 use Rattle.pool.specs.declared.operation.Op.TheVariants.{Set, Invalidate}
+use Rattle.pool.proofs.RunWords.{run-within}
 
 pub set-within : (ids quotas : List ℕ) (page index word : ℕ) → page < page_count quotas → index < 512 → lies_in ids quotas (Set page index word) ≡ true
 set-within ids quotas page index word inside small = grind (arith, nat_tests, inside, small)
@@ -27,17 +28,13 @@ within-sets ids quotas words page first (suc n) word step inside small =
       | inr f ↦ rw (f, here) rest
     ]
 
-both : (ids quotas : List ℕ) (new old : List Op) → list_all (lies_in ids quotas) new ≡ true → list_all (lies_in ids quotas) old ≡ true → list_all (lies_in ids quotas) (new ++ old) ≡ true
-both ids quotas new old a b = rw (list_all-append (lies_in ids quotas) new old, a) b
-
 pub within-behind : (ids quotas : List ℕ) (words : List ℕ) (page first n word step : ℕ) (old : List Op) → page < page_count quotas → first + n ≤ 512 → list_all (lies_in ids quotas) old ≡ true
     → list_all (lies_in ids quotas) (sets_of words page first n word step ++ old) ≡ true
-within-behind ids quotas words page first n word step old inside small all = both ids quotas (sets_of words page first n word step) old (within-sets ids quotas words page first n word step inside small) all
+within-behind ids quotas words page first n word step old inside small all =
+    let new = within-sets ids quotas words page first n word step inside small in
+    rw (list_all-append (lies_in ids quotas) (sets_of words page first n word step) old, new) all
 
 -- of the words for runs
-index-small : (start first end : ℕ) → index_from start first + (index_from start end - index_from start first) ≤ 512
-index-small start first end = omega arith
-
 pub within-runs : (ids quotas : List ℕ) (page start word step : ℕ) (runs : List PageRun) (pool : Pool) → page < page_count quotas → list_all (lies_in ids quotas) pool.operations ≡ true
     → list_all (lies_in ids quotas) (after_runs page start word step runs pool).operations ≡ true
 unfolding after_runs
@@ -46,7 +43,7 @@ within-runs ids quotas page start word step (run ∷ runs) pool inside all =
     let first = index_from start run.first in
     let end = index_from start (run.first + run.count) in
     within-runs ids quotas page start word step runs (after_run page start word step run pool) inside
-    (within-behind ids quotas pool.memory.words page first (end - first) (word + step * first) step pool.operations inside (index-small start run.first (run.first + run.count)) all)
+    (within-behind ids quotas pool.memory.words page first (end - first) (word + step * first) step pool.operations inside (run-within start run) all)
 
 -- and of words that are replaced
 within-break : (ids quotas : List ℕ) (p page index : ℕ) (run : PageRun) (pool : Pool) → page < page_count quotas → index < 512 → row_of ids p < length ids → run.first + run.count ≤ 2 ^ 27 → list_all (lies_in ids quotas) pool.operations ≡ true

@@ -22,12 +22,9 @@ pub put-other_page : (words : Words) (page index word q i : ℕ) → q ≢ page 
 unfolding put
 put-other_page words page index word q i other = grind (arith, nat_tests)
 
-words_at-set : (items : List ℕ) (page index word q i : ℕ) → index < 512 → 512 * page + index < length items → words_of (slice_set items (512 * page + index) word) q i ≡ put page index word (words_of items) q i
-unfolding words_of put
-words_at-set items page index word q i below inside = grind (arith, common_steps, nat_tests)
-
 pub words_of-set_at : (items : List ℕ) (page index word : ℕ) → index < 512 → 512 * page + index < length items → words_of (slice_set items (512 * page + index) word) ≡ put page index word (words_of items)
-words_of-set_at items page index word below here = fun_ext (λ q. fun_ext (λ i. words_at-set items page index word q i below here))
+unfolding words_of put
+words_of-set_at items page index word below here = fun_ext (λ q. fun_ext (λ i. grind (arith, common_steps, nat_tests)))
 
 pub words_of-set : (items : List ℕ) (count page index word : ℕ) → length items ≡ 512 * count → page < count → index < 512 → words_of (slice_set items (512 * page + index) word) ≡ put page index word (words_of items)
 words_of-set items count page index word whole inside below = words_of-set_at items page index word below (omega arith)
@@ -52,12 +49,9 @@ pub mark-kept : (taken : ℕ → Bool) (page q : ℕ) → taken q ≡ true → m
 unfolding mark
 mark-kept taken page q held = grind (arith, nat_tests)
 
-taken_at-set : (items : List Bool) (page q : ℕ) (is : Bool) → page < length items → taken_of (slice_set items page is) q ≡ mark page is (taken_of items) q
-unfolding taken_of mark
-taken_at-set items page q is inside = grind (arith, common_steps, nat_tests)
-
 pub taken_of-set : (items : List Bool) (page : ℕ) (is : Bool) → page < length items → taken_of (slice_set items page is) ≡ mark page is (taken_of items)
-taken_of-set items page is inside = fun_ext (λ q. taken_at-set items page q is inside)
+unfolding taken_of mark
+taken_of-set items page is inside = fun_ext (λ q. grind (arith, common_steps, nat_tests))
 
 -- ---- the pages of a memory
 

@@ -10,7 +10,7 @@ use Rattle.pool.specs.declared.log.Log.{Log}
 use Rattle.pool.specs.declared.operation.Op.TheVariants.{Set, Invalidate}
 use Rattle.pool.specs.declared.runs.TableWords.{TableWords}
 use Rattle.pool.specs.declared.word_range.WordRange.{WordRange}
-use Rattle.pool.proofs.Stretches.{words_set-beside, set-same, vec_len-made, length-words_set}
+use Rattle.pool.proofs.Stretches.{words_set-beside, vec_len-made, length-words_set}
 use Rattle.pool.proofs.RunWords.{words-in_range, after_runs-none, after_runs-next, after_runs-append, words_in-append}
 use Rattle.pool.proofs.Gaps.{gap-one, gap-words, gap-has, covers-append, or-right}
 use Rattle.pool.proofs.Turned.{run-at}
@@ -102,25 +102,6 @@ wrote-range range old new before after written made more right = record {
 pub wrote-length : (range : WordRange) (most : ℕ) (old new : List ℕ) (before after : Log) → Wrote (range_set range) range.page most old new before after
     → vec_len after.operations ≡ vec_len before.operations + length (writes_of old range)
 wrote-length range most old new before after wrote = vec_len-made before.operations after.operations (writes_of old range) (wrote-is wrote).operations
-
--- one more, which is not there
-pub sets-more : (page first n word step index next : ℕ) (pool : Pool) → first + n ≡ index → word + step * n ≡ next → slice_index (words_set pool.memory.words page first n word step) (512 * page + index) ≢ next
-    → after_sets page first (n + 1) word step pool ≡ after_set page index next (after_sets page first n word step pool)
-unfolding words_set sets_of
-sets-more page first n word step index next pool is there differs =
-    let test : (slice_index (words_set pool.memory.words page first n word step) (512 * page + index) == next) ≡ false = grind (arith, nat_tests, differs) in
-    rw (add-one, is, there, test) refl
-
--- or which is
-pub sets-pass : (page first n word step index next : ℕ) (pool : Pool) → first + n ≡ index → word + step * n ≡ next → 512 * page + index < length pool.memory.words → slice_index (words_set pool.memory.words page first n word step) (512 * page + index) ≡ next
-    → after_sets page first (n + 1) word step pool ≡ after_sets page first n word step pool
-unfolding words_set sets_of
-sets-pass page first n word step index next pool is there inside same =
-    let set = words_set pool.memory.words page first n word step in
-    let test : (slice_index set (512 * page + index) == next) ≡ true = grind (arith, nat_tests, same) in
-    let long = length-words_set pool.memory.words page first n word step in
-    let stays : slice_set set (512 * page + index) next ≡ set = set-same set (512 * page + index) next (omega (arith, long, inside)) same in
-    rw (add-one, is, there, test, stays) refl
 
 -- ---- words for the pages of runs
 

@@ -3,8 +3,8 @@ use Rattle.pool.specs.Pool.{words_set}
 use Rattle.pool.specs.Writing.{range_set}
 use Rattle.pool.proofs.Nonzero.{read-test}
 use Rattle.pool.proofs.RunWords.{sets-none}
-use Rattle.pool.proofs.Stretches.{sets_of-write, length-sets_of-part}
-use Rattle.pool.proofs.Wrote.{wrote-none, wrote-then, wrote-as, wrote-is, wrote-length, sets-more, sets-pass}
+use Rattle.pool.proofs.Stretches.{sets_of-write, length-sets_of-part, sets-more, sets-pass}
+use Rattle.pool.proofs.Wrote.{wrote-none, wrote-then, wrote-as, wrote-is, wrote-length}
 use Rattle.pool.proofs.stretch.write_others.Goals.{then-before-word, else-before-word}
 use Rattle.pool.proofs.stretch.write_others.Goals as goal
 
