@@ -1,4 +1,5 @@
 -- The pages beside runs, as runs.
+use Rattle.std.proofs.lemmas.Grind.{common_steps}
 use Rattle.std.proofs.Common.{◌≡◌, ℕ, ◌+◌, ◌-◌, ◌<◌, ◌≤◌, ◌||◌, Bool, true, false, nat_le, nat_lt, max, ◌*◌, List, [], ◌∷◌, ◌++◌, length, drop, get_or, refl, sym, ap, ap₂, ◌∙◌, arith, inl, inr}
 use Rattle.std.proofs.lemmas.Bool.{cases_Bool, cases_lt, and_parts}
 use Rattle.std.proofs.lemmas.Bool.Decides.{nat_tests}
@@ -26,10 +27,7 @@ gaps-next start first run runs = refl
 
 -- its words are those from its first index up to its end
 pub gap-words : (start first end : ℕ) → end ≤ 512 → words_in start (gap start first end) ≡ end - first
-gap-words start first end most = elim (cases_lt first end) [
-  | inl lt ↦ rw (gap-some start first end lt) (omega (arith, lt, most))
-  | inr ge ↦ rw (gap-none start first end ge) (omega (arith, ge))
-]
+gap-words start first end most = grind (arith, common_steps, nat_tests)
 
 pub gap-one : (page start word step first end : ℕ) (pool : Pool) → end ≤ 512
     → after_runs page start word step (gap start first end) pool ≡ after_sets page first (end - first) (word + step * first) step pool
@@ -60,10 +58,7 @@ gaps-done start first i runs all = at_drop_all (gaps_from start first) runs i al
 -- ---- runs that stand upward
 
 pub above : (run : PageRun) (runs : List PageRun) (e : ℕ) → rise e (run ∷ runs) ≡ true → (e ≤ run.first) × (rise (run.first + run.count) runs ≡ true)
-above run runs e up =
-    let both = and_parts (nat_le e run.first) (rise (run.first + run.count) runs) up in
-    let test = both.0 in
-    (grind (arith, nat_tests, test), both.1)
+above run runs e up = grind (arith, common_steps, nat_tests)
 
 pub rise-lower : (runs : List PageRun) (a b : ℕ) → b ≤ a → rise a runs ≡ true → rise b runs ≡ true
 rise-lower [] a b le up = refl
@@ -107,12 +102,7 @@ module _ (start : ℕ) where
   ]
 
   last-rise : (first : ℕ) → rise (start + first) (gap start first 512) ≡ true
-  last-rise first = elim (cases_lt first 512) [
-    | inl lt ↦
-        let test : nat_le (start + first) (start + first) ≡ true = grind (arith, nat_tests) in
-        rw (gap-some start first 512 lt) (rw test refl)
-    | inr ge ↦ rw (gap-none start first 512 ge) refl
-  ]
+  last-rise first = grind (arith, common_steps, nat_tests)
 
   -- gaps stand upward
   rise-gaps : (runs : List PageRun) (first : ℕ) → rise (start + first) (gaps_from start first runs) ≡ true
@@ -162,18 +152,10 @@ module _ (start : ℕ) where
   covers-append (run ∷ a) b n = elim (in_run run n) as (λ t. (t || covers (a ++ b) n) ≡ ((t || covers a n) || covers b n)) [ true ↦ refl | false ↦ covers-append a b n ]
 
   pub gap-at : (first end n : ℕ) → covers (gap start first end) n ≡ true → (start + first ≤ n) × (n < start + end)
-  gap-at first end n there = elim (cases_lt first end) [
-    | inl lt ↦
-        let is : (in_run (record { first = start + first; count = end - first }) n || false) ≡ true = rw (gap-some start first end lt) at there in
-        (grind (arith, nat_tests, is, lt), grind (arith, nat_tests, is, lt))
-    | inr ge ↦ let none : false ≡ true = rw (gap-none start first end ge) at there in absurd (cc)
-  ]
+  gap-at first end n there = grind (arith, common_steps, nat_tests)
 
   pub gap-has : (first end x : ℕ) → first ≤ x → x < end → covers (gap start first end) (start + x) ≡ true
-  gap-has first end x from lt =
-      let some : first < end = omega (arith, from, lt) in
-      let is : in_run (record { first = start + first; count = end - first }) (start + x) ≡ true = grind (arith, nat_tests, from, lt) in
-      rw (gap-some start first end some) (rw is refl)
+  gap-has first end x from lt = grind (arith, common_steps, nat_tests)
 
   -- none behind the 512
   gaps-below : (runs : List PageRun) (first n : ℕ) → covers (gaps_from start first runs) n ≡ true → n < start + 512

@@ -1,13 +1,15 @@
 -- What places stand for of which some are empty, and which pages are filled.
+use Rattle.std.proofs.lemmas.Bool.Decides.{nat_tests}
+use Rattle.std.proofs.lemmas.Grind.{common_steps}
 use Rattle.std.proofs.Common.{◌≡◌, ◌≢◌, ℕ, zero, suc, ◌+◌, ◌*◌, ◌/◌, ◌%◌, ◌<◌, ◌≤◌, ◌⊎◌, Bool, true, false, List, [], ◌∷◌, length, replicate, get_or, slice_index, slice_index_or, unwrap_or, is_some, Option, Some, None, refl, sym, ap, ◌∙◌, arith, inl, inr, add-one, true≢false}
 use Rattle.std.proofs.Math.ListN.{set, get_or-map}
 use Rattle.std.proofs.Math.Nat.{div-add-mod, mod-lt}
 use Rattle.std.proofs.Math.Seq.{map-set_same}
 use Rattle.std.proofs.lemmas.Bool.{cases_eq, cases_lt}
-use Rattle.std.proofs.lemmas.List.{set-set, map-set, length-map, length-set, get_or-set_same, get_or-set_other, set-get_or}
+use Rattle.std.proofs.lemmas.List.{set-set, map-set, length-map, length-set, get_or-set_same, get_or-set_other}
 use Rattle.std.proofs.lemmas.Option.{none-some}
 use Rattle.pool.specs.Cells.{held, with_zeros, IsFilled, IsPageFilled, IsPageEmpty, AreMarked}
-use Rattle.pool.proofs.Contents.{swept, swept-here, swept-next}
+use Rattle.pool.proofs.Contents.{swept}
 
 -- ---- single places
 
@@ -57,28 +59,10 @@ empty-place marks cs place marked is =
 
 -- a filled place stays filled, with another word
 pub marked-set : (marks : List Bool) (cs : List (Option ℕ)) (k x : ℕ) → IsFilled cs k → AreMarked marks cs → AreMarked marks (set (set cs k None) k (Some x))
-marked-set marks cs k x is marked =
-    let inside : k < length cs = below cs k is.0 is.1 in
-    let new = set cs k (Some x) in
-    let whole : AreMarked marks new = record {
-      filled = λ page mark i lt. elim (cases_eq (512 * page + i) k) [
-        | inl same ↦ ap is_some (ap (λ j. get_or new j None) same ∙ get_or-set_same cs k (Some x) None inside)
-        | inr other ↦ ap is_some (get_or-set_other cs k (512 * page + i) (Some x) None other) ∙ marked.filled page mark i lt
-      ];
-      empty = λ page mark i lt. elim (cases_eq (512 * page + i) k) [
-        | inl same ↦ absurd (none-some is.0 (sym (marked.empty page mark i lt) ∙ ap (λ j. get_or cs j None) same ∙ is.1))
-        | inr other ↦ get_or-set_other cs k (512 * page + i) (Some x) None other ∙ marked.empty page mark i lt
-      ];
-    } in
-    rw (set-set cs k None (Some x)) whole
+marked-set marks cs k x is marked = grind (arith, common_steps, nat_tests)
 
 pub filled-set : (cs : List (Option ℕ)) (page k x : ℕ) → IsFilled cs k → IsPageFilled cs page → IsPageFilled (set (set cs k None) k (Some x)) page
-filled-set cs page k x is all i lt =
-    let inside : k < length cs = below cs k is.0 is.1 in
-    rw (set-set cs k None (Some x)) (elim (cases_eq (512 * page + i) k) [
-      | inl same ↦ ap is_some (ap (λ j. get_or (set cs k (Some x)) j None) same ∙ get_or-set_same cs k (Some x) None inside)
-      | inr other ↦ ap is_some (get_or-set_other cs k (512 * page + i) (Some x) None other) ∙ all i lt
-    ])
+filled-set cs page k x is all i lt = grind (arith, common_steps, nat_tests)
 
 -- ---- a page that is filled with zeros
 
@@ -140,7 +124,4 @@ marked-fill marks cs page n is inside room marked = record {
 -- ---- places that are emptied one after another
 
 pub swept-empty : (cs : List (Option ℕ)) (place : ℕ) → place < length cs → get_or cs place None ≡ None → swept None place cs ≡ swept None (place + 1) cs
-swept-empty cs place inside none =
-    let rest = swept None place cs in
-    let here : get_or rest place None ≡ None = swept-here None place cs None inside ∙ none in
-    sym (set-get_or rest place None) ∙ ap (λ c. set rest place c) here ∙ swept-next None place cs inside
+swept-empty cs place inside none = grind (arith, common_steps, nat_tests)

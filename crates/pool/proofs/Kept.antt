@@ -56,10 +56,7 @@ standing-mark taken stood stands page is inside here kept old q held =
 -- at first the roots alone are taken
 pub taken_of-new : (roots shares page : ℕ) → taken_of (replicate roots true ++ replicate shares false) page ≡ true → page < roots
 unfolding taken_of
-taken_of-new roots shares page held = elim (cases_lt page roots) [
-  | inl root ↦ root
-  | inr share ↦ absurd (grind (arith, common_steps, share, held))
-]
+taken_of-new roots shares page held = grind (arith, common_steps, nat_tests)
 
 -- ---- rows
 

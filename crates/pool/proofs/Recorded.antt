@@ -66,11 +66,3 @@ puts-next r i word old before after from is place len filled words marked put =
       words = rw next (words ∙ ap (λ items. slice_set items (512 * r.page + i) word) put.words ∙ sym (words_set-next (held old.slots) r.page r.first n r.word r.step i word index (sym is)));
       marked = λ marks was. marked marks (put.marked marks was);
     }
-
--- the next word is below 2^64, as those are up to the end
-pub next-in_range : (r : WordRange) (i word : ℕ) → r.first ≤ i → i < r.end → word ≡ r.word + r.step * (i - r.first) → r.word + r.step * (r.end - r.first) < 2 ^ 64 → word + r.step < 2 ^ 64
-next-in_range r i word from below is fits =
-    let n = i - r.first in
-    let most = mul-le-mul_left r.step (let le : n + 1 ≤ r.end - r.first = omega (arith, from, below) in le) in
-    let sum : r.step * (n + 1) ≡ r.step * n + r.step = omega arith in
-    omega (arith, most, is, sum, fits)

@@ -1,4 +1,5 @@
 -- Words that are replaced one after another, and what else is kept.
+use Rattle.std.proofs.lemmas.Grind.{common_steps}
 use Rattle.std.proofs.Common.{◌≡◌, ◌≢◌, ℕ, zero, suc, ◌+◌, ◌*◌, ◌%◌, ◌^◌, ◌<◌, ◌≤◌, ◌==◌, arith, true, false, length, slice_index, refl, sym, ap, ◌∙◌, inl, inr, add-one}
 use Rattle.std.proofs.lemmas.Bool.{cases_Bool}
 use Rattle.std.proofs.lemmas.Bool.Decides.{nat_tests}
@@ -13,24 +14,18 @@ use Rattle.pool.proofs.Stretches.{words_set-beside, sets-more}
 
 -- that is 0 is not broken
 pub break-none : (p page index : ℕ) (run : PageRun) (pool : Pool) → words_of pool.memory.words page index ≡ 0 → after_break p page index run pool ≡ pool
-break-none p page index run pool is =
-    let test : (words_of pool.memory.words page index == 0) ≡ true = grind (arith, nat_tests, is) in
-    rw test refl
+break-none p page index run pool is = grind (arith, common_steps, nat_tests)
 
 -- another one is
 pub break-some : (p page index : ℕ) (run : PageRun) (pool : Pool) → words_of pool.memory.words page index ≢ 0 → after_break p page index run pool ≡ after_invalidate p run (after_set page index 0 pool)
-break-some p page index run pool isnt =
-    let test : (words_of pool.memory.words page index == 0) ≡ false = grind (arith, nat_tests, isnt) in
-    rw test refl
+break-some p page index run pool isnt = grind (arith, common_steps, nat_tests)
 
 -- one that is to be 0 is not made
 pub make-none : (page index word : ℕ) (pool : Pool) → word ≡ 0 → after_make page index word pool ≡ pool
 make-none page index word pool is = rw is refl
 
 pub make-some : (page index word : ℕ) (pool : Pool) → word ≢ 0 → after_make page index word pool ≡ after_set page index word pool
-make-some page index word pool isnt =
-    let test : (word == 0) ≡ false = grind (arith, nat_tests, isnt) in
-    rw test refl
+make-some page index word pool isnt = grind (arith, common_steps, nat_tests)
 
 -- ---- what is kept
 
@@ -47,14 +42,7 @@ pub keeps-self : (page : ℕ) (a : Pool) → Keeps page a a
 keeps-self page a = record { ids = refl; quotas = refl; taken = refl; whole = refl; others = λ q i other. refl; made = λ n is. is }
 
 pub keeps-more : (page : ℕ) (a b c : Pool) → Keeps page a b → Keeps page b c → Keeps page a c
-keeps-more page a b c so here = record {
-  ids = here.ids ∙ so.ids;
-  quotas = here.quotas ∙ so.quotas;
-  taken = here.taken ∙ so.taken;
-  whole = here.whole ∙ so.whole;
-  others = λ q i other. here.others q i other ∙ so.others q i other;
-  made = λ n is. here.made n (so.made n is);
-}
+keeps-more page a b c so here = grind (arith, common_steps, nat_tests)
 
 one-more : (n made count : ℕ) → made ≡ (n + count) % 2 ^ 64 → (made + 1) % 2 ^ 64 ≡ (n + suc count) % 2 ^ 64
 one-more n made count is = omega (arith, is)

@@ -1,6 +1,7 @@
 -- The words for the pages of runs, and what else is kept.
+use Rattle.std.proofs.lemmas.Bool.Decides.{nat_tests}
+use Rattle.std.proofs.lemmas.Grind.{common_steps}
 use Rattle.std.proofs.Common.{◌≡◌, ℕ, ◌+◌, ◌-◌, ◌*◌, ◌%◌, ◌^◌, ◌<◌, ◌≤◌, arith, List, [], ◌∷◌, ◌++◌, length, get_or, drop, refl, sym, ap, ap₂, ◌∙◌}
-use Rattle.std.proofs.Math.Nat.{mul-le-mul_left}
 use Rattle.std.proofs.lemmas.List.{length-append, at_drop_more}
 use Rattle.base.specs.Pages.{PageRun}
 use Rattle.pool.specs.Pool.{Pool, words_set, sets_of, counted, after_sets, index_from, words_in, after_run, after_runs}
@@ -55,10 +56,7 @@ keeps-runs page start word step (run ∷ runs) a room =
 
 -- the words from one index up to another
 pub words-in_range : (word step first end : ℕ) → word + step * 512 < 2 ^ 64 → first ≤ 512 → end ≤ 512 → word + step * first + step * (end - first) < 2 ^ 64
-words-in_range word step first end fits low high =
-    let most : step * (first + (end - first)) ≤ step * 512 = mul-le-mul_left step (omega (arith, low, high)) in
-    let sum : step * (first + (end - first)) ≡ step * first + step * (end - first) = omega arith in
-    omega (arith, fits, most, sum)
+words-in_range word step first end fits low high = grind (arith, common_steps, nat_tests)
 
 -- ---- what is shown
 
@@ -81,11 +79,7 @@ words_in-left start i runs run lt is =
 -- its word is that of one index
 pub page-alone : (page start word step number index next : ℕ) (pool : Pool) → index ≡ index_from start number → index + 1 ≡ index_from start (number + 1) → word + step * index ≡ next
     → after_run page start word step (record { first = number; count = 1 }) pool ≡ after_sets page index (0 + 1) next step pool
-page-alone page start word step number index next pool at end is =
-    let one : index_from start (number + 1) - index ≡ 0 + 1 = omega (arith, end) in
-    ap (λ i. after_sets page i (index_from start (number + 1) - i) (word + step * i) step pool) (sym at)
-    ∙ ap (λ n. after_sets page index n (word + step * index) step pool) one
-    ∙ ap (λ w. after_sets page index (0 + 1) w step pool) is
+page-alone page start word step number index next pool at end is = grind (arith, common_steps, nat_tests)
 
 -- a run of one page
 pub run-alone : (run : PageRun) (first : ℕ) → first ≡ run.first → run.count ≡ 1 → record { first = first; count = 1 } ≡ run

@@ -1,9 +1,9 @@
 -- Words of a page that follow one another, and the operations that write them.
+use Rattle.std.proofs.lemmas.Grind.{common_steps}
 use Rattle.std.proofs.Common.{◌≡◌, ◌≢◌, ℕ, zero, suc, ◌+◌, ◌-◌, ◌*◌, ◌%◌, ◌^◌, ◌<◌, ◌≤◌, ◌==◌, arith, true, false, cond, List, [], ◌∷◌, ◌++◌, length, reverse, slice_index, slice_set, refl, sym, ap, ◌∙◌, ◌⊎◌, inl, inr, add-one, Vec, Global, vec_len}
-use Rattle.std.proofs.Math.Nat.{mul-le-mul_left}
 use Rattle.std.proofs.lemmas.Bool.{cases_eq, cases_Bool}
 use Rattle.std.proofs.lemmas.Bool.Decides.{nat_tests}
-use Rattle.std.proofs.lemmas.List.{length-set, length-append, length-reverse, append_assoc}
+use Rattle.std.proofs.lemmas.List.{length-set, length-append, append_assoc}
 use Rattle.pool.specs.Pool.{Pool, Words, put, words_of, nonzero_in, words_set, sets_of, counted, after_set, after_sets}
 use Rattle.pool.specs.declared.operation.Op.{Op}
 use Rattle.pool.specs.declared.operation.Op.TheVariants.{Set}
@@ -38,9 +38,7 @@ pub sets_of-write : (words : List ℕ) (page first n word step index next : ℕ)
     → slice_index (words_set words page first n word step) (512 * page + index) ≢ next
     → sets_of words page first (n + 1) word step ≡ Set page index next ∷ sets_of words page first n word step
 unfolding sets_of
-sets_of-write words page first n word step index next is there differs =
-    let test : (slice_index (words_set words page first n word step) (512 * page + index) == next) ≡ false = grind (arith, nat_tests, differs) in
-    rw (add-one, is, there, test) refl
+sets_of-write words page first n word step index next is there differs = grind (arith, common_steps, nat_tests)
 
 -- how many operations were made after some more
 pub counted-length : (ops : List Op) (n : ℕ) → counted ops (n % 2 ^ 64) ≡ (n + length ops) % 2 ^ 64
@@ -57,20 +55,13 @@ set-same (x ∷ items) (suc place) word inside is = ap (λ rest. x ∷ rest) (se
 pub sets-more : (page first n word step index next : ℕ) (pool : Pool) → first + n ≡ index → word + step * n ≡ next → slice_index (words_set pool.memory.words page first n word step) (512 * page + index) ≢ next
     → after_sets page first (n + 1) word step pool ≡ after_set page index next (after_sets page first n word step pool)
 unfolding words_set sets_of
-sets-more page first n word step index next pool is there differs =
-    let test : (slice_index (words_set pool.memory.words page first n word step) (512 * page + index) == next) ≡ false = grind (arith, nat_tests, differs) in
-    rw (add-one, is, there, test) refl
+sets-more page first n word step index next pool is there differs = grind (arith, common_steps, nat_tests)
 
 -- or which is
 pub sets-pass : (page first n word step index next : ℕ) (pool : Pool) → first + n ≡ index → word + step * n ≡ next → 512 * page + index < length pool.memory.words → slice_index (words_set pool.memory.words page first n word step) (512 * page + index) ≡ next
     → after_sets page first (n + 1) word step pool ≡ after_sets page first n word step pool
 unfolding words_set sets_of
-sets-pass page first n word step index next pool is there inside same =
-    let set = words_set pool.memory.words page first n word step in
-    let test : (slice_index set (512 * page + index) == next) ≡ true = grind (arith, nat_tests, same) in
-    let long = length-words_set pool.memory.words page first n word step in
-    let stays : slice_set set (512 * page + index) next ≡ set = set-same set (512 * page + index) next (omega (arith, long, inside)) same in
-    rw (add-one, is, there, test, stays) refl
+sets-pass page first n word step index next pool is there inside same = grind (arith, common_steps, nat_tests)
 
 -- the words of another page stay
 pub words_set-other : (words : List ℕ) (page first n word step q i : ℕ) → 512 * page + 512 ≤ length words → first + n ≤ 512 → q ≢ page
@@ -208,10 +199,7 @@ length-sets_of-part words page first a n word step few =
 
 -- so much longer is the list then
 pub vec_len-made : (old new : Vec Op Global) (sets : List Op) → reverse new.items ≡ sets ++ reverse old.items → vec_len new ≡ vec_len old + length sets
-vec_len-made old new sets made =
-    let long : length new.items ≡ length sets + length old.items =
-    sym (length-reverse new.items) ∙ ap length made ∙ length-append sets (reverse old.items) ∙ ap (λ n. length sets + n) (length-reverse old.items) in
-    omega (arith, long, old.ok.0, new.ok.0)
+vec_len-made old new sets made = grind (arith, common_steps, nat_tests)
 
 -- where words become 0, each operation leaves one less that is not
 pub nonzero-sets_of : (words : List ℕ) (page first n : ℕ) → 512 * page + 512 ≤ length words → first + n ≤ 512
@@ -240,7 +228,4 @@ nonzero-sets_of words page first (suc n) room small =
 
 -- the words of a part of a range are below what all of them are
 pub part-in_range : (first end word step at k next bound : ℕ) → word + step * (end - first) < bound → first ≤ at → at + k ≤ end → next ≡ word + step * (at - first) → next + step * k < bound
-part-in_range first end word step at k next bound below from to is =
-    let less : step * ((at - first) + k) ≤ step * (end - first) = mul-le-mul_left step (omega (arith, from, to)) in
-    let sum : step * ((at - first) + k) ≡ step * (at - first) + step * k = omega arith in
-    omega (arith, below, less, sum, is)
+part-in_range first end word step at k next bound below from to is = grind (arith, common_steps, nat_tests)

@@ -1,5 +1,6 @@
 -- Words that are turned: none is there, and the old ones are 0 exactly where the new ones are not.
-use Rattle.std.proofs.Common.{◌≡◌, ◌≢◌, ℕ, ◌+◌, ◌*◌, ◌<◌, ◌≤◌, ◌==◌, not, true, arith, List, [], ◌∷◌, length, drop, get_or, refl, sym, ap, ap₂, ◌∙◌, inl, inr}
+use Rattle.std.proofs.lemmas.Grind.{common_steps}
+use Rattle.std.proofs.Common.{◌≡◌, ◌≢◌, ℕ, ◌+◌, ◌*◌, ◌<◌, ◌≤◌, ◌==◌, not, true, arith, List, [], ◌∷◌, length, drop, get_or, sym, ap, ap₂, ◌∙◌, inl, inr}
 use Rattle.std.proofs.lemmas.Bool.{cases_eq}
 use Rattle.std.proofs.lemmas.Bool.Decides.{nat_tests}
 use Rattle.std.proofs.lemmas.List.{at_drop_more, at_drop_all}
@@ -25,12 +26,7 @@ module _ (old : List ℕ) (page first n word step : ℕ) (zeros : word ≡ 0 →
 
   -- none is there
   pub turned-differ : AllDiffer old page first n word step
-  turned-differ x lt same = elim (cases_eq word 0) [
-    | inl zero ↦
-        let next : word + step * x ≡ 0 = rw (zero, zeros zero) (omega arith) in
-        was-other zero x lt (same ∙ next)
-    | inr some ↦ let is = was-zero (omega (arith, some)) x lt in omega (arith, is, same, some)
-  ]
+  turned-differ x lt same = grind (arith, common_steps, nat_tests)
 
   module _ (room : 512 * page + 512 ≤ length old) (small : first + n ≤ 512) where
     pub turned-least : word ≡ 0 → n ≤ nonzero_in (words_of old) page
@@ -65,10 +61,7 @@ turns-empty words range some small none = record {
 
 -- their first tells whether they are 0
 same-test : (with : TableWords) (i : ℕ) → (with.word ≡ 0 → with.step ≡ 0) → (with.word + with.step * i == 0) ≡ (with.word == 0)
-same-test with i zeros = elim (cases_eq with.word 0) [
-  | inl zero ↦ rw (zero, zeros zero) (let none : 0 + 0 * i ≡ 0 = omega arith in rw none refl)
-  | inr some ↦ let all : with.word + with.step * i ≢ 0 = λ none. some (omega (arith, none)) in grind (arith, nat_tests, some, all)
-]
+same-test with i zeros = grind (arith, common_steps, nat_tests)
 
 pub turned-word : (old : List ℕ) (with : TableWords) (first i : ℕ) → (with.word ≡ 0 → with.step ≡ 0) → IsTurned old with i → (words_of old with.page i == 0) ≡ not (with.word + with.step * first == 0)
 turned-word old with first i zeros turned = turned ∙ ap not (sym (same-test with first zeros))
@@ -76,19 +69,13 @@ turned-word old with first i zeros turned = turned ∙ ap not (sym (same-test wi
 -- those from one index up to another are turned as a range
 pub turned-range : (old : List ℕ) (with : TableWords) (first end : ℕ) → (with.word ≡ 0 → with.step ≡ 0) → ((i : ℕ) → first ≤ i → i < end → IsTurned old with i)
     → Turns old (record { page = with.page; first = first; end = end; word = with.word + with.step * first; step = with.step })
-turned-range old with first end zeros turned = record {
-  zeros = λ zero. zeros (omega (arith, zero));
-  each = λ x lt. turned-word old with first (first + x) zeros (turned (first + x) (omega arith) (omega (arith, lt)));
-}
+turned-range old with first end zeros turned = grind (arith, common_steps, nat_tests)
 
 -- ---- runs
 
 -- the words from one index up to another stand for pages of the run
 pub run-at : (start i : ℕ) (run : PageRun) → index_from start run.first ≤ i → i < index_from start (run.first + run.count) → in_run run (start + i) ≡ true
-run-at start i run from below =
-    let low : run.first ≤ start + i = omega (arith, from, below) in
-    let high : start + i < run.first + run.count = omega (arith, below) in
-    grind (arith, nat_tests, low, high)
+run-at start i run from below = grind (arith, common_steps, nat_tests)
 
 pub runs-left : (runs : List PageRun) (i : ℕ) (run : PageRun) → i < length runs → run ≡ get_or runs i run → drop i runs ≡ run ∷ drop (i + 1) runs
 runs-left runs i run lt is = at_drop_more (λ l. l) runs i run lt ∙ ap (λ r. r ∷ drop (i + 1) runs) (sym is)
@@ -98,6 +85,4 @@ runs-done runs i all = at_drop_all (λ l. l) runs i all
 
 -- a page alone, whose word stands at an index
 pub turned-alone : (old : List ℕ) (with : TableWords) (page index : ℕ) → index < 512 → with.start + index ≡ page → TurnRuns old with (page_alone page ∷ []) → IsTurned old with index
-turned-alone old with page index small is all =
-    let here : in_run (page_alone page) (with.start + index) ≡ true = grind (arith, nat_tests, is) in
-    all.each index small (rw here refl)
+turned-alone old with page index small is all = grind (arith, common_steps, nat_tests)

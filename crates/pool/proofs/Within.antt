@@ -1,4 +1,5 @@
 -- Where the operations of a list lie that calls make.
+use Rattle.std.proofs.lemmas.Grind.{common_steps}
 use Rattle.std.proofs.Common.{◌≡◌, ℕ, zero, suc, ◌+◌, ◌-◌, ◌*◌, ◌^◌, ◌<◌, ◌≤◌, eqb, true, List, [], ◌∷◌, ◌++◌, length, refl, arith, inl, inr}
 use Rattle.std.specs.Prelude.{slice_index}
 use Rattle.std.specs.List.{list_all}
@@ -7,9 +8,9 @@ use Rattle.std.proofs.lemmas.Bool.Decides.{nat_tests}
 use Rattle.std.proofs.lemmas.List.Folds.{list_all-append}
 use Rattle.base.specs.Manifest.{row_of, page_count}
 use Rattle.base.specs.Pages.{PageRun}
-use Rattle.pool.specs.Pool.{Pool, words_of, lies_in, words_set, sets_of, index_from, after_run, after_runs, after_break, after_make, after_replaces}
+use Rattle.pool.specs.Pool.{Pool, lies_in, words_set, sets_of, index_from, after_run, after_runs, after_break, after_make, after_replaces}
 use Rattle.pool.specs.declared.operation.Op.{Op}
-use Rattle.pool.specs.declared.operation.Op.TheVariants.{Set, Invalidate}
+use Rattle.pool.specs.declared.operation.Op.TheVariants.{Set}
 use Rattle.pool.proofs.RunWords.{run-within}
 
 pub set-within : (ids quotas : List ℕ) (page index word : ℕ) → page < page_count quotas → index < 512 → lies_in ids quotas (Set page index word) ≡ true
@@ -48,19 +49,10 @@ within-runs ids quotas page start word step (run ∷ runs) pool inside all =
 -- and of words that are replaced
 within-break : (ids quotas : List ℕ) (p page index : ℕ) (run : PageRun) (pool : Pool) → page < page_count quotas → index < 512 → row_of ids p < length ids → run.first + run.count ≤ 2 ^ 27 → list_all (lies_in ids quotas) pool.operations ≡ true
     → list_all (lies_in ids quotas) (after_break p page index run pool).operations ≡ true
-within-break ids quotas p page index run pool inside small row below all = elim (cases_Bool (eqb (words_of pool.memory.words page index) 0)) [
-  | inl t ↦ rw t all
-  | inr f ↦
-      let set = set-within ids quotas page index 0 inside small in
-      let here : lies_in ids quotas (Invalidate p run) ≡ true = grind (arith, nat_tests, row, below) in
-      rw (f, here, set) all
-]
+within-break ids quotas p page index run pool inside small row below all = grind (arith, common_steps, nat_tests)
 
 within-make : (ids quotas : List ℕ) (page index word : ℕ) (pool : Pool) → page < page_count quotas → index < 512 → list_all (lies_in ids quotas) pool.operations ≡ true → list_all (lies_in ids quotas) (after_make page index word pool).operations ≡ true
-within-make ids quotas page index word pool inside small all = elim (cases_Bool (eqb word 0)) [
-  | inl t ↦ rw t all
-  | inr f ↦ let set = set-within ids quotas page index word inside small in rw (f, set) all
-]
+within-make ids quotas page index word pool inside small all = grind (arith, common_steps, nat_tests)
 
 pub within-replaces : (ids quotas : List ℕ) (p page first n word step start : ℕ) (pool : Pool) → page < page_count quotas → first + n ≤ 512 → row_of ids p < length ids → start + 512 * n ≤ 2 ^ 27 → list_all (lies_in ids quotas) pool.operations ≡ true
     → list_all (lies_in ids quotas) (after_replaces p page first n word step start pool).operations ≡ true

@@ -1,9 +1,9 @@
 -- What is written of a page, step by step.
-use Rattle.std.proofs.Common.{◌≡◌, ◌≢◌, ℕ, ◌+◌, ◌-◌, ◌*◌, ◌<◌, ◌≤◌, ◌==◌, Bool, true, false, arith, List, [], ◌∷◌, ◌++◌, length, reverse, slice_index, slice_set, vec_len, vec_capacity, refl, sym, subst, ap, ap₂, ◌∙◌, inr, add-one}
+use Rattle.std.proofs.lemmas.Grind.{common_steps}
+use Rattle.std.proofs.Common.{◌≡◌, ℕ, ◌+◌, ◌-◌, ◌*◌, ◌<◌, ◌≤◌, Bool, true, arith, List, [], ◌∷◌, ◌++◌, length, reverse, slice_set, vec_len, vec_capacity, refl, sym, subst, ap, ap₂, ◌∙◌, inr}
 use Rattle.std.proofs.lemmas.Bool.Decides.{nat_tests}
-use Rattle.std.proofs.lemmas.List.{length-set, reverse-append}
 use Rattle.base.specs.Pages.{PageRun, covers}
-use Rattle.pool.specs.Pool.{Pool, words_of, words_set, sets_of, nonzero_in, counted, after_set, after_sets, after_run, after_invalidate, index_from, words_in, gap}
+use Rattle.pool.specs.Pool.{Pool, words_of, nonzero_in, counted, after_set, after_run, after_invalidate, index_from, words_in, gap}
 use Rattle.pool.specs.Shown.{IsShown}
 use Rattle.pool.specs.Writing.{Grows, MayWrite, MayWriteRuns, Wrote, Records, TurnRuns, CanWriteRuns, CanWriteIndexes, with_range, writes_of, range_set, runs_set, indexes_set}
 use Rattle.pool.specs.declared.log.Log.{Log}
@@ -12,40 +12,24 @@ use Rattle.pool.specs.declared.runs.TableWords.{TableWords}
 use Rattle.pool.specs.declared.word_range.WordRange.{WordRange}
 use Rattle.pool.proofs.Stretches.{words_set-beside, vec_len-made, length-words_set}
 use Rattle.pool.proofs.RunWords.{words-in_range, after_runs-none, after_runs-next, after_runs-append, words_in-append}
-use Rattle.pool.proofs.Gaps.{gap-one, gap-words, gap-has, covers-append, or-right}
-use Rattle.pool.proofs.Turned.{run-at}
+use Rattle.pool.proofs.Gaps.{gap-one, gap-words}
 
 -- ---- steps
 
 -- none
 pub wrote-none : (step : Pool → Pool) (page most : ℕ) (words : List ℕ) (log : Log) → log.nonzero ≡ nonzero_in (words_of words) page → ((pool : Pool) → pool.memory.words ≡ words → step pool ≡ pool)
     → Wrote step page most words words log log
-wrote-none step page most words log counted same = record {
-  shown = λ pool shown. subst (λ (p : Pool). IsShown words log.operations.items p) (sym (same pool (sym shown.words))) shown;
-  whole = refl;
-  counted = counted;
-  grows = record { len = omega arith; capacity = refl };
-}
+wrote-none step page most words log counted same = grind (arith, common_steps, nat_tests)
 
 -- one after another
 pub wrote-then : {f g : Pool → Pool} {page a b : ℕ} {old mid new : List ℕ} {before log after : Log} → Wrote f page a old mid before log → Wrote g page b mid new log after
     → Wrote (λ pool. g (f pool)) page (a + b) old new before after
-wrote-then {f = f} first next = record {
-  shown = λ pool shown. next.shown (f pool) (first.shown pool shown);
-  whole = next.whole ∙ first.whole;
-  counted = next.counted;
-  grows = record { len = omega (arith, first.grows.len, next.grows.len); capacity = next.grows.capacity ∙ first.grows.capacity };
-}
+wrote-then {f = f} first next = grind (arith, common_steps, nat_tests)
 
 -- the same in other words
 pub wrote-as : {f g : Pool → Pool} {page a b : ℕ} {old new : List ℕ} {before after : Log} → Wrote f page a old new before after → a ≤ b → ((pool : Pool) → pool.memory.words ≡ old → f pool ≡ g pool)
     → Wrote g page b old new before after
-wrote-as {new = new} {after = after} wrote more same = record {
-  shown = λ pool shown. subst (λ (p : Pool). IsShown new after.operations.items p) (same pool (sym shown.words)) (wrote.shown pool shown);
-  whole = wrote.whole;
-  counted = wrote.counted;
-  grows = record { len = omega (arith, wrote.grows.len, more); capacity = wrote.grows.capacity };
-}
+wrote-as {new = new} {after = after} wrote more same = grind (arith, common_steps, nat_tests)
 
 -- a pool that a store's words and a log show
 abbrev pub pool_of : List ℕ → Log → Pool
@@ -62,27 +46,11 @@ wrote-is {old = old} {before = before} wrote = wrote.shown (pool_of old before) 
 
 pub wrote-set : (page index word : ℕ) (old new : List ℕ) (before after : Log) → new ≡ slice_set old (512 * page + index) word → after.operations.items ≡ before.operations.items ++ Set page index word ∷ []
     → Grows 1 before.operations after.operations → after.nonzero ≡ nonzero_in (words_of new) page → Wrote (after_set page index word) page 1 old new before after
-wrote-set page index word old new before after written pushed more right = record {
-  shown = λ pool shown. record {
-    words = written ∙ ap (λ w. slice_set w (512 * page + index) word) shown.words;
-    operations = ap reverse pushed ∙ reverse-append before.operations.items (Set page index word ∷ []) ∙ ap (λ ops. Set page index word ∷ ops) shown.operations;
-  };
-  whole = ap length written ∙ length-set old (512 * page + index) word;
-  counted = right;
-  grows = more;
-}
+wrote-set page index word old new before after written pushed more right = grind (arith, common_steps, nat_tests)
 
 pub wrote-invalidate : (p : ℕ) (run : PageRun) (page : ℕ) (words : List ℕ) (before after : Log) → after.operations.items ≡ before.operations.items ++ Invalidate p run ∷ [] → Grows 1 before.operations after.operations
     → after.nonzero ≡ nonzero_in (words_of words) page → Wrote (after_invalidate p run) page 1 words words before after
-wrote-invalidate p run page words before after pushed more right = record {
-  shown = λ pool shown. record {
-    words = shown.words;
-    operations = ap reverse pushed ∙ reverse-append before.operations.items (Invalidate p run ∷ []) ∙ ap (λ ops. Invalidate p run ∷ ops) shown.operations;
-  };
-  whole = refl;
-  counted = right;
-  grows = more;
-}
+wrote-invalidate p run page words before after pushed more right = grind (arith, common_steps, nat_tests)
 
 -- ---- words of a range
 
@@ -125,22 +93,10 @@ wrote-gap with first end old new before after most wrote =
 -- words for the pages of a run, or of a gap, can be written from one index up to another
 pub can-run : {known : Bool} {words : List ℕ} {stands : ℕ → Bool} {with : TableWords} {log : Log} (run : PageRun) (first end : ℕ) → first ≡ index_from with.start run.first → end ≡ index_from with.start (run.first + run.count)
     → CanWriteRuns known words stands with (run ∷ []) log → CanWriteIndexes known words stands with first end log
-can-run {with = with} run first end from to can = record {
-  may = can.may;
-  most = omega (arith, to);
-  zeros = λ is. (can.turned is).zeros;
-  each = λ is i low high. let within = run-at with.start i run (omega (arith, low, from)) (omega (arith, high, to)) in (can.turned is).each i (omega (arith, high, to)) (rw within refl);
-  ready = record { counted = can.ready.counted; room = omega (arith, from, to, can.ready.room) };
-}
+can-run {with = with} run first end from to can = grind (arith, common_steps, nat_tests)
 
 pub can-gap : {known : Bool} {words : List ℕ} {stands : ℕ → Bool} {with : TableWords} {log : Log} (first end : ℕ) → end ≤ 512 → CanWriteRuns known words stands with (gap with.start first end) log → CanWriteIndexes known words stands with first end log
-can-gap {with = with} first end most can = record {
-  may = can.may;
-  most = most;
-  zeros = λ is. (can.turned is).zeros;
-  each = λ is i low high. (can.turned is).each i (omega (arith, high, most)) (gap-has with.start first end i low high);
-  ready = record { counted = can.ready.counted; room = (let long = gap-words with.start first end most in omega (arith, long, can.ready.room)) };
-}
+can-gap {with = with} first end most can = grind (arith, common_steps, nat_tests)
 
 -- they may be written then
 pub may-range : {words : List ℕ} {stands : ℕ → Bool} (with : TableWords) (first end : ℕ) → MayWriteRuns words stands with → first < end → end ≤ 512
@@ -170,17 +126,10 @@ run-beside with run i old new before after wrote room behind =
 -- ---- words that are turned
 
 pub turned-part : (words : List ℕ) (with : TableWords) (part rest : List PageRun) → TurnRuns words with (part ++ rest) → TurnRuns words with part
-turned-part words with part rest all = record {
-  zeros = all.zeros;
-  each = λ i small within. all.each i small (covers-append with.start part rest (with.start + i) ∙ rw within refl);
-}
+turned-part words with part rest all = grind (arith, common_steps, nat_tests)
 
 pub turned-rest : (old new : List ℕ) (with : TableWords) (part rest : List PageRun) → TurnRuns old with (part ++ rest) → ((i : ℕ) → covers rest (with.start + i) ≡ true → words_of new with.page i ≡ words_of old with.page i) → TurnRuns new with rest
-turned-rest old new with part rest all stay = record {
-  zeros = all.zeros;
-  each = λ i small within.
-      ap (λ (n : ℕ). n == 0) (stay i within) ∙ all.each i small (covers-append with.start part rest (with.start + i) ∙ rw within (or-right with.start (covers part (with.start + i))));
-}
+turned-rest old new with part rest all stay = grind (arith, common_steps, nat_tests)
 
 -- ---- some of the runs
 
@@ -193,13 +142,7 @@ pub record Left (with : TableWords) (all left : List PageRun) (old new : List �
   pub len : vec_len after.operations + words_in with.start left ≤ vec_len before.operations + words_in with.start all
 
 pub left-all : (with : TableWords) (all : List PageRun) (words : List ℕ) (log : Log) → log.nonzero ≡ nonzero_in (words_of words) with.page → Left with all all words words log log
-left-all with all words log counted = record {
-  shown = λ pool shown. (pool, shown, refl);
-  whole = refl;
-  counted = counted;
-  capacity = refl;
-  len = omega arith;
-}
+left-all with all words log counted = grind (arith, common_steps, nat_tests)
 
 module _ {with : TableWords} {all left : List PageRun} {old mid : List ℕ} {before log : Log} (so : Left with all left old mid before log) where
   -- the first of them can be written

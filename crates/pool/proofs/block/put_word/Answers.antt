@@ -1,7 +1,6 @@
-use Rattle.std.proofs.Common.{◌≡◌, ◌+◌, ◌*◌, ◌∙◌, Some, None}
+use Rattle.std.proofs.Common.{◌≡◌, ◌+◌, ◌*◌, Some, None}
 use Rattle.std.proofs.Math.ListN.{set}
-use Rattle.pool.specs.Cells.{IsFilled}
-use Rattle.pool.proofs.Held.{filled-at, filled-set, held-set, length-put, marked-set}
+use Rattle.pool.proofs.Held.{filled-at, held-set}
 use Rattle.pool.proofs.block.put_word.Goals as goal
 
 pub read-old-requires : goal.read-old-requires

@@ -1,9 +1,7 @@
-use Rattle.std.proofs.Common.{◌≡◌, ◌==◌, ◌-◌, ◌*◌, ◌+◌, not, true, arith}
-use Rattle.std.proofs.lemmas.Bool.Decides.{nat_tests}
+use Rattle.std.proofs.Common.{◌≡◌, ◌-◌, ◌*◌, ◌+◌, arith}
 use Rattle.pool.specs.Writing.{indexes_set}
 use Rattle.pool.proofs.RunWords.{sets-none}
 use Rattle.pool.proofs.Stretches.{length-sets_of-le}
-use Rattle.pool.proofs.Turned.{turned-range}
 use Rattle.pool.proofs.Wrote.{wrote-none, may-range}
 use Rattle.pool.proofs.runs.write_indexes.Goals as goal
 
