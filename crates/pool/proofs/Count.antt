@@ -1,4 +1,6 @@
 -- How many of the first numbers pass a test.
+use Rattle.std.proofs.lemmas.Bool.Decides.{nat_tests}
+use Rattle.std.proofs.lemmas.Grind.{common_steps}
 use Rattle.std.proofs.Common.{◌≡◌, ◌≢◌, ℕ, zero, suc, ◌+◌, ◌<◌, ◌≤◌, arith, Bool, true, false, cond, refl, inl, inr, add-one}
 use Rattle.std.proofs.lemmas.Bool.{cases_eq, cases_Bool}
 use Rattle.base.specs.Counts.{count_below}
@@ -7,10 +9,7 @@ use Rattle.base.specs.Counts.{count_below}
 pub count_below-same : (passes others : ℕ → Bool) (n : ℕ) → ((k : ℕ) → k < n → others k ≡ passes k) → count_below others n ≡ count_below passes n
 unfolding count_below
 count_below-same passes others zero same = refl
-count_below-same passes others (suc n) same =
-    let here = same n (omega arith) in
-    let rest = count_below-same passes others n (λ k below. same k (omega arith)) in
-    rw (here, rest)
+count_below-same passes others (suc n) same = grind (arith, common_steps, nat_tests, count_below-same passes others n (λ k below. same k (omega arith)))
 
 -- one number passes that did not
 pub count_below-one : (passes others : ℕ → Bool) (n x : ℕ) → x < n → passes x ≡ false → others x ≡ true → ((k : ℕ) → k < n → k ≢ x → others k ≡ passes k) → count_below others n ≡ count_below passes n + 1
@@ -32,10 +31,7 @@ count_below-one passes others (suc n) x inside old new same = elim (cases_eq n x
 pub count_below-none : (passes : ℕ → Bool) (n : ℕ) → ((k : ℕ) → k < n → passes k ≡ false) → count_below passes n ≡ 0
 unfolding count_below
 count_below-none passes zero none = refl
-count_below-none passes (suc n) none =
-    let here = none n (omega arith) in
-    let rest = count_below-none passes n (λ k below. none k (omega arith)) in
-    rw (here, rest)
+count_below-none passes (suc n) none = grind (arith, common_steps, nat_tests, count_below-none passes n (λ k below. none k (omega arith)))
 
 -- a number that passes is counted
 pub count_below-some : (passes : ℕ → Bool) (n k : ℕ) → k < n → passes k ≡ true → 0 < count_below passes n
@@ -50,10 +46,7 @@ count_below-some passes (suc n) k below is_one = elim (cases_eq k n) [
 pub count_below-all : (passes : ℕ → Bool) (n : ℕ) → ((k : ℕ) → k < n → passes k ≡ true) → count_below passes n ≡ n
 unfolding count_below
 count_below-all passes zero all = refl
-count_below-all passes (suc n) all =
-    let here = all n (omega arith) in
-    let rest = count_below-all passes n (λ k below. all k (omega arith)) in
-    rw (here, rest) (omega arith)
+count_below-all passes (suc n) all = grind (arith, common_steps, nat_tests, count_below-all passes n (λ k below. all k (omega arith)))
 
 -- from a number on none passes
 pub count_below-tail : (passes : ℕ → Bool) (n m : ℕ) → n ≤ m → ((k : ℕ) → n ≤ k → k < m → passes k ≡ false) → count_below passes m ≡ count_below passes n
@@ -76,12 +69,7 @@ count_below-more passes n = rw add-one refl
 pub count_below-le : (passes : ℕ → Bool) (n : ℕ) → count_below passes n ≤ n
 unfolding count_below
 count_below-le passes zero = omega arith
-count_below-le passes (suc n) =
-    let rest = count_below-le passes n in
-    elim (cases_Bool (passes n)) [
-      | inl is_one ↦ rw is_one (omega (arith, rest))
-      | inr is_none ↦ rw is_none (omega (arith, rest))
-    ]
+count_below-le passes (suc n) = grind (arith, common_steps, nat_tests, count_below-le passes n)
 
 -- one of the counted numbers
 pub count_below-witness : (a : ℕ → Bool) (n : ℕ) → 0 < count_below a n → (x : ℕ) × (x < n) × (a x ≡ true)

@@ -1,4 +1,6 @@
 -- The pages of the first of some runs.
+use Rattle.std.proofs.lemmas.Bool.Decides.{nat_tests}
+use Rattle.std.proofs.lemmas.Grind.{common_steps}
 use Rattle.std.proofs.Common.{◌≡◌, ℕ, zero, suc, ◌+◌, ◌<◌, ◌≤◌, true, false, ◌||◌, List, [], ◌∷◌, ◌++◌, take, length, get_or, refl, sym, ap, ◌∙◌, arith}
 use Rattle.std.proofs.lemmas.List.{take_more}
 use Rattle.std.proofs.Math.Seq.{take-length}
@@ -6,8 +8,7 @@ use Rattle.base.specs.Pages.{PageRun, in_run, covers}
 
 covers-push : (runs : List PageRun) (run : PageRun) (n : ℕ) → covers (runs ++ run ∷ []) n ≡ (covers runs n || in_run run n)
 covers-push [] run n = elim (in_run run n) as (λ b. (b || false) ≡ (false || b)) [ true ↦ refl | false ↦ refl ]
-covers-push (r ∷ runs) run n =
-    elim (in_run r n) as (λ b. (b || covers (runs ++ run ∷ []) n) ≡ ((b || covers runs n) || in_run run n)) [ true ↦ refl | false ↦ covers-push runs run n ]
+covers-push (r ∷ runs) run n = grind (arith, common_steps, nat_tests, covers-push runs run n)
 
 pub covers-take : (runs : List PageRun) (i : ℕ) (run : PageRun) (n : ℕ) → i < length runs → run ≡ get_or runs i run → covers (take (i + 1) runs) n ≡ (covers (take i runs) n || in_run run n)
 covers-take runs i run n lt is =
@@ -20,6 +21,4 @@ take-all runs i le ge = let same : i ≡ length runs = omega arith in rw same (t
 pub covers-at : (runs : List PageRun) (i : ℕ) (run : PageRun) (n : ℕ) → i < length runs → run ≡ get_or runs i run → in_run run n ≡ true → covers runs n ≡ true
 covers-at [] i run n lt is there = absurd (omega arith)
 covers-at (r ∷ runs) zero run n lt is there = let here : in_run r n ≡ true = ap (λ (x : PageRun). in_run x n) (sym is) ∙ there in rw here refl
-covers-at (r ∷ runs) (suc i) run n lt is there =
-    let rest = covers-at runs i run n (omega (arith, lt)) is there in
-    elim (in_run r n) as (λ b. (b || covers runs n) ≡ true) [ true ↦ refl | false ↦ rest ]
+covers-at (r ∷ runs) (suc i) run n lt is there = grind (arith, common_steps, nat_tests, covers-at runs i run n (omega (arith, lt)) is there)

@@ -62,11 +62,7 @@ above run runs e up = grind (arith, common_steps, nat_tests)
 
 pub rise-lower : (runs : List PageRun) (a b : ℕ) → b ≤ a → rise a runs ≡ true → rise b runs ≡ true
 rise-lower [] a b le up = refl
-rise-lower (run ∷ runs) a b le up =
-    let both = above run runs a up in
-    let least = both.0 in
-    let test : nat_le b run.first ≡ true = grind (arith, nat_tests, least, le) in
-    rw (test, both.1) refl
+rise-lower (run ∷ runs) a b le up = grind (arith, common_steps, nat_tests)
 
 pub before-rise : (runs : List PageRun) (e n : ℕ) → rise e runs ≡ true → n < e → covers runs n ≡ false
 before-rise [] e n up lt = refl

@@ -1,6 +1,5 @@
 -- The words of a range, put and recorded one by one.
-use Rattle.std.proofs.Common.{◌≡◌, ◌≢◌, ℕ, ◌+◌, ◌-◌, ◌*◌, ◌<◌, ◌≤◌, ◌^◌, ◌++◌, ◌∷◌, [], Bool, List, length, reverse, slice_index, slice_set, Vec, sym, ap, ◌∙◌, refl, arith}
-use Rattle.std.proofs.Math.Nat.{mul-le-mul_left}
+use Rattle.std.proofs.Common.{◌≡◌, ◌≢◌, ℕ, ◌+◌, ◌-◌, ◌*◌, ◌<◌, ◌≤◌, ◌++◌, ◌∷◌, [], Bool, List, length, reverse, slice_index, slice_set, Vec, sym, ap, ◌∙◌, refl, arith}
 use Rattle.std.proofs.lemmas.List.{reverse-append}
 use Rattle.pool.specs.Pool.{words_set}
 use Rattle.std.specs.declared.alloc.Global.{Global}

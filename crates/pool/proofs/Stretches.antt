@@ -1,9 +1,9 @@
 -- Words of a page that follow one another, and the operations that write them.
 use Rattle.std.proofs.lemmas.Grind.{common_steps}
 use Rattle.std.proofs.Common.{◌≡◌, ◌≢◌, ℕ, zero, suc, ◌+◌, ◌-◌, ◌*◌, ◌%◌, ◌^◌, ◌<◌, ◌≤◌, ◌==◌, arith, true, false, cond, List, [], ◌∷◌, ◌++◌, length, reverse, slice_index, slice_set, refl, sym, ap, ◌∙◌, ◌⊎◌, inl, inr, add-one, Vec, Global, vec_len}
-use Rattle.std.proofs.lemmas.Bool.{cases_eq, cases_Bool}
+use Rattle.std.proofs.lemmas.Bool.{cases_eq}
 use Rattle.std.proofs.lemmas.Bool.Decides.{nat_tests}
-use Rattle.std.proofs.lemmas.List.{length-set, length-append, append_assoc}
+use Rattle.std.proofs.lemmas.List.{length-append, append_assoc}
 use Rattle.pool.specs.Pool.{Pool, Words, put, words_of, nonzero_in, words_set, sets_of, counted, after_set, after_sets}
 use Rattle.pool.specs.declared.operation.Op.{Op}
 use Rattle.pool.specs.declared.operation.Op.TheVariants.{Set}
@@ -15,8 +15,7 @@ use Rattle.pool.proofs.Nonzero.{word-read, nonzero-put}
 pub length-words_set : (words : List ℕ) (page first n word step : ℕ) → length (words_set words page first n word step) ≡ length words
 unfolding words_set
 length-words_set words page first zero word step = refl
-length-words_set words page first (suc n) word step =
-    length-set (words_set words page first n word step) (512 * page + (first + n)) (word + step * n) ∙ length-words_set words page first n word step
+length-words_set words page first (suc n) word step = grind (arith, common_steps, nat_tests, length-words_set words page first n word step)
 
 -- none of them
 pub words_set-none : (words : List ℕ) (page first word step : ℕ) → words_set words page first 0 word step ≡ words
@@ -181,12 +180,7 @@ differ-next words page first n m word step index next room small lt at there dif
 pub length-sets_of-le : (words : List ℕ) (page first n word step : ℕ) → length (sets_of words page first n word step) ≤ n
 unfolding sets_of
 length-sets_of-le words page first zero word step = omega arith
-length-sets_of-le words page first (suc n) word step =
-    let rest = length-sets_of-le words page first n word step in
-    elim (cases_Bool (slice_index (words_set words page first n word step) (512 * page + (first + n)) == word + step * n)) [
-      | inl there ↦ rw there (omega (arith, rest))
-      | inr differs ↦ rw differs (omega (arith, rest))
-    ]
+length-sets_of-le words page first (suc n) word step = grind (arith, common_steps, nat_tests, length-sets_of-le words page first n word step)
 
 -- for some of the words no more than for all
 pub length-sets_of-part : (words : List ℕ) (page first a n word step : ℕ) → a ≤ n → length (sets_of words page first a word step) ≤ length (sets_of words page first n word step)

@@ -1,14 +1,12 @@
 -- Where the operations of a list lie that calls make.
 use Rattle.std.proofs.lemmas.Grind.{common_steps}
-use Rattle.std.proofs.Common.{◌≡◌, ℕ, zero, suc, ◌+◌, ◌-◌, ◌*◌, ◌^◌, ◌<◌, ◌≤◌, eqb, true, List, [], ◌∷◌, ◌++◌, length, refl, arith, inl, inr}
-use Rattle.std.specs.Prelude.{slice_index}
+use Rattle.std.proofs.Common.{◌≡◌, ℕ, zero, suc, ◌+◌, ◌-◌, ◌*◌, ◌^◌, ◌<◌, ◌≤◌, true, List, [], ◌∷◌, ◌++◌, length, refl, arith}
 use Rattle.std.specs.List.{list_all}
-use Rattle.std.proofs.lemmas.Bool.{cases_Bool}
 use Rattle.std.proofs.lemmas.Bool.Decides.{nat_tests}
 use Rattle.std.proofs.lemmas.List.Folds.{list_all-append}
 use Rattle.base.specs.Manifest.{row_of, page_count}
 use Rattle.base.specs.Pages.{PageRun}
-use Rattle.pool.specs.Pool.{Pool, lies_in, words_set, sets_of, index_from, after_run, after_runs, after_break, after_make, after_replaces}
+use Rattle.pool.specs.Pool.{Pool, lies_in, sets_of, index_from, after_run, after_runs, after_break, after_make, after_replaces}
 use Rattle.pool.specs.declared.operation.Op.{Op}
 use Rattle.pool.specs.declared.operation.Op.TheVariants.{Set}
 use Rattle.pool.proofs.RunWords.{run-within}
@@ -20,14 +18,7 @@ set-within ids quotas page index word inside small = grind (arith, nat_tests, in
 pub within-sets : (ids quotas words : List ℕ) (page first n word step : ℕ) → page < page_count quotas → first + n ≤ 512 → list_all (lies_in ids quotas) (sets_of words page first n word step) ≡ true
 unfolding sets_of
 within-sets ids quotas words page first zero word step inside small = refl
-within-sets ids quotas words page first (suc n) word step inside small =
-    let rest = within-sets ids quotas words page first n word step inside (omega (arith, small)) in
-    let next = word + step * n in
-    let here = set-within ids quotas page (first + n) next inside (omega (arith, small)) in
-    elim (cases_Bool (eqb (slice_index (words_set words page first n word step) (512 * page + (first + n))) next)) [
-      | inl t ↦ rw t rest
-      | inr f ↦ rw (f, here) rest
-    ]
+within-sets ids quotas words page first (suc n) word step inside small = grind (arith, common_steps, nat_tests, within-sets ids quotas words page first n word step inside (omega (arith, small)))
 
 pub within-behind : (ids quotas : List ℕ) (words : List ℕ) (page first n word step : ℕ) (old : List Op) → page < page_count quotas → first + n ≤ 512 → list_all (lies_in ids quotas) old ≡ true
     → list_all (lies_in ids quotas) (sets_of words page first n word step ++ old) ≡ true
@@ -58,9 +49,4 @@ pub within-replaces : (ids quotas : List ℕ) (p page first n word step start : 
     → list_all (lies_in ids quotas) (after_replaces p page first n word step start pool).operations ≡ true
 unfolding after_replaces
 within-replaces ids quotas p page first zero word step start pool inside small row below all = all
-within-replaces ids quotas p page first (suc n) word step start pool inside small row below all =
-    let before = after_replaces p page first n word step start pool in
-    let run : PageRun = record { first = start + 512 * n; count = 512 } in
-    let rest = within-replaces ids quotas p page first n word step start pool inside (omega (arith, small)) row (omega (arith, below)) all in
-    let broken = within-break ids quotas p page (first + n) run before inside (omega (arith, small)) row (omega (arith, below)) rest in
-    within-make ids quotas page (first + n) (word + step * n) (after_break p page (first + n) run before) inside (omega (arith, small)) broken
+within-replaces ids quotas p page first (suc n) word step start pool inside small row below all = grind (arith, common_steps, nat_tests, within-replaces ids quotas p page first n word step start pool inside (omega (arith, small)) row (omega (arith, below)) all)
