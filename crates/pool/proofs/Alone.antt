@@ -1,4 +1,5 @@
 -- A page alone, whose word stands at an index.
+use Rattle.std.proofs.lemmas.Bool.Decides.{nat_tests}
 use Rattle.std.proofs.Common.{◌≡◌, ◌≢◌, ℕ, ◌+◌, ◌*◌, ◌<◌, ◌≤◌, ◌⊎◌, arith, [], ◌∷◌, length, slice_index, refl, sym, ap, ◌∙◌, inl, inr}
 use Rattle.pool.specs.Pool.{Pool, words_of, after_set, after_sets, words_set, index_from, words_in}
 use Rattle.pool.specs.Writing.{page_alone, runs_set}
@@ -29,9 +30,7 @@ module _ (with : TableWords) (page index : ℕ) (small : index < 512) (is : with
 
   -- the word that stands there
   stands : (pool : Pool) → slice_index (words_set pool.memory.words with.page index 0 (with.word + with.step * index) with.step) (512 * with.page + index) ≡ words_of pool.memory.words with.page index
-  stands pool =
-      ap (λ l. slice_index l (512 * with.page + index)) (words_set-none pool.memory.words with.page index (with.word + with.step * index) with.step)
-      ∙ word-read pool.memory.words with.page index (slice_index pool.memory.words (512 * with.page + index)) small refl
+  stands pool = grind (arith, nat_tests, words_set-none, word-read)
 
   -- it is written
   pub alone-set : (pool : Pool) → words_of pool.memory.words with.page index ≢ with.word + with.step * index → runs_set with (page_alone page ∷ []) pool ≡ after_set with.page index (with.word + with.step * index) pool

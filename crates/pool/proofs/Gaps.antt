@@ -1,11 +1,11 @@
 -- The pages beside runs, as runs.
 use Rattle.std.proofs.lemmas.Grind.{common_steps}
-use Rattle.std.proofs.Common.{◌≡◌, ℕ, ◌+◌, ◌-◌, ◌<◌, ◌≤◌, ◌||◌, Bool, true, false, nat_le, nat_lt, max, ◌*◌, List, [], ◌∷◌, ◌++◌, length, drop, get_or, refl, sym, ap, ap₂, ◌∙◌, arith, inl, inr}
+use Rattle.std.proofs.Common.{◌≡◌, ℕ, ◌+◌, ◌-◌, ◌<◌, ◌≤◌, ◌||◌, Bool, true, false, nat_le, nat_lt, max, ◌*◌, List, [], ◌∷◌, ◌++◌, length, drop, get_or, refl, sym, ap, ◌∙◌, arith, inl, inr}
 use Rattle.std.proofs.lemmas.Bool.{cases_Bool, cases_lt, and_parts}
 use Rattle.std.proofs.lemmas.Bool.Decides.{nat_tests}
 use Rattle.base.specs.Pages.{PageRun, in_run, covers, rise, rise_above, are_normal}
 use Rattle.std.proofs.lemmas.List.{at_drop_more, at_drop_all}
-use Rattle.pool.specs.Pool.{Pool, after_sets, index_from, words_in, after_run, after_runs, gap, gaps_from, gaps_of}
+use Rattle.pool.specs.Pool.{Pool, after_sets, index_from, words_in, after_runs, gap, gaps_from, gaps_of}
 use Rattle.pool.proofs.RunWords.{after_runs-none, after_runs-next, words_in-append, sets-none}
 
 -- ---- one gap
@@ -31,19 +31,7 @@ gap-words start first end most = grind (arith, common_steps, nat_tests)
 
 pub gap-one : (page start word step first end : ℕ) (pool : Pool) → end ≤ 512
     → after_runs page start word step (gap start first end) pool ≡ after_sets page first (end - first) (word + step * first) step pool
-gap-one page start word step first end pool most = elim (cases_lt first end) [
-  | inl lt ↦
-      let run : PageRun = record { first = start + first; count = end - first } in
-      let at : index_from start (start + first) ≡ first = omega (arith, lt, most) in
-      let to : index_from start (start + first + (end - first)) ≡ end = omega (arith, lt, most) in
-      ap (λ rs. after_runs page start word step rs pool) (gap-some start first end lt)
-      ∙ after_runs-next page start word step run [] pool ∙ after_runs-none page start word step (after_run page start word step run pool)
-      ∙ ap₂ (λ a b. after_sets page a (b - a) (word + step * a) step pool) at to
-  | inr ge ↦
-      let none : end - first ≡ 0 = omega (arith, ge) in
-      ap (λ rs. after_runs page start word step rs pool) (gap-none start first end ge) ∙ after_runs-none page start word step pool
-      ∙ sym (ap (λ n. after_sets page first n (word + step * first) step pool) none ∙ sets-none page first (word + step * first) step pool)
-]
+gap-one page start word step first end pool most = grind (arith, nat_tests, gap-some, after_runs-next, after_runs-none, gap-none, sets-none)
 
 -- ---- gaps that are left
 
@@ -89,13 +77,7 @@ rise-normal (run ∷ runs) normal =
 
 module _ (start : ℕ) where
   rise-gap : (first end e : ℕ) (rest : List PageRun) → e ≤ start + first → first ≤ end → rise (start + end) rest ≡ true → rise e (gap start first end ++ rest) ≡ true
-  rise-gap first end e rest least ordered up = elim (cases_lt first end) [
-    | inl lt ↦
-        let test : nat_le e (start + first) ≡ true = grind (arith, nat_tests, least) in
-        let sum : start + first + (end - first) ≡ start + end = omega (arith, lt) in
-        rw (gap-some start first end lt) (rw (test, sum) up)
-    | inr ge ↦ rw (gap-none start first end ge) (rise-lower rest (start + end) e (omega (arith, least, ordered)) up)
-  ]
+  rise-gap first end e rest least ordered up = grind (arith, nat_tests, gap-some, gap-none, rise-lower)
 
   last-rise : (first : ℕ) → rise (start + first) (gap start first 512) ≡ true
   last-rise first = grind (arith, common_steps, nat_tests)

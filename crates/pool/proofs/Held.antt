@@ -110,16 +110,7 @@ apart : (q page i n : ℕ) → q ≢ page → i < 512 → n ≡ 512 → (512 * q
 apart q page i n other lt is = elim (cases_lt q page) [ inl before ↦ inl (omega (arith, before, lt)) | inr behind ↦ inr (omega (arith, behind, other, is)) ]
 
 pub marked-fill : (marks : List Bool) (cs : List (Option ℕ)) (page n : ℕ) → n ≡ 512 → page < length marks → 512 * page + n ≤ length cs → AreMarked marks cs → AreMarked (set marks page true) (with_zeros cs page n)
-marked-fill marks cs page n is inside room marked = record {
-  filled = λ q mark i lt. elim (cases_eq q page) [
-    | inl same ↦ ap is_some (ap (λ j. get_or (with_zeros cs page n) (512 * j + i) None) same ∙ zeros-done cs page n i (omega (arith, lt, is)) room)
-    | inr other ↦ ap is_some (zeros-beside cs page n (512 * q + i) (apart q page i n other lt is)) ∙ marked.filled q (sym (get_or-set_other marks page q true false other) ∙ mark) i lt
-  ];
-  empty = λ q mark i lt. elim (cases_eq q page) [
-    | inl same ↦ absurd (true≢false (sym (get_or-set_same marks page true false inside) ∙ ap (λ j. get_or (set marks page true) j false) (sym same) ∙ mark))
-    | inr other ↦ zeros-beside cs page n (512 * q + i) (apart q page i n other lt is) ∙ marked.empty q (sym (get_or-set_other marks page q true false other) ∙ mark) i lt
-  ];
-}
+marked-fill marks cs page n is inside room marked = grind (arith, nat_tests, zeros-done, zeros-beside, apart, get_or-set_other, true≢false, get_or-set_same)
 
 -- ---- places that are emptied one after another
 

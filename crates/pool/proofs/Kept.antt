@@ -22,9 +22,7 @@ pub free_zero-mark : (words : List ℕ) (taken : List Bool) (page : ℕ) (is : B
     → ((q i : ℕ) → taken_of taken q ≡ false → words_of words q i ≡ 0)
     → (q i : ℕ) → taken_of (slice_set taken page is) q ≡ false → words_of words q i ≡ 0
 unfolding mark
-free_zero-mark words taken page is inside empty old q i free =
-    let marked = rw (taken_of-set taken page is inside) at free in
-    grind (arith, nat_tests, old q i, empty i, marked)
+free_zero-mark words taken page is inside empty old q i free = grind (arith, nat_tests, taken_of-set)
 
 -- ---- roots are taken
 
@@ -46,12 +44,7 @@ pub standing-mark : (taken : List Bool) (stood stands : ℕ → Bool) (page : �
     → ((q : ℕ) → taken_of taken q ≡ true → stood q ≡ true)
     → (q : ℕ) → taken_of (slice_set taken page is) q ≡ true → stands q ≡ true
 unfolding mark
-standing-mark taken stood stands page is inside here kept old q held =
-    let marked = rw (taken_of-set taken page is inside) at held in
-    elim (cases_eq q page) [
-      | inl same ↦ rw same (here (grind (arith, nat_tests, same, marked)))
-      | inr other ↦ kept q (old q (grind (arith, nat_tests, other, marked)))
-    ]
+standing-mark taken stood stands page is inside here kept old q held = grind (arith, nat_tests, taken_of-set)
 
 -- at first the roots alone are taken
 pub taken_of-new : (roots shares page : ℕ) → taken_of (replicate roots true ++ replicate shares false) page ≡ true → page < roots
@@ -62,10 +55,7 @@ taken_of-new roots shares page held = grind (arith, common_steps, nat_tests)
 
 -- where a page is free there is a row
 pub row-within : (m : Pages) (row : ℕ) → HasFree m row → row < length m.quotas
-row-within m row free = elim (cases_lt row (length m.quotas)) [
-  | inl within ↦ within
-  | inr beyond ↦ absurd (omega (arith, free, row_quota-none m.quotas row (omega arith)))
-]
+row-within m row free = grind (arith, nat_tests, row_quota-none)
 
 -- ---- the search for a free page
 
@@ -78,9 +68,7 @@ pages_in m = pages_of (memory_in m)
 
 -- where some are free, not each page of a share is taken
 free-some : (m : Pages) (row : ℕ) → HasFree m row → ((q : ℕ) → InShare m.quotas row q → m.taken q ≡ true) → ⊥
-free-some m row free held =
-    let all = count_below-all (λ k. m.taken (share_start m.quotas row + k)) (row_quota m.quotas row) (λ k short. held (share_start m.quotas row + k) (share_at m.quotas row k short)) in
-    omega (arith, free, all)
+free-some m row free held = grind (arith, nat_tests, count_below-all, share_at)
 
 -- nor are all from the page on below which none is free
 pub some-unmarked : (m : Memory) (lowest : List ℕ) (row : ℕ) → NoneFreeBelow m.quotas m.taken lowest → length m.taken ≡ page_count m.quotas → HasFree (pages_of m) row → ¬ AllMarkedFrom m.taken (slice_index lowest row)

@@ -75,9 +75,7 @@ nonzero-zeros words page index none below = elim (cases_eq (words page index) 0)
 -- where one is counted, it is there
 pub nonzero-word : (words : Words) (page : ℕ) → 0 < nonzero_in words page → (index : ℕ) × (index < 512) × (words page index ≢ 0)
 unfolding nonzero_in
-nonzero-word words page some =
-    let found = count_below-witness (λ i. not (words page i == 0)) 512 some in
-    (found.0, found.1, grind (arith, nat_tests, found.2))
+nonzero-word words page some = grind (arith, nat_tests, count_below-witness)
 
 -- the word at a place of the list
 pub word-read : (words : List ℕ) (page index word : ℕ) → index < 512 → word ≡ slice_index words (512 * page + index) → word ≡ words_of words page index
@@ -97,11 +95,7 @@ recount-some words page index count before below counted same = elim (cases_eq b
 -- and how many are counted then
 pub recount : (words new : List ℕ) (page index word count before after : ℕ) → index < 512 → 512 * page + 512 ≤ length words → count ≡ nonzero_in (words_of words) page → (before == 0) ≡ (words_of words page index == 0)
     → new ≡ slice_set words (512 * page + index) word → after + cond (before == 0) 0 1 ≡ count + cond (word == 0) 0 1 → after ≡ nonzero_in (words_of new) page
-recount words new page index word count before after below room counted same written sum =
-    let now = nonzero-put (words_of words) page index word below in
-    let there = rw same at sum in
-    let right : after ≡ nonzero_in (put page index word (words_of words)) page = omega (arith, now, there, counted) in
-    right ∙ ap (λ w. nonzero_in w page) (sym (ap words_of written ∙ words_of-set_at words page index word below (omega (arith, below, room))))
+recount words new page index word count before after below room counted same written sum = grind (arith, nat_tests, nonzero-put, words_of-set_at)
 
 -- a word that is read is known
 pub read-test : (words : List ℕ) (page index word : ℕ) → index < 512 → word ≡ slice_index words (512 * page + index) → (word == 0) ≡ (words_of words page index == 0)
@@ -128,14 +122,4 @@ counts_nonzero-new quotas = record {
 pub counts_nonzero-page : (quotas words new nonzero : List ℕ) (page count : ℕ) → CountsNonzero quotas words nonzero → page < page_count quotas
     → ((q i : ℕ) → q ≢ page → words_of new q i ≡ words_of words q i) → count ≡ nonzero_in (words_of new) page
     → CountsNonzero quotas new (slice_set nonzero page count)
-counts_nonzero-page quotas words new nonzero page count counts inside others right = record {
-  pages = length-set nonzero page count ∙ counts.pages;
-  each = λ q below. elim (cases_eq q page) [
-    | inl same ↦
-        let here = get_or-set_same nonzero page count 0 (let pages = counts.pages in omega (arith, pages, inside)) in
-        rw same (here ∙ right)
-    | inr differs ↦
-        get_or-set_other nonzero page q count 0 differs ∙ counts.each q below
-        ∙ sym (nonzero-same (words_of words) (words_of new) q (λ i. others q i differs))
-  ];
-}
+counts_nonzero-page quotas words new nonzero page count counts inside others right = grind (arith, nat_tests, length-set, get_or-set_same, get_or-set_other, nonzero-same)

@@ -87,11 +87,7 @@ keeps-replaces p page first (suc n) word step start a small room =
 
 -- two pools that agree in all
 pub pools-same : (a b : Pool) → a.memory.ids ≡ b.memory.ids → a.memory.quotas ≡ b.memory.quotas → a.memory.words ≡ b.memory.words → a.memory.taken ≡ b.memory.taken → a.operations ≡ b.operations → a.made ≡ b.made → a ≡ b
-pools-same a b ids quotas words taken operations made = λ i. record {
-  memory = record { ids = ids i; quotas = quotas i; words = words i; taken = taken i };
-  operations = operations i;
-  made = made i;
-}
+pools-same a b ids quotas words taken operations made = grind arith
 
 -- none, and one more
 pub replaces-none : (p page first word step start : ℕ) (a : Pool) → after_replaces p page first 0 word step start a ≡ a

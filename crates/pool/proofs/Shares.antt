@@ -1,7 +1,7 @@
 -- Rows and their shares, and how many pages of a share are taken.
 use Rattle.std.proofs.Common.{◌≡◌, ◌≢◌, ◌==◌, ℕ, ◌+◌, ◌-◌, ◌<◌, ◌≤◌, List, length, take, drop, sum, arith, Bool, true, false, sym, ◌∙◌, ap, inl, inr, get_or}
 use Rattle.std.proofs.lemmas.Grind.{common_steps}
-use Rattle.std.proofs.lemmas.Bool.{cases_eq, cases_lt, eqb-true}
+use Rattle.std.proofs.lemmas.Bool.{cases_lt, eqb-true}
 use Rattle.std.proofs.lemmas.Bool.Decides.{nat_tests}
 use Rattle.std.proofs.lemmas.List.{get_or_past}
 use Rattle.std.proofs.lemmas.List.Sums.{sum_by-append, sum_by_more, passes_at_first}
@@ -52,13 +52,7 @@ root-outside quotas root row below inside = omega (arith, inside.from)
 
 -- a page stands in one share at most
 pub share_unique : (quotas : List ℕ) (row other page : ℕ) → InShare quotas row page → InShare quotas other page → row ≡ other
-share_unique quotas row other page here there = elim (cases_eq row other) [
-  | inl is ↦ is
-  | inr differs ↦ elim (cases_lt row other) [
-    | inl before ↦ absurd (omega (arith, here.to, there.from, share_start-rises quotas row other before there.partition))
-    | inr after ↦ absurd (omega (arith, there.to, here.from, share_start-rises quotas other row (omega arith) here.partition))
-  ]
-]
+share_unique quotas row other page here there = grind (arith, nat_tests, share_start-rises)
 
 -- a page at a place of a share
 pub share_at : (quotas : List ℕ) (row k : ℕ) → k < row_quota quotas row → InShare quotas row (share_start quotas row + k)

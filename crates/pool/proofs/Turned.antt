@@ -1,7 +1,6 @@
 -- Words that are turned: none is there, and the old ones are 0 exactly where the new ones are not.
 use Rattle.std.proofs.lemmas.Grind.{common_steps}
-use Rattle.std.proofs.Common.{◌≡◌, ◌≢◌, ℕ, ◌+◌, ◌*◌, ◌<◌, ◌≤◌, ◌==◌, not, true, arith, List, [], ◌∷◌, length, drop, get_or, sym, ap, ap₂, ◌∙◌, inl, inr}
-use Rattle.std.proofs.lemmas.Bool.{cases_eq}
+use Rattle.std.proofs.Common.{◌≡◌, ◌≢◌, ℕ, ◌+◌, ◌*◌, ◌<◌, ◌≤◌, ◌==◌, not, true, arith, List, [], ◌∷◌, length, drop, get_or, sym, ap, ◌∙◌}
 use Rattle.std.proofs.lemmas.Bool.Decides.{nat_tests}
 use Rattle.std.proofs.lemmas.List.{at_drop_more, at_drop_all}
 use Rattle.base.specs.Pages.{PageRun, in_run}
@@ -35,20 +34,7 @@ module _ (old : List ℕ) (page first n word step : ℕ) (zeros : word ≡ 0 →
     -- how many are not 0 then
     pub turned-counted : (new : List ℕ) (count after : ℕ) → new ≡ words_set old page first n word step → count ≡ nonzero_in (words_of old) page
         → (word ≡ 0 → after + n ≡ count) → (0 < word → after ≡ count + n) → after ≡ nonzero_in (words_of new) page
-    turned-counted new count after written counted less more =
-        let there = ap (λ l. nonzero_in (words_of l) page) written in
-        elim (cases_eq word 0) [
-          | inl zero ↦
-              let fewer = nonzero-cleared old page first n room small (was-other zero) in
-              let same = ap₂ (λ a b. nonzero_in (words_of (words_set old page first n a b)) page) zero (zeros zero) in
-              let is = less zero in
-              omega (arith, fewer, there, same, is, counted)
-          | inr some ↦
-              let above : 0 < word = omega (arith, some) in
-              let filled = nonzero-filled old page first n word step room small (was-zero above) above in
-              let is = more above in
-              omega (arith, filled, there, is, counted)
-        ]
+    turned-counted new count after written counted less more = grind (arith, nat_tests, nonzero-cleared, was-other, nonzero-filled, was-zero)
 
 -- words come in the place of zeros, where all of the page are 0
 pub turns-empty : (words : List ℕ) (range : WordRange) → 0 < range.word → range.end ≤ 512 → nonzero_in (words_of words) range.page ≡ 0 → Turns words range

@@ -61,9 +61,7 @@ pages_of-set m page index word whole inside below =
     (words_of-set m.words (page_count m.quotas) page index word whole.words inside below)
 
 pub pages_of-mark : (m : Memory) (page : ℕ) (is : Bool) → IsWhole m → page < page_count m.quotas → pages_of (with_taken page is m) ≡ with_mark page is (pages_of m)
-pages_of-mark m page is whole inside =
-    let here : page < length m.taken = omega (arith, whole.taken, inside) in
-    ap (λ (t : ℕ → Bool). record { ids = m.ids; quotas = m.quotas; words = words_of m.words; taken = t }) (taken_of-set m.taken page is here)
+pages_of-mark m page is whole inside = grind (arith, nat_tests, taken_of-set)
 
 -- ---- a new memory
 

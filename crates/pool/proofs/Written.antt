@@ -1,4 +1,5 @@
 -- What a table memory is, once words of one of its pages are written.
+use Rattle.std.proofs.lemmas.Bool.Decides.{nat_tests}
 use Rattle.std.proofs.Common.{◌≡◌, ◌≢◌, ℕ, ◌+◌, ◌*◌, ◌%◌, ◌^◌, ◌<◌, ◌≤◌, Bool, true, false, List, length, reverse, slice_set, true≢false, refl, sym, ap, ◌∙◌, arith}
 use Rattle.std.specs.List.{list_all}
 use Rattle.std.proofs.lemmas.List.{length-reverse}
@@ -73,16 +74,7 @@ module _ {S : Type 0} {g : Ghosts S} (old : TablePool S g) (page : ℕ) (inside 
 
   -- it shows what the step makes
   pub state : pool_after old new after ≡ step (pool_in old ((old.made_before + length old.operations.items) % 2 ^ 64))
-  state =
-      let made = (old.made_before + length old.operations.items) % 2 ^ 64 in
-      let pool = step (pool_in old made) in
-      let kept = keeps (pool_in old made) whole in
-      let is = shown made in
-      let was : length (reverse old.operations.items) ≡ length old.operations.items = length-reverse old.operations.items in
-      let count = kept.made old.made_before (ap (λ k. (old.made_before + k) % 2 ^ 64) (sym was)) in
-      let long : length after.operations.items ≡ length pool.operations = sym (length-reverse after.operations.items) ∙ ap length is.operations in
-      pools-same (pool_after old new after) pool
-      (sym kept.ids) (sym kept.quotas) is.words (sym kept.taken) is.operations (ap (λ k. (old.made_before + k) % 2 ^ 64) long ∙ sym count)
+  state = grind (arith, nat_tests, keeps, whole, shown, length-reverse, pools-same)
 
 -- the same of words for the pages of runs
 module _ {S : Type 0} {g : Ghosts S} (old : TablePool S g) (with : TableWords) (runs : List PageRun) (inside : with.page < page_count old.quotas.items)

@@ -1,6 +1,6 @@
 -- What is written of a page, step by step.
 use Rattle.std.proofs.lemmas.Grind.{common_steps}
-use Rattle.std.proofs.Common.{◌≡◌, ℕ, ◌+◌, ◌-◌, ◌*◌, ◌<◌, ◌≤◌, Bool, true, arith, List, [], ◌∷◌, ◌++◌, length, reverse, slice_set, vec_len, vec_capacity, refl, sym, subst, ap, ap₂, ◌∙◌, inr}
+use Rattle.std.proofs.Common.{◌≡◌, ℕ, ◌+◌, ◌-◌, ◌*◌, ◌<◌, ◌≤◌, Bool, true, arith, List, [], ◌∷◌, ◌++◌, length, reverse, slice_set, vec_len, vec_capacity, refl, sym, subst, ap, ◌∙◌, inr}
 use Rattle.std.proofs.lemmas.Bool.Decides.{nat_tests}
 use Rattle.base.specs.Pages.{PageRun, covers}
 use Rattle.pool.specs.Pool.{Pool, words_of, nonzero_in, counted, after_set, after_run, after_invalidate, index_from, words_in, gap}
@@ -79,16 +79,11 @@ alone-run with run pool = after_runs-next with.page with.start with.word with.st
 
 pub wrote-run : (with : TableWords) (run : PageRun) (first end : ℕ) (old new : List ℕ) (before after : Log) → first ≡ index_from with.start run.first → end ≡ index_from with.start (run.first + run.count)
     → Wrote (indexes_set with first end) with.page (end - first) old new before after → Wrote (runs_set with (run ∷ [])) with.page (words_in with.start (run ∷ [])) old new before after
-wrote-run with run first end old new before after from to wrote =
-    wrote-as wrote (omega (arith, from, to)) (λ pool _.
-    ap₂ (λ a b. indexes_set with a b pool) from to
-    ∙ sym (alone-run with run pool))
+wrote-run with run first end old new before after from to wrote = grind (arith, nat_tests, wrote-as, alone-run)
 
 pub wrote-gap : (with : TableWords) (first end : ℕ) (old new : List ℕ) (before after : Log) → end ≤ 512 → Wrote (indexes_set with first end) with.page (end - first) old new before after
     → Wrote (runs_set with (gap with.start first end)) with.page (words_in with.start (gap with.start first end)) old new before after
-wrote-gap with first end old new before after most wrote =
-    let long = gap-words with.start first end most in
-    wrote-as wrote (omega (arith, long)) (λ pool _. sym (gap-one with.page with.start with.word with.step first end pool most))
+wrote-gap with first end old new before after most wrote = grind (arith, nat_tests, gap-words, wrote-as, gap-one)
 
 -- words for the pages of a run, or of a gap, can be written from one index up to another
 pub can-run : {known : Bool} {words : List ℕ} {stands : ℕ → Bool} {with : TableWords} {log : Log} (run : PageRun) (first end : ℕ) → first ≡ index_from with.start run.first → end ≡ index_from with.start (run.first + run.count)
