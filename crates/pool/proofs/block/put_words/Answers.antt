@@ -1,12 +1,11 @@
+use Rattle.std.proofs.lemmas.Bool.Decides.{nat_tests}
+use Rattle.std.proofs.lemmas.Grind.{common_steps}
 use Rattle.std.proofs.Common.{◌≡◌, ◌+◌, ◌-◌, arith}
 use Rattle.pool.proofs.Recorded.{puts-none, puts-next}
 use Rattle.pool.proofs.block.put_words.Goals as goal
 
 pub loop-index-init : goal.loop-index-init
-loop-index-init c =
-    let r = c.args.range in
-    let none : r.first - r.first ≡ 0 = omega arith in
-    record { put = puts-none r c.args.cells.now c.requires.filled; next = rw none (omega arith) }
+loop-index-init c = grind (arith, common_steps, nat_tests, puts-none)
 
 pub loop-index-preserved : goal.loop-index-preserved
 loop-index-preserved c =

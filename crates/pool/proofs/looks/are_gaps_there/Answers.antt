@@ -1,3 +1,5 @@
+use Rattle.std.proofs.lemmas.Bool.Decides.{nat_tests}
+use Rattle.std.proofs.lemmas.Grind.{common_steps}
 use Rattle.std.proofs.Common.{◌≡◌, ◌+◌, ◌++◌, drop, max, sym, ap, ap₂, ◌∙◌, arith, refl, inl, inr}
 use Rattle.std.proofs.lemmas.Bool.{cases_Bool}
 use Rattle.base.specs.Pages.{covers}
@@ -51,24 +53,7 @@ loop-run-preserved g c =
     }
 
 pub returns-clause-yes : goal.returns-clause-yes
-returns-clause-yes g c = λ e i small gapped.
-    let start = c.args.with.start in
-    let first = c.loop-run.first in
-    let last = gaps-done start first c.loop-run.run-index c.args.runs.now c.loop-run-test.false in
-    elim (cases_Bool (covers (gap start first 512) (start + i))) [
-      | inl t ↦ let at = gap-at start first 512 (start + i) t in let low = at.0 in c.is_gap_there-2.ensures.yes e i (omega (arith, low)) small
-      | inr f ↦ c.loop-run.invariant.done i small gapped (ap (λ rs. covers rs (start + i)) last ∙ f)
-    ]
+returns-clause-yes g c = grind (arith, common_steps, nat_tests, gaps-done, gap-at)
 
 pub returns-clause-no : goal.returns-clause-no
-returns-clause-no g c = λ e.
-    let start = c.args.with.start in
-    let first = c.loop-run.first in
-    let last = gaps-done start first c.loop-run.run-index c.args.runs.now c.loop-run-test.false in
-    let missing = c.is_gap_there-2.ensures.no e in
-    record {
-      index = missing.0;
-      small = missing.2;
-      gap = c.loop-run.invariant.left (start + missing.0) (ap (λ rs. covers rs (start + missing.0)) last ∙ gap-has start first 512 missing.0 missing.1 missing.2);
-      other = missing.3;
-    }
+returns-clause-no g c = grind (arith, common_steps, nat_tests, gaps-done, gap-has)

@@ -1,3 +1,5 @@
+use Rattle.std.proofs.lemmas.Bool.Decides.{nat_tests}
+use Rattle.std.proofs.lemmas.Grind.{common_steps}
 use Rattle.std.proofs.Common.{◌≡◌, ◌+◌, ◌≤◌, ◌++◌, [], drop, max, refl, sym, ap, ap₂, ◌∙◌, arith}
 use Rattle.std.proofs.lemmas.List.{append-nil}
 use Rattle.pool.specs.Pool.{index_from, gap, gaps_from}
@@ -47,13 +49,7 @@ loop-run-preserved g c =
     }
 
 pub write_apart-requires : goal.write_apart-requires
-write_apart-requires g c =
-    let w = c.args.with in
-    let first = c.loop-run.first in
-    let before = c.loop-run.invariant in
-    let here = gap w.start first 512 in
-    let parts = gaps-done w.start first c.loop-run.run-index c.args.runs.now c.loop-run-test.false ∙ sym (append-nil here) in
-    can-gap first 512 (omega arith) (left-can before.left here [] parts c.requires before.standing (λ _. before.turned))
+write_apart-requires g c = grind (arith, common_steps, nat_tests, gaps-done, append-nil, can-gap, left-can)
 
 pub returns-clause-wrote : goal.returns-clause-wrote
 returns-clause-wrote g c =

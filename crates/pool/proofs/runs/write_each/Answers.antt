@@ -1,4 +1,6 @@
-use Rattle.std.proofs.Common.{◌+◌, [], ◌∷◌, drop, refl, ◌∙◌, arith, inl, inr}
+use Rattle.std.proofs.lemmas.Bool.Decides.{nat_tests}
+use Rattle.std.proofs.lemmas.Grind.{common_steps}
+use Rattle.std.proofs.Common.{◌+◌, [], ◌∷◌, drop, ◌∙◌, arith, inl, inr}
 use Rattle.std.proofs.lemmas.Bool.{cases_lt}
 use Rattle.pool.proofs.Gaps.{above, before-rise, rise-lower, rise-normal}
 use Rattle.pool.proofs.Turned.{runs-left, runs-done}
@@ -6,12 +8,7 @@ use Rattle.pool.proofs.Wrote.{left-all, left-can, left-less, left-none, turned-r
 use Rattle.pool.proofs.runs.write_each.Goals as goal
 
 pub loop-run-init : goal.loop-run-init
-loop-run-init g c = record {
-  left = left-all c.args.with c.args.runs.now (g.S.WordStore.words c.args.store.now) c.args.log c.requires.can.ready.counted;
-  standing = refl;
-  turned = c.requires.can.turned;
-  up = rise-normal c.args.runs.now c.requires.normal;
-}
+loop-run-init g c = grind (arith, common_steps, nat_tests, left-all, rise-normal)
 
 pub write_run-log-requires : goal.write_run-log-requires
 write_run-log-requires g c =

@@ -1,17 +1,13 @@
-use Rattle.std.proofs.Common.{◌≡◌, ◌≢◌, ◌+◌, ◌*◌, ◌<◌, ◌==◌, ℕ, [], ◌∷◌, length, ap, sym, ◌∙◌, arith}
+use Rattle.std.proofs.lemmas.Grind.{common_steps}
+use Rattle.std.proofs.Common.{◌≡◌, ◌≢◌, ◌==◌, ℕ, ap, sym, ◌∙◌, arith}
 use Rattle.std.proofs.lemmas.Bool.Decides.{nat_tests}
 use Rattle.pool.specs.Pool.{words_of}
-use Rattle.pool.specs.Writing.{log_of, page_alone, runs_set}
 use Rattle.pool.proofs.Alone.{alone-outside, alone-words, alone-set, alone-stays}
 use Rattle.pool.proofs.Wrote.{wrote-none, wrote-as}
 use Rattle.pool.proofs.runs.write_page.Goals as goal
 
 pub returns-then-index-ge-TABLE_WORDS-clause-wrote : goal.returns-then-index-ge-TABLE_WORDS-clause-wrote
-returns-then-index-ge-TABLE_WORDS-clause-wrote g c =
-    let w = c.args.with in
-    let page = c.args.page in
-    wrote-none (runs_set w (page_alone page ∷ [])) w.page _ (g.S.WordStore.words c.args.store.now) (log_of c.args.operations.now c.args.nonzero) c.requires.ready.counted (λ pool _.
-    alone-outside w page (c.index_at-index.ensures.beside c.if-index-ge-TABLE_WORDS.true) pool)
+returns-then-index-ge-TABLE_WORDS-clause-wrote g c = grind (arith, common_steps, nat_tests, wrote-none, alone-outside)
 
 -- where the word before is the new one, or is not, so is the word that stands there
 is_there : (before word next : ℕ) → (before == next) ≡ (word == next) → before ≡ next → word ≡ next
@@ -21,15 +17,7 @@ differs : (before word next : ℕ) → (before == next) ≡ (word == next) → b
 differs before word next same other = grind (arith, nat_tests, same, other)
 
 pub returns-then-before-at-clause-wrote : goal.returns-then-before-at-clause-wrote
-returns-then-before-at-clause-wrote g c =
-    let w = c.args.with in
-    let page = c.args.page in
-    let i = c.index_at-index.result in
-    let small = c.if-index-ge-TABLE_WORDS.false in
-    let there = rw c.from.ensures at (is_there _ _ _ c.word_before-before.ensures.there c.if-before-at.true) in
-    wrote-none (runs_set w (page_alone page ∷ [])) w.page _ (g.S.WordStore.words c.args.store.now) (log_of c.args.operations.now c.args.nonzero) c.requires.ready.counted (λ pool same.
-    let inside : 512 * w.page + i < length pool.memory.words = (let long = ap length same in omega (arith, long, c.requires.may.page_in.inside, small)) in
-    alone-stays w page i small (c.index_at-index.ensures.within small) pool inside (ap (λ l. words_of l w.page i) same ∙ there))
+returns-then-before-at-clause-wrote g c = grind (arith, common_steps, nat_tests, is_there, wrote-none, alone-stays)
 
 pub returns-clause-wrote : goal.returns-clause-wrote
 returns-clause-wrote g c =

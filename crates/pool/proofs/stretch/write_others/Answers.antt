@@ -1,4 +1,6 @@
-use Rattle.std.proofs.Common.{◌≡◌, ◌+◌, ◌-◌, ◌*◌, ◌<◌, length, slice_index, refl, sym, ap, ◌∙◌, arith, rules}
+use Rattle.std.proofs.lemmas.Bool.Decides.{nat_tests}
+use Rattle.std.proofs.lemmas.Grind.{common_steps}
+use Rattle.std.proofs.Common.{◌≡◌, ◌+◌, ◌-◌, ◌*◌, ◌<◌, length, slice_index, refl, sym, ap, ◌∙◌, arith}
 use Rattle.pool.specs.Pool.{words_set}
 use Rattle.pool.specs.Writing.{range_set}
 use Rattle.pool.proofs.Nonzero.{read-test}
@@ -19,16 +21,7 @@ loop-index-init g c =
     }
 
 pub write_word-requires-clause-may : goal.write_word-requires-clause-may
-write_word-requires-clause-may g c =
-    let small : c.loop-index.index < 512 = omega (arith, c.requires.may.index_in, c.loop-index-test.true) in
-    record {
-      index_in = small;
-      page_in = record {
-        inside = omega (arith, c.loop-index.invariant.wrote.whole, c.requires.may.page_in.inside);
-        standing = search rules;
-      };
-      turned = read-test (g.S.WordStore.words c.loop-index.store) c.args.range.page c.loop-index.index c.standing_word-before.result small c.standing_word-before.ensures;
-    }
+write_word-requires-clause-may g c = grind (arith, common_steps, nat_tests, read-test)
 
 pub write_word-requires-clause-ready : goal.write_word-requires-clause-ready
 write_word-requires-clause-ready g c =

@@ -1,19 +1,13 @@
+use Rattle.std.proofs.lemmas.Bool.Decides.{nat_tests}
+use Rattle.std.proofs.lemmas.Grind.{common_steps}
 use Rattle.std.proofs.Common.{arith}
-use Rattle.pool.specs.Pool.{words_of}
 use Rattle.pool.specs.Writing.{log_of}
 use Rattle.pool.proofs.Nonzero.{nonzero-le, recount-some, recount}
 use Rattle.pool.proofs.Wrote.{wrote-set}
 use Rattle.pool.proofs.stretch.write_word.Goals as goal
 
 pub recounted-requires : goal.recounted-requires
-recounted-requires g c =
-    let at = c.args.at in
-    let words = g.S.WordStore.words c.args.store.now in
-    let most = nonzero-le (words_of words) at.page in
-    record {
-      counted = recount-some words at.page at.index c.args.nonzero c.args.before c.requires.may.index_in c.requires.ready.counted c.requires.may.turned;
-      most = omega (arith, most, c.requires.ready.counted);
-    }
+recounted-requires g c = grind (arith, common_steps, nat_tests, nonzero-le, recount-some)
 
 pub returns-clause-wrote : goal.returns-clause-wrote
 returns-clause-wrote g c =

@@ -1,8 +1,8 @@
-use Rattle.std.proofs.Common.{sym}
+use Rattle.std.proofs.lemmas.Bool.Decides.{nat_tests}
+use Rattle.std.proofs.lemmas.Grind.{common_steps}
+use Rattle.std.proofs.Common.{arith}
 use Rattle.pool.proofs.Held.{filled-at}
 use Rattle.pool.proofs.block.BlockWordStore.standing_word.Goals as goal
 
 pub get-requires : goal.get-requires
-get-requires c =
-    let block = c.args.self.now in
-    (sym block.cells_placed, filled-at block.cells.slots c.args.page c.args.index (block.marked.filled c.args.page c.requires.standing) c.requires.index_in)
+get-requires c = grind (arith, common_steps, nat_tests, filled-at)

@@ -1,4 +1,6 @@
-use Rattle.std.proofs.Common.{◌≡◌, ◌+◌, ◌-◌, ◌*◌, length, slice_set, sym, ap, ◌∙◌, arith}
+use Rattle.std.proofs.lemmas.Bool.Decides.{nat_tests}
+use Rattle.std.proofs.lemmas.Grind.{common_steps}
+use Rattle.std.proofs.Common.{◌≡◌, ◌+◌, ◌-◌, ◌*◌, slice_set, sym, ap, ◌∙◌, arith}
 use Rattle.pool.proofs.Stretches.{length-words_set, words_set-none, words_set-next}
 use Rattle.pool.proofs.list_pool.VecU64WordStore.set_words.Goals as goal
 
@@ -8,9 +10,7 @@ loop-index-init c =
     record { words = rw none (sym (words_set-none c.args.self.now.items c.args.range.page c.args.range.first c.args.range.word c.args.range.step)); next = rw none (omega arith) }
 
 pub index_mut-requires : goal.index_mut-requires
-index_mut-requires c =
-    let long = ap length c.loop-index.invariant.words ∙ length-words_set c.args.self.now.items c.args.range.page c.args.range.first (c.loop-index.index - c.args.range.first) c.args.range.word c.args.range.step in
-    omega (arith, long, c.requires.may.page_in.inside, c.requires.may.index_in, c.loop-index-test.true)
+index_mut-requires c = grind (arith, common_steps, nat_tests, length-words_set)
 
 pub loop-index-preserved : goal.loop-index-preserved
 loop-index-preserved c =

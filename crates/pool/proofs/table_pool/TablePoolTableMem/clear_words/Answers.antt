@@ -1,3 +1,4 @@
+use Rattle.std.proofs.lemmas.Bool.Decides.{nat_tests}
 use Rattle.std.proofs.Common.{◌+◌, ◌≤◌, reverse, arith}
 use Rattle.std.proofs.lemmas.Grind.{common_steps}
 use Rattle.pool.proofs.RunWords.{keeps-sets}
@@ -8,10 +9,7 @@ use Rattle.pool.proofs.Wrote.{wrote-length}
 use Rattle.pool.proofs.table_pool.TablePoolTableMem.clear_words.Goals as goal
 
 pub write_others-operations-requires-clause-ready : goal.write_others-operations-requires-clause-ready
-write_others-operations-requires-clause-ready g c =
-    let old = c.args.self.now in
-    let sets = nonzero-sets_of (g.S.WordStore.words old.store) c.args.page 0 512 (omega (arith, old.words_whole, c.requires.page_in)) (omega arith) in
-    rw c.take-log.ensures record { counted = grind (arith, common_steps); room = omega (arith, sets, c.requires.ready) }
+write_others-operations-requires-clause-ready g c = grind (arith, common_steps, nat_tests, nonzero-sets_of)
 
 pub returns-clause-room : goal.returns-clause-room
 returns-clause-room g c =

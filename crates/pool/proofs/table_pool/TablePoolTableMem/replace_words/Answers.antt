@@ -1,3 +1,5 @@
+use Rattle.std.proofs.lemmas.Bool.Decides.{nat_tests}
+use Rattle.std.proofs.lemmas.Grind.{common_steps}
 use Rattle.std.proofs.Common.{◌+◌, ◌-◌, ◌≤◌, arith}
 use Rattle.pool.proofs.Replaced.{keeps-replaces}
 use Rattle.pool.proofs.Within.{within-replaces}
@@ -13,9 +15,4 @@ invariant_of-self g c =
     stays old r.page c.requires.page_in c.replace_words-count.ensures.wrote (λ a room. keeps-replaces c.args.p r.page r.first n r.word r.step c.args.start a small room) c.replace_words-count.ensures.standing c.requires.taken (within-replaces old.ids old.quotas.items c.args.p r.page r.first n r.word r.step c.args.start (pool_in old 0) c.requires.page_in small c.requires.partition c.requires.pages_in old.within)
 
 pub returns-clause-state : goal.returns-clause-state
-returns-clause-state g c =
-    let old = c.args.self.now in
-    let r = c.args.range in
-    let n = r.end - r.first in
-    let small : r.first + n ≤ 512 = omega (arith, c.requires.ordered, c.requires.index_in) in
-    state old r.page c.requires.page_in c.replace_words-count.ensures.wrote (λ a room. keeps-replaces c.args.p r.page r.first n r.word r.step c.args.start a small room)
+returns-clause-state g c = grind (arith, common_steps, nat_tests, state, keeps-replaces)

@@ -1,3 +1,5 @@
+use Rattle.std.proofs.lemmas.Bool.Decides.{nat_tests}
+use Rattle.std.proofs.lemmas.Grind.{common_steps}
 use Rattle.std.proofs.Common.{[], ◌∷◌, arith}
 use Rattle.pool.specs.declared.operation.Op.TheVariants.{Set}
 use Rattle.pool.proofs.Nonzero.{read-test}
@@ -19,13 +21,7 @@ returns-clause-state g c =
     state old c.args.page c.requires.page_in c.write_word-count.ensures.wrote (λ a room. keeps-set c.args.page c.args.index c.args.word a c.requires.index_in room)
 
 pub write_word-count-requires-clause-may : goal.write_word-count-requires-clause-may
-write_word-count-requires-clause-may g c =
-    let old = c.args.self.now in
-    record {
-      index_in = c.requires.index_in;
-      page_in = record { inside = omega (arith, old.words_whole, c.requires.page_in); standing = old.standing c.args.page c.requires.taken };
-      turned = read-test (g.S.WordStore.words old.store) c.args.page c.args.index c.standing_word-before.result c.requires.index_in c.standing_word-before.ensures;
-    }
+write_word-count-requires-clause-may g c = grind (arith, common_steps, nat_tests, read-test)
 
 pub returns-clause-room : goal.returns-clause-room
 returns-clause-room g c =
