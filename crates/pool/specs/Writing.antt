@@ -193,6 +193,12 @@ page_alone page = record { first = page; count = 1 }
 abbrev pub block_from : ℕ → PageRun
 block_from start = record { first = start; count = 512 }
 
+-- they can be: they may be written, their pages are below 2^27, and there is room for three operations for each
+pub record CanReplace (words : List ℕ) (stands : ℕ → Bool) (with : Replacement) (log : Log) : Type 0 where
+  pub may : MayWrite words stands with.range
+  pub pages_in : with.start + 512 * (with.range.end - with.range.first) ≤ 2 ^ 27
+  pub ready : IsReady words with.range.page (3 * (with.range.end - with.range.first)) log
+
 -- what they make of a pool
 abbrev pub replaces : Replacement → Pool → Pool
 replaces with =

@@ -2,7 +2,7 @@
 
 ghost use Rattle.std.specs.Prelude.{◌≡◌, ◌+◌, ◌-◌, ◌*◌, ◌^◌, ◌<◌, ◌≤◌, ◌++◌, ◌∷◌, []};
 ghost use Rattle.pool.specs.Pool.{words_of, after_break, after_make};
-ghost use Rattle.pool.specs.Writing.{IsHeld, MayWrite, HasRoom, Grows, IsReady, Wrote, log_of, block_from, replaces};
+ghost use Rattle.pool.specs.Writing.{IsHeld, MayWrite, HasRoom, Grows, IsReady, CanReplace, Wrote, log_of, block_from, replaces};
 ghost use Rattle.pool.specs.declared.operation.Op.TheVariants.{Invalidate};
 
 use crate::log::Log;
@@ -121,9 +121,7 @@ fn replace_one<S: WordStore>(
 
 /// Replaces words, each by what stands there and by what is to.
 fn replace_others<S: WordStore>(store: &mut S, mut log: Log, with: Replacement) -> Log
-    requires may { MayWrite (S.words store.old) (S.stands store.old) with.range }
-    requires pages_in { with.start + 512 * (with.range.end - with.range.first) ≤ 2 ^ 27 }
-    requires ready { IsReady (S.words store.old) with.range.page (3 * (with.range.end - with.range.first)) log }
+    requires { CanReplace (S.words store.old) (S.stands store.old) with log }
     ensures wrote { Wrote (replaces with) with.range.page (3 * (with.range.end - with.range.first))
         (S.words store.old) (S.words store.new) log result }
     ensures standing { S.stands store.new ≡ S.stands store.old }
@@ -152,9 +150,7 @@ fn replace_others<S: WordStore>(store: &mut S, mut log: Log, with: Replacement) 
 /// Replaces words. Where all words of the page are 0, none is broken.
 #[inline(never)]
 fn replace_all<S: WordStore>(store: &mut S, log: Log, with: Replacement) -> Log
-    requires may { MayWrite (S.words store.old) (S.stands store.old) with.range }
-    requires pages_in { with.start + 512 * (with.range.end - with.range.first) ≤ 2 ^ 27 }
-    requires ready { IsReady (S.words store.old) with.range.page (3 * (with.range.end - with.range.first)) log }
+    requires { CanReplace (S.words store.old) (S.stands store.old) with log }
     ensures wrote { Wrote (replaces with) with.range.page (3 * (with.range.end - with.range.first))
         (S.words store.old) (S.words store.new) log result }
     ensures standing { S.stands store.new ≡ S.stands store.old }
@@ -174,10 +170,7 @@ pub(crate) fn replace_words<S: WordStore>(
     nonzero: u32,
     with: Replacement,
 ) -> u32
-    requires may { MayWrite (S.words store.old) (S.stands store.old) with.range }
-    requires pages_in { with.start + 512 * (with.range.end - with.range.first) ≤ 2 ^ 27 }
-    requires ready { IsReady (S.words store.old) with.range.page (3 * (with.range.end - with.range.first))
-        (log_of operations.old nonzero) }
+    requires { CanReplace (S.words store.old) (S.stands store.old) with (log_of operations.old nonzero) }
     ensures wrote { Wrote (replaces with) with.range.page (3 * (with.range.end - with.range.first))
         (S.words store.old) (S.words store.new) (log_of operations.old nonzero) (log_of operations.new result) }
     ensures standing { S.stands store.new ≡ S.stands store.old }
