@@ -71,9 +71,7 @@ rise-strict e (run ∷ runs) up =
 
 pub rise-normal : (runs : List PageRun) → are_normal runs ≡ true → rise 0 runs ≡ true
 rise-normal [] normal = refl
-rise-normal (run ∷ runs) normal =
-    let le : nat_le 0 run.first ≡ true = grind (arith, nat_tests) in
-    rw (le, rise-strict (run.first + run.count) runs normal) refl
+rise-normal (run ∷ runs) normal = grind (arith, nat_tests, rise-strict)
 
 module _ (start : ℕ) where
   rise-gap : (first end e : ℕ) (rest : List PageRun) → e ≤ start + first → first ≤ end → rise (start + end) rest ≡ true → rise e (gap start first end ++ rest) ≡ true

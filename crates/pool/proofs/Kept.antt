@@ -1,5 +1,5 @@
 -- What a table memory keeps at each write, and what its searches find.
-use Rattle.std.proofs.Common.{◌≡◌, ℕ, ◌+◌, ◌<◌, ◌≤◌, ◌^◌, Bool, true, false, List, length, slice_index, slice_set, ◌∙◌, ap, ap₂, replicate, ◌++◌, refl, arith, inl, inr, IsTrue, ◌≢◌, min}
+use Rattle.std.proofs.Common.{◌≡◌, ℕ, ◌+◌, ◌<◌, ◌≤◌, ◌^◌, Bool, true, false, List, length, slice_index, slice_set, ◌∙◌, ap, ap₂, replicate, ◌++◌, arith, inl, inr, IsTrue, ◌≢◌, min}
 use Rattle.std.proofs.lemmas.Grind.{common_steps}
 use Rattle.std.proofs.lemmas.Bool.{cases_eq, cases_lt}
 use Rattle.std.proofs.lemmas.Bool.Decides.{nat_tests}
@@ -155,10 +155,7 @@ below-give quotas lowest taken row page old inside small =
 
 -- at first all are
 pub counts-new : (m : ManifestRows) → CountsFree (quotas_of m.partitions) (new_memory m).taken (quotas_of m.partitions)
-counts-new m = record {
-  rows = refl;
-  each = λ row below. let none = used_by-new m row in omega (arith, none);
-}
+counts-new m = grind (arith, common_steps, nat_tests, used_by-new)
 
 -- a page of a row's share gets another mark, and the row another count, which is right
 counts-set : (m : Memory) (free : List ℕ) (row page n : ℕ) (is : Bool) → CountsFree m.quotas m.taken free → InShare m.quotas row page → page < length m.taken

@@ -110,13 +110,7 @@ nonzero-none words page zeros =
 -- ---- the list of all counts
 
 pub counts_nonzero-new : (quotas : List ℕ) → CountsNonzero quotas (replicate (512 * page_count quotas) 0) (replicate (page_count quotas) 0)
-counts_nonzero-new quotas = record {
-  pages = length-replicate (page_count quotas) 0;
-  each = λ page below.
-      let none = nonzero-none (words_of (replicate (512 * page_count quotas) 0)) page (λ i small. words_of-zeros (512 * page_count quotas) page i) in
-      let zero : slice_index (replicate (page_count quotas) 0) page ≡ 0 = grind (arith, common_steps) in
-      zero ∙ sym none;
-}
+counts_nonzero-new quotas = grind (arith, common_steps, nat_tests, length-replicate, nonzero-none, words_of-zeros)
 
 -- words of one page are written, and the count that it has then is right
 pub counts_nonzero-page : (quotas words new nonzero : List ℕ) (page count : ℕ) → CountsNonzero quotas words nonzero → page < page_count quotas

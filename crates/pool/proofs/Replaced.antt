@@ -61,16 +61,10 @@ keeps-invalidate : (page p : ℕ) (run : PageRun) (a : Pool) → Keeps page a (a
 keeps-invalidate page p run a = record { ids = refl; quotas = refl; taken = refl; whole = refl; others = λ q i other. refl; made = λ n is. one-more n a.made (length a.operations) is }
 
 pub keeps-break : (p page index : ℕ) (run : PageRun) (a : Pool) → index < 512 → 512 * page + 512 ≤ length a.memory.words → Keeps page a (after_break p page index run a)
-keeps-break p page index run a below room = elim (cases_Bool (words_of a.memory.words page index == 0)) [
-  | inl is ↦ rw is (keeps-self page a)
-  | inr isnt ↦ rw isnt (keeps-more page a (after_set page index 0 a) (after_invalidate p run (after_set page index 0 a)) (keeps-set page index 0 a below room) (keeps-invalidate page p run (after_set page index 0 a)))
-]
+keeps-break p page index run a below room = grind (arith, common_steps, nat_tests, keeps-self, keeps-more, keeps-set, keeps-invalidate)
 
 keeps-make : (page index word : ℕ) (a : Pool) → index < 512 → 512 * page + 512 ≤ length a.memory.words → Keeps page a (after_make page index word a)
-keeps-make page index word a below room = elim (cases_Bool (word == 0)) [
-  | inl is ↦ rw is (keeps-self page a)
-  | inr isnt ↦ rw isnt (keeps-set page index word a below room)
-]
+keeps-make page index word a below room = grind (arith, common_steps, nat_tests, keeps-self, keeps-set)
 
 pub keeps-replaces : (p page first n word step start : ℕ) (a : Pool) → first + n ≤ 512 → 512 * page + 512 ≤ length a.memory.words → Keeps page a (after_replaces p page first n word step start a)
 unfolding after_replaces

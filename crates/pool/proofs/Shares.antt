@@ -6,7 +6,7 @@ use Rattle.std.proofs.lemmas.Bool.Decides.{nat_tests}
 use Rattle.std.proofs.lemmas.List.{get_or_past}
 use Rattle.std.proofs.lemmas.List.Sums.{sum_by-append, sum_by_more, passes_at_first}
 use Rattle.std.proofs.Math.Seq.{take-add}
-use Rattle.base.specs.Manifest.{ManifestRows, row_of, quotas_of, page_count}
+use Rattle.base.specs.Manifest.{ManifestRows, row_of, page_count}
 use Rattle.pool.specs.Pool.{Pages, InShare, share_start, row_quota, pages_of, taken_of, mark, with_mark, used_by, new_memory}
 use Rattle.pool.proofs.Words.{mark-other}
 use Rattle.pool.proofs.Count.{count_below-same, count_below-one, count_below-none, count_below-le}
@@ -105,7 +105,4 @@ unfolding taken_of
 taken_of-new m page beyond = grind (arith, common_steps)
 
 pub used_by-new : (m : ManifestRows) (row : ℕ) → used_by (pages_of (new_memory m)) row ≡ 0
-used_by-new m row =
-    let quotas = quotas_of m.partitions in
-    count_below-none (λ k. taken_of (new_memory m).taken (share_start quotas row + k)) (row_quota quotas row)
-    (λ k below. taken_of-new m (share_start quotas row + k) (grind (arith, common_steps)))
+used_by-new m row = grind (arith, common_steps, nat_tests, count_below-none, taken_of-new)

@@ -1,10 +1,10 @@
 -- Words of a page that follow one another, and the operations that write them.
 use Rattle.std.proofs.lemmas.Grind.{common_steps}
-use Rattle.std.proofs.Common.{◌≡◌, ◌≢◌, ℕ, zero, suc, ◌+◌, ◌-◌, ◌*◌, ◌%◌, ◌^◌, ◌<◌, ◌≤◌, ◌==◌, arith, true, false, cond, List, [], ◌∷◌, ◌++◌, length, reverse, slice_index, slice_set, refl, sym, ap, ◌∙◌, ◌⊎◌, inl, inr, add-one, Vec, Global, vec_len}
+use Rattle.std.proofs.Common.{◌≡◌, ◌≢◌, ℕ, zero, suc, ◌+◌, ◌-◌, ◌*◌, ◌%◌, ◌^◌, ◌<◌, ◌≤◌, ◌==◌, arith, cond, List, [], ◌∷◌, ◌++◌, length, reverse, slice_index, slice_set, refl, sym, ap, ◌∙◌, ◌⊎◌, inl, inr, add-one, Vec, Global, vec_len}
 use Rattle.std.proofs.lemmas.Bool.{cases_eq}
 use Rattle.std.proofs.lemmas.Bool.Decides.{nat_tests}
 use Rattle.std.proofs.lemmas.List.{length-append, append_assoc}
-use Rattle.pool.specs.Pool.{Pool, Words, put, words_of, nonzero_in, words_set, sets_of, counted, after_set, after_sets}
+use Rattle.pool.specs.Pool.{Pool, Words, words_of, nonzero_in, words_set, sets_of, counted, after_set, after_sets}
 use Rattle.pool.specs.declared.operation.Op.{Op}
 use Rattle.pool.specs.declared.operation.Op.TheVariants.{Set}
 use Rattle.pool.proofs.Words.{words_of-set_at, put-same, put-other_index, put-other_page}
@@ -135,36 +135,13 @@ pub nonzero-filled : (words : List ℕ) (page first n word step : ℕ) → 512 *
     → nonzero_in (words_of (words_set words page first n word step)) page ≡ nonzero_in (words_of words) page + n
 unfolding words_set
 nonzero-filled words page first zero word step room small zeros some = omega arith
-nonzero-filled words page first (suc n) word step room small zeros some =
-    let set = words_set words page first n word step in
-    let long = length-words_set words page first n word step in
-    let next = word + step * n in
-    let rest = nonzero-filled words page first n word step room (omega (arith, small)) (λ x lt. zeros x (omega (arith, lt))) some in
-    let written = words_of-set_at set page (first + n) next (omega (arith, small)) (omega (arith, small, room, long)) in
-    let was : words_of set page (first + n) ≡ 0 = words_set-beside words page first n word step (first + n) room (omega (arith, small)) (inr (omega arith)) ∙ zeros n (omega arith) in
-    let now = nonzero-put (words_of set) page (first + n) next (omega (arith, small)) in
-    let zero_test : (words_of set page (first + n) == 0) ≡ true = grind (arith, nat_tests, was) in
-    let some_test : (next == 0) ≡ false = (let above : 0 < next = omega (arith, some) in grind (arith, nat_tests, above)) in
-    let more = rw (zero_test, some_test) at now in
-    ap (λ w. nonzero_in w page) written ∙ omega (arith, more, rest)
+nonzero-filled words page first (suc n) word step room small zeros some = grind (arith, nat_tests, length-words_set, words_of-set_at, words_set-beside, nonzero-put, nonzero-filled words page first n word step room (omega (arith, small)) (λ x lt. zeros x (omega (arith, lt))) some)
 
 pub nonzero-cleared : (words : List ℕ) (page first n : ℕ) → 512 * page + 512 ≤ length words → first + n ≤ 512 → ((x : ℕ) → x < n → words_of words page (first + x) ≢ 0)
     → nonzero_in (words_of (words_set words page first n 0 0)) page + n ≡ nonzero_in (words_of words) page
 unfolding words_set
 nonzero-cleared words page first zero room small others = omega arith
-nonzero-cleared words page first (suc n) room small others =
-    let set = words_set words page first n 0 0 in
-    let long = length-words_set words page first n 0 0 in
-    let zero_next : 0 + 0 * n ≡ 0 = omega arith in
-    let rest = nonzero-cleared words page first n room (omega (arith, small)) (λ x lt. others x (omega (arith, lt))) in
-    let written = words_of-set_at set page (first + n) 0 (omega (arith, small)) (omega (arith, small, room, long)) in
-    let was : words_of set page (first + n) ≢ 0 = λ is. others n (omega arith) (sym (words_set-beside words page first n 0 0 (first + n) room (omega (arith, small)) (inr (omega arith))) ∙ is) in
-    let now = nonzero-put (words_of set) page (first + n) 0 (omega (arith, small)) in
-    let test : (words_of set page (first + n) == 0) ≡ false = grind (arith, nat_tests, was) in
-    let less = rw test at now in
-    let new : nonzero_in (words_of (slice_set set (512 * page + (first + n)) (0 + 0 * n))) page ≡ nonzero_in (put page (first + n) 0 (words_of set)) page =
-    ap (λ w. nonzero_in (words_of (slice_set set (512 * page + (first + n)) w)) page) zero_next ∙ ap (λ w. nonzero_in w page) written in
-    omega (arith, new, less, rest)
+nonzero-cleared words page first (suc n) room small others = grind (arith, nat_tests, length-words_set, words_of-set_at, words_set-beside, nonzero-put, nonzero-cleared words page first n room (omega (arith, small)) (λ x lt. others x (omega (arith, lt))))
 
 -- what is not there where a stretch begins is not there once the words before it are written
 pub differ-next : (words : List ℕ) (page first n m word step index next : ℕ) → 512 * page + 512 ≤ length words → first + m ≤ 512 → n < m → first + n ≡ index → word + step * n ≡ next → AllDiffer words page first m word step
@@ -200,25 +177,7 @@ pub nonzero-sets_of : (words : List ℕ) (page first n : ℕ) → 512 * page + 5
     → length (sets_of words page first n 0 0) + nonzero_in (words_of (words_set words page first n 0 0)) page ≡ nonzero_in (words_of words) page
 unfolding words_set sets_of
 nonzero-sets_of words page first zero room small = omega arith
-nonzero-sets_of words page first (suc n) room small =
-    let set = words_set words page first n 0 0 in
-    let place = 512 * page + (first + n) in
-    let zero_next : 0 + 0 * n ≡ 0 = omega arith in
-    let inside : place < length set = (let long = length-words_set words page first n 0 0 in omega (arith, small, room, long)) in
-    let read = word-read set page (first + n) (slice_index set place) (omega (arith, small)) refl in
-    let rest = nonzero-sets_of words page first n room (omega (arith, small)) in
-    rw zero_next (elim (cases_eq (slice_index set place) 0) [
-      | inl is ↦
-          let test : (slice_index set place == 0) ≡ true = grind (arith, nat_tests, is) in
-          rw (test, set-same set place 0 inside is) rest
-      | inr differs ↦
-          let test : (slice_index set place == 0) ≡ false = grind (arith, nat_tests, differs) in
-          let some : (words_of set page (first + n) == 0) ≡ false = ap (λ w. w == 0) (sym read) ∙ test in
-          let now = nonzero-put (words_of set) page (first + n) 0 (omega (arith, small)) in
-          let less = rw some at now in
-          let written = words_of-set_at set page (first + n) 0 (omega (arith, small)) inside in
-          rw (test, written) (omega (arith, less, rest))
-    ])
+nonzero-sets_of words page first (suc n) room small = grind (arith, nat_tests, length-words_set, word-read, set-same, nonzero-put, words_of-set_at, nonzero-sets_of words page first n room (omega (arith, small)))
 
 -- the words of a part of a range are below what all of them are
 pub part-in_range : (first end word step at k next bound : ℕ) → word + step * (end - first) < bound → first ≤ at → at + k ≤ end → next ≡ word + step * (at - first) → next + step * k < bound

@@ -11,10 +11,7 @@ pub loop-run-init : goal.loop-run-init
 loop-run-init g c = grind (arith, common_steps, nat_tests, left-all, rise-normal)
 
 pub write_run-log-requires : goal.write_run-log-requires
-write_run-log-requires g c =
-    let run = c.run-item.result in
-    let before = c.loop-run.invariant in
-    left-can before.left (run ∷ []) (drop (c.loop-run.run-index + 1) c.args.runs.now) (runs-left c.args.runs.now c.loop-run.run-index run c.loop-run-test.true c.run-item.is) c.requires.can before.standing before.turned
+write_run-log-requires g c = grind (arith, nat_tests, left-can, runs-left)
 
 pub loop-run-preserved : goal.loop-run-preserved
 loop-run-preserved g c =
