@@ -21,10 +21,3 @@ module _ {X : Type 0} where
 
   pub swept-next : (x : X) (count : ℕ) (items : List X) → count < length items → set (swept x count items) count x ≡ swept x (count + 1) items
   swept-next x count items below = rw (add-one count) (swept-suc x count items below)
-
-  swept-length_of : (x : X) (items : List X) → swept x (length items) items ≡ replicate (length items) x
-  swept-length_of x [] = refl
-  swept-length_of x (y ∷ items) = ap (λ rest. x ∷ rest) (swept-length_of x items)
-
-  pub swept-all : (x : X) (count : ℕ) (items : List X) → length items ≡ count → swept x count items ≡ replicate count x
-  swept-all x count items is = rw (← is) (swept-length_of x items)

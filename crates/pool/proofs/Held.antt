@@ -1,13 +1,12 @@
 -- What places stand for of which some are empty, and which pages are filled.
 use Rattle.std.proofs.lemmas.Bool.Decides.{nat_tests}
 use Rattle.std.proofs.lemmas.Grind.{common_steps}
-use Rattle.std.proofs.Common.{◌≡◌, ◌≢◌, ℕ, zero, suc, ◌+◌, ◌*◌, ◌/◌, ◌%◌, ◌<◌, ◌≤◌, ◌⊎◌, Bool, true, false, List, [], ◌∷◌, length, replicate, get_or, slice_index, slice_index_or, unwrap_or, is_some, Option, Some, None, refl, sym, ap, ◌∙◌, arith, inl, inr, add-one, true≢false}
+use Rattle.std.proofs.Common.{◌≡◌, ◌≢◌, ℕ, zero, suc, ◌+◌, ◌*◌, ◌/◌, ◌%◌, ◌<◌, ◌≤◌, ◌⊎◌, Bool, true, false, List, ◌∷◌, length, replicate, get_or, slice_index, slice_index_or, unwrap_or, is_some, Option, Some, None, refl, sym, ap, ◌∙◌, arith, inl, inr, add-one, true≢false}
 use Rattle.std.proofs.Math.ListN.{set, get_or-map}
 use Rattle.std.proofs.Math.Nat.{div-add-mod, mod-lt}
 use Rattle.std.proofs.Math.Seq.{map-set_same}
 use Rattle.std.proofs.lemmas.Bool.{cases_eq, cases_lt}
 use Rattle.std.proofs.lemmas.List.{set-set, map-set, length-map, length-set, get_or-set_same, get_or-set_other}
-use Rattle.std.proofs.lemmas.Option.{none-some}
 use Rattle.pool.specs.Cells.{held, with_zeros, IsFilled, IsPageFilled, IsPageEmpty, AreMarked}
 use Rattle.pool.proofs.Contents.{swept}
 
@@ -15,9 +14,6 @@ use Rattle.pool.proofs.Contents.{swept}
 
 pub length-held : (cs : List (Option ℕ)) → length (held cs) ≡ length cs
 length-held cs = length-map cs (λ c. unwrap_or c 0)
-
-pub held-at : (cs : List (Option ℕ)) (i x : ℕ) → get_or cs i None ≡ Some x → slice_index (held cs) i ≡ x
-held-at cs i x is = get_or-map (λ c. unwrap_or c 0) cs i None ∙ ap (λ c. unwrap_or c 0) is
 
 pub held-none : (cs : List (Option ℕ)) (i : ℕ) → get_or cs i None ≡ None → slice_index (held cs) i ≡ 0
 held-none cs i is = get_or-map (λ c. unwrap_or c 0) cs i None ∙ ap (λ c. unwrap_or c 0) is
@@ -29,14 +25,6 @@ held-set cs i x = ap held (set-set cs i None (Some x)) ∙ map-set (λ c. unwrap
 pub held-new : (n : ℕ) → held (replicate n None) ≡ replicate n 0
 held-new zero = refl
 held-new (suc n) = ap (λ rest. 0 ∷ rest) (held-new n)
-
-pub below : (cs : List (Option ℕ)) (k x : ℕ) → get_or cs k None ≡ Some x → k < length cs
-below [] k x is = absurd (none-some x is)
-below (c ∷ cs) zero x is = omega arith
-below (c ∷ cs) (suc k) x is = let less = below cs k x is in omega (arith, less)
-
-pub length-put : (cs : List (Option ℕ)) (i x : ℕ) → length (set (set cs i None) i (Some x)) ≡ length cs
-length-put cs i x = length-set (set cs i None) i (Some x) ∙ length-set cs i None
 
 is-some : (o : Option ℕ) → is_some o ≡ true → (x : ℕ) × (o ≡ Some x)
 is-some None h = absurd (true≢false (sym h))
@@ -54,15 +42,6 @@ filled-place marks cs place marked is =
 pub empty-place : (marks : List Bool) (cs : List (Option ℕ)) (place : ℕ) → AreMarked marks cs → slice_index_or marks (place / 512) false ≡ false → get_or cs place None ≡ None
 empty-place marks cs place marked is =
     ap (λ k. get_or cs k None) (sym (div-add-mod place 512)) ∙ marked.empty (place / 512) is (place % 512) (mod-lt place (omega arith))
-
--- ---- marks
-
--- a filled place stays filled, with another word
-pub marked-set : (marks : List Bool) (cs : List (Option ℕ)) (k x : ℕ) → IsFilled cs k → AreMarked marks cs → AreMarked marks (set (set cs k None) k (Some x))
-marked-set marks cs k x is marked = grind (arith, common_steps, nat_tests)
-
-pub filled-set : (cs : List (Option ℕ)) (page k x : ℕ) → IsFilled cs k → IsPageFilled cs page → IsPageFilled (set (set cs k None) k (Some x)) page
-filled-set cs page k x is all i lt = grind (arith, common_steps, nat_tests)
 
 -- ---- a page that is filled with zeros
 

@@ -185,13 +185,6 @@ counts-give m free row page n counts inside below is_taken more =
     let now = used_by-give (pages_of m) row page inside is_taken in
     counts-set m free row page n false counts inside below (omega (arith, was, now, more))
 
--- while a page is taken, not all are free
-pub counts-below : (m : Memory) (free : List ℕ) (row page : ℕ) → CountsFree m.quotas m.taken free → InShare m.quotas row page → taken_of m.taken page ≡ true → slice_index free row + 1 ≤ row_quota m.quotas row
-counts-below m free row page counts inside is_taken =
-    let was = counts.each row inside.partition in
-    let now = used_by-give (pages_of m) row page inside is_taken in
-    omega (arith, was, now)
-
 -- ---- a valid manifest
 
 pub length-quotas_of : (partitions : List PartitionRow) → length (quotas_of partitions) ≡ length partitions

@@ -20,13 +20,6 @@ break-none p page index run pool is = grind (arith, common_steps, nat_tests)
 pub break-some : (p page index : ℕ) (run : PageRun) (pool : Pool) → words_of pool.memory.words page index ≢ 0 → after_break p page index run pool ≡ after_invalidate p run (after_set page index 0 pool)
 break-some p page index run pool isnt = grind (arith, common_steps, nat_tests)
 
--- one that is to be 0 is not made
-pub make-none : (page index word : ℕ) (pool : Pool) → word ≡ 0 → after_make page index word pool ≡ pool
-make-none page index word pool is = rw is refl
-
-pub make-some : (page index word : ℕ) (pool : Pool) → word ≢ 0 → after_make page index word pool ≡ after_set page index word pool
-make-some page index word pool isnt = grind (arith, common_steps, nat_tests)
-
 -- ---- what is kept
 
 -- the words of other pages, which pages are taken, and the count of operations

@@ -1,7 +1,7 @@
 -- The words for the pages of runs, and what else is kept.
 use Rattle.std.proofs.lemmas.Bool.Decides.{nat_tests}
 use Rattle.std.proofs.lemmas.Grind.{common_steps}
-use Rattle.std.proofs.Common.{◌≡◌, ℕ, ◌+◌, ◌-◌, ◌*◌, ◌%◌, ◌^◌, ◌<◌, ◌≤◌, arith, List, [], ◌∷◌, ◌++◌, length, get_or, drop, refl, sym, ap, ap₂, ◌∙◌}
+use Rattle.std.proofs.Common.{◌≡◌, ℕ, ◌+◌, ◌-◌, ◌*◌, ◌%◌, ◌^◌, ◌<◌, ◌≤◌, arith, List, [], ◌∷◌, ◌++◌, length, get_or, drop, refl, sym, ap, ◌∙◌}
 use Rattle.std.proofs.lemmas.List.{length-append, at_drop_more}
 use Rattle.base.specs.Pages.{PageRun}
 use Rattle.pool.specs.Pool.{Pool, words_set, sets_of, counted, after_sets, index_from, words_in, after_run, after_runs}
@@ -81,19 +81,11 @@ pub page-alone : (page start word step number index next : ℕ) (pool : Pool) �
     → after_run page start word step (record { first = number; count = 1 }) pool ≡ after_sets page index (0 + 1) next step pool
 page-alone page start word step number index next pool at end is = grind (arith, common_steps, nat_tests)
 
--- a run of one page
-pub run-alone : (run : PageRun) (first : ℕ) → first ≡ run.first → run.count ≡ 1 → record { first = first; count = 1 } ≡ run
-run-alone run first is one = ap₂ (λ (n k : ℕ). let r : PageRun = record { first = n; count = k } in r) is (sym one)
-
 -- runs of which there is one
 pub runs-single : (runs : List PageRun) (run : PageRun) → length runs ≡ 1 → run ≡ get_or runs 0 run → runs ≡ run ∷ []
 runs-single [] run one is = absurd (omega (arith, one))
 runs-single (r ∷ []) run one is = ap (λ x. x ∷ []) (sym is)
 runs-single (r ∷ q ∷ rs) run one is = absurd (omega (arith, one))
-
--- which has one page
-pub runs-one : (runs : List PageRun) (run : PageRun) (first : ℕ) → length runs ≡ 1 → run ≡ get_or runs 0 run → first ≡ run.first → run.count ≡ 1 → runs ≡ record { first = first; count = 1 } ∷ []
-runs-one runs run first one is begins alone = runs-single runs run one is ∙ ap (λ x. x ∷ []) (sym (run-alone run first begins alone))
 
 -- some runs, and others behind them
 pub after_runs-append : (page start word step : ℕ) (a b : List PageRun) (pool : Pool) → after_runs page start word step (a ++ b) pool ≡ after_runs page start word step b (after_runs page start word step a pool)

@@ -178,7 +178,3 @@ pub nonzero-sets_of : (words : List ℕ) (page first n : ℕ) → 512 * page + 5
 unfolding words_set sets_of
 nonzero-sets_of words page first zero room small = omega arith
 nonzero-sets_of words page first (suc n) room small = grind (arith, nat_tests, length-words_set, word-read, set-same, nonzero-put, words_of-set_at, nonzero-sets_of words page first n room (omega (arith, small)))
-
--- the words of a part of a range are below what all of them are
-pub part-in_range : (first end word step at k next bound : ℕ) → word + step * (end - first) < bound → first ≤ at → at + k ≤ end → next ≡ word + step * (at - first) → next + step * k < bound
-part-in_range first end word step at k next bound below from to is = grind (arith, common_steps, nat_tests)

@@ -1,13 +1,12 @@
 -- Words that are turned: none is there, and the old ones are 0 exactly where the new ones are not.
 use Rattle.std.proofs.lemmas.Grind.{common_steps}
-use Rattle.std.proofs.Common.{◌≡◌, ◌≢◌, ℕ, ◌+◌, ◌*◌, ◌<◌, ◌≤◌, ◌==◌, not, true, arith, List, [], ◌∷◌, length, drop, get_or, sym, ap, ◌∙◌}
+use Rattle.std.proofs.Common.{◌≡◌, ◌≢◌, ℕ, ◌+◌, ◌*◌, ◌<◌, ◌≤◌, ◌==◌, not, arith, List, [], ◌∷◌, length, drop, get_or, sym, ap, ◌∙◌}
 use Rattle.std.proofs.lemmas.Bool.Decides.{nat_tests}
 use Rattle.std.proofs.lemmas.List.{at_drop_more, at_drop_all}
-use Rattle.base.specs.Pages.{PageRun, in_run}
-use Rattle.pool.specs.Pool.{words_of, words_set, nonzero_in, index_from}
+use Rattle.base.specs.Pages.{PageRun}
+use Rattle.pool.specs.Pool.{words_of, words_set, nonzero_in}
 use Rattle.pool.specs.Shown.{AllDiffer}
-use Rattle.pool.specs.Writing.{IsTurned, Turns, TurnRuns, page_alone}
-use Rattle.pool.specs.declared.runs.TableWords.{TableWords}
+use Rattle.pool.specs.Writing.{Turns}
 use Rattle.pool.specs.declared.word_range.WordRange.{WordRange}
 use Rattle.pool.proofs.Nonzero.{nonzero-zeros}
 use Rattle.pool.proofs.Stretches.{nonzero-filled, nonzero-cleared}
@@ -43,32 +42,10 @@ turns-empty words range some small none = record {
   each = λ x lt. let is = nonzero-zeros (words_of words) range.page (range.first + x) none (omega (arith, small, lt)) in grind (arith, nat_tests, some, is);
 }
 
--- ---- words that stand for pages
-
--- their first tells whether they are 0
-same-test : (with : TableWords) (i : ℕ) → (with.word ≡ 0 → with.step ≡ 0) → (with.word + with.step * i == 0) ≡ (with.word == 0)
-same-test with i zeros = grind (arith, common_steps, nat_tests)
-
-pub turned-word : (old : List ℕ) (with : TableWords) (first i : ℕ) → (with.word ≡ 0 → with.step ≡ 0) → IsTurned old with i → (words_of old with.page i == 0) ≡ not (with.word + with.step * first == 0)
-turned-word old with first i zeros turned = turned ∙ ap not (sym (same-test with first zeros))
-
--- those from one index up to another are turned as a range
-pub turned-range : (old : List ℕ) (with : TableWords) (first end : ℕ) → (with.word ≡ 0 → with.step ≡ 0) → ((i : ℕ) → first ≤ i → i < end → IsTurned old with i)
-    → Turns old (record { page = with.page; first = first; end = end; word = with.word + with.step * first; step = with.step })
-turned-range old with first end zeros turned = grind (arith, common_steps, nat_tests)
-
 -- ---- runs
-
--- the words from one index up to another stand for pages of the run
-pub run-at : (start i : ℕ) (run : PageRun) → index_from start run.first ≤ i → i < index_from start (run.first + run.count) → in_run run (start + i) ≡ true
-run-at start i run from below = grind (arith, common_steps, nat_tests)
 
 pub runs-left : (runs : List PageRun) (i : ℕ) (run : PageRun) → i < length runs → run ≡ get_or runs i run → drop i runs ≡ run ∷ drop (i + 1) runs
 runs-left runs i run lt is = at_drop_more (λ l. l) runs i run lt ∙ ap (λ r. r ∷ drop (i + 1) runs) (sym is)
 
 pub runs-done : (runs : List PageRun) (i : ℕ) → length runs ≤ i → drop i runs ≡ []
 runs-done runs i all = at_drop_all (λ l. l) runs i all
-
--- a page alone, whose word stands at an index
-pub turned-alone : (old : List ℕ) (with : TableWords) (page index : ℕ) → index < 512 → with.start + index ≡ page → TurnRuns old with (page_alone page ∷ []) → IsTurned old with index
-turned-alone old with page index small is all = grind (arith, common_steps, nat_tests)

@@ -6,7 +6,7 @@ use Rattle.std.proofs.lemmas.Bool.Decides.{nat_tests}
 use Rattle.std.proofs.lemmas.List.Folds.{list_all-append}
 use Rattle.base.specs.Manifest.{row_of, page_count}
 use Rattle.base.specs.Pages.{PageRun}
-use Rattle.pool.specs.Pool.{Pool, lies_in, sets_of, index_from, after_run, after_runs, after_break, after_make, after_replaces}
+use Rattle.pool.specs.Pool.{Pool, lies_in, sets_of, index_from, after_run, after_runs, after_replaces}
 use Rattle.pool.specs.declared.operation.Op.{Op}
 use Rattle.pool.specs.declared.operation.Op.TheVariants.{Set}
 use Rattle.pool.proofs.RunWords.{run-within}
@@ -38,13 +38,6 @@ within-runs ids quotas page start word step (run ∷ runs) pool inside all =
     (within-behind ids quotas pool.memory.words page first (end - first) (word + step * first) step pool.operations inside (run-within start run) all)
 
 -- and of words that are replaced
-within-break : (ids quotas : List ℕ) (p page index : ℕ) (run : PageRun) (pool : Pool) → page < page_count quotas → index < 512 → row_of ids p < length ids → run.first + run.count ≤ 2 ^ 27 → list_all (lies_in ids quotas) pool.operations ≡ true
-    → list_all (lies_in ids quotas) (after_break p page index run pool).operations ≡ true
-within-break ids quotas p page index run pool inside small row below all = grind (arith, common_steps, nat_tests)
-
-within-make : (ids quotas : List ℕ) (page index word : ℕ) (pool : Pool) → page < page_count quotas → index < 512 → list_all (lies_in ids quotas) pool.operations ≡ true → list_all (lies_in ids quotas) (after_make page index word pool).operations ≡ true
-within-make ids quotas page index word pool inside small all = grind (arith, common_steps, nat_tests)
-
 pub within-replaces : (ids quotas : List ℕ) (p page first n word step start : ℕ) (pool : Pool) → page < page_count quotas → first + n ≤ 512 → row_of ids p < length ids → start + 512 * n ≤ 2 ^ 27 → list_all (lies_in ids quotas) pool.operations ≡ true
     → list_all (lies_in ids quotas) (after_replaces p page first n word step start pool).operations ≡ true
 unfolding after_replaces

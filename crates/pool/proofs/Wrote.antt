@@ -85,11 +85,7 @@ pub wrote-gap : (with : TableWords) (first end : ℕ) (old new : List ℕ) (befo
     → Wrote (runs_set with (gap with.start first end)) with.page (words_in with.start (gap with.start first end)) old new before after
 wrote-gap with first end old new before after most wrote = grind (arith, nat_tests, gap-words, wrote-as, gap-one)
 
--- words for the pages of a run, or of a gap, can be written from one index up to another
-pub can-run : {known : Bool} {words : List ℕ} {stands : ℕ → Bool} {with : TableWords} {log : Log} (run : PageRun) (first end : ℕ) → first ≡ index_from with.start run.first → end ≡ index_from with.start (run.first + run.count)
-    → CanWriteRuns known words stands with (run ∷ []) log → CanWriteIndexes known words stands with first end log
-can-run {with = with} run first end from to can = grind (arith, common_steps, nat_tests)
-
+-- words for the pages of a gap can be written from one index up to another
 pub can-gap : {known : Bool} {words : List ℕ} {stands : ℕ → Bool} {with : TableWords} {log : Log} (first end : ℕ) → end ≤ 512 → CanWriteRuns known words stands with (gap with.start first end) log → CanWriteIndexes known words stands with first end log
 can-gap {with = with} first end most can = grind (arith, common_steps, nat_tests)
 
