@@ -1,4 +1,5 @@
 -- An edit takes no more tables than there are chunks and gigabytes from the first that its runs touch to the last.
+use Rattle.std.proofs.lemmas.Grind.{common_steps}
 use Rattle.std.proofs.Common.{◌*◌, None, ◌≡◌, ℕ, zero, suc, ◌+◌, ◌-◌, ◌/◌, ◌<◌, ◌≤◌, ◌&&◌, not, Bool, true, false, List, sym, ◌∙◌, ◌⊎◌, true≢false, arith, inl, inr}
 use Rattle.std.proofs.lemmas.Bool.{cases_Bool, cases_lt}
 use Rattle.std.proofs.lemmas.Bool.Decides.{nat_tests}
@@ -16,12 +17,7 @@ use Rattle.stage2.proofs.Runs.Normal.{any-within}
 count-from : (f : ℕ → Bool) (low n : ℕ) → ((x : ℕ) → x < n → f x ≡ true → low ≤ x) → count_below f n ≤ n - low
 unfolding count_below
 count-from f low zero from = omega arith
-count-from f low (suc n) from =
-    let rest = count-from f low n (λ x lt. from x (omega (arith, lt))) in
-    elim (cases_Bool (f n)) [
-      | inl t ↦ let least = from n (omega arith) t in rw t (omega (arith, rest, least))
-      | inr t ↦ rw t (omega (arith, rest))
-    ]
+count-from f low (suc n) from = grind (arith, common_steps, nat_tests, count-from f low n (λ x lt. from x (omega (arith, lt))))
 
 pub count-within : (f : ℕ → Bool) (low high n : ℕ) → ((x : ℕ) → x < n → f x ≡ true → (low ≤ x) × (x < high)) → count_below f n ≤ high - low
 unfolding count_below

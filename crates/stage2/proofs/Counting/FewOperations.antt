@@ -1,8 +1,7 @@
 -- An edit whose pages lie in one chunk, and which writes no words of level 3 but theirs.
+use Rattle.std.proofs.lemmas.Grind.{common_steps}
 use Rattle.std.proofs.Common.{ltb, max, min, ◌≡◌, ◌≢◌, ℕ, ◌+◌, ◌-◌, ◌*◌, ◌/◌, ◌%◌, ◌<◌, ◌≤◌, Bool, true, false, cond, is_some, List, [], ◌∷◌, length, Option, Some, None, refl, sym, ap, ap₂, subst, ◌∙◌, arith, inl, inr}
-use Rattle.std.specs.Option.{option_map_or}
 use Rattle.std.proofs.lemmas.Bool.{cases_Bool, cases_lt}
-use Rattle.std.proofs.lemmas.List.Sums.{sum_by-cons}
 use Rattle.base.specs.Access.{View}
 use Rattle.base.specs.Need.{is_mixed, is_alike}
 use Rattle.std.proofs.lemmas.Bool.Decides.{nat_tests}
@@ -73,14 +72,7 @@ page-counted runs c n covered here =
 
 parts-few : (c : ℕ) (runs : List PageRun) → part_count c runs ≤ length runs
 parts-few c [] = omega arith
-parts-few c (run ∷ runs) =
-    let rest = parts-few c runs in
-    let here = one (part_in c run) in
-    rw (sum_by-cons (λ (r : PageRun). option_map_or (λ (part : PageRun). 1) (part_in c r) 0) run runs) (omega (arith, rest, here))
-  where
-    one : (part : Option PageRun) → option_map_or (λ (p : PageRun). 1) part 0 ≤ 1
-    one None = omega arith
-    one (Some p) = omega arith
+parts-few c (run ∷ runs) = grind (arith, common_steps, nat_tests, parts-few c runs)
 
 -- ---- runs that have pages in one chunk alone
 

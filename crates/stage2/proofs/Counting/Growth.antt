@@ -1,4 +1,6 @@
 -- What an edit takes, read from the words.
+use Rattle.std.proofs.lemmas.Bool.Decides.{nat_tests}
+use Rattle.std.proofs.lemmas.Grind.{common_steps}
 use Rattle.std.proofs.Common.{◌≡◌, ℕ, ◌+◌, ◌-◌, ◌*◌, ◌/◌, ◌%◌, ◌<◌, Bool, true, false, not, ◌&&◌, cond, is_some, List, Option, Some, None, length, refl, arith, ap, ap₂, sym, subst, ◌∙◌}
 use Rattle.base.specs.Pages.{PageRun, covers}
 use Rattle.base.specs.Access.{View}
@@ -8,7 +10,7 @@ use Rattle.pool.proofs.Shares.{share_inside}
 use Rattle.base.specs.Counts.{count_below}
 use Rattle.pool.proofs.Count.{count_below-none}
 use Rattle.stage2.specs.Slot.{Layout, Next, slot}
-use Rattle.stage2.specs.Walk.{at_2, next_page, chunk_table, Gigabyte, Chunk, table_at}
+use Rattle.stage2.specs.Walk.{at_2, next_page, Gigabyte, Chunk, table_at}
 use Rattle.base.specs.Need.{is_mixed, is_reached}
 use Rattle.stage2.specs.Orderly.{IsCanonical, IsOrderly, answers, answer_of, linked}
 use Rattle.stage2.specs.Edits.{edited}
@@ -26,13 +28,8 @@ use Rattle.stage2.proofs.Editing.RootLinks.{untabled}
 module _ (layout : Layout) (row g : ℕ) (m : Pages) (canonical : IsCanonical layout m) (inside : row < length layout.ids) (below : g < 512) where
   table_in : (second : Option ℕ) (i : ℕ) → i < 512 → table_at layout m.words (Gigabyte row g) ≡ second → table_at layout m.words (Chunk row (512 * g + i)) ≡ next_page (entry_in layout m.words second i)
   unfolding table_at
-  table_in None i lt e =
-      let q : (512 * g + i) / 512 ≡ g = omega (arith, lt) in
-      ap (λ x. chunk_table layout m.words (512 * g + i) (next_page (slot layout 1 (m.words row x)))) q ∙ ap (chunk_table layout m.words (512 * g + i)) e
-  table_in (Some j) i lt e =
-      let q : (512 * g + i) / 512 ≡ g = omega (arith, lt) in
-      let r : (512 * g + i) % 512 ≡ i = omega (arith, lt) in
-      ap (λ x. chunk_table layout m.words (512 * g + i) (next_page (slot layout 1 (m.words row x)))) q ∙ ap (chunk_table layout m.words (512 * g + i)) e ∙ ap (λ x. next_page (slot layout 2 (m.words j x))) r
+  table_in None i lt e = grind (arith, common_steps, nat_tests)
+  table_in (Some j) i lt e = grind (arith, common_steps, nat_tests)
 
   answers_entry : (second : Option ℕ) (i n : ℕ) → i < 512 → table_at layout m.words (Gigabyte row g) ≡ second → n / 512 ≡ 512 * g + i → answers layout m.words row n ≡ answers_at layout m.words (entry_in layout m.words second i) n
   answers_entry None i n lt e at =
@@ -158,13 +155,7 @@ module _ (layout : Layout) (m : Pages) (canonical : IsCanonical layout m) (g : �
     -- that has its table, none is taken for itself
     pub growth-tabled : (access : View) (j : ℕ) → second_of layout m.words row g ≡ Some j
         → gigabyte_growth (answers_of layout m.words row) (edited runs access (answers_of layout m.words row)) g ≡ count_below (λ x. grows_at (answers_of layout m.words row) (edited runs access (answers_of layout m.words row)) (512 * g + x)) 512
-    growth-tabled access j table =
-        let was : is_reached before g ≡ true = sym (reached-second row inside) ∙ ap (λ o. is_some o) table in
-        rw was (off (is_reached (edited runs access before) g) (count_below (λ x. grows_at before (edited runs access before) (512 * g + x)) 512))
-      where
-        off : (b : Bool) (n : ℕ) → cond (b && false) 1 0 + n ≡ n
-        off true n = omega arith
-        off false n = omega arith
+    growth-tabled access j table = grind (arith, common_steps, nat_tests)
 
     -- that has none, one is taken where pages are mapped
     pub growth-mapped : (access : View) → Touches runs g → second_of layout m.words row g ≡ None → is_some access ≡ true

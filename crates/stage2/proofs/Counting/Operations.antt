@@ -1,4 +1,5 @@
 -- How many operations an edit makes: views that agree on a chunk make as many, and what each row of the edit order makes.
+use Rattle.std.proofs.lemmas.Grind.{common_steps}
 use Rattle.std.proofs.Common.{◌≡◌, ℕ, zero, suc, ◌+◌, ◌*◌, ◌/◌, ◌%◌, ◌<◌, ◌==◌, min, Bool, true, false, not, cond, is_some, List, Some, None, refl, sym, ap, ap₂, subst, ◌∙◌, arith, inl, inr, ◌⊎◌}
 use Rattle.std.proofs.lemmas.Bool.{cases_Bool}
 use Rattle.std.proofs.lemmas.Bool.Decides.{nat_tests}
@@ -83,11 +84,7 @@ module _ (runs : List PageRun) (access : View) (v : ℕ → View) (c : ℕ) wher
 
   -- a table is given back
   pub dropped : (answer : View) → is_mixed v c ≡ true → IsOutcome c (edited runs access v) (Some answer) → table_operations runs access v c ≡ cond (is_some answer) (reached_in v c) (pages_in runs c)
-  dropped answer was outcome =
-      let now : is_mixed (edited runs access v) c ≡ false = sym outcome.mixed in
-      let first : edited runs access v (512 * c) ≡ answer = outcome.same answer refl (512 * c) (omega arith) in
-      let so : table_operations runs access v c ≡ cond (is_some (edited runs access v (512 * c))) (reached_in v c) (pages_in runs c) = rw (now, was) refl in
-      so ∙ ap (λ a. cond (is_some a) (reached_in v c) (pages_in runs c)) first
+  dropped answer was outcome = grind (arith, common_steps, nat_tests)
 
   -- there is none
   pub plain : (answer : View) → is_mixed v c ≡ false → IsOutcome c (edited runs access v) (Some answer) → table_operations runs access v c ≡ 0
@@ -108,11 +105,7 @@ module _ (runs : List PageRun) (access : View) (v : ℕ → View) (c : ℕ) wher
 
 -- of a chunk none of whose pages was reached, those of the runs
 pub new-mapped : (runs : List PageRun) (access : View) (c : ℕ) → is_some access ≡ true → reached_in (edited runs access (λ n. None)) c ≡ pages_in runs c
-new-mapped runs access c maps = pages_among-same (λ i. covers runs (512 * c + i)) (λ i. is_some (edited runs access (λ n. None) (512 * c + i))) (λ i lt. either (covers runs (512 * c + i)))
-  where
-    either : (b : Bool) → is_some (cond b access None) ≡ b
-    either true = maps
-    either false = refl
+new-mapped runs access c maps = grind (arith, common_steps, nat_tests)
 
 -- of a chunk all of whose pages were, the others
 pub new-unmapped : (runs : List PageRun) (access before : View) (c : ℕ) → access ≡ None → is_some before ≡ true → reached_in (edited runs access (λ n. before)) c + pages_in runs c ≡ 512

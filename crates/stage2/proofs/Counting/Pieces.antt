@@ -1,6 +1,7 @@
 -- How many pages of a chunk runs have, and what that tells of the words of its level 3 table.
-use Rattle.std.proofs.Common.{◌≡◌, ◌≢◌, ℕ, zero, suc, ◌+◌, ◌-◌, ◌*◌, ◌/◌, ◌<◌, ◌≤◌, ◌==◌, cond, Bool, true, false, not, ◌&&◌, ◌||◌, eqb, leb, ltb, max, min, List, [], ◌∷◌, Some, None, take, drop, length, get_or, refl, sym, ap, ◌∙◌, arith, inl, inr}
-use Rattle.std.proofs.lemmas.Bool.{cases_Bool, and_parts, ltb-true, eqb-true}
+use Rattle.std.proofs.lemmas.Grind.{common_steps}
+use Rattle.std.proofs.Common.{◌≡◌, ◌≢◌, ℕ, zero, suc, ◌+◌, ◌-◌, ◌*◌, ◌/◌, ◌<◌, ◌≤◌, ◌==◌, cond, Bool, true, false, not, ◌&&◌, ◌||◌, eqb, leb, ltb, min, List, [], ◌∷◌, Some, None, take, drop, length, get_or, refl, sym, ap, ◌∙◌, arith, inl, inr}
+use Rattle.std.proofs.lemmas.Bool.{cases_Bool, and_parts, eqb-true}
 use Rattle.std.proofs.lemmas.List.{at_drop_all}
 use Rattle.std.proofs.lemmas.Bool.Decides.{nat_tests}
 use Rattle.base.specs.Counts.{count_below}
@@ -21,19 +22,7 @@ use Rattle.stage2.proofs.Runs.Normal.{end_of, from-rise, normal-next, normal-tak
 count_below-either : (a b : ℕ → Bool) (n : ℕ) → ((k : ℕ) → k < n → (a k && b k) ≡ false) → count_below (λ k. a k || b k) n ≡ count_below a n + count_below b n
 unfolding count_below
 count_below-either a b zero apart = refl
-count_below-either a b (suc n) apart =
-    let rest = count_below-either a b n (λ k lt. apart k (omega arith)) in
-    let here = apart n (omega arith) in
-    elim (cases_Bool (a n)) [
-      | inl p ↦ elim (cases_Bool (b n)) [
-        | inl q ↦ let bad : true ≡ false = (rw (p, q) at here) in absurd (cc)
-        | inr q ↦ rw (p, q, rest) (omega arith)
-      ]
-      | inr p ↦ elim (cases_Bool (b n)) [
-        | inl q ↦ rw (p, q, rest) (omega arith)
-        | inr q ↦ rw (p, q, rest) (omega arith)
-      ]
-    ]
+count_below-either a b (suc n) apart = grind (arith, common_steps, nat_tests, count_below-either a b n (λ k lt. apart k (omega arith)))
 
 -- the numbers from one up to another
 between-more : (first end k : ℕ) → first + k ≤ end → count_below (is_between first end) (first + k) ≡ k
@@ -164,14 +153,7 @@ not-or false false e = (refl, refl)
 pub count_below-fewer : (a b : ℕ → Bool) (n : ℕ) → ((k : ℕ) → k < n → a k ≡ true → b k ≡ true) → count_below a n ≤ count_below b n
 unfolding count_below
 count_below-fewer a b zero is = omega arith
-count_below-fewer a b (suc n) is =
-    let rest = count_below-fewer a b n (λ k lt. is k (omega (arith, lt))) in
-    let here = bits (a n) (b n) (is n (omega arith)) in
-    omega (arith, rest, here)
-  where
-    bits : (x y : Bool) → (x ≡ true → y ≡ true) → cond x 1 0 ≤ cond y 1 0
-    bits false y e = omega arith
-    bits true y e = let t = e refl in rw t (omega arith)
+count_below-fewer a b (suc n) is = grind (arith, common_steps, nat_tests, count_below-fewer a b n (λ k lt. is k (omega (arith, lt))))
 
 -- where there are fewer words that are not 0 than pages beside some, one of these has the word 0
 pub zero-beside : (words : Words) (k : ℕ) (which : ℕ → Bool) → nonzero_in words k + pages_among which < 512 → (i : ℕ) × (i < 512) × (which i ≡ false) × (words k i ≡ 0)
@@ -268,18 +250,7 @@ all-among words k which counted none i lt in_it is_zero =
 
 pub part-within : (c : ℕ) (run part : PageRun) → part_in c run ≡ Some part → (512 * c ≤ part.first) × (part.first + part.count ≤ 512 * c + 512) × (0 < part.count)
 unfolding part_in
-part-within c run part e =
-    let first = max run.first (512 * c) in
-    let end = min (run.first + run.count) (512 * c + 512) in
-    elim (cases_Bool (ltb first end)) [
-      | inl t ↦
-          let lt : first < end = ltb-true first end t in
-          let got : Some (record { first = first; count = end - first }) ≡ Some part = rw t at e in
-          let at : first ≡ part.first = cc in
-          let many : end - first ≡ part.count = cc in
-          (omega (arith, lt, at, many), omega (arith, lt, at, many), omega (arith, lt, at, many))
-      | inr f ↦ let none : None ≡ Some part = rw f at e in absurd (cc)
-    ]
+part-within c run part e = grind (arith, common_steps, nat_tests)
 
 pub part-pages : (c : ℕ) (run part : PageRun) → part_in c run ≡ Some part → pages_among (λ i. in_run run (512 * c + i)) ≡ part.count
 part-pages c run part e =

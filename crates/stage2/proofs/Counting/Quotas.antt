@@ -1,4 +1,6 @@
 -- Quotas of partitions, and views that need no tables.
+use Rattle.std.proofs.lemmas.Bool.Decides.{nat_tests}
+use Rattle.std.proofs.lemmas.Grind.{common_steps}
 use Rattle.std.proofs.Common.{◌≡◌, ℕ, suc, ◌+◌, ◌*◌, ◌/◌, ◌%◌, ◌^◌, ◌<◌, ◌≤◌, true, false, not, cond, eqb, List, [], ◌∷◌, Some, None, IsTrue, length, get_or, find, refl, sym, ap, subst, ◌∙◌, arith, inl, inr}
 use Rattle.std.specs.Option.{option_map_or}
 use Rattle.std.proofs.lemmas.Bool.{cases_Bool, cases_lt}
@@ -14,11 +16,7 @@ use Rattle.stage2.proofs.Editing.Gigabyte.{not-reached}
 -- the quota of a partition's row; 0 where it has none
 pub quota_at : (rows : List PartitionRow) (p : ℕ) → get_or (quotas_of rows) (row_of (ids_of rows) p) 0 ≡ option_map_or (λ (row : PartitionRow). row.quota) (find (λ row. eqb row.id p) rows) 0
 quota_at [] p = refl
-quota_at (row ∷ rows) p =
-    elim (eqb row.id p) as (λ b. get_or (row.quota ∷ quotas_of rows) (cond (not b) (1 + row_of (ids_of rows) p) 0) 0 ≡ option_map_or (λ (r : PartitionRow). r.quota) (cond b (Some row) (find (λ r. eqb r.id p) rows)) 0) [
-      | true ↦ refl
-      | false ↦ let next : 1 + row_of (ids_of rows) p ≡ suc (row_of (ids_of rows) p) = omega arith in rw next (quota_at rows p)
-    ]
+quota_at (row ∷ rows) p = grind (arith, common_steps, nat_tests, quota_at rows p)
 
 pub no_quota : (rows : List PartitionRow) (p : ℕ) → length (ids_of rows) ≤ row_of (ids_of rows) p → option_map_or (λ (row : PartitionRow). row.quota) (find (λ row. eqb row.id p) rows) 0 ≡ 0
 no_quota [] p le = refl

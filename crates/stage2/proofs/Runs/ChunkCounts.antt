@@ -1,5 +1,6 @@
 -- How many chunks runs touch, and how many operations their edit takes at most, whatever the tables are.
-use Rattle.std.proofs.Common.{◌≡◌, ℕ, zero, suc, ◌+◌, ◌-◌, ◌*◌, ◌/◌, ◌%◌, ◌<◌, ◌≤◌, min, max, Bool, true, false, cond, is_some, ◌&&◌, leb, ltb, List, [], ◌∷◌, refl, sym, ap, subst, ◌∙◌, arith, add-one, inl, inr}
+use Rattle.std.proofs.lemmas.Grind.{common_steps}
+use Rattle.std.proofs.Common.{◌≡◌, ℕ, zero, suc, ◌+◌, ◌-◌, ◌*◌, ◌/◌, ◌%◌, ◌<◌, ◌≤◌, min, Bool, true, false, cond, is_some, ◌&&◌, leb, ltb, List, [], ◌∷◌, refl, sym, ap, subst, ◌∙◌, arith, add-one, inl, inr}
 use Rattle.std.specs.Option.{option_map_or}
 use Rattle.std.proofs.lemmas.Bool.{cases_Bool, cases_eq, ltb-true, and_parts}
 use Rattle.std.proofs.lemmas.Bool.Decides.{nat_tests}
@@ -45,13 +46,7 @@ sum_below-zero f = refl
 parts-with : (c : ℕ) (run : PageRun) (low rest : ℕ) → low ≤ run.first - 512 * c → low ≤ 513 → rest + min (run.first + run.count + 1 - 512 * c) 513 ≤ 513
     → (index_from (512 * c) (run.first + run.count) - index_from (512 * c) run.first) + option_map_or (λ (part : PageRun). 1) (part_in c run) 0 + rest + low ≤ 513
 unfolding part_in
-parts-with c run low rest behind most so =
-    let first = max run.first (512 * c) in
-    let end = min (run.first + run.count) (512 * c + 512) in
-    elim (cases_Bool (ltb first end)) [
-      | inl t ↦ let lt : first < end = ltb-true first end t in rw t (omega (arith, lt, behind, most, so))
-      | inr f ↦ let ge : end ≤ first = grind (arith, nat_tests, f) in rw f (omega (arith, ge, behind, most, so))
-    ]
+parts-with c run low rest behind most so = grind (arith, common_steps, nat_tests)
 
 -- runs that rise above a page
 parts-behind : (c e : ℕ) (runs : List PageRun) → rise_above e runs ≡ true → words_in (512 * c) runs + part_count c runs + min (e + 1 - 512 * c) 513 ≤ 513
@@ -156,15 +151,7 @@ between first end c = leb first c && ltb c end
 sum-between : (first end n : ℕ) → sum_below (λ c. cond (between first end c) 1 0) n ≤ min n end - first
 unfolding sum_below between
 sum-between first end zero = omega arith
-sum-between first end (suc n) =
-    let rest = sum-between first end n in
-    elim (cases_Bool (leb first n && ltb n end)) [
-      | inl t ↦ rw t (inside first end n (sum_below (λ c. cond (leb first c && ltb c end) 1 0) n) t rest)
-      | inr f ↦ rw f (omega (arith, rest))
-    ]
-  where
-    inside : (first end n so : ℕ) → (leb first n && ltb n end) ≡ true → so ≤ min n end - first → 1 + so ≤ min (suc n) end - first
-    inside first end n so t rest = grind (arith, nat_tests)
+sum-between first end (suc n) = grind (arith, common_steps, nat_tests, sum-between first end n)
 
 module _ (runs : List PageRun) (first end : ℕ) (within : lie_within first end runs ≡ true) where
   one-between : (c : ℕ) → touched runs c ≤ cond (between (first / 512) ((end + 511) / 512) c) 1 0

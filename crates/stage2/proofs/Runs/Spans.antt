@@ -1,4 +1,6 @@
 -- The gigabytes and chunks before the first that the runs touch, and after the last, stay as they are.
+use Rattle.std.proofs.lemmas.Bool.Decides.{nat_tests}
+use Rattle.std.proofs.lemmas.Grind.{common_steps}
 use Rattle.std.proofs.Common.{◌≡◌, ℕ, zero, suc, ◌≢◌, ◌+◌, ◌-◌, ◌*◌, ◌/◌, ◌<◌, ◌≤◌, Bool, true, false, ◌||◌, List, length, refl, ap, subst, ◌∙◌, ◌⊎◌, arith, inl, inr}
 use Rattle.std.proofs.lemmas.Bool.{cases_Bool}
 use Rattle.base.specs.Access.{View}
@@ -55,9 +57,7 @@ module _ (layout : Layout) (row g j : ℕ) (runs : List PageRun) (access : View)
 
   pub underway-gap : (k i : ℕ) → i + k ≤ 512 → AreUntouched i k → UnderwayAt i → UnderwayAt (i + k)
   underway-gap zero i le none u = let e : i ≡ i + 0 = omega arith in subst UnderwayAt e u
-  underway-gap (suc k) i le none u =
-      let e : (i + 1) + k ≡ i + suc k = omega arith in
-      subst UnderwayAt e (underway-gap k (i + 1) (omega (arith, le)) (λ x from to. none x (omega (arith, from)) (omega (arith, to))) (underway-next i (omega (arith, le)) (none i (omega arith) (omega arith)) u))
+  underway-gap (suc k) i le none u = grind (arith, common_steps, nat_tests, underway-gap k (i + 1) (omega (arith, le)) (λ x from to. none x (omega (arith, from)) (omega (arith, to))) (underway-next i (omega (arith, le)) (none i (omega arith) (omega arith)) u))
 
   pub stays-gap : (a b : Pool) (k i : ℕ) → i + k ≤ 512 → AreUntouched i k → UnderwayAt i → StaysAt a b i → StaysAt a b (i + k)
   stays-gap a b zero i le none u so = let e : i ≡ i + 0 = omega arith in subst (StaysAt a b) e so
@@ -116,6 +116,4 @@ module _ (layout : Layout) (row : ℕ) (runs : List PageRun) (access : View) (ol
 pub cross-gap : (layout : Layout) (row : ℕ) (runs : List PageRun) (before after : ℕ → View) (a b : Pool) (k i : ℕ)
     → StaysInStep layout row (disturbed_before i runs before after) (λ n. walked n (after n)) a b → StaysInStep layout row (disturbed_before (i + k) runs before after) (λ n. walked n (after n)) a b
 cross-gap layout row runs before after a b zero i so = let e : i ≡ i + 0 = omega arith in subst (λ x. StaysInStep layout row (disturbed_before x runs before after) (λ n. walked n (after n)) a b) e so
-cross-gap layout row runs before after a b (suc k) i so =
-    let e : (i + 1) + k ≡ i + suc k = omega arith in
-    subst (λ x. StaysInStep layout row (disturbed_before x runs before after) (λ n. walked n (after n)) a b) e (cross-gap layout row runs before after a b k (i + 1) (cross-skip layout row i runs before after a b so))
+cross-gap layout row runs before after a b (suc k) i so = grind (arith, common_steps, nat_tests, cross-gap layout row runs before after a b k (i + 1) (cross-skip layout row i runs before after a b so))
