@@ -123,12 +123,12 @@ fn returned_by(
     }
 }
 
-/// Ends the transaction of a handle, and keeps the place of its terms. This takes no memory.
+/// Ends the transaction of a handle, and keeps the place of its terms and ranges. This takes no memory.
 #[tactic(auto, unfolding(rules::specs::Calls::Reclaim::ended))]
 pub(crate) fn close(state: &mut State, spare: &mut Spare, handle: Handle)
     ensures { state.new ≡ rules.ended state.old handle }
 {
     if let Some(ended) = state.ledger.close(handle) {
-        spare.keep(state.alloc, ended);
+        spare.keep(ended);
     }
 }

@@ -288,7 +288,7 @@ fn transaction(
         kind,
         sender: p,
         tag: checked.desc.tag,
-        ranges: ranges_of(state.alloc, &checked.desc)?,
+        ranges: ranges_of(state.alloc, &checked.desc, spare)?,
         receivers: receivers_of(kind, checked.home, &checked.desc.receivers),
         home: checked.home,
     };
@@ -299,11 +299,15 @@ fn transaction(
 }
 
 /// A copy of the ranges of a send, in as much memory as they need.
-fn ranges_of(alloc: Global, desc: &SendDesc<'_>) -> Result<Vec<Run>, OutOfMemory>
+fn ranges_of(
+    alloc: Global,
+    desc: &SendDesc<'_>,
+    spare: &mut Spare,
+) -> Result<Vec<Run>, OutOfMemory>
     ensures same { IfOk result (λ ranges. ranges.items ≡ desc.now.ranges) }
     ensures few { IfOk result (λ ranges. length ranges.items ≤ 512) }
 {
-    let mut ranges = Vec::with_capacity(alloc, desc.ranges().count())?;
+    let mut ranges = spare.ranges(alloc, desc.ranges().count())?;
     for run in desc.ranges() {
         ranges.push_reserved(run);
     }
