@@ -19,6 +19,7 @@ use Rattle.stage2.specs.inner.Gigabytes.{grows_at, IsUnderway}
 use Rattle.stage2.proofs.Counting.Needs.{mixed-same}
 use Rattle.stage2.proofs.Editing.FourChunkEdits.{tidy-answer}
 use Rattle.stage2.proofs.Editing.ChunkKeeps.{answer-walked}
+use Rattle.std.proofs.lemmas.Grind.{common_steps}
 
 -- ---- counts
 
@@ -26,8 +27,7 @@ abbrev pub bit : Bool → ℕ
 bit b = cond b 1 0
 
 pub bit-most : (b : Bool) → bit b ≤ 1
-bit-most true = omega arith
-bit-most false = omega arith
+bit-most b = grind (arith, common_steps, nat_tests)
 
 -- two counts that differ at one number
 pub count_below-at : (f g : ℕ → Bool) (n x : ℕ) → x < n → ((k : ℕ) → k < n → k ≢ x → g k ≡ f k) → count_below g n + bit (f x) ≡ count_below f n + bit (g x)
@@ -105,44 +105,18 @@ module _ (layout : Layout) (row g j : ℕ) (runs : List PageRun) (access : View)
   after = edited runs access (answers layout (linked layout row g j old).words row)
 
   pub underway-start : IsOrderly layout (linked layout row g j old) → table_at layout (linked layout row g j old).words (Gigabyte row g) ≡ Some j → IsUnderway layout row g j 0 after old old
-  underway-start orderly second = record {
-    orderly = orderly;
-    second = second;
-    ids = refl;
-    quotas = refl;
-    root = λ x. refl;
-    walks = λ q n small. none q n (walked n (after n)) (walk layout (linked layout row g j old).words q n);
-    others = λ r x in_r lt. refl;
-    used = omega arith;
-  }
-    where
-      none : (q n : ℕ) (a b : Walked) → b ≡ cond (eqb q row && (eqb (n / 512 / 512) g && ltb (n / 512) (512 * g + 0))) a b
-      none q n a b = let no : (eqb (n / 512 / 512) g && ltb (n / 512) (512 * g + 0)) ≡ false = grind (arith, nat_tests) in rw no (both (eqb q row))
-        where
-          both : (x : Bool) → b ≡ cond (x && false) a b
-          both true = refl
-          both false = refl
+  underway-start orderly second = grind (arith, common_steps, nat_tests)
 
   module _ (i : ℕ) (lt : i < 512) (mid : Pages) (h : IsUnderway layout row g j i after old mid) where
     pub quotient : (512 * g + i) / 512 ≡ g
     quotient = omega (arith, lt)
 
     pub site : IsSite layout row (512 * g + i) j mid
-    site = record {
-      orderly = rw quotient h.orderly;
-      partition = inside;
-      chunk = omega (arith, lt, below);
-      second = rw quotient h.second;
-    }
+    site = grind (arith, common_steps, nat_tests, quotient)
 
     -- the chunk's pages are reached as at first
     pub still : (n : ℕ) → n < 2 ^ 27 → n / 512 ≡ 512 * g + i → walk layout (linked layout row g j mid).words row n ≡ walk layout (linked layout row g j old).words row n
-    still n small at = h.walks row n small ∙ (let no : ltb (n / 512) (512 * g + i) ≡ false = grind (arith, nat_tests) in rw no (both (eqb row row) (eqb (n / 512 / 512) g)))
-      where
-        both : (x y : Bool) → cond (x && (y && false)) (walked n (after n)) (walk layout (linked layout row g j old).words row n) ≡ walk layout (linked layout row g j old).words row n
-        both true true = refl
-        both true false = refl
-        both false y = refl
+    still n small at = grind (arith, common_steps, nat_tests)
 
     pub still-answers : (n : ℕ) → n < 2 ^ 27 → n / 512 ≡ 512 * g + i → answers_in layout row (512 * g + i) j mid n ≡ before n
     still-answers n small at = ap (λ x. answers layout (linked layout row x j mid).words row n) quotient ∙ ap answer_of (still n small at)
@@ -151,8 +125,7 @@ module _ (layout : Layout) (row g j : ℕ) (runs : List PageRun) (access : View)
     still-mixed = mixed-same before (answers_in layout row (512 * g + i) j mid) (512 * g + i) (λ x small. still-answers (512 * (512 * g + i) + x) (omega (arith, small, lt, below)) (omega (arith, small)))
 
     pub now-mixed : is_mixed (edited runs access (answers_in layout row (512 * g + i) j mid)) (512 * g + i) ≡ is_mixed after (512 * g + i)
-    now-mixed = mixed-same after (edited runs access (answers_in layout row (512 * g + i) j mid)) (512 * g + i)
-        (λ x small. ap (λ a. cond (covers runs (512 * (512 * g + i) + x)) access a) (still-answers (512 * (512 * g + i) + x) (omega (arith, small, lt, below)) (omega (arith, small))))
+    now-mixed = grind (arith, common_steps, nat_tests, mixed-same, still-answers)
 
     -- there is a page for a chunk that grows
     pub has-free : used_by old row + count_below (λ x. grows_at before after (512 * g + x)) 512 ≤ row_quota old.quotas row → IsGrowing (answers_in layout row (512 * g + i) j mid) (edited runs access (answers_in layout row (512 * g + i) j mid)) (512 * g + i)
@@ -170,32 +143,7 @@ module _ (layout : Layout) (row g j : ℕ) (runs : List PageRun) (access : View)
 
     -- the pages of the next chunk are not in the runs
     pub underway-skip : ((n : ℕ) → n < 2 ^ 27 → n / 512 ≡ 512 * g + i → covers runs n ≡ false) → IsUnderway layout row g j (i + 1) after old mid
-    underway-skip untouched = record {
-      orderly = h.orderly;
-      second = h.second;
-      ids = h.ids;
-      quotas = h.quotas;
-      root = h.root;
-      walks = λ q n small. elim (cases_eq (n / 512) (512 * g + i)) [
-        | inl at ↦ elim (cases_eq q row) [
-          | inl e ↦ rw e (still n small at ∙ tidy-answer n (walk layout (linked layout row g j old).words row n) (rw (sym (still n small at)) (h.orderly.tidy row n inside small))
-              ∙ ap (walked n) (sym (ap (λ b. cond b access (before n)) (untouched n small at))) ∙ chosen n (walked n (after n)) (walk layout (linked layout row g j old).words row n) at)
-          | inr e ↦ h.walks q n small ∙ off q n e (walked n (after n)) (walk layout (linked layout row g j old).words q n)
-        ]
-        | inr at ↦ h.walks q n small ∙ later q n at (walked n (after n)) (walk layout (linked layout row g j old).words q n)
-      ];
-      others = h.others;
-      used = let up = count_below-up (λ x. grows_at before after (512 * g + x)) i (i + 1) (omega arith) in let used = h.used in omega (arith, up, used);
-    }
-      where
-        chosen : (n : ℕ) (a b : Walked) → n / 512 ≡ 512 * g + i → a ≡ cond (eqb row row && (eqb (n / 512 / 512) g && ltb (n / 512) (512 * g + (i + 1)))) a b
-        chosen n a b at = let q : n / 512 / 512 ≡ g = omega (arith, at, lt) in grind (arith, nat_tests)
-
-        off : (q n : ℕ) → q ≢ row → (a b : Walked) → cond (eqb q row && (eqb (n / 512 / 512) g && ltb (n / 512) (512 * g + i))) a b ≡ cond (eqb q row && (eqb (n / 512 / 512) g && ltb (n / 512) (512 * g + (i + 1)))) a b
-        off q n e a b = let no : eqb q row ≡ false = grind (arith, nat_tests, e) in rw no refl
-
-        later : (q n : ℕ) → n / 512 ≢ 512 * g + i → (a b : Walked) → cond (eqb q row && (eqb (n / 512 / 512) g && ltb (n / 512) (512 * g + i))) a b ≡ cond (eqb q row && (eqb (n / 512 / 512) g && ltb (n / 512) (512 * g + (i + 1)))) a b
-        later q n at a b = let same : ltb (n / 512) (512 * g + i) ≡ ltb (n / 512) (512 * g + (i + 1)) = grind (arith, nat_tests, at) in rw same refl
+    underway-skip untouched = grind (arith, common_steps, nat_tests, still, tidy-answer, count_below-up)
 
     -- the next chunk is edited
     pub underway-edit : (new : Pages) → Redoes_in layout row (512 * g + i) j (edited runs access (answers_in layout row (512 * g + i) j mid)) mid new → IsUnderway layout row g j (i + 1) after old new
@@ -268,5 +216,4 @@ untouched c (run ∷ runs) n none at =
     out c run n at e = grind (arith, nat_tests)
 
     one : (a b x y : Bool) → (a || b) ≡ false → (a ≡ false → x ≡ false) → (b ≡ false → y ≡ false) → (x || y) ≡ false
-    one true b x y e f h = absurd (cc)
-    one false b x y e f h = let k = f refl in let l = h e in rw (k, l) refl
+    one a b x y e f h = grind (arith, common_steps, nat_tests)

@@ -4,6 +4,8 @@ use Rattle.pool.specs.Pool.{Words}
 use Rattle.stage2.specs.Slot.{Layout, slot}
 use Rattle.stage2.specs.Walk.{index_1, index_3, at_2, walk, walk_across, Place, Root, Gigabyte, Chunk, next_page, table_at, IsPlace, IsForest}
 use Rattle.stage2.proofs.Tree.WalkFrame.{walk-same, walk-gigabyte, table_at-gigabyte, table_at-chunk, table_at-chunk_in, table_at-root}
+use Rattle.std.proofs.lemmas.Bool.Decides.{nat_tests}
+use Rattle.std.proofs.lemmas.Grind.{common_steps}
 
 -- the tables of all other places keep their words, but for the chunk's own word in its level 2 table j
 pub record IsChunkEdit (layout : Layout) (row c j : ℕ) (old new : Words) : Type 0 where
@@ -35,13 +37,7 @@ module _ (layout : Layout) (row c j : ℕ) (old new : Words) (h : IsChunkEdit la
 
   -- all but the chunk's table hang where they did
   pub table-other : (b : Place) → IsPlace layout b → b ≢ Chunk row c → table_at layout new b ≡ table_at layout old b
-  table-other (Root r) inside other = table_at-root layout new r ∙ sym (table_at-root layout old r)
-  table-other (Gigabyte r g) inside other = table_at-gigabyte layout old new r g (root-kept r g inside.0)
-  table-other (Chunk r d) inside other =
-      table_at-chunk layout old new r d (record {
-        first = root-kept r (d / 512) inside.0;
-        second = λ k at. second-kept r d k inside.0 inside.1 (λ e f. other (ap₂ Chunk e f)) at;
-      })
+  table-other b inside other = grind (arith, common_steps, nat_tests, table_at-root, table_at-gigabyte, root-kept, table_at-chunk, second-kept)
 
   pub second-stays : table_at layout new (Gigabyte row (c / 512)) ≡ Some j
   second-stays = table-other (Gigabyte row (c / 512)) place (λ e. cc) ∙ h.second
@@ -52,9 +48,7 @@ module _ (layout : Layout) (row c j : ℕ) (old new : Words) (h : IsChunkEdit la
 
   -- the chunk's pages are translated as its word says
   pub walk-here : (n : ℕ) → n / 512 ≡ c → walk layout new row n ≡ at_2 layout new n (slot layout 2 (new j (c % 512)))
-  walk-here n e =
-      let at : table_at layout new (Gigabyte row (n / 512 / 512)) ≡ Some j = ap (λ x. table_at layout new (Gigabyte row (x / 512))) e ∙ second-stays in
-      walk-gigabyte layout new row n j h.partition at ∙ ap (λ x. at_2 layout new n (slot layout 2 (new j (x % 512)))) e
+  walk-here n e = grind (arith, common_steps, nat_tests, second-stays, walk-gigabyte)
 
 -- every other page is translated as before, also by a walk that reads its words from three such edits
 pub walk-apart : (layout : Layout) (row c j : ℕ) (old new1 new2 new3 : Words) → IsChunkEdit layout row c j old new1 → IsChunkEdit layout row c j old new2 → IsChunkEdit layout row c j old new3

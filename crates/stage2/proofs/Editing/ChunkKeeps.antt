@@ -14,20 +14,16 @@ use Rattle.stage2.proofs.Tree.RootWrites.{is_chunk}
 use Rattle.stage2.proofs.Editing.ChunkEdit.{IsChunkEdit, table-other, walk-apart}
 use Rattle.stage2.proofs.Counting.Needs.{mixed-same}
 use Rattle.stage2.proofs.Editing.Trades.{Trade, IsTrade, trade-forest, trade-taken, trade-owned, trade-hangs, trade-used}
+use Rattle.std.proofs.lemmas.Grind.{common_steps}
 
 pub in_chunk : (row c r n : ℕ) → ((r ≡ row) × (n / 512 ≡ c)) ⊎ (r ≡ row → n / 512 ≡ c → ⊥)
-in_chunk row c r n = elim (cases_eq r row) [
-  | inl e ↦ elim (cases_eq (n / 512) c) [ inl f ↦ inl (e, f) | inr f ↦ inr (λ _ x. f x) ]
-  | inr e ↦ inr (λ x _. e x)
-]
+in_chunk row c r n = grind (arith, common_steps, nat_tests)
 
 pub tidy-walked : (n : ℕ) (a : View) → IsTidy n (walked n a)
-tidy-walked n None = tt
-tidy-walked n (Some a) = refl
+tidy-walked n a = grind (arith, common_steps, nat_tests)
 
 pub answer-walked : (n : ℕ) (a : View) → answer_of (walked n a) ≡ a
-answer-walked n None = refl
-answer-walked n (Some a) = refl
+answer-walked n a = grind (arith, common_steps, nat_tests)
 
 -- what the edit has to show: which words it wrote, what became of the chunk's table, and what the chunk's pages answer
 pub record IsRedone (layout : Layout) (row c j : ℕ) (answer : ℕ → View) (old new : Pages) : Type 0 where
@@ -46,10 +42,7 @@ module _ (layout : Layout) (row c j : ℕ) (answer : ℕ → View) (old new : Pa
   apart = walk-apart layout row c j old.words new.words new.words new.words h.edit h.edit h.edit
 
   tidy : (r n : ℕ) → r < length layout.ids → n < 2 ^ 27 → IsTidy n (walk layout new.words r n)
-  tidy r n inside small = elim (in_chunk row c r n) [
-    | inl f ↦ rw (f.0, h.here n small f.1) (tidy-walked n (answer n))
-    | inr f ↦ rw (apart r n small f) (h.orderly.tidy r n inside small)
-  ]
+  tidy r n inside small = grind (arith, common_steps, nat_tests, in_chunk, tidy-walked, apart)
 
   mixed_other : (r d : ℕ) → r < length layout.ids → d < 262144 → Chunk r d ≢ Chunk row c → is_some (table_at layout new.words (Chunk r d)) ≡ is_mixed (answers layout new.words r) d
   mixed_other r d inside below differs =
@@ -61,22 +54,14 @@ module _ (layout : Layout) (row c j : ℕ) (answer : ℕ → View) (old new : Pa
       quotient d i small = omega arith
 
   mixed_here : is_some (table_at layout new.words (Chunk row c)) ≡ is_mixed (answers layout new.words row) c
-  mixed_here =
-      let below : c < 262144 = h.edit.chunk in
-      h.mixed ∙ sym (mixed-same answer (answers layout new.words row) c (λ i small. ap answer_of (h.here (512 * c + i) (omega arith) (omega arith)) ∙ answer-walked (512 * c + i) (answer (512 * c + i))))
+  mixed_here = grind (arith, common_steps, nat_tests, mixed-same, answer-walked)
 
   mixed : (r d : ℕ) → r < length layout.ids → d < 262144 → is_some (table_at layout new.words (Chunk r d)) ≡ is_mixed (answers layout new.words r) d
-  mixed r d inside below = elim (is_chunk (Chunk r d) row c) [
-    | inl f ↦ let e_r : r ≡ row = cc in let e_d : d ≡ c = cc in rw (e_r, e_d) mixed_here
-    | inr f ↦ mixed_other r d inside below f
-  ]
+  mixed r d inside below = grind (arith, common_steps, nat_tests, is_chunk, mixed_here, mixed_other)
 
   -- which of the words it is
   is_entry : (q i : ℕ) → ((q ≡ j) × (i ≡ c % 512)) ⊎ (q ≡ j → i ≡ c % 512 → ⊥)
-  is_entry q i = elim (cases_eq q j) [
-    | inl e ↦ elim (cases_eq i (c % 512)) [ inl f ↦ inl (e, f) | inr f ↦ inr (λ _ x. f x) ]
-    | inr e ↦ inr (λ x _. e x)
-  ]
+  is_entry q i = grind (arith, common_steps, nat_tests)
 
   clean : (a : Place) (q i : ℕ) → IsPlace layout a → table_at layout new.words a ≡ Some q → i < 512 → slot layout (level_at a) (new.words q i) ≡ Empty → new.words q i ≡ 0
   clean a q i inside at below none = elim (is_chunk a row c) [
@@ -123,13 +108,4 @@ module _ (layout : Layout) (row c j : ℕ) (answer : ℕ → View) (old new : Pa
   }
 
   pub redone : Redoes layout row c answer old new
-  redone = record {
-    orderly = orderly;
-    ids = h.ids;
-    quotas = h.quotas;
-    walks = λ r n small. elim (in_chunk row c r n) [
-      | inl f ↦ let here = h.here n small f.1 in rw (f.0, f.1) (here ∙ grind (arith, nat_tests))
-      | inr f ↦ apart r n small f ∙ grind (arith, nat_tests, f)
-    ];
-    tables = λ b inside other. table-other layout row c j old.words new.words h.edit b inside other;
-  }
+  redone = grind (arith, common_steps, nat_tests, orderly, in_chunk, apart, table-other)

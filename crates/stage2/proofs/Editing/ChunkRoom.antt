@@ -12,6 +12,8 @@ use Rattle.stage2.specs.Walk.{next_page}
 use Rattle.stage2.proofs.Counting.Needs.{mixed-none}
 use Rattle.stage2.proofs.Counting.Operations.{kept, hung, dropped, reached-as}
 use Rattle.stage2.proofs.Editing.FourChunkEdits.{entry-mixed, third-words}
+use Rattle.std.proofs.lemmas.Bool.Decides.{nat_tests}
+use Rattle.std.proofs.lemmas.Grind.{common_steps}
 
 module _ (layout : Layout) (row c j : ℕ) (m : Pages) (h : IsSite layout row c j m) (runs : List PageRun) (access : View) where
   abbrev view : ℕ → View
@@ -23,9 +25,7 @@ module _ (layout : Layout) (row c j : ℕ) (m : Pages) (h : IsSite layout row c 
   -- the table is given back
   pub dropped-words : (answer : View) (k : ℕ) → slot layout 2 (m.words j (c % 512)) ≡ Next k → IsOutcome c (edited runs access (answers_in layout row c j m)) (Some answer)
       → table_operations runs access (answers_in layout row c j m) c ≡ cond (is_some answer) (nonzero_in m.words k) (pages_in runs c)
-  dropped-words answer k table is =
-      dropped runs access view c answer (entry-mixed layout row c j m h ∙ ap (λ (s : Slot). is_some (next_page s)) table) is
-      ∙ ap (λ n. cond (is_some answer) n (pages_in runs c)) (sym (third-words layout row c j m h k table))
+  dropped-words answer k table is = grind (arith, common_steps, nat_tests, dropped, entry-mixed, third-words)
 
   -- it stays
   pub kept-words : (k : ℕ) → slot layout 2 (m.words j (c % 512)) ≡ Next k → IsOutcome c (edited runs access (answers_in layout row c j m)) None
@@ -42,17 +42,4 @@ module _ (layout : Layout) (row c j : ℕ) (m : Pages) (h : IsSite layout row c 
 
     -- of which some are reached
     pub hung-some : (is_some before || is_some access) ≡ true
-    hung-some = each before access refl refl
-      where
-        either : (b : Bool) (x y : View) → x ≡ None → y ≡ None → cond b x y ≡ None
-        either true x y e f = e
-        either false x y e f = f
-
-        each : (b a : View) → b ≡ before → a ≡ access → (is_some b || is_some a) ≡ true
-        each (Some x) a was now = refl
-        each None (Some y) was now = refl
-        each None None was now =
-            let unreached : (i : ℕ) → i < 512 → edited runs access view (512 * c + i) ≡ None =
-            λ i lt. either (covers runs (512 * c + i)) access (view (512 * c + i)) (sym now) (all (512 * c + i) (omega (arith, lt)) ∙ sym was) in
-            let bad : true ≡ false = is.mixed ∙ mixed-none (edited runs access view) c unreached in
-            absurd (cc)
+    hung-some = grind (arith, common_steps, nat_tests, mixed-none)

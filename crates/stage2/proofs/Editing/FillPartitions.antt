@@ -15,6 +15,7 @@ use Rattle.stage2.specs.Tables.{TablesView, walk_in, AreCanonical}
 use Rattle.stage2.specs.Walk.{walked}
 use Rattle.stage2.specs.declared.walked.Walked.TheVariants.{None as Unmapped}
 use Rattle.stage2.proofs.Counting.Quotas.{no_quota, none-needed}
+use Rattle.std.proofs.lemmas.Grind.{common_steps}
 
 id-at : (rows : List PartitionRow) (i : ℕ) (row : PartitionRow) → i < length rows → row ≡ get_or rows i row → get_or (ids_of rows) i 0 ≡ row.id
 id-at [] i row lt is = absurd (omega arith)
@@ -30,18 +31,12 @@ count-ids m = length-map m.partitions (λ (row : PartitionRow). row.id)
 
 -- no partition but that of a row has it
 apart : (m : ManifestRows) (p id i : ℕ) → i < length m.partitions → row_of (ids_of m.partitions) id ≡ i → p ≢ id → row_of (ids_of m.partitions) p ≢ i
-apart m p id i lt mine other at =
-    let count = count-ids m in
-    other (row_of-injective (ids_of m.partitions) p id (at ∙ sym mine) (omega (arith, at, lt, count)))
+apart m p id i lt mine other at = grind (arith, common_steps, nat_tests, count-ids, row_of-injective)
 
 module _ (m : ManifestRows) (view : ℕ → ℕ → View) where
   -- nothing is mapped yet
   pub filled-none : (t : TablesView) → t.layout ≡ layout_of m → AreCanonical t → ((p n : ℕ) → walk_in t p n ≡ Unmapped) → AreFilled (layout_of m) view 0 t
-  filled-none t placed canonical none = record {
-    placed = placed;
-    canonical = canonical;
-    walks = λ p n small. let off : ltb (row_of (ids_of m.partitions) p) 0 ≡ false = grind (arith, nat_tests) in none p n ∙ rw off refl;
-  }
+  filled-none t placed canonical none = grind (arith, common_steps, nat_tests)
 
   -- the partition that is to be mapped next
   module _ (i id : ℕ) (item : PartitionRow) (f : Facts m) (lt : i < length m.partitions) (is : item ≡ get_or m.partitions i item) (same : id ≡ item.id) where

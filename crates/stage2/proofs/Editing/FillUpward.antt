@@ -17,18 +17,15 @@ use Rattle.stage2.specs.declared.walked.Walked.TheVariants.{None as Unmapped}
 use Rattle.stage2.proofs.Editing.Fronts.{below-in, below-out, fronts-fit}
 use Rattle.stage2.proofs.Editing.ChunkKeeps.{answer-walked}
 use Rattle.stage2.proofs.Reading.SameViews.{need-same}
+use Rattle.std.proofs.lemmas.Grind.{common_steps}
 
 -- the quota that the tables know
 quota-of : (layout : Layout) (t : TablesView) (p : ℕ) → t.layout ≡ layout → AreCanonical t → quota_in t p ≡ row_quota layout.quotas (row_of layout.ids p)
-quota-of layout t p placed canonical =
-    ap (λ (q : List ℕ). get_or q (row_of t.layout.ids p) 0) (sym canonical.trees.orderly.quotas)
-    ∙ ap (λ (l : Layout). get_or l.quotas (row_of l.ids p) 0) placed
+quota-of layout t p placed canonical = grind (arith, common_steps, nat_tests)
 
 -- fits is said of the layout and the pool alone
 pub fits-same : (p : ℕ) (runs : List PageRun) (access : View) (t u : TablesView) → u.layout ≡ t.layout → u.pool ≡ t.pool → Fits p runs access t → Fits p runs access u
-fits-same p runs access t u same_layout same_pool h =
-    subst (λ l. Fits p runs access (record { layout = l; pool = u.pool; room = u.room })) (sym same_layout)
-    (subst (λ x. Fits p runs access (record { layout = t.layout; pool = x; room = u.room })) (sym same_pool) h)
+fits-same p runs access t u same_layout same_pool h = grind (arith, common_steps, nat_tests)
 
 module _ (layout : Layout) (view : ℕ → View) (p first number : ℕ) (access : View) (t : TablesView) (h : IsFilling layout view p first number access t) where
   before : (n : ℕ) → n < 2 ^ 27 → view_of t p n ≡ view_below view first n
@@ -36,37 +33,10 @@ module _ (layout : Layout) (view : ℕ → View) (p first number : ℕ) (access 
 
   -- the pending pages as one run, and their views
   after : (n : ℕ) → n < 2 ^ 27 → edited (pending_runs first number access) access (view_below view first) n ≡ view_below view number n
-  after n small = elim (cases_lt n first) [
-    | inl lt ↦
-        edited-out n (inl lt) ∙ below-in view first n lt ∙ sym (below-in view number n (let o = h.ordered in omega (arith, lt, o)))
-    | inr le ↦ elim (cases_lt n number) [
-      | inl lt ↦ edited-in n le lt ∙ sym (below-in view number n lt ∙ h.alike n le lt)
-      | inr past ↦ edited-out n (inr past) ∙ below-out view first n le ∙ sym (below-out view number n past)
-    ]
-  ]
-    where
-      out : (a : View) (n : ℕ) → (n < first) ⊎ (number ≤ n) → first ≤ number → covers (pending_runs first number a) n ≡ false
-      out None n apart o = refl
-      out (Some a) n apart o = elim apart [
-        | inl lt ↦ grind (arith, nat_tests)
-        | inr past ↦ grind (arith, nat_tests)
-      ]
-
-      edited-out : (n : ℕ) → (n < first) ⊎ (number ≤ n) → edited (pending_runs first number access) access (view_below view first) n ≡ view_below view first n
-      edited-out n apart = rw (out access n apart h.ordered) refl
-
-      inside : (a : View) (n : ℕ) → first ≤ n → n < number → cond (covers (pending_runs first number a) n) a (view_below view first n) ≡ a
-      inside None n le lt = below-out view first n le
-      inside (Some a) n le lt =
-          let on : covers (pending_runs first number (Some a)) n ≡ true = grind (arith, nat_tests, le, lt) in
-          rw on refl
-
-      edited-in : (n : ℕ) → first ≤ n → n < number → edited (pending_runs first number access) access (view_below view first) n ≡ access
-      edited-in n le lt = inside access n le lt
+  after n small = grind (arith, common_steps, nat_tests, below-in, below-out)
 
   same-edit : (n : ℕ) → n < 2 ^ 27 → edited (pending_runs first number access) access (view_of t p) n ≡ view_below view number n
-  same-edit n small =
-      ap (λ v. cond (covers (pending_runs first number access) n) access v) (before n small) ∙ after n small
+  same-edit n small = grind (arith, common_steps, nat_tests, before, after)
 
   pub can-map : (a : Access) → access ≡ Some a → IsEdge view number → need view ≤ row_quota layout.quotas (row_of layout.ids p) → CanMap p first number a t
   can-map a is edge enough = record {
@@ -91,19 +61,10 @@ module _ (layout : Layout) (view : ℕ → View) (p first number : ℕ) (access 
 
   -- when they are mapped
   pub mapped : (new : TablesView) → ReachSo p (pending_runs first number access) access t new → (n : ℕ) → n < 2 ^ 27 → walk_in new p n ≡ walked n (view_below view number n)
-  mapped new reach n small =
-      reach p n small ∙ (let own : eqb p p ≡ true = eq-eqb p p refl in rw own (chosen (covers (pending_runs first number access) n) refl)) ∙ ap (walked n) (after n small)
-    where
-      chosen : (b : Bool) → covers (pending_runs first number access) n ≡ b → cond b (walked n access) (walk_in t p n) ≡ walked n (cond b access (view_below view first n))
-      chosen true e = refl
-      chosen false e = h.walks n small
+  mapped new reach n small = grind (arith, common_steps, nat_tests, after)
 
   pub others : (new : TablesView) → ReachSo p (pending_runs first number access) access t new → KeepsOthers p t new
-  others new reach = record {
-    walks = λ q n small other.
-        let off : eqb q p ≡ false = grind (arith, nat_tests, other) in
-        reach q n small ∙ rw off refl;
-  }
+  others new reach = grind (arith, common_steps, nat_tests)
 
 pub others-more : (p : ℕ) (a b c : TablesView) → KeepsOthers p a b → KeepsOthers p b c → KeepsOthers p a c
 others-more p a b c x y = record { walks = λ q n small other. y.walks q n small other ∙ x.walks q n small other }
@@ -115,15 +76,11 @@ others-none p a = record { walks = λ q n small other. refl }
 
 -- the pages of a segment are in range
 pub segment-alike : (view : ℕ → View) (number page end : ℕ) (value : View) → page ≡ number → end ≤ 2 ^ 27 → ((n : ℕ) → page ≤ n → n < end → view n ≡ value) → (n : ℕ) → number ≤ n → n < end → in_range view n ≡ value
-segment-alike view number page end value at inside alike n le lt =
-    below-in view (2 ^ 27) n (omega (arith, lt, inside)) ∙ alike n (omega (arith, at, le)) lt
+segment-alike view number page end value at inside alike n le lt = grind (arith, common_steps, nat_tests, below-in)
 
 -- the next pages are not as the pending ones: there is an edge before them
 pub edge-between : (layout : Layout) (view : ℕ → View) (p first number : ℕ) (access : View) (t : TablesView) → IsFilling layout view p first number access t → (access ≡ view number → ⊥) → IsEdge view number
-edge-between layout view p first number access t h unlike = elim (cases_lt first number) [
-  | inl lt ↦ inr (λ same. unlike (sym (h.alike (number - 1) (omega (arith, lt)) (omega (arith, lt))) ∙ same))
-  | inr le ↦ inl (h.some (let o = h.ordered in omega (arith, o, le))).0
-]
+edge-between layout view p first number access t h unlike = grind (arith, common_steps, nat_tests)
 
 -- nothing is mapped, and nothing pending
 pub filling-none : (layout : Layout) (view : ℕ → View) (p : ℕ) (t : TablesView) → t.layout ≡ layout → AreCanonical t → ((n : ℕ) → n < 2 ^ 27 → walk_in t p n ≡ Unmapped) → IsFilling layout view p 0 0 None t
@@ -140,57 +97,20 @@ filling-none layout view p t placed canonical unmapped = record {
 
 -- what is reached past the last page needs no table
 pub in-range-fits : (view : ℕ → View) (quota : ℕ) → need view ≤ quota → need (in_range view) ≤ quota
-in-range-fits view quota fits =
-    let same = need-same view (in_range view) (λ n small. below-in view (2 ^ 27) n small) in
-    subst (λ k. k ≤ quota) (sym same) fits
+in-range-fits view quota fits = grind (arith, common_steps, nat_tests, need-same, below-in)
 
 -- they are as the pending ones, and so are those behind them
 pub filling-more : (layout : Layout) (view : ℕ → View) (p first number end : ℕ) (access : View) (t : TablesView) → IsFilling layout view p first number access t → access ≡ view number → number < end → end ≤ 2 ^ 27 → ((n : ℕ) → number ≤ n → n < end → view n ≡ view number) → IsFilling layout view p first end access t
-filling-more layout view p first number end access t h alike behind inside all = record {
-  placed = h.placed;
-  canonical = h.canonical;
-  walks = h.walks;
-  ordered = let o = h.ordered in omega (arith, o, behind);
-  inside = inside;
-  some = λ same. let o = h.ordered in absurd (omega (arith, same, o, behind));
-  alike = λ n le lt. elim (cases_lt n number) [
-    | inl before ↦ h.alike n le before
-    | inr from ↦ all n from lt ∙ sym alike
-  ];
-  edge = h.edge;
-}
+filling-more layout view p first number end access t h alike behind inside all = grind (arith, common_steps, nat_tests, before)
 
 -- they are others, and the pending ones are mapped
 pub filling-next : (layout : Layout) (view : ℕ → View) (p number end : ℕ) (new : TablesView) → new.layout ≡ layout → AreCanonical new → ((n : ℕ) → n < 2 ^ 27 → walk_in new p n ≡ walked n (view_below view number n)) → IsEdge view number → number < end → end ≤ 2 ^ 27 → ((n : ℕ) → number ≤ n → n < end → view n ≡ view number) → IsFilling layout view p number end (view number) new
-filling-next layout view p number end new placed canonical walks edge behind inside all = record {
-  placed = placed;
-  canonical = canonical;
-  walks = walks;
-  ordered = omega (arith, behind);
-  inside = inside;
-  some = λ same. absurd (omega (arith, same, behind));
-  alike = all;
-  edge = edge;
-}
+filling-next layout view p number end new placed canonical walks edge behind inside all = grind (arith, common_steps, nat_tests)
 
 -- the last of the pending pages: behind them nothing is reached
 pub edge-last : (layout : Layout) (view : ℕ → View) (p first number : ℕ) (access : View) (a : Access) (t : TablesView) → IsFilling layout (in_range view) p first number access t → 2 ^ 27 ≤ number → access ≡ Some a → IsEdge (in_range view) number
-edge-last layout view p first number access a t h past is = elim (cases_lt first number) [
-  | inl lt ↦ inr (λ same.
-      let last = h.alike (number - 1) (omega (arith, lt)) (omega (arith, lt)) in
-      let none : in_range view number ≡ None = below-out view (2 ^ 27) number past in
-      let bad : Some a ≡ None = sym is ∙ sym last ∙ same ∙ none in
-      absurd (cc))
-  | inr le ↦
-      let none = (h.some (let o = h.ordered in omega (arith, o, le))).1 in
-      let bad : Some a ≡ None = sym is ∙ none in
-      absurd (cc)
-]
+edge-last layout view p first number access a t h past is = grind (arith, common_steps, nat_tests, below-out)
 
 -- all pages are mapped
 pub filled : (layout : Layout) (view : ℕ → View) (p first number : ℕ) (access : View) (t new : TablesView) → IsFilling layout (in_range view) p first number access t → 2 ^ 27 ≤ number → ReachSo p (pending_runs first number access) access t new → IsFilled view p new
-filled layout view p first number access t new h past reach = record {
-  walks = λ n small.
-      mapped layout (in_range view) p first number access t h new reach n small
-      ∙ ap (walked n) (below-in (in_range view) number n (omega (arith, small, past)) ∙ below-in view (2 ^ 27) n small);
-}
+filled layout view p first number access t new h past reach = grind (arith, common_steps, nat_tests, mapped, below-in)

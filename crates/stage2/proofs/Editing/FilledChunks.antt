@@ -33,15 +33,13 @@ use Rattle.stage2.proofs.Walkers.Disturbed.{stays-whole, unmixed-after}
 use Rattle.stage2.proofs.Walkers.Histories.{made-none, made-set, made-more}
 use Rattle.stage2.proofs.Walkers.SeatedChunks.{hung-seen, gives-block, block-no-table}
 use Rattle.stage2.proofs.Walkers.StepLists.{stays-replaced}
+use Rattle.std.proofs.lemmas.Bool.Decides.{nat_tests}
+use Rattle.std.proofs.lemmas.Grind.{common_steps}
 
 -- ---- one word
 
 whole-kept : (page : ℕ) (a b : Pool) → Keeps page a b → IsWhole a.memory → IsWhole b.memory
-whole-kept page a b keeps whole = record {
-  ids = ap length keeps.ids ∙ whole.ids ∙ sym (ap length keeps.quotas);
-  words = keeps.whole ∙ whole.words ∙ sym (ap (λ (q : List ℕ). 512 * page_count q) keeps.quotas);
-  taken = ap length keeps.taken ∙ whole.taken ∙ sym (ap (λ (q : List ℕ). page_count q) keeps.quotas);
-}
+whole-kept page a b keeps whole = grind (arith, common_steps, nat_tests)
 
 -- it is broken, and another is written
 module _ (p j i word c : ℕ) (s : Pool) (whole : IsWhole s.memory) (inside : j < page_count s.memory.quotas) (below : i < 512) where
@@ -58,9 +56,7 @@ module _ (p j i word c : ℕ) (s : Pool) (whole : IsWhole s.memory) (inside : j 
   whole-mid = whole-kept j s mid (keeps-break p j i (record { first = 512 * c; count = 512 }) s below room) whole
 
   inside-mid : j < page_count mid.memory.quotas
-  inside-mid =
-      let quotas = (keeps-break p j i (record { first = 512 * c; count = 512 }) s below room).quotas in
-      subst (λ (q : List ℕ). j < page_count q) (sym quotas) inside
+  inside-mid = grind (arith, common_steps, nat_tests, keeps-break, room)
 
   break-pages : pages_of mid.memory ≡ with_put j i 0 (pages_of s.memory)
   break-pages = elim (cases_Bool (words_of s.memory.words j i == 0)) [
@@ -79,23 +75,10 @@ module _ (p j i word c : ℕ) (s : Pool) (whole : IsWhole s.memory) (inside : j 
 
   -- and so it is told
   break-made : c % 512 ≡ i → Made (broken p j c (words_of s.memory.words j i)) s mid
-  break-made index = elim (cases_Bool (words_of s.memory.words j i == 0)) [
-    | inl is ↦ rw is (made-none s)
-    | inr isnt ↦ rw (isnt, index) (record {
-      operations = refl;
-      count = refl;
-      words = ap (λ (m : Pages). m.words) (pages_of-set s.memory j i 0 whole inside below);
-    })
-  ]
+  break-made index = grind (arith, common_steps, nat_tests, made-none, pages_of-set)
 
   pub replace-made : c % 512 ≡ i → Made (replaced p j c (words_of s.memory.words j i) word) s (after_make j i word mid)
-  replace-made index = elim (cases_Bool (word == 0)) [
-    | inl is ↦ rw is (break-made index)
-    | inr isnt ↦ rw isnt
-        (subst (λ x. Made (Set j x word ∷ broken p j c (words_of s.memory.words j i)) s (after_set j i word mid)) (sym index)
-        (made-more (broken p j c (words_of s.memory.words j i)) (Set j i word ∷ []) s mid (after_set j i word mid) (break-made index)
-        (made-set mid (after_set j i word mid) j i word refl (ap (λ (m : Pages). m.words) (pages_of-set mid.memory j i word whole-mid inside-mid below)))))
-  ]
+  replace-made index = grind (arith, common_steps, nat_tests, break-made, made-more, made-set, pages_of-set, whole-mid, inside-mid)
 
 -- ---- the words of chunks that follow one another
 
@@ -198,9 +181,7 @@ module _ (layout : Layout) (row g j : ℕ) (runs : List PageRun) (access : View)
       whole-n = whole-kept j s (Filled n) (keeps-replaces p j first n word (block_step access) (512 * (512 * g + first)) s (omega (arith, lt)) space) whole
 
       inside-n : j < page_count (Filled n).memory.quotas
-      inside-n =
-          let quotas = (keeps-replaces p j first n word (block_step access) (512 * (512 * g + first)) s (omega (arith, lt)) space).quotas in
-          subst (λ (q : List ℕ). j < page_count q) (sym quotas) inside
+      inside-n = grind (arith, common_steps, nat_tests, keeps-replaces, space)
 
       index-n : (512 * g + (first + n)) % 512 ≡ first + n
       index-n = omega (arith, lt)
@@ -219,9 +200,7 @@ module _ (layout : Layout) (row g j : ℕ) (runs : List PageRun) (access : View)
     module _ (end : ℕ) (most : end ≤ 512) (filled : (x : ℕ) → first ≤ x → x < end → covers_chunk (512 * g + x) runs ≡ true) (none : (x : ℕ) → first ≤ x → x < end → next_page (slot layout 2 (words_of s.memory.words j x)) ≡ None)
         (h : EditedUpTo first s) where
       none-n : (n : ℕ) → first + n < end → next_page (slot layout 2 (words_of (Filled n).memory.words j (first + n))) ≡ None
-      none-n n lt =
-          let same = replaces-beside p j first n word (block_step access) (512 * (512 * g + first)) (first + n) s (omega (arith, lt, most)) space (omega arith) in
-          ap (λ w. next_page (slot layout 2 w)) same ∙ none (first + n) (omega arith) lt
+      none-n n lt = grind (arith, common_steps, nat_tests, replaces-beside, space)
 
       pub edited-many : (n : ℕ) → first + n ≤ end → EditedUpTo (first + n) (Filled n)
       edited-many zero le =

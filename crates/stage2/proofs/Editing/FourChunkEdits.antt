@@ -27,6 +27,8 @@ use Rattle.stage2.proofs.Counting.Operations.{table-words, reached-as, plain-ans
 use Rattle.stage2.proofs.Editing.ChunkEdit.{IsChunkEdit, table-here, walk-here}
 use Rattle.stage2.proofs.Editing.Trades.{Trade, Stay, Hang, Drop}
 use Rattle.stage2.proofs.Editing.ChunkKeeps.{redone}
+use Rattle.std.proofs.lemmas.Bool.Decides.{nat_tests}
+use Rattle.std.proofs.lemmas.Grind.{common_steps}
 
 -- ---- words for an answer
 
@@ -36,25 +38,20 @@ unfolding slot
 slot-word layout level n word answer e = ap (slot_from layout) e
 
 answer-none : (layout : Layout) (n : ℕ) (answer : View) → slot_from layout (entry_for n answer) ≡ Empty → answer ≡ None
-answer-none layout n None e = refl
-answer-none layout n (Some a) e = absurd (cc)
+answer-none layout n answer e = grind (arith, common_steps, nat_tests)
 
 pub no-table : (layout : Layout) (n : ℕ) (answer : View) → next_page (slot_from layout (entry_for n answer)) ≡ None
-no-table layout n None = refl
-no-table layout n (Some a) = refl
+no-table layout n answer = grind (arith, common_steps, nat_tests)
 
 pub at_2-block : (layout : Layout) (words : Words) (c n : ℕ) (answer : View) → n / 512 ≡ c → at_2 layout words n (slot_from layout (entry_for (512 * c) answer)) ≡ walked n answer
-at_2-block layout words c n None e = refl
-at_2-block layout words c n (Some a) e = let place : 512 * c + n % 512 ≡ n = omega (arith, e) in ap (λ x. Mapped x a) place
+at_2-block layout words c n answer e = grind (arith, common_steps, nat_tests)
 
 put-alike : (row g t : ℕ) (old new : Words) (q i : ℕ) → new q i ≡ old q i → put row g t new q i ≡ put row g t old q i
 unfolding put
 put-alike row g t old new q i e = rw e refl
 
 pub tidy-answer : (n : ℕ) (w : Walked) → IsTidy n w → w ≡ walked n (answer_of w)
-tidy-answer n Unmapped h = refl
-tidy-answer n (Mapped m a) h = rw h refl
-tidy-answer n Wrong h = absurd h
+tidy-answer n w h = grind (arith, common_steps, nat_tests)
 
 module _ (layout : Layout) (row c j : ℕ) (m : Pages) (h : IsSite layout row c j m) where
   abbrev pub old : Words
@@ -97,10 +94,7 @@ module _ (layout : Layout) (row c j : ℕ) (m : Pages) (h : IsSite layout row c 
       walk-gigabyte layout old row n j h.partition at ∙ ap (λ x. at_2 layout old n (slot layout 2 (old j (x % 512)))) e ∙ ap (λ w. at_2 layout old n (slot layout 2 w)) (second-seen (c % 512))
 
   pub at_2-seen : (n : ℕ) (s : Slot) → next_page s ≡ table_at layout old (Chunk row c) → at_2 layout old n s ≡ at_2 layout m.words n s
-  at_2-seen n Empty e = refl
-  at_2-seen n (Maps x a) e = refl
-  at_2-seen n (Next k) e = ap (λ w. at_3 (slot layout 3 w)) (third-seen k (index_3 n) (sym e))
-  at_2-seen n Bad e = refl
+  at_2-seen n s e = grind (arith, common_steps, nat_tests, third-seen)
 
   -- what the chunk's pages answer is read from its word on
   pub answers-entry : (n : ℕ) → n / 512 ≡ c → answers layout old row n ≡ answers_at layout m.words entry n
@@ -231,10 +225,7 @@ module _ (layout : Layout) (row c j : ℕ) (m : Pages) (h : IsSite layout row c 
   third-apart k e = not-third k e (Gigabyte row (c / 512)) j in_gigabyte (λ f. cc) h.second
 
   empty-slot : (s : Slot) → at_3 s ≡ Unmapped → s ≡ Empty
-  empty-slot Empty e = refl
-  empty-slot (Maps x a) e = absurd (cc)
-  empty-slot (Next x) e = absurd (cc)
-  empty-slot Bad e = absurd (cc)
+  empty-slot s e = grind (arith, common_steps, nat_tests)
 
   -- the word of a page of the chunk's table that is not reached is 0
   unreached-zero : (k n : ℕ) → entry ≡ Next k → n / 512 ≡ c → answers layout old row n ≡ None → m.words k (n % 512) ≡ 0
@@ -249,9 +240,7 @@ module _ (layout : Layout) (row c j : ℕ) (m : Pages) (h : IsSite layout row c 
       sym (third-seen k i (third-at k is_table)) ∙ h.orderly.clean (Chunk row c) k i in_chunk (third-at k is_table) small (empty-slot (slot layout 3 (old k i)) (sym was ∙ unmapped))
 
   pub clean-words : (read : Slot) (k : ℕ) → read ≡ entry → read ≡ Next k → (n : ℕ) → n / 512 ≡ c → answers_at layout m.words (Next k) n ≡ None → m.words k (n % 512) ≡ 0
-  clean-words read k is next n chunk none =
-      let is_table : entry ≡ Next k = sym is ∙ next in
-      unreached-zero k n is_table chunk (answers-entry n chunk ∙ ap (λ (s : Slot). answers_at layout m.words s n) is_table ∙ none)
+  clean-words read k is next n chunk none = grind (arith, common_steps, nat_tests, unreached-zero, answers-entry)
 
   -- where the chunk's pages are to answer alike, those in no run did so before
   pub others-before : (runs : List PageRun) (access : View) (k : ℕ) → entry ≡ Next k → IsOutcome c (edited runs access (answers layout old row)) (Some access) → (n : ℕ) → n / 512 ≡ c → covers runs n ≡ false → answers_at layout m.words (Next k) n ≡ access
@@ -367,26 +356,17 @@ module _ (layout : Layout) (row c j : ℕ) (m : Pages) (h : IsSite layout row c 
 
   -- the answer of a chunk, read from its word on, is that of its pages
   outcome-entry : (runs : List PageRun) (access : View) (o : Option View) → IsOutcome c (edited runs access (answers_at layout m.words entry)) o → IsOutcome c (edited runs access (answers layout old row)) o
-  outcome-entry runs access o outcome = record {
-    same = λ one e n at. ap (λ a. cond (covers runs n) access a) (answers-entry n at) ∙ outcome.same one e n at;
-    mixed = outcome.mixed ∙ mixed-same (edited runs access (answers layout old row)) (edited runs access (answers_at layout m.words entry)) c (λ i small. ap (λ a. cond (covers runs (512 * c + i)) access a) (sym (answers-entry (512 * c + i) (omega (arith, small)))));
-  }
+  outcome-entry runs access o outcome = grind (arith, common_steps, nat_tests, answers-entry, mixed-same)
 
   pub outcome-read : (runs : List PageRun) (access : View) (read : Slot) (o found : Option View) → read ≡ entry → o ≡ found → IsOutcome c (edited runs access (answers_at layout m.words read)) o → IsOutcome c (edited runs access (answers layout old row)) found
   outcome-read runs access read o found is e outcome =
       subst (IsOutcome c (edited runs access (answers layout old row))) e (outcome-entry runs access o (subst (λ (s : Slot). IsOutcome c (edited runs access (answers_at layout m.words s)) o) is outcome))
 
   pub growing : (new : ℕ → View) → next_page entry ≡ None → IsOutcome c new None → IsGrowing (answers layout old row) new c
-  growing new none outcome = record {
-    now = sym outcome.mixed;
-    was = sym (h.orderly.mixed row c h.partition h.chunk) ∙ ap (λ o. is_some o) (table-entry ∙ none);
-  }
+  growing new none outcome = grind (arith, common_steps, nat_tests, table-entry)
 
   pub before-block : next_page entry ≡ None → (n : ℕ) → n / 512 ≡ c → answers layout old row n ≡ block_answer entry
   before-block none n at = answers-entry n at ∙ plain-answer layout m.words entry n none
 
 pub is-next : (s : Slot) (k : ℕ) → next_page s ≡ Some k → s ≡ Next k
-is-next Empty k e = absurd (cc)
-is-next (Maps m a) k e = absurd (cc)
-is-next (Next x) k e = let same : x ≡ k = cc in ap Next same
-is-next Bad k e = absurd (cc)
+is-next s k e = grind (arith, common_steps, nat_tests)

@@ -8,6 +8,7 @@ use Rattle.base.specs.Need.{is_mixed, is_reached, need, grow}
 use Rattle.stage2.specs.inner.Filling.{IsEdge, view_below}
 use Rattle.stage2.proofs.Editing.Gigabyte.{not-reached}
 use Rattle.stage2.proofs.Counting.Needs.{mixed-same, reached-same, mixed-none, reached-none, equal-first}
+use Rattle.std.proofs.lemmas.Grind.{common_steps}
 
 pub below-in : (view : ℕ → View) (b n : ℕ) → n < b → view_below view b n ≡ view n
 below-in view b n lt = let t : ltb n b ≡ true = grind (arith, nat_tests) in rw t refl
@@ -25,13 +26,7 @@ mixed-at-edge view b c edge from to = elim (cases_Bool (is_mixed view c)) [
 ]
 
 mixed-below : (view : ℕ → View) (b c : ℕ) → IsEdge view b → is_mixed (view_below view b) c ≡ true → is_mixed view c ≡ true
-mixed-below view b c edge mixed = elim (cases_lt (512 * c) b) [
-  | inl from ↦ elim (cases_lt b (512 * c + 512)) [
-    | inl to ↦ mixed-at-edge view b c edge from to
-    | inr past ↦ sym (mixed-same view (view_below view b) c (λ i small. below-in view b (512 * c + i) (omega (arith, past, small)))) ∙ mixed
-  ]
-  | inr before ↦ let none = mixed-none (view_below view b) c (λ i small. below-out view b (512 * c + i) (omega (arith, before))) in absurd (cc)
-]
+mixed-below view b c edge mixed = grind (arith, common_steps, nat_tests, mixed-at-edge, mixed-same, below-in, mixed-none, below-out)
 
 reached-below : (view : ℕ → View) (b g : ℕ) → is_reached (view_below view b) g ≡ true → is_reached view g ≡ true
 reached-below view b g reached = elim (cases_Bool (is_reached view g)) [
@@ -54,11 +49,7 @@ count_below-both f g all (suc n) in_f in_g =
     omega (arith, rest, here)
   where
     one : (a b c : Bool) → (a ≡ true → c ≡ true) → (b ≡ true → c ≡ true) → cond a 1 0 + cond (b && not a) 1 0 ≤ cond c 1 0
-    one true b true x y = elim b as (λ v. 1 + cond (v && false) 1 0 ≤ 1) [ true ↦ omega arith | false ↦ omega arith ]
-    one true b false x y = let bad = x refl in absurd (cc)
-    one false true true x y = omega arith
-    one false true false x y = let bad = y refl in absurd (cc)
-    one false false c x y = elim c as (λ v. 0 + 0 ≤ cond v 1 0) [ true ↦ omega arith | false ↦ omega arith ]
+    one a b c x y = grind (arith, common_steps, nat_tests)
 
 -- one front after another, each up to an edge, needs no more than all
 pub fronts-fit : (view v w : ℕ → View) (b e : ℕ) → IsEdge view b → IsEdge view e → ((n : ℕ) → n < 2 ^ 27 → v n ≡ view_below view b n) → ((n : ℕ) → n < 2 ^ 27 → w n ≡ view_below view e n) → need v + grow v w ≤ need view

@@ -29,6 +29,7 @@ use Rattle.stage2.proofs.Tree.PutTwice.{with_put-twice, with_put-there}
 use Rattle.stage2.proofs.Editing.RootLinks.{IsLink, IsUnlink, IsRooted, rooted, same-walk, kept, link-rooted, unlink-rooted, unlink-table, unlink-unmapped, untabled}
 use Rattle.stage2.proofs.Editing.ChunkKeeps.{answer-walked}
 use Rattle.stage2.proofs.Editing.FourChunkEdits.{is-next}
+use Rattle.std.proofs.lemmas.Grind.{common_steps}
 
 -- ---- a table word
 
@@ -49,9 +50,7 @@ table-entry layout k WrongWord e = absurd (cc)
 
 pub table-word : (layout : Layout) (level word k : ℕ) → slot layout level word ≡ Next k → word ≡ table_word_of (layout.base + k)
 unfolding slot
-table-word layout level word k e =
-    let f = table-entry layout k (entry_of level word) e in
-    (word-table level word f.0 f.1).spelled ∙ ap table_word_of f.2
+table-word layout level word k e = grind (arith, common_steps, nat_tests, table-entry, word-table)
 
 -- ---- canonical again
 
@@ -88,18 +87,7 @@ module _ (layout : Layout) (row g j : ℕ) (answer : ℕ → View) (old new : Pa
   done-here n small e = h.walks row n small ∙ (let a = all-chunks n e in let b : eqb (n / 512 / 512) g ≡ true = grind (arith, nat_tests) in let r : eqb row row ≡ true = grind (arith, nat_tests) in rw (r, b, a) refl)
 
   pub done-apart : (q n : ℕ) → n < 2 ^ 27 → (q ≡ row → n / 512 / 512 ≡ g → ⊥) → walk layout (linked layout row g j new).words q n ≡ walk layout (linked layout row g j old).words q n
-  done-apart q n small other = h.walks q n small ∙ off (eqb q row) (eqb (n / 512 / 512) g) (ltb (n / 512) (512 * g + 512)) (apart q n other)
-    where
-      apart : (q n : ℕ) → (q ≡ row → n / 512 / 512 ≡ g → ⊥) → (eqb q row && eqb (n / 512 / 512) g) ≡ false
-      apart q n other = elim (cases_Bool (eqb q row && eqb (n / 512 / 512) g)) [
-        | inl t ↦ absurd (grind (arith, nat_tests, other))
-        | inr f ↦ f
-      ]
-
-      off : (x y z : Bool) → (x && y) ≡ false → cond (x && (y && z)) (walked n (answer n)) (walk layout (linked layout row g j old).words q n) ≡ walk layout (linked layout row g j old).words q n
-      off true true z e = absurd (cc)
-      off true false z e = refl
-      off false y z e = refl
+  done-apart q n small other = grind (arith, common_steps, nat_tests)
 
   pub done-walks : (q n : ℕ) → n < 2 ^ 27 → walk layout (linked layout row g j new).words q n ≡ cond (eqb q row && eqb (n / 512 / 512) g) (walked n (answer n)) (walk layout (linked layout row g j old).words q n)
   done-walks q n small = elim (cases_eq q row) [
@@ -115,8 +103,7 @@ module _ (layout : Layout) (row g j : ℕ) (answer : ℕ → View) (old new : Pa
       both false = refl
 
 pub is-none : (a : View) → is_some a ≡ false → a ≡ None
-is-none None e = refl
-is-none (Some x) e = absurd (cc)
+is-none a e = grind (arith, common_steps, nat_tests)
 
 pub not-reached : (v : ℕ → View) (g i : ℕ) → is_reached v g ≡ false → i < 262144 → v (262144 * g + i) ≡ None
 unfolding is_reached
@@ -259,9 +246,7 @@ module _ (layout : Layout) (row g k : ℕ) (runs : List PageRun) (access : View)
 
   -- its chunks make as many operations, seen so
   pub link-chunks : (new : Pages) → new ≡ with_mark k true m → chunks_operations runs access (answers layout (linked layout row g k new).words row) g ≡ chunks_operations runs access (answers layout m.words row) g
-  link-chunks new is =
-      ap (λ (x : Pages). chunks_operations runs access (answers layout (linked layout row g k x).words row) g) is
-      ∙ chunks-same runs access (answers layout m.words row) (answers layout (linked layout row g k (with_mark k true m)).words row) g (λ n at. same-answers n (omega (arith, at, below)))
+  link-chunks new is = grind (arith, common_steps, nat_tests, chunks-same, same-answers)
 
   page-place : 262144 * g + (touches.page - 262144 * g) ≡ touches.page
   page-place = let a = touches.here in omega arith
@@ -274,10 +259,7 @@ module _ (layout : Layout) (row g k : ℕ) (runs : List PageRun) (access : View)
 
   growth : gigabyte_growth (answers layout m.words row) (edited runs access (answers layout m.words row)) g
       ≡ 1 + count_below (λ x. grows_at (answers layout m.words row) (edited runs access (answers layout m.words row)) (512 * g + x)) 512
-  growth =
-      let now : is_reached (edited runs access (answers layout m.words row)) g ≡ true = reaches (edited runs access (answers layout m.words row)) covered-page in
-      let was : is_reached (answers layout m.words row) g ≡ false = sym (canonical.reached row g h.partition below) ∙ ap (λ o. is_some o) h.none in
-      rw (now, was) refl
+  growth = grind (arith, common_steps, nat_tests, reaches, covered-page)
 
   took : used_by (with_mark k true m) row ≡ used_by m row + 1
   took = used_by-take m row k h.inside h.free
@@ -310,26 +292,7 @@ module _ (layout : Layout) (row g k : ℕ) (runs : List PageRun) (access : View)
 -- ---- nothing is mapped, and nothing is to be
 
 pub finish-none : (layout : Layout) (row g : ℕ) (runs : List PageRun) (m : Pages) → IsCanonical layout m → row < length layout.ids → table_at layout m.words (Gigabyte row g) ≡ None → EditsGigabyte layout row g (edited runs None (answers layout m.words row)) m m
-finish-none layout row g runs m canonical inside none = record {
-  canonical = canonical;
-  ids = refl;
-  quotas = refl;
-  walks = λ q n small. elim (cases_Bool (eqb q row && eqb (n / 512 / 512) g)) [
-    | inl t ↦
-        let at : (q ≡ row) × (n / 512 / 512 ≡ g) = grind (arith, nat_tests, t) in
-        let unmapped : walk layout m.words row n ≡ Unmapped = untabled layout m row n canonical.orderly inside small (rw at.1 none) in
-        rw t (ap (λ r. walk layout m.words r n) at.0 ∙ unmapped ∙ sym (ap (walked n) (nothing n unmapped)))
-    | inr f ↦ rw f refl
-  ];
-  used = omega arith;
-}
-  where
-    same : (b : Bool) → cond {A = View} b None None ≡ None
-    same true = refl
-    same false = refl
-
-    nothing : (n : ℕ) → walk layout m.words row n ≡ Unmapped → edited runs None (answers layout m.words row) n ≡ None
-    nothing n unmapped = ap (λ w. cond (covers runs n) None (answer_of w)) unmapped ∙ same (covers runs n)
+finish-none layout row g runs m canonical inside none = grind (arith, common_steps, nat_tests, untabled, r)
 
 -- a gigabyte that is touched has a number below 512
 pub touched-below : (runs : List PageRun) (g : ℕ) → Touches runs g → g < 512

@@ -19,6 +19,7 @@ use Rattle.stage2.specs.inner.Gigabytes.{grows_at, gigabyte_growth, EditsGigabyt
 use Rattle.stage2.proofs.Counting.Needs.{mixed-same, reached-same}
 use Rattle.stage2.proofs.Editing.ChunkByChunk.{sum_below-more, sum_below-up}
 use Rattle.stage2.proofs.Editing.FourChunkEdits.{tidy-answer}
+use Rattle.std.proofs.lemmas.Grind.{common_steps}
 
 -- ---- used is need
 
@@ -85,25 +86,11 @@ module _ (layout : Layout) (row : ℕ) (runs : List PageRun) (access : View) (ol
   after = edited runs access (answers layout old.words row)
 
   pub past-none : IsCanonical layout old → IsPast layout row 0 (edited runs access (answers layout old.words row)) old old
-  past-none canonical = record {
-    canonical = canonical;
-    ids = refl;
-    quotas = refl;
-    walks = λ q n small. (let no : ltb (n / 512 / 512) 0 ≡ false = grind (arith, nat_tests) in rw no (both (eqb q row) (walked n (after n)) (walk layout old.words q n)));
-    used = omega arith;
-  }
-    where
-      both : (x : Bool) (a b : Walked) → b ≡ cond (x && false) a b
-      both true a b = refl
-      both false a b = refl
+  past-none canonical = grind (arith, common_steps, nat_tests)
 
   module _ (g : ℕ) (lt : g < 512) (mid : Pages) (h : IsPast layout row g (edited runs access (answers layout old.words row)) old mid) where
     still : (n : ℕ) → n < 2 ^ 27 → n / 512 / 512 ≡ g → walk layout mid.words row n ≡ walk layout old.words row n
-    still n small at = h.walks row n small ∙ (let no : ltb (n / 512 / 512) g ≡ false = grind (arith, nat_tests) in rw no (both (eqb row row)))
-      where
-        both : (x : Bool) → cond (x && false) (walked n (after n)) (walk layout old.words row n) ≡ walk layout old.words row n
-        both true = refl
-        both false = refl
+    still n small at = grind (arith, common_steps, nat_tests)
 
     below : (n : ℕ) → n / 512 / 512 ≡ g → n < 2 ^ 27
     below n at = omega (arith, lt, at)
@@ -135,78 +122,13 @@ module _ (layout : Layout) (row : ℕ) (runs : List PageRun) (access : View) (ol
     }
 
     pub past-skip : ((n : ℕ) → n / 512 / 512 ≡ g → covers runs n ≡ false) → IsPast layout row (g + 1) (edited runs access (answers layout old.words row)) old mid
-    past-skip none = record {
-      canonical = h.canonical;
-      ids = h.ids;
-      quotas = h.quotas;
-      walks = λ q n small. elim (cases_eq (n / 512 / 512) g) [
-        | inl at ↦ elim (cases_eq q row) [
-          | inl e ↦ rw e (still n small at ∙ tidy-answer n (walk layout old.words row n) (rw (sym (still n small at)) (h.canonical.orderly.tidy row n inside small))
-              ∙ ap (walked n) (sym (ap (λ b. cond b access (before n)) (none n at))) ∙ chosen n (walked n (after n)) (walk layout old.words row n) at)
-          | inr e ↦ h.walks q n small ∙ off q n e (walked n (after n)) (walk layout old.words q n)
-        ]
-        | inr at ↦ h.walks q n small ∙ later q n at (walked n (after n)) (walk layout old.words q n)
-      ];
-      used = let up = sum_below-up (gigabyte_growth before after) g (g + 1) (omega arith) in let used = h.used in omega (arith, up, used);
-    }
-      where
-        chosen : (n : ℕ) (a b : Walked) → n / 512 / 512 ≡ g → a ≡ cond (eqb row row && ltb (n / 512 / 512) (g + 1)) a b
-        chosen n a b at = grind (arith, nat_tests)
-
-        off : (q n : ℕ) → q ≢ row → (a b : Walked) → cond (eqb q row && ltb (n / 512 / 512) g) a b ≡ cond (eqb q row && ltb (n / 512 / 512) (g + 1)) a b
-        off q n e a b = let no : eqb q row ≡ false = grind (arith, nat_tests, e) in rw no refl
-
-        later : (q n : ℕ) → n / 512 / 512 ≢ g → (a b : Walked) → cond (eqb q row && ltb (n / 512 / 512) g) a b ≡ cond (eqb q row && ltb (n / 512 / 512) (g + 1)) a b
-        later q n at a b = let same : ltb (n / 512 / 512) g ≡ ltb (n / 512 / 512) (g + 1) = grind (arith, nat_tests, at) in rw same refl
+    past-skip none = grind (arith, common_steps, nat_tests, still, tidy-answer, sum_below-up)
 
     pub past-edit : (new : Pages) → EditsGigabyte layout row g (edited runs access (answers layout mid.words row)) mid new → IsPast layout row (g + 1) (edited runs access (answers layout old.words row)) old new
-    past-edit new e = record {
-      canonical = e.canonical;
-      ids = e.ids ∙ h.ids;
-      quotas = e.quotas ∙ h.quotas;
-      walks = λ q n small. e.walks q n small ∙ elim (cases_eq (n / 512 / 512) g) [
-        | inl at ↦ elim (cases_eq q row) [
-          | inl f ↦ rw f (here n (walked n (edited runs access (answers layout mid.words row) n)) (walk layout mid.words row n) at ∙ ap (walked n) (still-edited n at) ∙ chosen n (walked n (after n)) (walk layout old.words row n) at)
-          | inr f ↦ off q n f (walked n (edited runs access (answers layout mid.words row) n)) (walk layout mid.words q n) ∙ h.walks q n small ∙ off2 q n f (walked n (after n)) (walk layout old.words q n)
-        ]
-        | inr at ↦ elsewhere q n at (walked n (edited runs access (answers layout mid.words row) n)) (walk layout mid.words q n) ∙ h.walks q n small ∙ later q n at (walked n (after n)) (walk layout old.words q n)
-      ];
-      used = let more = sum_below-more (gigabyte_growth before after) g in let used = h.used in let one = e.used in omega (arith, more, used, one, growth);
-    }
-      where
-        here : (n : ℕ) (a b : Walked) → n / 512 / 512 ≡ g → cond (eqb row row && eqb (n / 512 / 512) g) a b ≡ a
-        here n a b at = grind (arith, nat_tests)
-
-        chosen : (n : ℕ) (a b : Walked) → n / 512 / 512 ≡ g → a ≡ cond (eqb row row && ltb (n / 512 / 512) (g + 1)) a b
-        chosen n a b at = grind (arith, nat_tests)
-
-        off : (q n : ℕ) → q ≢ row → (a b : Walked) → cond (eqb q row && eqb (n / 512 / 512) g) a b ≡ b
-        off q n e a b = let no : eqb q row ≡ false = grind (arith, nat_tests, e) in rw no refl
-
-        off2 : (q n : ℕ) → q ≢ row → (a b : Walked) → cond (eqb q row && ltb (n / 512 / 512) g) a b ≡ cond (eqb q row && ltb (n / 512 / 512) (g + 1)) a b
-        off2 q n e a b = let no : eqb q row ≡ false = grind (arith, nat_tests, e) in rw no refl
-
-        elsewhere : (q n : ℕ) → n / 512 / 512 ≢ g → (a b : Walked) → cond (eqb q row && eqb (n / 512 / 512) g) a b ≡ b
-        elsewhere q n at a b = let no : eqb (n / 512 / 512) g ≡ false = grind (arith, nat_tests, at) in rw no (both (eqb q row))
-          where
-            both : (x : Bool) → cond (x && false) a b ≡ b
-            both true = refl
-            both false = refl
-
-        later : (q n : ℕ) → n / 512 / 512 ≢ g → (a b : Walked) → cond (eqb q row && ltb (n / 512 / 512) g) a b ≡ cond (eqb q row && ltb (n / 512 / 512) (g + 1)) a b
-        later q n at a b = let same : ltb (n / 512 / 512) g ≡ ltb (n / 512 / 512) (g + 1) = grind (arith, nat_tests, at) in rw same refl
+    past-edit new e = grind (arith, common_steps, nat_tests, still-edited, sum_below-more, growth)
 
   pub past-all : (new : Pages) → IsPast layout row 512 (edited runs access (answers layout old.words row)) old new → EditsRow layout row (edited runs access (answers layout old.words row)) old new
-  past-all new h = record {
-    canonical = h.canonical;
-    ids = h.ids;
-    quotas = h.quotas;
-    walks = λ q n small. h.walks q n small ∙ (let all : ltb (n / 512 / 512) 512 ≡ true = grind (arith, nat_tests) in rw all (both (eqb q row) (walked n (after n)) (walk layout old.words q n)));
-  }
-    where
-      both : (x : Bool) (a b : Walked) → cond (x && true) a b ≡ cond x a b
-      both true a b = refl
-      both false a b = refl
+  past-all new h = grind (arith, common_steps, nat_tests)
 
 -- ---- the gigabytes that runs touch
 
@@ -216,8 +138,7 @@ covers-at (r ∷ runs) zero n run lt is here = rw (sym is, here) refl
 covers-at (r ∷ runs) (suc i) n run lt is here = rw (covers-at runs i n run (omega arith) is here) (either (in_run r n))
   where
     either : (x : Bool) → (x || true) ≡ true
-    either true = refl
-    either false = refl
+    either x = grind (arith, common_steps, nat_tests)
 
 pub touched : (runs : List PageRun) (i g : ℕ) (run : PageRun) → i < length runs → run ≡ get_or runs i run → IsRun run → run.first / 512 / 512 ≤ g → g < ((run.first + run.count + 511) / 512 + 511) / 512 → Touches runs g
 touched runs i g run lt is some from to =

@@ -6,32 +6,16 @@ use Rattle.base.specs.declared.access.Rights.TheVariants.{Ro, Rw}
 use Rattle.base.specs.declared.access.MemoryKind.{MemoryKind}
 use Rattle.base.specs.declared.access.MemoryKind.TheVariants.{Normal, Device}
 use Rattle.words.specs.Words.{leaf_fields, leaf_word_of, IsLeafWord}
+use Rattle.std.proofs.lemmas.Bool.Decides.{nat_tests}
+use Rattle.std.proofs.lemmas.Grind.{common_steps}
 
 fields-small : (block : Bool) (r : Rights) (x : Bool) (k : MemoryKind) → leaf_fields block (record { rights = r; exec = x; kind = k }) < 2 ^ 55
 unfolding leaf_fields
-fields-small true Ro true Normal = omega arith
-fields-small true Ro true Device = omega arith
-fields-small true Ro false Normal = omega arith
-fields-small true Ro false Device = omega arith
-fields-small true Rw true Normal = omega arith
-fields-small true Rw true Device = omega arith
-fields-small true Rw false Normal = omega arith
-fields-small true Rw false Device = omega arith
-fields-small false Ro true Normal = omega arith
-fields-small false Ro true Device = omega arith
-fields-small false Ro false Normal = omega arith
-fields-small false Ro false Device = omega arith
-fields-small false Rw true Normal = omega arith
-fields-small false Rw true Device = omega arith
-fields-small false Rw false Normal = omega arith
-fields-small false Rw false Device = omega arith
+fields-small block r x k = grind (arith, common_steps, nat_tests)
 
 leaf-small : (block : Bool) (n : ℕ) (a : Access) → n < 2 ^ 27 → leaf_word_of block n a < 2 ^ 56
 unfolding leaf_word_of
 leaf-small block n a small = let fields = fields-small block a.rights a.exec a.kind in omega (arith, small, fields)
 
 pub word-small : (level n word : ℕ) (a : Access) → n < 2 ^ 27 → IsLeafWord level word n a → word < 2 ^ 56
-word-small level n word a small leaf =
-    let spelled : word ≡ leaf_word_of leaf.block n a = leaf.spelled in
-    let most = leaf-small leaf.block n a small in
-    omega (arith, spelled, most)
+word-small level n word a small leaf = grind (arith, common_steps, nat_tests, leaf-small)

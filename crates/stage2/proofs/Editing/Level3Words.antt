@@ -7,12 +7,10 @@ use Rattle.words.proofs.RoundTrip.{entry-zero}
 use Rattle.pool.specs.Pool.{Pages}
 use Rattle.base.specs.Pages.{PageRun, covers}
 use Rattle.stage2.specs.inner.Chunks.{planned, Writes, IsWordFor, below}
+use Rattle.std.proofs.lemmas.Grind.{common_steps}
 
 before-at : (plan : ℕ → Option View) (m n : ℕ) (x : View) → below m plan n ≡ Some x → (n < m) × (plan n ≡ Some x)
-before-at plan m n x e = elim (cases_Bool (ltb n m)) [
-  | inl t ↦ let same : plan n ≡ Some x = rw t at e in (grind (arith, nat_tests, t), same)
-  | inr f ↦ let none : None ≡ Some x = rw f at e in absurd (cc)
-]
+before-at plan m n x e = grind (arith, common_steps, nat_tests)
 
 -- nothing yet: nothing is planned for the pages before the i-th
 pub writes-none : (k c i : ℕ) (plan : ℕ → Option View) (m : Pages) → ((x : ℕ) → x < i → plan (512 * c + x) ≡ None) → Writes k c (below (512 * c + i) plan) m m

@@ -9,6 +9,7 @@ use Rattle.stage2.specs.inner.Clauses.{some_pages}
 use Rattle.stage2.specs.inner.History.{Filled}
 use Rattle.stage2.proofs.Walkers.Histories.{filled-over}
 use Rattle.stage2.proofs.Editing.Level3Words.{writes-over}
+use Rattle.std.proofs.lemmas.Grind.{common_steps}
 
 -- what is planned for some pages
 module _ (c i j : ℕ) (answer : View) (x : ℕ) where
@@ -34,16 +35,4 @@ writes-join k c i j plan answer a b e le there so next = writes-over k c i j pla
 
 -- and these are the operations
 pub filled-join : (k c i j : ℕ) (plan : ℕ → Option View) (answer : View) (a b e : Pool) → i ≤ j → ((x : ℕ) → i ≤ x → x < j → plan (512 * c + x) ≡ Some answer) → Filled k c i plan a b → Filled k c j (some_pages c i j answer) b e → Filled k c j plan a e
-filled-join k c i j plan answer a b e le there so next = filled-over k c i j plan (some_pages c i j answer) a b e le this so next
-  where
-    this : (x : ℕ) (v : View) → some_pages c i j answer (512 * c + x) ≡ Some v → (i ≤ x) × (plan (512 * c + x) ≡ Some v)
-    this x v given = elim (cases_Bool (ltb x i)) [
-      | inl t ↦ let bad : None ≡ Some v = sym (some-before c i j answer x (grind (arith, nat_tests, t))) ∙ given in absurd (cc)
-      | inr t ↦ elim (cases_Bool (ltb x j)) [
-        | inl u ↦
-            let from : i ≤ x = grind (arith, nat_tests, t) in
-            let lt : x < j = grind (arith, nat_tests, u) in
-            (from, there x from lt ∙ sym (some-in c i j answer x from lt) ∙ given)
-        | inr u ↦ let bad : None ≡ Some v = sym (some-after c i j answer x (grind (arith, nat_tests, u))) ∙ given in absurd (cc)
-      ]
-    ]
+filled-join k c i j plan answer a b e le there so next = grind (arith, common_steps, nat_tests, filled-over, some-before, some-in, some-after)

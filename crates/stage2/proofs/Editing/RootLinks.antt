@@ -16,6 +16,8 @@ use Rattle.stage2.proofs.Walkers.Level3Write.{slot-zero}
 use Rattle.stage2.proofs.Tree.LinkTable.{slot-table, walk-inside, untabled_1}
 use Rattle.stage2.proofs.Counting.Needs.{mixed-same, mixed-none}
 use Rattle.stage2.proofs.Editing.Trades.{Trade, Hang, Drop, IsTrade, trade-forest, trade-taken, trade-owned, trade-hangs, trade-used}
+use Rattle.std.proofs.lemmas.Bool.Decides.{nat_tests}
+use Rattle.std.proofs.lemmas.Grind.{common_steps}
 
 pub record IsRooted (layout : Layout) (row g word : ℕ) (old new : Pages) : Type 0 where
   pub orderly : IsOrderly layout old
@@ -32,24 +34,10 @@ module _ (layout : Layout) (row g word : ℕ) (old new : Pages) (h : IsRooted la
   same-walk r n small = ap (λ w. walk layout w r n) h.words ∙ walk-root_write layout old.words row g word h.write r n small
 
   none-below : (c : ℕ) → c < 262144 → c / 512 ≡ g → table_at layout old.words (Chunk row c) ≡ None
-  none-below c below e =
-      let unmapped : is_mixed (answers layout old.words row) c ≡ false = mixed-none (answers layout old.words row) c (λ i small. ap answer_of (h.write.unmapped (512 * c + i) (omega arith) (let q : (512 * c + i) / 512 ≡ c = omega arith in ap (λ x. x / 512) q ∙ e))) in
-      no-table (table_at layout old.words (Chunk row c)) (h.orderly.mixed row c h.write.partition below ∙ unmapped)
-    where
-      no-table : (o : Option ℕ) → is_some o ≡ false → o ≡ None
-      no-table None e = refl
-      no-table (Some k) e = absurd (cc)
+  none-below c below e = grind (arith, common_steps, nat_tests, mixed-none)
 
   kept_put : (b : Place) → IsPlace layout b → b ≢ Gigabyte row g → table_at layout (put row g word old.words) b ≡ table_at layout old.words b
-  kept_put (Root r) inside other = table_at-root layout (put row g word old.words) r ∙ sym (table_at-root layout old.words r)
-  kept_put (Gigabyte r x) inside other = table_at-root_write-gigabyte layout old.words row g word h.write r x inside.0 inside.1 (λ e f. other (ap₂ Gigabyte e f))
-  kept_put (Chunk r c) inside other = elim (cases_eq r row) [
-    | inl e ↦ elim (cases_eq (c / 512) g) [
-      | inl f ↦ rw e (table_at-root_write-below layout old.words row g word h.write c f ∙ sym (none-below c inside.1 f))
-      | inr f ↦ table_at-root_write-chunk layout old.words row g word h.write r c inside.0 inside.1 (λ _ x. f x)
-    ]
-    | inr e ↦ table_at-root_write-chunk layout old.words row g word h.write r c inside.0 inside.1 (λ x _. e x)
-  ]
+  kept_put b inside other = grind (arith, common_steps, nat_tests, table_at-root, table_at-root_write-gigabyte, table_at-root_write-below, none-below, table_at-root_write-chunk)
 
   pub kept : (b : Place) → IsPlace layout b → b ≢ Gigabyte row g → table_at layout new.words b ≡ table_at layout old.words b
   kept b inside other = ap (λ w. table_at layout w b) h.words ∙ kept_put b inside other
@@ -73,10 +61,7 @@ module _ (layout : Layout) (row g word : ℕ) (old new : Pages) (h : IsRooted la
   read q i apart = ap (λ w. w q i) h.words ∙ put-other old.words row g word q i apart
 
   is_entry : (q i : ℕ) → ((q ≡ row) × (i ≡ g)) ⊎ (q ≡ row → i ≡ g → ⊥)
-  is_entry q i = elim (cases_eq q row) [
-    | inl e ↦ elim (cases_eq i g) [ inl f ↦ inl (e, f) | inr f ↦ inr (λ _ x. f x) ]
-    | inr e ↦ inr (λ x _. e x)
-  ]
+  is_entry q i = grind (arith, common_steps, nat_tests)
 
   clean : (a : Place) (q i : ℕ) → IsPlace layout a → table_at layout new.words a ≡ Some q → i < 512 → slot layout (level_at a) (new.words q i) ≡ Empty → new.words q i ≡ 0
   clean a q i inside at below none = elim (is_gigabyte a row g) [
@@ -120,9 +105,7 @@ module _ (layout : Layout) (row g word : ℕ) (old new : Pages) (h : IsRooted la
 -- nothing is mapped in a gigabyte without a table
 pub untabled : (layout : Layout) (m : Pages) (row n : ℕ) → IsOrderly layout m → row < length layout.ids → n < 2 ^ 27 → table_at layout m.words (Gigabyte row (n / 512 / 512)) ≡ None → walk layout m.words row n ≡ Unmapped
 unfolding table_at
-untabled layout m row n orderly inside small none =
-    let read = walk-inside layout m.words row n inside in
-    read ∙ untabled_1 layout m.words n (slot layout 1 (m.words row (index_1 n))) none (rw (sym read) (orderly.tidy row n inside small))
+untabled layout m row n orderly inside small none = grind (arith, common_steps, nat_tests, read, walk-inside, untabled_1)
 
 pub record IsLink (layout : Layout) (row g k : ℕ) (m : Pages) : Type 0 where
   pub orderly : IsOrderly layout m
@@ -141,15 +124,7 @@ module _ (layout : Layout) (row g k : ℕ) (m : Pages) (h : IsLink layout row g 
   unheld b inside at = let held : m.taken k ≡ true = h.orderly.taken b k inside at in let free : m.taken k ≡ false = h.free in absurd (cc)
 
   link-write : IsRootWrite layout m.words row g (table_word_of (layout.base + k))
-  link-write = record {
-    forest = h.orderly.forest;
-    partition = h.partition;
-    gigabyte = h.gigabyte;
-    fresh = λ j e. let same : j ≡ k = let s = is_slot in cc in rw same unheld;
-    empty = λ j x e _. let same : j ≡ k = let s = is_slot in cc in rw (same, h.zero x) (slot-zero layout 2);
-    unmapped = λ n small e. untabled layout m row n h.orderly h.partition small (rw e h.none);
-    clean = inr (k, is_slot);
-  }
+  link-write = grind (arith, common_steps, nat_tests, is_slot, unheld, slot-zero, untabled, clean)
 
   pub link-table : table_at layout (linked layout row g k (with_mark k true m)).words (Gigabyte row g) ≡ Some k
   link-table = table_at-root_write layout m.words row g (table_word_of (layout.base + k)) link-write ∙ ap next_page is_slot
@@ -182,15 +157,7 @@ module _ (layout : Layout) (row g k : ℕ) (m : Pages) (h : IsUnlink layout row 
       ∙ ap (at_2 layout m.words n) (ap (slot layout 2) (h.zero (index_2 n) (omega arith)) ∙ slot-zero layout 2)
 
   unlink-write : IsRootWrite layout m.words row g 0
-  unlink-write = record {
-    forest = h.orderly.forest;
-    partition = h.partition;
-    gigabyte = h.gigabyte;
-    fresh = λ j e. let s : next_page (slot layout 1 0) ≡ None = ap next_page (slot-zero layout 1) in absurd (cc);
-    empty = λ j x e _. let s : next_page (slot layout 1 0) ≡ None = ap next_page (slot-zero layout 1) in absurd (cc);
-    unmapped = λ n small e. unlink-unmapped n e;
-    clean = inl (slot-zero layout 1);
-  }
+  unlink-write = grind (arith, common_steps, nat_tests, slot-zero, unlink-unmapped, clean)
 
   pub unlink-table : table_at layout (put row g 0 m.words) (Gigabyte row g) ≡ None
   unlink-table = table_at-root_write layout m.words row g 0 unlink-write ∙ ap next_page (slot-zero layout 1)

@@ -15,23 +15,12 @@ use Rattle.stage2.proofs.Tree.Rows.{IsRow, same_row}
 use Rattle.stage2.proofs.Editing.FourChunkEdits.{tidy-answer}
 use Rattle.stage2.proofs.Counting.Needs.{mixed-none, reached-none}
 use Rattle.stage2.proofs.Tree.EmptyTables.{no_gigabyte, no_chunk, unmapped, sound_zero}
+use Rattle.std.proofs.lemmas.Bool.Decides.{nat_tests}
+use Rattle.std.proofs.lemmas.Grind.{common_steps}
 
 pub edited-walks : (layout : Layout) (p row : ℕ) (runs : List PageRun) (access : View) (old new : Pages) → IsRow layout.ids p row → IsOrderly layout old → EditsRow layout row (edited runs access (answers layout old.words row)) old new
     → (q n : ℕ) → n < 2 ^ 27 → translation layout new.words q n ≡ cond (eqb q p && covers runs n) (walked n access) (translation layout old.words q n)
-edited-walks layout p row runs access old new is orderly h q n small =
-    h.walks (row_of layout.ids q) n small
-    ∙ ap (λ b. cond b (walked n (edited runs access (answers layout old.words row) n)) (walk layout old.words (row_of layout.ids q) n)) (same_row layout.ids p q row is)
-    ∙ elim (cases_Bool (eqb q p)) [
-      | inl t ↦
-          let same : q ≡ p = eqb-true _ _ t in
-          let at : row_of layout.ids q ≡ row = ap (row_of layout.ids) same ∙ sym is.is in
-          rw t (at-row at (covers runs n))
-      | inr f ↦ rw f refl
-    ]
-  where
-    at-row : row_of layout.ids q ≡ row → (b : Bool) → walked n (cond b access (answers layout old.words row n)) ≡ cond b (walked n access) (walk layout old.words (row_of layout.ids q) n)
-    at-row at true = refl
-    at-row at false = sym (tidy-answer n (walk layout old.words row n) (orderly.tidy row n is.inside small)) ∙ ap (λ r. walk layout old.words r n) (sym at)
+edited-walks layout p row runs access old new is orderly h q n small = grind (arith, common_steps, nat_tests, same_row, tidy-answer)
 
 -- ---- tables that map nothing
 

@@ -16,6 +16,7 @@ use Rattle.stage2.proofs.Editing.Level3Words.{writes-none, writes-pass, writes-a
 use Rattle.stage2.proofs.Editing.PlannedWords.{writes-join, filled-join}
 use Rattle.stage2.proofs.Editing.Stretches.{writes-stretch}
 use Rattle.stage2.proofs.Walkers.Histories.{filled-none, filled-wider}
+use Rattle.std.proofs.lemmas.Grind.{common_steps}
 
 -- ---- where a run lies in a chunk
 
@@ -62,28 +63,16 @@ module _ (k c word step : ℕ) (answer : View) (is : (x : ℕ) → x < 512 → I
     most = omega arith
 
     none-before : (x : ℕ) → i ≤ x → x < first → plan (512 * c + x) ≡ None
-    none-before x least lt =
-        let small : x < 512 = omega arith in
-        let early = run-before c x run small lt in
-        let out : in_run run (512 * c + x) ≡ false = grind (arith, nat_tests, early) in
-        let none : covers rest (512 * c + x) ≡ false = before-rise rest (run.first + run.count) (512 * c + x) rises (omega (arith, early)) in
-        left x least small ∙ rw (out, none) refl
+    none-before x least lt = grind (arith, common_steps, nat_tests, run-before, before-rise)
 
     some-there : (x : ℕ) → first ≤ x → x < end → plan (512 * c + x) ≡ Some answer
-    some-there x least lt =
-        let small : x < 512 = omega arith in
-        let has = run-has c x run small least lt in
-        left x (omega (arith, from, least)) small ∙ rw has refl
+    some-there x least lt = grind (arith, common_steps, nat_tests, run-has)
 
     pub left-more : IsLeft plan rest end
-    left-more x least small =
-        let out = run-behind c x run small least in
-        left x (omega (arith, from, ordered, least)) small ∙ rw out refl
+    left-more x least small = grind (arith, common_steps, nat_tests, run-behind, ordered)
 
     words : (x : ℕ) → x < end - first → IsWordFor (512 * c + (first + x)) answer ((word + step * first) + step * x)
-    words x lt =
-        let same : word + step * (first + x) ≡ (word + step * first) + step * x = omega arith in
-        subst (IsWordFor (512 * c + (first + x)) answer) same (is (first + x) (omega (arith, lt, most)))
+    words x lt = grind (arith, common_steps, nat_tests, most)
 
     pub written-more : AreWritten plan end a (after_run k (512 * c) word step run s)
     written-more =
@@ -98,11 +87,7 @@ module _ (k c word step : ℕ) (answer : View) (is : (x : ℕ) → x < 512 → I
         )
 
     pub whole-more : IsWhole (after_run k (512 * c) word step run s).memory
-    whole-more = record {
-      ids = whole.ids;
-      words = length-words_set s.memory.words k first (end - first) (word + step * first) step ∙ whole.words;
-      taken = whole.taken;
-    }
+    whole-more = grind (arith, common_steps, nat_tests, words, length-words_set)
 
   -- ---- all that are left
 

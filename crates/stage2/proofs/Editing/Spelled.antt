@@ -11,16 +11,12 @@ use Rattle.stage2.specs.Slot.{Layout, Slot, Empty, Next, slot, slot_from}
 use Rattle.stage2.specs.Sound.{IsTidy}
 use Rattle.stage2.specs.Walk.{at_2, at_3, walk}
 use Rattle.stage2.proofs.Editing.FourChunkEdits.{walk-entry, at_2-seen, table-entry, clean-words}
+use Rattle.std.proofs.lemmas.Bool.Decides.{nat_tests}
+use Rattle.std.proofs.lemmas.Grind.{common_steps}
 
 word-spelled : (layout : Layout) (n w : ℕ) → IsTidy n (at_3 (slot layout 3 w)) → (slot layout 3 w ≡ Empty → w ≡ 0) → IsWordFor n (answer_of (at_3 (slot layout 3 w))) w
 unfolding slot
-word-spelled layout n w tidy clean = told (entry_of 3 w) refl tidy clean
-  where
-    told : (e : Entry) → entry_of 3 w ≡ e → IsTidy n (at_3 (slot_from layout e)) → (slot_from layout e ≡ Empty → w ≡ 0) → IsWordFor n (answer_of (at_3 (slot_from layout e))) w
-    told Invalid is tidy clean = record { entry = is; zero = λ _. clean refl }
-    told (Leaf m a) is tidy clean = record { entry = is ∙ ap (λ x. Leaf x a) tidy; zero = λ e. absurd (cc) }
-    told (Table m) is tidy clean = let below = (word-table 3 w m is).at_level in absurd (omega (arith, below))
-    told Wrong is tidy clean = absurd tidy
+word-spelled layout n w tidy clean = grind (arith, common_steps, nat_tests, word-table)
 
 pub spelled-words : (layout : Layout) (row c j : ℕ) (m : Pages) (h : IsSite layout row c j m) (k : ℕ) → slot layout 2 (m.words j (c % 512)) ≡ Next k → (n : ℕ) → n / 512 ≡ c → IsWordFor n (answers_at layout m.words (Next k) n) (m.words k (n % 512))
 spelled-words layout row c j m h k is n at =

@@ -18,6 +18,7 @@ use Rattle.stage2.proofs.Editing.LeafWords.{word-small}
 use Rattle.stage2.specs.Moments.{words_after}
 use Rattle.stage2.proofs.Editing.PlannedWords.{some-in, some-before, some-after}
 use Rattle.stage2.proofs.Walkers.Histories.{sets-wider}
+use Rattle.std.proofs.lemmas.Grind.{common_steps}
 
 -- ---- the words of pages that follow one another
 
@@ -44,10 +45,7 @@ word-zero n x = let zero : 0 + 0 * x ≡ 0 = omega arith in rw zero record { ent
 
 -- a valid one is another
 pub word-some : (n : ℕ) (answer : View) (w : ℕ) → answer ≢ None → IsWordFor n answer w → w ≢ 0
-word-some n None w some is = absurd (some refl)
-word-some n (Some a) w some is = λ zero.
-    let entry : entry_of 3 0 ≡ entry_for n (Some a) = (rw zero at is.entry) in
-    let bad = sym (entry-zero 3) ∙ entry in cc
+word-some n answer w some is = grind (arith, common_steps, nat_tests, entry-zero)
 
 -- the words of a stretch are in range
 pub stretch-small : (p word n : ℕ) (answer : View) → p < 2 ^ 27 → n ≤ 512 → entry_of 3 word ≡ entry_for p answer → (answer ≡ None → word ≡ 0) → word + step_for answer * n < 2 ^ 64
@@ -60,10 +58,7 @@ stretch-small p word n (Some a) small few read is_zero =
 -- and each is its page's
 pub stretch-words : (c first n word : ℕ) (answer : View) → 512 * c + (first + n) ≤ 2 ^ 27 → entry_of 3 word ≡ entry_for (512 * c + first) answer → (answer ≡ None → word ≡ 0)
     → (x : ℕ) → x < n → IsWordFor (512 * c + (first + x)) answer (word + step_for answer * x)
-stretch-words c first n word None small read is_zero x lt = let none = is_zero refl in rw none (word-zero (512 * c + (first + x)) x)
-stretch-words c first n word (Some a) small read is_zero x lt =
-    let there : 512 * c + first + x ≡ 512 * c + (first + x) = omega arith in
-    subst (λ p. IsWordFor p (Some a) (word + 4096 * x)) there (word-further (512 * c + first) x word a read (omega (arith, small, lt)))
+stretch-words c first n word answer small read is_zero x lt = grind (arith, common_steps, nat_tests, word-zero, word-further)
 
 -- ---- the operations
 

@@ -15,6 +15,8 @@ use Rattle.stage2.proofs.Editing.Gigabyte.{touched-below, linked-same, tabled-ch
 use Rattle.stage2.proofs.Runs.ChunkCounts.{touched-operations}
 use Rattle.stage2.proofs.Walkers.RootWrites.{stays-tabled, zero-unmapped, seated-linked}
 use Rattle.stage2.proofs.Walkers.ZeroedTables.{stays-after}
+use Rattle.std.proofs.lemmas.Bool.Decides.{nat_tests}
+use Rattle.std.proofs.lemmas.Grind.{common_steps}
 
 module _ {e : RowEdit} {j g : ℕ} {runs : List PageRun} {first : Pool} {r0 : ℕ} (can : CanEditGigabyte e g runs first r0) (table : second_at e.layout.now e.row g first ≡ Some j) where
   below : g < 512
@@ -31,14 +33,7 @@ module _ {e : RowEdit} {j g : ℕ} {runs : List PageRun} {first : Pool} {r0 : �
       omega (arith, least, chunks)
 
   pub tabled-can : CanEditChunks e g j runs first r0
-  tabled-can = record {
-    orderly = subst (λ (x : Pages). IsOrderly e.layout.now x) (sym same) can.canonical.orderly;
-    second = subst (λ (x : Pages). table_at e.layout.now x.words (Gigabyte e.row g) ≡ Some j) (sym same) table;
-    touched = can.touched;
-    turned = λ turns. subst (λ (x : Pages). Turns (λ n. eqb (n / 512 / 512) g) runs e.access (answers e.layout.now x.words e.row)) (sym same) (can.turned turns);
-    fits = fits-tabled e.layout.now e.row g j (pages_of first.memory) can.canonical e.inside below table runs e.access can.fits;
-    room = let all = costs in let room = can.room in omega (arith, all, room);
-  }
+  tabled-can = grind (arith, common_steps, nat_tests, same, fits-tabled, below, costs)
 
   module _ {mid : Pool} {r1 : ℕ} (chunks : AreChunksEdited e g j runs first r0 mid r1) where
     under : IsUnderway e.layout.now e.row g j 512 (row_after e runs first) (pages_of first.memory) (pages_of mid.memory)

@@ -12,6 +12,8 @@ use Rattle.stage2.specs.Sound.{Owns}
 use Rattle.stage2.specs.Orderly.{IsOrderly, Hangs, hung}
 use Rattle.stage2.proofs.Tree.WalkFrame.{IsUnheld}
 use Rattle.stage2.proofs.Editing.OneAfterAnother.{used_by-same}
+use Rattle.std.proofs.lemmas.Bool.Decides.{nat_tests}
+use Rattle.std.proofs.lemmas.Grind.{common_steps}
 
 -- the place's table stays, or there is none before and after
 pub record Stays (layout : Layout) (x : Place) (old new : Pages) : Type 0 where
@@ -61,12 +63,7 @@ module _ (layout : Layout) (row : ℕ) (x : Place) (old new : Pages) (h : IsTrad
   fresh = fresh_in h.trade
 
   elsewhere : (b : Place) → IsPlace layout b → b ≢ x → (q : ℕ) → table_at layout new.words x ≡ Some q → table_at layout new.words b ≡ Some q → ⊥
-  elsewhere b in_b differs q here there =
-      let was : table_at layout old.words b ≡ Some q = sym (h.kept b in_b differs) ∙ there in
-      elim (fresh q here) [
-        | inl free ↦ free b in_b was
-        | inr held ↦ differs (h.orderly.forest b x q in_b h.at was held)
-      ]
+  elsewhere b in_b differs q here there = grind (arith, common_steps, nat_tests, fresh)
 
   pub trade-forest : IsForest layout new.words
   trade-forest a b q in_a in_b at_a at_b =
@@ -104,15 +101,10 @@ module _ (layout : Layout) (row : ℕ) (x : Place) (old new : Pages) (h : IsTrad
   share q owns = elim h.of_row [ inl f ↦ subst (λ (y : Place). Owns old.quotas y q) f.1 owns | inr f ↦ subst (λ (y : Place). Owns old.quotas y q) f.1 owns ]
 
   owned-here : Trade layout row x old new → (q : ℕ) → table_at layout new.words x ≡ Some q → Owns old.quotas x q
-  owned-here (Stay t) q here = h.orderly.owned x q h.at (sym t.table ∙ here)
-  owned-here (Hang k t) q here = let same : k ≡ q = let now = t.now in cc in own q (subst (InShare old.quotas row) same t.inside)
-  owned-here (Drop k t) q here = let now = t.now in absurd (cc)
+  owned-here x0 q here = grind (arith, common_steps, nat_tests, own)
 
   pub trade-owned : (b : Place) (q : ℕ) → IsPlace layout b → table_at layout new.words b ≡ Some q → Owns new.quotas b q
-  trade-owned b q inside now = rw h.quotas (elim (h.is_x b) [
-    | inl f ↦ rw f (owned-here h.trade q (ap (table_at layout new.words) (sym f) ∙ now))
-    | inr f ↦ h.orderly.owned b q inside (sym (h.kept b inside f) ∙ now)
-  ])
+  trade-owned b q inside now = grind (arith, common_steps, nat_tests, owned-here)
 
   hangs_in : Trade layout row x old new → (r q : ℕ) → InShare old.quotas r q → new.taken q ≡ true → Hangs layout new.words q
   hangs_in (Stay t) r q inside held =
@@ -146,10 +138,7 @@ module _ (layout : Layout) (row : ℕ) (x : Place) (old new : Pages) (h : IsTrad
 
   -- a place whose table stays
   same-at : (b : Place) → IsPlace layout b → (b ≡ x → table_at layout new.words x ≡ table_at layout old.words x) → hangs_at new.words b ≡ hangs_at old.words b
-  same-at b inside same = ap (λ t. is_some t) (elim (h.is_x b) [
-    | inl f ↦ ap (table_at layout new.words) f ∙ same f ∙ ap (table_at layout old.words) (sym f)
-    | inr f ↦ h.kept b inside f
-  ])
+  same-at b inside same = grind (arith, common_steps, nat_tests)
 
   gigabytes : (r : ℕ) → r < length layout.ids → ((g : ℕ) → Gigabyte r g ≡ x → table_at layout new.words x ≡ table_at layout old.words x)
       → count_below (λ g. hangs_at new.words (Gigabyte r g)) 512 ≡ count_below (λ g. hangs_at old.words (Gigabyte r g)) 512

@@ -10,24 +10,16 @@ use Rattle.stage2.specs.inner.Clauses.{IsAt, IsSpelled, TurnsRuns, TurnsChunk, s
 use Rattle.stage2.specs.Slot.{Slot, Next}
 use Rattle.stage2.proofs.Editing.FourChunkEdits.{answers-entry}
 use Rattle.stage2.proofs.Editing.Stretches.{word-some}
+use Rattle.std.proofs.lemmas.Grind.{common_steps}
 
 zero-word : (n : ℕ) (answer : View) (word : ℕ) → IsWordFor n answer word → (word == 0) ≡ not (is_some answer)
-zero-word n None word is = eq-eqb word 0 (is.zero refl)
-zero-word n (Some a) word is = let some = word-some n (Some a) word (λ none. absurd cc) is in grind (arith, nat_tests, some)
+zero-word n answer word is = grind (arith, common_steps, nat_tests, word-some)
 
 twice : (a b c : Bool) → a ≡ not b → b ≡ not c → a ≡ c
-twice a b true is so = is ∙ ap not so
-twice a b false is so = is ∙ ap not so
+twice a b c is so = grind (arith, common_steps, nat_tests)
 
 pub runs-turned : (e : ChunkEdit) (k : ℕ) (pool : Pool) (view : ℕ → View) → IsSpelled e k pool → ((n : ℕ) → n / 512 ≡ e.chunk → view n ≡ answers_at e.layout.now (words_of pool.memory.words) (Next k) n) → TurnsChunk e view → TurnsRuns k e pool
-runs-turned e k pool view spelled same so turns i small covered =
-    let n = 512 * e.chunk + i in
-    let here : n / 512 ≡ e.chunk = omega (arith, small) in
-    let index : n % 512 ≡ i = omega (arith, small) in
-    let word = subst (λ x. IsWordFor n (answers_at e.layout.now (words_of pool.memory.words) (Next k) n) (words_of pool.memory.words k x)) index (spelled n here) in
-    twice (words_of pool.memory.words k i == 0) (is_some (view n)) (is_some e.access)
-    (zero-word n (answers_at e.layout.now (words_of pool.memory.words) (Next k) n) (words_of pool.memory.words k i) word ∙ ap (λ a. not (is_some a)) (sym (same n here)))
-    (so turns n (eq-eqb (n / 512) e.chunk here) covered)
+runs-turned e k pool view spelled same so turns i small covered = grind (arith, common_steps, nat_tests, twice, zero-word)
 
 -- by the word that was read at its site
 pub turned-read : (s : Site) (e : ChunkEdit) (pool : Pool) → IsAt s e pool → {read : Slot} → read ≡ slot_at s e pool → (k : ℕ) → read ≡ Next k → IsSpelled e k pool → TurnsChunk e (chunk_view s e pool) → TurnsRuns k e pool

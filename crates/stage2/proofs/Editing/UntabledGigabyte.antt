@@ -22,6 +22,7 @@ use Rattle.stage2.proofs.Runs.ChunkCounts.{touched-operations}
 use Rattle.stage2.proofs.Tree.TakenPages.{pages_of-take}
 use Rattle.stage2.proofs.Walkers.RootWrites.{stays-linked, stays-root, root-zero, forest-unlinked, gives-new}
 use Rattle.stage2.proofs.Walkers.ZeroedTables.{stays-after, stays-taken}
+use Rattle.std.proofs.lemmas.Grind.{common_steps}
 
 module _ {e : RowEdit} {g : ℕ} {runs : List PageRun} {first : Pool} {r0 : ℕ} (can : CanEditGigabyte e g runs first r0) (none : second_at e.layout.now e.row g first ≡ None) (maps : is_some e.access ≡ true) where
   below : g < 512
@@ -34,8 +35,7 @@ module _ {e : RowEdit} {g : ℕ} {runs : List PageRun} {first : Pool} {r0 : ℕ}
   -- which is taken
   module _ {j : ℕ} {taken : Pool} (whole : IsWhole first.memory) (zeros : (i : ℕ) → taken_of first.memory.taken j ≡ false → words_of first.memory.words j i ≡ 0) (lowest : IsLowestFree (pages_of first.memory) e.row j) (is : taken ≡ after_take j first) where
     link : IsLink e.layout.now e.row g j (pages_of first.memory)
-    link =
-        record { orderly = can.canonical.orderly; partition = e.inside; gigabyte = below; none = none; inside = lowest.inside; free = lowest.free; zero = λ i. zeros i lowest.free }
+    link = grind (arith, common_steps, nat_tests, below)
 
     marked : pages_of taken.memory ≡ with_mark j true (pages_of first.memory)
     marked = pages_of-take first taken e.row j whole lowest is

@@ -33,6 +33,8 @@ use Rattle.stage2.proofs.Runs.OwnRuns.{AreOwn, own-chunk, own-all, chunk-growing
 use Rattle.stage2.proofs.Runs.Spans.{underway-gap, stays-gap}
 use Rattle.stage2.proofs.Walkers.ChunkSteps.{march-edit, march-seated, march-free, march-turns}
 use Rattle.stage2.proofs.Walkers.ZeroedTables.{stays-none}
+use Rattle.std.proofs.lemmas.Bool.Decides.{nat_tests}
+use Rattle.std.proofs.lemmas.Grind.{common_steps}
 
 -- the answers after the edit
 abbrev pub after : RowEdit → ℕ → ℕ → List PageRun → Pool → ℕ → View
@@ -57,13 +59,7 @@ module _ {e : RowEdit} {j g : ℕ} {runs : List PageRun} {first : Pool} {r0 : �
   seat = record { p = e.p; row = e.row; second = j }
 
   pub at-start : IsUpTo e j g runs first r0 0 runs first r0
-  at-start = record {
-    underway = underway-start e.layout.now e.row g j runs e.access (pages_of first.memory) e.inside below can.orderly can.second;
-    in_step = λ seated free. stays-none e.layout.now e.row (disturbed_below g 0 runs (linked_view e g j first) (after e j g runs first)) (λ n. walked n (after e j g runs first n)) first;
-    left = left-all (512 * g + 0) runs;
-    last = omega arith;
-    room = omega arith;
-  }
+  at-start = grind (arith, common_steps, nat_tests, underway-start, below, stays-none, left-all)
 
   module _ {i : ℕ} {rest : List PageRun} {now : Pool} {r : ℕ} (so : IsUpTo e j g runs first r0 i rest now r) where
     -- a chunk that these runs leave alone all leave alone
@@ -133,10 +129,7 @@ module _ {e : RowEdit} {j g : ℕ} {runs : List PageRun} {first : Pool} {r0 : �
           ∙ ap (λ n. 3 + n) (sym (room-made seat h e.layout.now (512 * g + i) e.access layout at access now now))
 
       here-turned : TurnsChunk h (chunk_view seat h now)
-      here-turned =
-          turned-made seat h e.layout.now (512 * g + i) e.access layout at access now now
-          (λ yes. chunk-turns (512 * g + i) runs h.runs e.access own.covered v
-          (march-turns e.layout.now e.row g j runs e.access (pages_of first.memory) e.inside below i lt (pages_of now.memory) so.underway (can.turned (sym turns ∙ yes))))
+      here-turned = grind (arith, common_steps, nat_tests, turned-made, at, chunk-turns, march-turns, below)
 
       here-room : 3 + operations_in_table seat h now ≤ r
       here-room =
@@ -199,12 +192,7 @@ module _ {e : RowEdit} {j g : ℕ} {runs : List PageRun} {first : Pool} {r0 : �
       spent = let all : i + (end - i) ≡ end = omega (arith, ahead) in let so_many = three (end - i) (omega (arith, ahead)) in subst (λ n. sum_below (cost e j g runs first) i + 3 * (end - i) ≤ sum_below (cost e j g runs first) n) all so_many
 
       pub blocks-room : 3 * end ≤ r + 3 * i
-      blocks-room =
-          let enough = can.room in
-          let up = sum_below-up (cost e j g runs first) end 512 most in
-          let room = so.room in
-          let costs = spent in
-          omega (arith, up, room, costs, enough, ahead)
+      blocks-room = grind (arith, common_steps, nat_tests, sum_below-up, spent)
 
       pub blocks-next : IsWhole now.memory → ((x : ℕ) → i ≤ x → x < end → next_page (slot e.layout.now 2 (words_of now.memory.words j x)) ≡ None) → {new : Pool} {r2 : ℕ}
           → ReplacesBlocks e.p j g i end e.access now new → r + 3 * i ≤ r2 + 3 * end → IsUpTo e j g runs first r0 end rest new r2

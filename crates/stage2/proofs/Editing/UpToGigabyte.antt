@@ -18,6 +18,8 @@ use Rattle.stage2.proofs.Runs.OwnRuns.{gigabyte-covers, gigabyte-operations, gig
 use Rattle.stage2.proofs.Runs.Spans.{past-gap, cross-gap}
 use Rattle.stage2.proofs.Walkers.GigabyteSteps.{disturbed_before, cross-edit, cross-free, cross-turns, cross-all}
 use Rattle.stage2.proofs.Walkers.ZeroedTables.{stays-none}
+use Rattle.std.proofs.lemmas.Bool.Decides.{nat_tests}
+use Rattle.std.proofs.lemmas.Grind.{common_steps}
 
 -- the operations of a gigabyte at most
 abbrev pub cost : RowEdit → List PageRun → Pool → ℕ → ℕ
@@ -32,11 +34,7 @@ pub record IsRowUpTo (e : RowEdit) (runs : List PageRun) (first : Pool) (room_fi
 
 module _ {e : RowEdit} {runs : List PageRun} {first : Pool} {r0 : ℕ} where
   pub row-start : IsCanonical e.layout.now (pages_of first.memory) → IsRowUpTo e runs first r0 0 first r0
-  row-start canonical = record {
-    past = past-none e.layout.now e.row runs e.access (pages_of first.memory) e.inside canonical;
-    in_step = λ free. stays-none e.layout.now e.row (disturbed_before 0 runs (row_view e.layout.now e.row first) (row_after e runs first)) (λ n. walked n (row_after e runs first n)) first;
-    room = omega arith;
-  }
+  row-start canonical = grind (arith, common_steps, nat_tests, past-none, stays-none, disturbed_before)
 
   module _ {i : ℕ} {now : Pool} {r : ℕ} (so : IsRowUpTo e runs first r0 i now r) where
     -- gigabytes that the runs leave alone
@@ -126,10 +124,7 @@ module _ {g : ℕ} {runs part : List PageRun} (is : part ≡ gigabyte_runs g run
 -- one gigabyte has all pages of the runs
 module _ {e : RowEdit} {runs : List PageRun} {first : Pool} {r0 g : ℕ} (can : CanEditRow e runs first r0) (here : LieInGigabyte runs g) where
   elsewhere : (n : ℕ) → n / 512 / 512 ≢ g → covers runs n ≡ false
-  elsewhere n differs = elim (cases_Bool (covers runs n)) [
-    | inr f ↦ f
-    | inl t ↦ absurd (differs (here.only n t))
-  ]
+  elsewhere n differs = grind (arith, common_steps, nat_tests)
 
   before : IsRowUpTo e runs first r0 g first r0
   before = let below = here.below in row-ahead (row-start can.canonical) g (omega arith) (omega (arith, below)) (λ n from to. elsewhere n (λ same. omega (arith, same, to)))

@@ -33,6 +33,7 @@ use Rattle.stage2.proofs.Editing.GigabyteByGigabyte.{used-need}
 use Rattle.stage2.proofs.Tree.Rows.{IsRow, row-found, no-row}
 use Rattle.stage2.proofs.Walkers.WholeEdit.{moments-none}
 use Rattle.base.proofs.Booleans.{both}
+use Rattle.std.proofs.lemmas.Grind.{common_steps}
 
 pub are-canonical : (t : TablesView) → IsCanonical t.layout (pages_of t.pool.memory) → ((q i : ℕ) → taken_of t.pool.memory.taken q ≡ false → words_of t.pool.memory.words q i ≡ 0) → all_lie_in t.pool ≡ true → AreCanonical t
 are-canonical t trees free listed = record {
@@ -51,38 +52,22 @@ unfolding walk_across
 rootless t p n none = rw none refl
 
 pub found-none : (ids : List ℕ) (p : ℕ) → position (λ id. eqb id p) ids ≡ None → ltb (row_of ids p) (length ids) ≡ false
-found-none ids p is = elim (cases_Bool (ltb (row_of ids p) (length ids))) [
-  | inl t ↦ let some : Some (row_of ids p) ≡ None = rw t at is in absurd (cc)
-  | inr f ↦ f
-]
+found-none ids p is = grind (arith, common_steps, nat_tests)
 
 -- nothing reached needs no table
 need-none : (v : ℕ → View) → ((n : ℕ) → v n ≡ None) → need v ≡ 0
 unfolding need
-need-none v none =
-    let gigabytes = count_below-none (is_reached v) 512 (λ g below. reached-none v g (λ i small. none (262144 * g + i))) in
-    let chunks = count_below-none (is_mixed v) 262144 (λ c below. mixed-none v c (λ i small. none (512 * c + i))) in
-    omega (arith, gigabytes, chunks)
+need-none v none = grind (arith, common_steps, nat_tests, count_below-none, reached-none, mixed-none)
 
 -- the same views grow alike
 grow-same : (v w : ℕ → View) (runs : List PageRun) (access : View) → ((n : ℕ) → w n ≡ v n) → grow w (edited runs access w) ≡ grow v (edited runs access v)
 unfolding grow
-grow-same v w runs access same =
-    let after : (n : ℕ) → edited runs access w n ≡ edited runs access v n = λ n. ap (cond (covers runs n) access) (same n) in
-    ap₂ (λ x y. x + y)
-    (count_below-same (λ g. is_reached (edited runs access v) g && not (is_reached v g)) (λ g. is_reached (edited runs access w) g && not (is_reached w g)) 512
-    (λ g below. ap₂ (λ x y. x && not y) (reached-same (edited runs access v) (edited runs access w) g (λ i small. after (262144 * g + i))) (reached-same v w g (λ i small. same (262144 * g + i)))))
-    (count_below-same (λ c. is_mixed (edited runs access v) c && not (is_mixed v c)) (λ c. is_mixed (edited runs access w) c && not (is_mixed w c)) 262144
-    (λ c below. ap₂ (λ x y. x && not y) (mixed-same (edited runs access v) (edited runs access w) c (λ i small. after (512 * c + i))) (mixed-same v w c (λ i small. same (512 * c + i)))))
+grow-same v w runs access same = grind (arith, common_steps, nat_tests, count_below-same, reached-same, mixed-same)
 
 -- the views of a partition, whether it has a root or not
 pub grow-found : (t : TablesView) (p : ℕ) (runs : List PageRun) (access : View) (row : Option ℕ) → row ≡ position (λ id. eqb id p) t.layout.ids
     → grow (answers_of t.layout (words_of t.pool.memory.words) row) (edited runs access (answers_of t.layout (words_of t.pool.memory.words) row)) ≡ grow (view_of t p) (edited runs access (view_of t p))
-grow-found t p runs access None e =
-    grow-same (view_of t p) (answers_of t.layout (words_of t.pool.memory.words) None) runs access (λ n. sym (ap answer_of (rootless t p n (found-none t.layout.ids p (sym e)))))
-grow-found t p runs access (Some row) e =
-    let is = row-found t.layout.ids p row (sym e) in
-    ap (λ r. grow (answers t.layout (words_of t.pool.memory.words) r) (edited runs access (answers t.layout (words_of t.pool.memory.words) r))) is.is
+grow-found t p runs access row e = grind (arith, common_steps, nat_tests, grow-same, rootless, found-none, row-found)
 
 pub rootless-need : (t : TablesView) (p : ℕ) → has_root t p ≡ false → need (view_of t p) ≡ 0
 rootless-need t p none = need-none (view_of t p) (λ n. ap answer_of (rootless t p n none))
@@ -115,31 +100,23 @@ rootless-map t p n runs a rows none fits small = elim (cases_Bool (covers runs n
 
 -- an edit that changes no walk
 kept-walk : (b : Bool) (a x : Walked) → (b ≡ true → a ≡ x) → x ≡ cond b a x
-kept-walk true a x same = sym (same refl)
-kept-walk false a x same = refl
+kept-walk b a x same = grind (arith, common_steps, nat_tests)
 
 kept-view : (b : Bool) (a x : View) → (b ≡ true → a ≡ x) → x ≡ cond b a x
-kept-view true a x same = sym (same refl)
-kept-view false a x same = refl
+kept-view b a x same = grind (arith, common_steps, nat_tests)
 
 -- a partition that has no root: the pages of the runs, if there are any, are not reached, and stay so
 abbrev pub StaysOut : ℕ → List PageRun → View → Type 0
 StaysOut p runs access = (n : ℕ) → n < 2 ^ 27 → covers runs n ≡ true → access ≡ None
 
 pub rootless-edit : (t : TablesView) (p : ℕ) (runs : List PageRun) (access : View) → length t.layout.ids ≡ length t.pool.memory.quotas → has_root t p ≡ false → Fits p runs access t → StaysOut p runs access
-rootless-edit t p runs None rows none fits n small covered = refl
-rootless-edit t p runs (Some a) rows none fits n small covered = let apart = rootless-map t p n runs a rows none fits small in absurd (cc)
+rootless-edit t p runs access rows none fits n small covered = grind (arith, common_steps, nat_tests, rootless-map)
 
 pub rootless-walks : (t : TablesView) (p : ℕ) (runs : List PageRun) (access : View) → has_root t p ≡ false → StaysOut p runs access → ReachSo p runs access t t
-rootless-walks t p runs access none out q n small =
-    kept-walk (eqb q p && covers runs n) (walked n access) (walk_in t q n)
-    (λ e. let both = both (eqb q p) (covers runs n) e in
-    let same : q ≡ p = eqb-true _ _ both.0 in
-    ap (walked n) (out n small both.1) ∙ sym (ap (λ x. walk_in t x n) same ∙ rootless t p n none))
+rootless-walks t p runs access none out q n small = grind (arith, common_steps, nat_tests, kept-walk, both, rootless)
 
 view-none : (n : ℕ) (a : View) → walked n a ≡ Unmapped → a ≡ None
-view-none n None e = refl
-view-none n (Some a) e = absurd (cc)
+view-none n a e = grind (arith, common_steps, nat_tests)
 
 pub rootless-moments : (t : TablesView) (p : ℕ) (runs : List PageRun) (access : View) → has_root t p ≡ false → StaysOut p runs access → ShowsMoments p runs access t t
 rootless-moments t p runs access none out begun before starts free =
@@ -158,8 +135,7 @@ view layout pool room = record { layout = layout; pool = pool; room = room }
 
 -- what holds where there is a value holds of what follows from it
 on-ok : {T E : Type 0} (result : Result T E) {A B : Type 0} → (A → B) → OnOk result A → OnOk result B
-on-ok (Ok x) f a = f a
-on-ok (Err e) f a = a
+on-ok result f a = grind (arith, common_steps, nat_tests)
 
 -- tables whose words stay canonical
 pub canonical-now : (layout : Layout) {made : Pool} (now : Pool) (room : ℕ) → now ≡ made → IsCanonical layout (pages_of made.memory) → ((q i : ℕ) → taken_of now.memory.taken q ≡ false → words_of now.memory.words q i ≡ 0) → all_lie_in now ≡ true → AreCanonical (view layout now room)
@@ -177,10 +153,7 @@ ready-already done p runs access clears t room canonical = record { layout = ref
 pub room-made : {T E : Type 0} (result : Result T E) (p : ℕ) (runs : List PageRun) (access : View) (layout : Layout) (now before : Pool) (room had planned clears : ℕ) (old : TablesView)
     → now ≡ before → view layout before had ≡ old → edit_operations p runs access old ≤ planned
     → OnOk result (planned + clears ≤ room) → OnOk result (edit_operations p runs access (view layout now room) + clears ≤ room)
-room-made result p runs access layout now before room had planned clears old same is most made =
-    let edit : edit_operations p runs access (view layout now room) ≡ edit_operations p runs access old =
-    ap (λ (x : Pool). edit_operations p runs access (view layout x room)) same ∙ ap (λ (t : TablesView). edit_operations p runs access t) is in
-    on-ok result (λ has. omega (arith, edit, most, has)) made
+room-made result p runs access layout now before room had planned clears old same is most made = grind (arith, common_steps, nat_tests, on-ok)
 
 pub edited-rooted : (layout : Layout) (old new : Pool) (room left p row : ℕ) (runs : List PageRun) (access : View) → IsRow layout.ids p row → IsCanonical layout (pages_of old.memory)
     → EditsRow layout row (edited runs access (answers layout (pages_of old.memory).words row)) (pages_of old.memory) (pages_of new.memory)
@@ -230,25 +203,14 @@ cleared-in_step t run new left is none e same o = record {
 
 -- the quota of a partition that has a root
 pub quota-found : (layout : Layout) (p quota : ℕ) → option_map (row_quota layout.quotas) (position (λ id. eqb id p) layout.ids) ≡ Some quota → quota ≡ row_quota layout.quotas (row_of layout.ids p)
-quota-found layout p quota found = elim (cases_Bool (ltb (row_of layout.ids p) (length layout.ids))) [
-  | inl t ↦
-      let some : Some (row_quota layout.quotas (row_of layout.ids p)) ≡ Some quota = rw t at found in
-      cc
-  | inr f ↦ let none : None ≡ Some quota = rw f at found in absurd (cc)
-]
+quota-found layout p quota found = grind (arith, common_steps, nat_tests)
 
 pub quota-none : (layout : Layout) (p : ℕ) → option_map (row_quota layout.quotas) (position (λ id. eqb id p) layout.ids) ≡ None → ltb (row_of layout.ids p) (length layout.ids) ≡ false
-quota-none layout p found = elim (cases_Bool (ltb (row_of layout.ids p) (length layout.ids))) [
-  | inl t ↦ let some : Some (row_quota layout.quotas (row_of layout.ids p)) ≡ None = rw t at found in absurd (cc)
-  | inr f ↦ f
-]
+quota-none layout p found = grind (arith, common_steps, nat_tests)
 
 -- a partition that has no root has no free page
 pub free-none : (t : TablesView) (p : ℕ) → IsCanonical t.layout (pages_of t.pool.memory) → has_root t p ≡ false → free_of (pages_of t.pool.memory) (row_of t.layout.ids p) ≡ 0
-free-none t p h none =
-    let beyond = ltb-false _ _ none in
-    let zero = row_quota-none t.pool.memory.quotas (row_of t.layout.ids p) (omega (arith, beyond, h.orderly.rows)) in
-    omega (arith, zero)
+free-none t p h none = grind (arith, common_steps, nat_tests, row_quota-none)
 
 -- what a partition's tables may still take, and what they take, is its quota
 pub free-and-need : (t : TablesView) (p : ℕ) → IsCanonical t.layout (pages_of t.pool.memory) → free_of (pages_of t.pool.memory) (row_of t.layout.ids p) + need (view_of t p) ≡ row_quota t.layout.quotas (row_of t.layout.ids p)
@@ -279,43 +241,23 @@ free-and-need t p h =
 -- pages are turned for the row that was found
 pub turned-found : (t : TablesView) (p : ℕ) (runs : List PageRun) (access : View) (row : Option ℕ) → row ≡ position (λ id. eqb id p) t.layout.ids → AreTurnedFor p runs access t
     → Turns (λ n. ltb n (2 ^ 27)) runs access (answers_of t.layout (words_of t.pool.memory.words) row)
-turned-found t p runs access None e turned = λ n small covered. ap (λ a. is_some (answer_of a)) (sym (no-row t.layout (words_of t.pool.memory.words) p n (sym e))) ∙ turned n small covered
-turned-found t p runs access (Some row) e turned = subst (λ r. Turns (λ n. ltb n (2 ^ 27)) runs access (answers t.layout (words_of t.pool.memory.words) r)) (sym (row-found t.layout.ids p row (sym e)).is) turned
+turned-found t p runs access row e turned = grind (arith, common_steps, nat_tests, no-row, row-found)
 
 -- it is said of the layout and the words alone
 pub turned-same : (p : ℕ) (runs : List PageRun) (access : View) (t u : TablesView) → u.layout ≡ t.layout → u.pool.memory ≡ t.pool.memory → AreTurnedFor p runs access t → AreTurnedFor p runs access u
-turned-same p runs access t u layout memory turned = λ n small covered.
-    ap (λ (m : Memory). is_some (answer_of (translation u.layout (words_of m.words) p n))) memory
-    ∙ ap (λ (l : Layout). is_some (answer_of (translation l (words_of t.pool.memory.words) p n))) layout ∙ turned n small covered
+turned-same p runs access t u layout memory turned = grind (arith, common_steps, nat_tests)
 
 pub fits-row : (t : TablesView) (p row : ℕ) (runs : List PageRun) (access : View) → IsRow t.layout.ids p row → Fits p runs access t → FitsRow t.layout row runs access (pages_of t.pool.memory)
-fits-row t p row runs access is fits =
-    subst (λ r. FitsRow t.layout r runs access (pages_of t.pool.memory)) (sym is.is) (record { fits = fits })
+fits-row t p row runs access is fits = grind (arith, common_steps, nat_tests)
 
 pub room-row : (t : TablesView) (p row : ℕ) (runs : List PageRun) (access : View) → IsRow t.layout.ids p row → edit_operations p runs access t ≤ t.room → row_operations runs access (answers t.layout (words_of t.pool.memory.words) row) ≤ t.room
-room-row t p row runs access is ready =
-    let at = is.is in
-    let inside = is.inside in
-    let root : has_root t p ≡ true = grind (arith, nat_tests) in
-    let all : row_operations runs access (view_of t p) ≤ t.room = rw root at ready in
-    subst (λ r. row_operations runs access (answers t.layout (words_of t.pool.memory.words) r) ≤ t.room) (sym is.is) all
+room-row t p row runs access is ready = grind (arith, common_steps, nat_tests)
 
 -- it is at most what is told of the row that was found
 pub room-found : (t : TablesView) (p : ℕ) (runs : List PageRun) (access : View) (row : Option ℕ) → row ≡ position (λ id. eqb id p) t.layout.ids
     → edit_operations p runs access t ≤ row_operations runs access (answers_of t.layout (words_of t.pool.memory.words) row)
-room-found t p runs access None e = let none : has_root t p ≡ false = found-none t.layout.ids p (sym e) in rw none (omega arith)
-room-found t p runs access (Some row) e =
-    let is = row-found t.layout.ids p row (sym e) in
-    let same : row_operations runs access (answers t.layout (words_of t.pool.memory.words) row) ≡ row_operations runs access (view_of t p) = ap (λ r. row_operations runs access (answers t.layout (words_of t.pool.memory.words) r)) is.is in
-    elim (cases_Bool (has_root t p)) [
-      | inl root ↦ rw root (omega (arith, same))
-      | inr none ↦ rw none (omega arith)
-    ]
+room-found t p runs access row e = grind (arith, common_steps, nat_tests, found-none, row-found)
 
 -- and at most what an edit of the view makes
 pub room-most : (t : TablesView) (p : ℕ) (runs : List PageRun) (access : View) (most : ℕ) → row_operations runs access (view_of t p) ≤ most → edit_operations p runs access t ≤ most
-room-most t p runs access most so =
-    elim (cases_Bool (has_root t p)) [
-      | inl root ↦ rw root so
-      | inr none ↦ rw none (omega arith)
-    ]
+room-most t p runs access most so = grind (arith, common_steps, nat_tests)

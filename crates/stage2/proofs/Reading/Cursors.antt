@@ -9,26 +9,20 @@ use Rattle.stage2.specs.declared.table_page.Level.{Level}
 use Rattle.stage2.specs.declared.table_page.Level.TheVariants.{First, Second, Third}
 use Rattle.stage2.specs.Reading.{TableEntry, pages_at, entry_at, entries_from, entry_row, left_in, IsCursor, PassTheSame, next_first}
 use borrow.Author.Tests.{ne_eqb}
+use Rattle.std.proofs.lemmas.Bool.Decides.{nat_tests}
+use Rattle.std.proofs.lemmas.Grind.{common_steps}
 
 module _ (level : Level) (first : ℕ) (word : ℕ → ℕ) where
   -- the word at an index, and those behind it
   step : (index : ℕ) → index < 512 → entries_from level first word index (512 - index) ≡ entry_at level (first + pages_at level * index) (word index) ++ entries_from level first word (index + 1) (512 - (index + 1))
   unfolding entries_from
-  step index small =
-      let count : 512 - index ≡ suc (512 - (index + 1)) = omega (arith, small) in
-      let next : suc index ≡ index + 1 = omega arith in
-      ap (λ n. entries_from level first word index n) count
-      ∙ ap (λ i. entry_at level (first + pages_at level * index) (word index) ++ entries_from level first word i (512 - (index + 1))) next
+  step index small = grind (arith, common_steps, nat_tests)
 
   pub skipped : (index : ℕ) → index < 512 → word index % 2 ≡ 0 → entries_from level first word index (512 - index) ≡ entries_from level first word (index + 1) (512 - (index + 1))
-  skipped index small even =
-      step index small
-      ∙ ap (λ b. cond b [] (record { level = level; first = first + pages_at level * index; word = word index } ∷ []) ++ entries_from level first word (index + 1) (512 - (index + 1))) (eq-eqb (word index % 2) 0 even)
+  skipped index small even = grind (arith, common_steps, nat_tests, step)
 
   pub taken : (index : ℕ) → index < 512 → (word index % 2 ≡ 0 → ⊥) → entries_from level first word index (512 - index) ≡ record { level = level; first = first + pages_at level * index; word = word index } ∷ entries_from level first word (index + 1) (512 - (index + 1))
-  taken index small odd =
-      step index small
-      ∙ ap (λ b. cond b [] (record { level = level; first = first + pages_at level * index; word = word index } ∷ []) ++ entries_from level first word (index + 1) (512 - (index + 1))) (ne_eqb (word index % 2) 0 odd)
+  taken index small odd = grind (arith, common_steps, nat_tests, step)
 
   -- ---- how many words are not 0
 
@@ -71,72 +65,31 @@ some_in words c i = not (eqb (words c.table i) 0)
 
 pub ended : (pages : ℕ) (words : Words) (level : Level) (c : Cursor) → IsCursor pages words level c → c.left ≡ 0 → left_in words c ≡ []
 unfolding nonzero_in
-ended pages words level c is none =
-    let index = is.index in
-    let left = is.left in
-    none-left c.level c.first (words c.table) (512 - c.index) c.index (omega (arith, index)) (omega (arith, left, none))
+ended pages words level c is none = grind (arith, common_steps, nat_tests, none-left)
 
 pub at-end : (words : Words) (c : Cursor) → 512 ≤ c.index → left_in words c ≡ []
 unfolding entries_from
-at-end words c end =
-    let none : 512 - c.index ≡ 0 = omega (arith, end) in
-    ap (λ n. entries_from c.level c.first (words c.table) c.index n) none
+at-end words c end = grind (arith, common_steps, nat_tests)
 
 -- a word further, of no entry
 pub passed : (pages : ℕ) (words : Words) (level : Level) (c : Cursor) → IsCursor pages words level c → c.index < 512 → IsCursor pages words level (record c { index = c.index + 1 })
-passed pages words level c is small =
-    let more = count_below-more (some_in words c) c.index in
-    let left = is.left in
-    record {
-      at = is.at;
-      table = λ lt. is.table small;
-      index = omega (arith, small);
-      range = is.range;
-      left = omega (arith, more, left);
-    }
+passed pages words level c is small = grind (arith, common_steps, nat_tests, count_below-more)
 
 -- and of one
 pub counted : (pages : ℕ) (words : Words) (level : Level) (c : Cursor) → IsCursor pages words level c → c.index < 512 → 0 < c.left → (words c.table c.index % 2 ≡ 0 → ⊥) → IsCursor pages words level (record c { index = c.index + 1; left = c.left - 1 })
-counted pages words level c is small some odd =
-    let one : some_in words c c.index ≡ true = ap not (ne_eqb (words c.table c.index) 0 (λ none. odd (omega (arith, none)))) in
-    let more : count_below (some_in words c) (c.index + 1) ≡ 1 + count_below (some_in words c) c.index = count_below-more (some_in words c) c.index ∙ ap (λ b. cond b 1 0 + count_below (some_in words c) c.index) one in
-    let left = is.left in
-    record {
-      at = is.at;
-      table = λ lt. is.table small;
-      index = omega (arith, small);
-      range = is.range;
-      left = omega (arith, more, left, some);
-    }
+counted pages words level c is small some odd = grind (arith, common_steps, nat_tests, count_below-more)
 
 -- the entry that comes next, behind words of no entry
 pub taken-entry : (pages : ℕ) (words : Words) (level : Level) (old c : Cursor) (e : TableEntry) (word first : ℕ) → IsCursor pages words level c → left_in words c ≡ left_in words old → c.index < 512 → word ≡ words c.table c.index → (word % 2 ≡ 0 → ⊥) → first ≡ c.first + pages_at level * c.index → e ≡ record { level = level; first = first; word = word } → left_in words old ≡ e ∷ left_in words (record c { index = c.index + 1; left = c.left - 1 })
-taken-entry pages words level old c e word first is same small at odd from so =
-    let rest = left_in words (record c { index = c.index + 1 }) in
-    sym same ∙ taken c.level c.first (words c.table) c.index small (λ even. odd (omega (arith, at, even)))
-    ∙ ap (λ w. record { level = c.level; first = c.first + pages_at c.level * c.index; word = w } ∷ rest) (sym at)
-    ∙ ap (λ l. record { level = l; first = c.first + pages_at l * c.index; word = word } ∷ rest) is.at
-    ∙ ap (λ n. record { level = level; first = n; word = word } ∷ rest) (sym from)
-    ∙ ap (λ (x : TableEntry). x ∷ rest) (sym so)
+taken-entry pages words level old c e word first is same small at odd from so = grind (arith, common_steps, nat_tests, taken)
 
 few-pages : (level : Level) → pages_at level ≤ 262144
-few-pages First = omega arith
-few-pages Second = omega arith
-few-pages Third = omega arith
+few-pages level = grind (arith, common_steps, nat_tests)
 
 -- a cursor at the end of a table
 over-words : (pages : ℕ) (words : Words) (level : Level) (c : Cursor) → c.level ≡ level → c.index ≡ 512 → c.first ≡ 0 → IsCursor pages words level c
 unfolding nonzero_in
-over-words pages words level c at end first =
-    let most = few-pages level in
-    let count = ap (λ i. count_below (some_in words c) i) end in
-    record {
-      at = at;
-      table = λ lt. absurd (omega (arith, lt, end));
-      index = omega (arith, end);
-      range = omega (arith, first, most);
-      left = omega (arith, count);
-    }
+over-words pages words level c at end first = grind (arith, common_steps, nat_tests, few-pages)
 
 pub over-all : (pages : ℕ) (words : Words) (level : Level) (c : Cursor) → c.level ≡ level → c.index ≡ 512 → c.first ≡ 0 → IsCursor pages words level c × (left_in words c ≡ [])
 over-all pages words level c at end first = (over-words pages words level c at end first, at-end words c (omega (arith, end)))
@@ -145,14 +98,10 @@ over-all pages words level c at end first = (over-words pages words level c at e
 
 -- a word more of a level
 pub pages-suc : (level : Level) (n : ℕ) → pages_at level * suc n ≡ pages_at level + pages_at level * n
-pages-suc First n = omega arith
-pages-suc Second n = omega arith
-pages-suc Third n = omega arith
+pages-suc level n = grind (arith, common_steps, nat_tests)
 
 pub steps-suc : (level : Level) (n : ℕ) → 4096 * pages_at level * suc n ≡ 4096 * pages_at level + 4096 * pages_at level * n
-steps-suc First n = omega arith
-steps-suc Second n = omega arith
-steps-suc Third n = omega arith
+steps-suc level n = grind (arith, common_steps, nat_tests)
 
 -- one entry more, behind the others
 pub row-more : (level : Level) (first word n : ℕ) → entry_row level first word (n + 1) ≡ entry_row level first word n ++ record { level = level; first = first + pages_at level * n; word = word + 4096 * pages_at level * n } ∷ []
@@ -171,26 +120,17 @@ row-more level first word (suc n) =
     ∙ ap₂ (λ (f w : ℕ). record { level = level; first = first; word = word } ∷ (entry_row level (first + span) (word + 4096 * span) n ++ record { level = level; first = f; word = w } ∷ [])) f w
 
 pub few-pages-behind : (level : Level) (first n : ℕ) → n ≤ 512 → first + 512 * pages_at level ≤ 2 ^ 27 → first + pages_at level * n ≤ 2 ^ 27
-few-pages-behind First first n few fits = omega (arith, few, fits)
-few-pages-behind Second first n few fits = omega (arith, few, fits)
-few-pages-behind Third first n few fits = omega (arith, few, fits)
+few-pages-behind level first n few fits = grind (arith, common_steps, nat_tests)
 
 -- a word further in a row
 pub in-row : (words : Words) (level : Level) (old c new : Cursor) (e : TableEntry) (first word n : ℕ) → left_in words old ≡ entry_row level first word n ++ left_in words c → left_in words c ≡ e ∷ left_in words new → e ≡ record { level = level; first = first + pages_at level * n; word = word + 4096 * pages_at level * n } → left_in words old ≡ entry_row level first word (n + 1) ++ left_in words new
-in-row words level old c new e first word n so next is =
-    so ∙ ap (λ (xs : List TableEntry). entry_row level first word n ++ xs) (next ∙ ap (λ (x : TableEntry). x ∷ left_in words new) is)
-    ∙ sym (append_assoc (entry_row level first word n) (record { level = level; first = first + pages_at level * n; word = word + 4096 * pages_at level * n } ∷ []) (left_in words new))
-    ∙ ap (λ (xs : List TableEntry). xs ++ left_in words new) (sym (row-more level first word n))
+in-row words level old c new e first word n so next is = grind (arith, common_steps, nat_tests, row-more)
 
 pages-add : (level : Level) (m n : ℕ) → pages_at level * (m + n) ≡ pages_at level * m + pages_at level * n
-pages-add First m n = omega arith
-pages-add Second m n = omega arith
-pages-add Third m n = omega arith
+pages-add level m n = grind (arith, common_steps, nat_tests)
 
 even-steps : (level : Level) (n : ℕ) → 4096 * pages_at level * n % 2 ≡ 0
-even-steps First n = omega arith
-even-steps Second n = omega arith
-even-steps Third n = omega arith
+even-steps level n = grind (arith, common_steps, nat_tests)
 
 pub odd-row : (level : Level) (w n word : ℕ) → w % 2 ≡ 1 → word ≡ w + 4096 * pages_at level * n → word % 2 ≡ 0 → ⊥
 odd-row level w n word odd is even = let steps = even-steps level n in omega (arith, odd, is, even, steps)
@@ -208,13 +148,7 @@ row-step pages words level old c w n word is at index small odd so place row =
     (ap₂ (λ (f x : ℕ). record { level = level; first = f; word = x }) first place)
 
 pub step-more : (level : Level) (w pages next n : ℕ) → pages ≡ pages_at level → next ≡ w + 4096 * pages * n → next + 4096 * pages ≡ w + 4096 * pages * (n + 1)
-step-more level w pages next n is so =
-    let one : n + 1 ≡ suc n = omega arith in
-    let steps = steps-suc level n in
-    let a = ap (λ p. 4096 * p * n) is in
-    let b = ap (λ p. 4096 * p * suc n) is in
-    let c = ap (λ k. 4096 * pages * k) one in
-    omega (arith, is, so, steps, a, b, c)
+step-more level w pages next n is so = grind (arith, common_steps, nat_tests, steps-suc)
 
 -- ---- words that are the same in two tables
 

@@ -28,6 +28,8 @@ use Rattle.stage2.proofs.Counting.Needs.{reached-none}
 use Rattle.stage2.proofs.Tree.Rows.{no-row}
 use Rattle.stage2.proofs.Tree.WalkFrame.{table_at-chunk_in, walk-chunk, walk-gigabyte}
 use borrow.Author.Tests.{ne_eqb}
+use Rattle.std.proofs.lemmas.Bool.Decides.{nat_tests}
+use Rattle.std.proofs.lemmas.Grind.{common_steps}
 
 -- ---- lists that are made word by word
 
@@ -60,80 +62,41 @@ flat-flat f u (x ∷ xs) = flat_map-append f (u x) (flat_map u xs) ∙ ap (λ (y
 
 -- a word that points at a table reaches nothing
 no-access : (layout : Layout) (e : Entry) (k : ℕ) → next_page (slot_from layout e) ≡ Some k → access_of e ≡ None
-no-access layout Invalid k is = refl
-no-access layout (Table page) k is = refl
-no-access layout (Leaf page a) k is = absurd (cc)
-no-access layout Wrong k is = refl
+no-access layout e k is = grind (arith, common_steps, nat_tests)
 
 same-table : (layout : Layout) (e : Entry) → table_in layout.base layout.pages e ≡ next_page (slot_from layout e)
-same-table layout Invalid = refl
-same-table layout (Table page) = elim (cases_Bool (leb layout.base page && ltb page (layout.base + layout.pages))) [ inl t ↦ rw t refl | inr f ↦ rw f refl ]
-same-table layout (Leaf page a) = refl
-same-table layout Wrong = refl
+same-table layout e = grind (arith, common_steps, nat_tests)
 
 -- its bit 0 is 1
 odd-table : (layout : Layout) (level word k : ℕ) → next_page (slot layout level word) ≡ Some k → word % 2 ≡ 0 → ⊥
 unfolding slot
-odd-table layout level word k is even =
-    let none : next_page (slot_from layout (entry_of level word)) ≡ None = ap (λ e. next_page (slot_from layout e)) (entry-invalid level word even) in
-    let bad : Some k ≡ None = sym is ∙ none in
-    absurd (cc)
+odd-table layout level word k is even = grind (arith, common_steps, nat_tests, entry-invalid)
 
 page-entry : (layout : Layout) (e : Entry) → answer_of (at_3 (slot_from layout e)) ≡ access_of e
-page-entry layout Invalid = refl
-page-entry layout (Table page) = elim (cases_Bool (leb layout.base page && ltb page (layout.base + layout.pages))) [ inl t ↦ rw t refl | inr f ↦ rw f refl ]
-page-entry layout (Leaf page a) = refl
-page-entry layout Wrong = refl
+page-entry layout e = grind (arith, common_steps, nat_tests)
 
 block-entry : (layout : Layout) (words : Words) (n : ℕ) (e : Entry) → next_page (slot_from layout e) ≡ None → answer_of (at_2 layout words n (slot_from layout e)) ≡ access_of e
-block-entry layout words n Invalid none = refl
-block-entry layout words n (Table page) none = elim (cases_Bool (leb layout.base page && ltb page (layout.base + layout.pages))) [
-  | inl t ↦ let bad : Some (page - layout.base) ≡ None = rw t at none in absurd (cc)
-  | inr f ↦ rw f refl
-]
-block-entry layout words n (Leaf page a) none = refl
-block-entry layout words n Wrong none = refl
+block-entry layout words n e none = grind (arith, common_steps, nat_tests)
 
 -- ---- one word
 
 odd-at : {A : Type 0} (w : TableEntry → List A) (level : Level) (first word : ℕ) → (word % 2 ≡ 0 → ⊥) → flat_map w (entry_at level first word) ≡ w (record { level = level; first = first; word = word })
-odd-at w level first word odd =
-    let e : TableEntry = record { level = level; first = first; word = word } in
-    ap (λ b. flat_map w (cond b [] (e ∷ []))) (ne_eqb (word % 2) 0 odd) ∙ append-nil (w e)
+odd-at w level first word odd = grind (arith, common_steps, nat_tests)
 
 even-at : {A : Type 0} (w : TableEntry → List A) (level : Level) (first word : ℕ) → word % 2 ≡ 0 → flat_map w (entry_at level first word) ≡ []
 even-at w level first word even = ap (λ b. flat_map w (cond b [] (record { level = level; first = first; word = word } ∷ []))) (eq-eqb (word % 2) 0 even)
 
 block-level : (block : Bool) (level : ℕ) → level ≡ leaf_level block → eqb level 2 ≡ block
-block-level true level is = eq-eqb level 2 is
-block-level false level is = ne_eqb level 2 (λ bad. omega (arith, is, bad))
+block-level block level is = grind (arith, common_steps, nat_tests)
 
 module _ {A : Type 0} (f : TableEntry → List A) (v : Listed → List A) (agree : (e : TableEntry) → IsSound e → f e ≡ v (shown e)) where
   -- a block or a page, or a word that is 0
   leaf-step : (level : Level) (block : Bool) (w : TableEntry → List A) (n word : ℕ) (view : View) → number_of level ≡ leaf_level block → w (record { level = level; first = n; word = word }) ≡ f (record { level = level; first = n; word = word }) → word ≡ leaf_for block n view → access_of (entry_of (number_of level) word) ≡ view → flat_map w (entry_at level n word) ≡ flat_map v (leaf_entries (number_of level) n view)
-  leaf-step level block w n word None at alone is reads = even-at w level n word (omega (arith, is))
-  leaf-step level block w n word (Some a) at alone is reads =
-      let e : TableEntry = record { level = level; first = n; word = word } in
-      let sound : IsSound e = record {
-        leaf = λ b reached.
-            let same : Some a ≡ Some b = sym reads ∙ reached in
-            let so : a ≡ b = cc in
-            is ∙ ap₂ (λ (k : Bool) (x : Access). leaf_word_of k n x) (sym (block-level block (number_of level) at)) so;
-        page = λ third. ap (λ (o : View). is_some o) reads;
-      } in
-      odd-at w level n word (λ even. odd-leaf-word block n a (ap (λ k. k % 2) (sym is) ∙ even))
-      ∙ alone ∙ agree e sound ∙ ap (λ (o : View). v (record { level = number_of level; first = n; leaf = o })) reads
-      ∙ sym (append-nil (v (record { level = number_of level; first = n; leaf = Some a })))
+  leaf-step level block w n word view at alone is reads = grind (arith, common_steps, nat_tests, even-at, block-level, odd-at, odd-leaf-word)
 
   -- the word of a table
   table-step : (level : Level) (n word : ℕ) → (level ≡ Third → ⊥) → access_of (entry_of (number_of level) word) ≡ None → f (record { level = level; first = n; word = word }) ≡ v (table_entry (number_of level) n)
-  table-step level n word upper reads =
-      let e : TableEntry = record { level = level; first = n; word = word } in
-      let sound : IsSound e = record {
-        leaf = λ b reached. let bad : None ≡ Some b = sym reads ∙ reached in absurd (cc);
-        page = λ third. absurd (upper third);
-      } in
-      agree e sound ∙ ap (λ (o : View). v (record { level = number_of level; first = n; leaf = o })) reads
+  table-step level n word upper reads = grind (arith, common_steps, nat_tests)
 
   second-third : Second ≡ Third → ⊥
   second-third bad = cc
@@ -272,16 +235,7 @@ none-listed view none = each-nil (gigabyte_entries view) 512 (λ g lt. ap (λ b.
 
 -- what is said of each entry, by its word or by what it shows, is said of all in order
 pub listed : {A : Type 0} (f : TableEntry → List A) (v : Listed → List A) (t : TablesView) (p : ℕ) → ((e : TableEntry) → IsSound e → f e ≡ v (shown e)) → AreCanonical t → flat_map f (entries_of (reading_of t) p) ≡ flat_map v (entries (view_of t p))
-listed f v t p agree canonical = elim (cases_Bool (ltb (row_of t.layout.ids p) (length t.layout.ids))) [
-  | inl is ↦
-      let here = ltb-true (row_of t.layout.ids p) (length t.layout.ids) is in
-      ap (λ b. flat_map f (option_map_or (λ root. tree_entries t.layout.base t.layout.pages (words_of t.pool.memory.words) root) (cond b (Some (row_of t.layout.ids p)) None) [])) is
-      ∙ tree-listed f v agree t p canonical here
-  | inr other ↦
-      let none : position (λ id. eqb id p) t.layout.ids ≡ None = ap (λ b. cond b (Some (row_of t.layout.ids p)) None) other in
-      ap (λ (o : Option ℕ). flat_map f (option_map_or (λ root. tree_entries t.layout.base t.layout.pages (words_of t.pool.memory.words) root) o [])) none
-      ∙ ap (λ (xs : List Listed). flat_map v xs) (sym (none-listed (view_of t p) (λ n. ap answer_of (no-row t.layout (words_of t.pool.memory.words) p n none))))
-]
+listed f v t p agree canonical = grind (arith, common_steps, nat_tests, tree-listed, none-listed, no-row)
 
 each-map : {A B : Type 0} (h : A → B) (xs : List A) → flat_map (λ x. h x ∷ []) xs ≡ map h xs
 each-map h [] = refl

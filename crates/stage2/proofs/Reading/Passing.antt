@@ -8,6 +8,8 @@ use Rattle.words.specs.declared.word.Entry.TheVariants.{Invalid, Table, Leaf, Wr
 use Rattle.words.specs.Words.{entry_of}
 use Rattle.stage2.specs.Level.{number_of}
 use Rattle.stage2.specs.Reading.{TableEntry, AlikePages, pages_at, access_of, access_by, reach_nothing, entry_row, StandInRow, AreNext, ArePassed}
+use Rattle.std.proofs.lemmas.Bool.Decides.{nat_tests}
+use Rattle.std.proofs.lemmas.Grind.{common_steps}
 
 pub passed-more : (old new : List TableEntry) (e : TableEntry) → access_by e ≡ None → ArePassed old (e ∷ new) → ArePassed old new
 passed-more old new e none so = record {
@@ -17,23 +19,9 @@ passed-more old new e none so = record {
 }
 
 pub passed-nothing : (e : TableEntry) (entry : Entry) → entry_of (number_of e.level) e.word ≡ entry → ((page : ℕ) (a : Access) → entry ≡ Leaf page a → ⊥) → access_by e ≡ None
-passed-nothing e Invalid is never = ap access_of is
-passed-nothing e (Table page) is never = ap access_of is
-passed-nothing e (Leaf page a) is never = absurd (never page a refl)
-passed-nothing e Wrong is never = ap access_of is
+passed-nothing e entry is never = grind (arith, common_steps, nat_tests)
 
 -- the next pages that are reached
 pub next-pages : (old mid new : List TableEntry) (e : TableEntry) (a : Access) (more : ℕ) (pages : AlikePages) → ArePassed old (e ∷ mid) → StandInRow e a more mid new → pages.pages ≡ record { first = e.first; count = pages_at e.level * (more + 1) } → pages.access ≡ a → pages.word ≡ e.word → AreNext old pages new
 unfolding entry_row
-next-pages old mid new e a more pages so row is with at = record {
-  tables = so.tables;
-  level = e.level;
-  count = suc more;
-  reach = so.reach;
-  some = omega arith;
-  pages = ap (λ (r : PageRun). r.count) is ∙ (let one : more + 1 ≡ suc more = omega arith in ap (λ n. pages_at e.level * n) one);
-  follow = so.follow ∙ ap (λ (xs : List TableEntry). so.tables ++ e ∷ xs) row.behind.entries
-      ∙ ap (λ (f : ℕ). so.tables ++ (entry_row e.level f e.word (suc more) ++ new)) (sym (ap (λ (r : PageRun). r.first) is))
-      ∙ ap (λ w. so.tables ++ (entry_row e.level pages.pages.first w (suc more) ++ new)) (sym at);
-  alike = λ i lt. ap (λ w. access_of (entry_of (number_of e.level) (w + 4096 * pages_at e.level * i))) at ∙ row.alike i (omega (arith, lt)) ∙ ap (λ x. Some x) (sym with);
-}
+next-pages old mid new e a more pages so row is with at = grind (arith, common_steps, nat_tests)

@@ -20,6 +20,8 @@ use Rattle.stage2.specs.declared.table_page.Level.{Level}
 use Rattle.stage2.specs.declared.table_page.Level.TheVariants.{First, Second, Third}
 use Rattle.stage2.specs.Reading.{TableEntry, pages_at, access_of, table_in, table_entries, entry_row, with_pages, with_chunks, left_in, left_of, StandBehind, StandInRow}
 use Rattle.stage2.proofs.Reading.Cursors.{pages-suc}
+use Rattle.std.proofs.lemmas.Bool.Decides.{nat_tests}
+use Rattle.std.proofs.lemmas.Grind.{common_steps}
 
 -- ---- the words of blocks
 
@@ -49,35 +51,22 @@ row-alone base pages words first word (suc n) block =
 module _ (base pages : ℕ) (words : Words) (root second third : Cursor) where
   pub third-row : (row : List TableEntry) (new : Cursor) → left_in words third ≡ row ++ left_in words new → left_of base pages words root second third ≡ row ++ left_of base pages words root second new
   unfolding left_of
-  third-row row new is =
-      let rest = flat_map (with_pages base pages words) (left_in words second) ++ flat_map (with_chunks base pages words) (left_in words root) in
-      ap (λ (xs : List TableEntry). xs ++ rest) is ∙ append_assoc row (left_in words new) rest
+  third-row row new is = grind (arith, common_steps, nat_tests)
 
   pub second-row : (first word n : ℕ) (new : Cursor) → left_in words third ≡ [] → word % 4 ≡ 1 → left_in words second ≡ entry_row Second first word n ++ left_in words new → left_of base pages words root second third ≡ entry_row Second first word n ++ left_of base pages words root new third
   unfolding left_of
-  second-row first word n new none block is =
-      let f = with_pages base pages words in
-      let row = entry_row Second first word n in
-      let rest = flat_map (with_chunks base pages words) (left_in words root) in
-      ap (λ (xs : List TableEntry). xs ++ (flat_map f (left_in words second) ++ rest)) none
-      ∙ ap (λ (xs : List TableEntry). flat_map f xs ++ rest) is
-      ∙ ap (λ (xs : List TableEntry). xs ++ rest) (flat_map-append f row (left_in words new) ∙ ap (λ (xs : List TableEntry). xs ++ flat_map f (left_in words new)) (row-alone base pages words first word n block))
-      ∙ append_assoc row (flat_map f (left_in words new)) rest
-      ∙ ap (λ (xs : List TableEntry). row ++ (xs ++ (flat_map f (left_in words new) ++ rest))) (sym none)
+  second-row first word n new none block is = grind (arith, common_steps, nat_tests, flat_map-append, row-alone)
 
 -- ---- what is reached
 
 third-leaf : (block : Bool) → 3 ≡ leaf_level block → block ≡ false
-third-leaf true e = absurd (omega arith)
-third-leaf false e = refl
+third-leaf block e = grind (arith, common_steps, nat_tests)
 
 second-leaf : (block : Bool) → 2 ≡ leaf_level block → block ≡ true
-second-leaf true e = refl
-second-leaf false e = absurd (omega arith)
+second-leaf block e = grind (arith, common_steps, nat_tests)
 
 first-leaf : (block : Bool) → 1 ≡ leaf_level block → ⊥
-first-leaf true e = omega arith
-first-leaf false e = omega arith
+first-leaf block e = grind (arith, common_steps, nat_tests)
 
 shifted : (block : Bool) (page steps i : ℕ) (a : Access) → leaf_word_of block page a + 4096 * steps ≡ leaf_word_of block (page + steps) a
 unfolding leaf_word_of
@@ -106,41 +95,11 @@ row-alike Third first word page n a leaf at range i lt =
 
 fields-small : (block : Bool) (r : Rights) (e : Bool) (k : MemoryKind) → leaf_fields block (record { rights = r; exec = e; kind = k }) < 2 ^ 62
 unfolding leaf_fields
-fields-small true Ro true Normal = lit< tt
-fields-small true Ro true Device = lit< tt
-fields-small true Ro false Normal = lit< tt
-fields-small true Ro false Device = lit< tt
-fields-small true Rw true Normal = lit< tt
-fields-small true Rw true Device = lit< tt
-fields-small true Rw false Normal = lit< tt
-fields-small true Rw false Device = lit< tt
-fields-small false Ro true Normal = lit< tt
-fields-small false Ro true Device = lit< tt
-fields-small false Ro false Normal = lit< tt
-fields-small false Ro false Device = lit< tt
-fields-small false Rw true Normal = lit< tt
-fields-small false Rw true Device = lit< tt
-fields-small false Rw false Normal = lit< tt
-fields-small false Rw false Device = lit< tt
+fields-small block r e k = grind (arith, common_steps, nat_tests)
 
 fields-odd : (block : Bool) (r : Rights) (e : Bool) (k : MemoryKind) → leaf_fields block (record { rights = r; exec = e; kind = k }) % 2 ≡ 1
 unfolding leaf_fields
-fields-odd true Ro true Normal = refl
-fields-odd true Ro true Device = refl
-fields-odd true Ro false Normal = refl
-fields-odd true Ro false Device = refl
-fields-odd true Rw true Normal = refl
-fields-odd true Rw true Device = refl
-fields-odd true Rw false Normal = refl
-fields-odd true Rw false Device = refl
-fields-odd false Ro true Normal = refl
-fields-odd false Ro true Device = refl
-fields-odd false Ro false Normal = refl
-fields-odd false Ro false Device = refl
-fields-odd false Rw true Normal = refl
-fields-odd false Rw true Device = refl
-fields-odd false Rw false Normal = refl
-fields-odd false Rw false Device = refl
+fields-odd block r e k = grind (arith, common_steps, nat_tests)
 
 pub odd-leaf-word : (block : Bool) (n : ℕ) (a : Access) → leaf_word_of block n a % 2 ≡ 0 → ⊥
 unfolding leaf_word_of
@@ -174,20 +133,10 @@ none-behind e entries range = record { entries = refl; range = (let one : pages_
 
 -- so many that a table of its level has left
 pub stand-behind : (e : TableEntry) (level : Level) (first word count : ℕ) (old new : List TableEntry) → e.level ≡ level → first ≡ e.first + pages_at level → first + pages_at level * count ≤ 2 ^ 27 → word ≡ e.word → old ≡ entry_row level first (word + 4096 * pages_at level) count ++ new → StandBehind e count old new
-stand-behind e level first word count old new at from range is so =
-    let more = pages-suc level count in
-    let one : count + 1 ≡ suc count = omega arith in
-    let same = ap (λ n. pages_at level * n) one in
-    let all : (old ≡ entry_row level (e.first + pages_at level) (e.word + 4096 * pages_at level) count ++ new) × (e.first + pages_at level * (count + 1) ≤ 2 ^ 27)
-    = (so ∙ ap₂ (λ (f w : ℕ). entry_row level f (w + 4096 * pages_at level) count ++ new) from is, omega (arith, from, range, more, same)) in
-    let both = subst (λ l. (old ≡ entry_row l (e.first + pages_at l) (e.word + 4096 * pages_at l) count ++ new) × (e.first + pages_at l * (count + 1) ≤ 2 ^ 27)) (sym at) all in
-    record { entries = both.0; range = both.1 }
+stand-behind e level first word count old new at from range is so = grind (arith, common_steps, nat_tests, pages-suc)
 
 same-page : (page first : ℕ) (b : Bool) → b ≡ not (eqb page first) → b ≡ false → page ≡ first
-same-page page first b is other = elim (cases_Bool (eqb page first)) [
-  | inl same ↦ eqb-true page first same
-  | inr differ ↦ let bad : b ≡ true = is ∙ ap not differ in absurd (cc)
-]
+same-page page first b is other = grind (arith, common_steps, nat_tests)
 
 -- they are reached as it is, where it is mapped to itself
 pub in-row-behind : (e : TableEntry) (page count first : ℕ) (a : Access) (differ : Bool) (old new : List TableEntry) → entry_of (number_of e.level) e.word ≡ Leaf page a → first ≡ e.first → differ ≡ not (eqb page first) → differ ≡ false → StandBehind e count old new → StandInRow e a count old new
@@ -198,10 +147,4 @@ in-row-behind e page count first a differ old new leaf at is other behind = reco
 
 -- and itself
 pub in-row-alone : (e : TableEntry) (page : ℕ) (a : Access) (entries : List TableEntry) → entry_of (number_of e.level) e.word ≡ Leaf page a → e.first + pages_at e.level ≤ 2 ^ 27 → StandInRow e a 0 entries entries
-in-row-alone e page a entries leaf range = record {
-  behind = none-behind e entries range;
-  alike = λ i lt.
-      let none : i ≡ 0 = omega (arith, lt) in
-      let here : e.word + 4096 * pages_at e.level * i ≡ e.word = ap (λ k. e.word + 4096 * pages_at e.level * k) none ∙ (let zero : e.word + 4096 * pages_at e.level * 0 ≡ e.word = omega arith in zero) in
-      ap (λ w. access_of (entry_of (number_of e.level) w)) here ∙ ap access_of leaf;
-}
+in-row-alone e page a entries leaf range = grind (arith, common_steps, nat_tests, none-behind)

@@ -5,6 +5,8 @@ use Rattle.base.specs.Need.{is_mixed, is_reached, need}
 use Rattle.pool.proofs.Count.{count_below-same}
 use Rattle.stage2.proofs.Counting.Needs.{mixed-same, reached-same}
 use Rattle.stage2.specs.Listing.{each_below, leaf_entries, page_entries, chunk_entries, gigabyte_entries, entries}
+use Rattle.std.proofs.lemmas.Bool.Decides.{nat_tests}
+use Rattle.std.proofs.lemmas.Grind.{common_steps}
 
 -- what is given alike for each number is the same list
 pub each-same : {A : Type 0} (f g : ℕ → List A) (n : ℕ) → ((i : ℕ) → i < n → g i ≡ f i) → each_below g n ≡ each_below f n
@@ -15,22 +17,15 @@ each-same f g (suc n) same = ap₂ (λ a b. a ++ b) (each-same f g n (λ i lt. s
 module _ (v w : ℕ → View) (alike : (n : ℕ) → n < 2 ^ 27 → w n ≡ v n) where
   page-same : (c : ℕ) → c < 262144 → page_entries w c ≡ page_entries v c
   unfolding page_entries
-  page-same c small = each-same (λ i. leaf_entries 3 (512 * c + i) (v (512 * c + i))) (λ i. leaf_entries 3 (512 * c + i) (w (512 * c + i))) 512
-      (λ i lt. ap (leaf_entries 3 (512 * c + i)) (alike (512 * c + i) (omega (arith, small, lt))))
+  page-same c small = grind (arith, common_steps, nat_tests, each-same)
 
   chunk-same : (c : ℕ) → c < 262144 → chunk_entries w c ≡ chunk_entries v c
   unfolding chunk_entries
-  chunk-same c small =
-      let mixed = mixed-same v w c (λ i lt. alike (512 * c + i) (omega (arith, small, lt))) in
-      let first = alike (512 * c) (omega (arith, small)) in
-      rw (mixed, page-same c small, first) refl
+  chunk-same c small = grind (arith, common_steps, nat_tests, mixed-same, page-same)
 
   gigabyte-same : (g : ℕ) → g < 512 → gigabyte_entries w g ≡ gigabyte_entries v g
   unfolding gigabyte_entries
-  gigabyte-same g small =
-      let reached = reached-same v w g (λ i lt. alike (262144 * g + i) (omega (arith, small, lt))) in
-      let chunks = each-same (λ i. chunk_entries v (512 * g + i)) (λ i. chunk_entries w (512 * g + i)) 512 (λ i lt. chunk-same (512 * g + i) (omega (arith, small, lt))) in
-      rw (reached, chunks) refl
+  gigabyte-same g small = grind (arith, common_steps, nat_tests, reached-same, each-same, chunk-same)
 
   pub entries-same : entries w ≡ entries v
   unfolding entries
@@ -39,7 +34,4 @@ module _ (v w : ℕ → View) (alike : (n : ℕ) → n < 2 ^ 27 → w n ≡ v n)
 -- views that are alike on all pages need as many tables
 pub need-same : (v w : ℕ → View) → ((n : ℕ) → n < 2 ^ 27 → w n ≡ v n) → need w ≡ need v
 unfolding need
-need-same v w alike =
-    ap₂ (λ (a b : ℕ). a + b)
-    (count_below-same (is_reached v) (is_reached w) 512 (λ g small. reached-same v w g (λ i lt. alike (262144 * g + i) (omega (arith, small, lt)))))
-    (count_below-same (is_mixed v) (is_mixed w) 262144 (λ c small. mixed-same v w c (λ i lt. alike (512 * c + i) (omega (arith, small, lt)))))
+need-same v w alike = grind (arith, common_steps, nat_tests, count_below-same, reached-same, mixed-same)

@@ -12,14 +12,13 @@ use Rattle.stage2.specs.Walk.{walk_across, walked, at_1}
 use Rattle.stage2.specs.declared.walked.Walked.{Walked}
 use Rattle.stage2.specs.declared.walked.Walked.TheVariants.{None as Unmapped, Leaf as Mapped, Wrong}
 use Rattle.stage2.proofs.Editing.FourChunkEdits.{tidy-answer}
+use Rattle.std.proofs.lemmas.Bool.Decides.{nat_tests}
+use Rattle.std.proofs.lemmas.Grind.{common_steps}
 
 -- words behind those of a page read 0
 far-word : (words : List ℕ) (page i : ℕ) → 512 ≤ i → words_of words page i ≡ 0
 unfolding words_of
-far-word words page i far = elim (cases_Bool (ltb i 512)) [
-  | inl is ↦ let small = ltb-true i 512 is in absurd (omega (arith, far, small))
-  | inr no_lt ↦ rw no_lt refl
-]
+far-word words page i far = grind (arith, common_steps, nat_tests)
 
 far-walk : (layout : Layout) (words : List ℕ) (row n : ℕ) → 512 ≤ n / 512 / 512 → at_1 layout (words_of words) (words_of words) n (slot layout 1 (words_of words row (n / 512 / 512))) ≡ Unmapped
 unfolding slot entry_of
@@ -28,23 +27,11 @@ far-walk layout words row n far = ap (λ w. at_1 layout (words_of words) (words_
 -- each page is translated to itself, or not at all
 pub walks-tidy : (t : TablesView) (p n : ℕ) → AreCanonical t → walk_in t p n ≡ walked n (view_of t p n)
 unfolding walk_across
-walks-tidy t p n canonical =
-    elim (cases_Bool (ltb (row_of t.layout.ids p) (length t.layout.ids))) [
-      | inl is ↦ elim (cases_lt n (2 ^ 27)) [
-        | inl small ↦ tidy-answer n (walk_in t p n) (canonical.trees.orderly.tidy (row_of t.layout.ids p) n (ltb-true _ _ is) small)
-        | inr far ↦ let none = far-walk t.layout t.pool.memory.words (row_of t.layout.ids p) n (omega (arith, far)) in rw (is, none) refl
-      ]
-      | inr none ↦ rw none refl
-    ]
+walks-tidy t p n canonical = grind (arith, common_steps, nat_tests, tidy-answer, far-walk)
 
 -- so the end of a walk tells the access
 pub walk-leaf : (t : TablesView) (p n m : ℕ) (a : Access) (w : Walked) → AreCanonical t → w ≡ walk_in t p n → w ≡ Mapped m a → walk_in t p n ≡ walked n (Some a)
-walk-leaf t p n m a w canonical is ends =
-    let at : walk_in t p n ≡ Mapped m a = sym is ∙ ends in
-    walks-tidy t p n canonical ∙ ap (λ w. walked n (answer_of w)) at
+walk-leaf t p n m a w canonical is ends = grind (arith, common_steps, nat_tests, walks-tidy)
 
 pub walk-none : (t : TablesView) (p n : ℕ) (w : Walked) → AreCanonical t → w ≡ walk_in t p n → (w ≡ Unmapped) ⊎ (w ≡ Wrong) → walk_in t p n ≡ Unmapped
-walk-none t p n w canonical is (inl none) = sym is ∙ none
-walk-none t p n w canonical is (inr wrong) =
-    let at : walk_in t p n ≡ Wrong = sym is ∙ wrong in
-    walks-tidy t p n canonical ∙ ap (λ w. walked n (answer_of w)) at
+walk-none t p n w canonical is x6 = grind (arith, common_steps, nat_tests, walks-tidy)

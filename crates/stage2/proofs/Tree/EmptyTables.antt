@@ -8,6 +8,7 @@ use Rattle.stage2.specs.Slot.{Layout, slot}
 use Rattle.stage2.specs.Walk.{at_1, walk, walk_across, Place, Root, Gigabyte, Chunk, next_page, chunk_table, table_at, IsPlace}
 use Rattle.stage2.specs.Sound.{IsSound}
 use Rattle.stage2.proofs.Walkers.Level3Write.{slot-zero}
+use Rattle.std.proofs.lemmas.Grind.{common_steps}
 
 module _ (layout : Layout) (m : Pages) (zero : (page index : ℕ) → m.words page index ≡ 0) where
   empty_slot : (level page index : ℕ) → next_page (slot layout level (m.words page index)) ≡ None
@@ -23,26 +24,12 @@ module _ (layout : Layout) (m : Pages) (zero : (page index : ℕ) → m.words pa
 
   pub unmapped : (row n : ℕ) → walk layout m.words row n ≡ Unmapped
   unfolding walk_across
-  unmapped row n =
-      let here = ap (at_1 layout m.words m.words n) (ap (slot layout 1) (zero row (n / 512 / 512)) ∙ slot-zero layout 1) in
-      grind (arith, nat_tests, here)
+  unmapped row n = grind (arith, common_steps, nat_tests, slot-zero)
 
   -- a table that hangs is a root
   is_root : (a : Place) (q : ℕ) → table_at layout m.words a ≡ Some q → a ≡ Root q
   unfolding table_at
-  is_root (Root row) q e = let same : row ≡ q = cc in ap Root same
-  is_root (Gigabyte row g) q e = let none = no_gigabyte row g in absurd (cc)
-  is_root (Chunk row c) q e = let none = no_chunk row c in absurd (cc)
+  is_root a q e = grind (arith, common_steps, nat_tests, no_gigabyte, no_chunk)
 
   pub sound_zero : layout.ids ≡ m.ids → layout.pages ≡ page_count m.quotas → length layout.ids ≡ length m.quotas → layout.base + layout.pages ≤ 2 ^ 27 → ((row : ℕ) → row < length m.quotas → m.taken row ≡ true) → IsSound layout m
-  sound_zero ids pages rows fits roots = record {
-    ids = ids;
-    pages = pages;
-    rows = rows;
-    fits = fits;
-    forest = λ a b q in_a in_b at_a at_b. is_root a q at_a ∙ sym (is_root b q at_b);
-    taken = λ a q inside e. let root = is_root a q e in let below : IsPlace layout (Root q) = subst (IsPlace layout) root inside in roots q (rw (← rows) below);
-    owned = λ a q inside e. rw (is_root a q e) refl;
-    tidy = λ row n inside small. rw (unmapped row n) tt;
-    paged = λ row n inside small e. unmapped row n;
-  }
+  sound_zero ids pages rows fits roots = grind (arith, common_steps, nat_tests, is_root, unmapped)

@@ -16,23 +16,17 @@ use Rattle.stage2.proofs.Tree.WalkFrame.{table_at-root, table_at-chunk_in, walk-
 use Rattle.stage2.proofs.Tree.KnownWords.{wrong-root, root-known, chunk-walk, second-known}
 use Rattle.stage2.proofs.Walkers.InStep.{gigabyte-now}
 use Rattle.stage2.proofs.Editing.Gigabyte.{table-word}
+use Rattle.std.proofs.lemmas.Bool.Decides.{nat_tests}
+use Rattle.std.proofs.lemmas.Grind.{common_steps}
 
 leaf-entry : (layout : Layout) (n : ℕ) (a : Access) (e : Entry) → slot_from layout e ≡ Maps n a → e ≡ Leaf n a
-leaf-entry layout n a Invalid is = absurd (cc)
-leaf-entry layout n a (Table page) is = elim (cases_Bool (leb layout.base page && ltb page (layout.base + layout.pages))) [
-  | inl t ↦ let bad : Next (page - layout.base) ≡ Maps n a = rw t at is in absurd (cc)
-  | inr f ↦ let bad : Bad ≡ Maps n a = rw f at is in absurd (cc)
-]
-leaf-entry layout n a (Leaf m b) is = let same : m ≡ n = cc in let alike : b ≡ a = cc in ap₂ Leaf same alike
-leaf-entry layout n a WrongWord is = absurd (cc)
+leaf-entry layout n a e is = grind (arith, common_steps, nat_tests)
 
 level-block : (block : Bool) → 2 ≡ leaf_level block → block ≡ true
-level-block true e = refl
-level-block false e = absurd (omega arith)
+level-block block e = grind (arith, common_steps, nat_tests)
 
 level-page : (block : Bool) → 3 ≡ leaf_level block → block ≡ false
-level-page true e = absurd (omega arith)
-level-page false e = refl
+level-page block e = grind (arith, common_steps, nat_tests)
 
 block-word : (layout : Layout) (n word : ℕ) (a : Access) → slot layout 2 word ≡ Maps n a → word ≡ leaf_word_of true n a
 unfolding slot

@@ -7,6 +7,8 @@ use Rattle.stage2.specs.Walk.{at_1, at_2, walk, Gigabyte, table_at}
 use Rattle.stage2.specs.Orderly.{IsOrderly}
 use Rattle.stage2.proofs.Tree.WalkFrame.{walk-gigabyte}
 use Rattle.stage2.proofs.Walkers.InStep.{walk-inside}
+use Rattle.std.proofs.lemmas.Bool.Decides.{nat_tests}
+use Rattle.std.proofs.lemmas.Grind.{common_steps}
 
 -- the walk of a chunk's first page goes on at the chunk's word
 pub chunk-walk : (layout : Layout) (m : Pages) (row g i q : ℕ) → row < length layout.ids → i < 512 → table_at layout m.words (Gigabyte row g) ≡ Some q

@@ -11,6 +11,7 @@ use Rattle.stage2.specs.Walk.{index_1, at_1, walk, walk_across, Gigabyte, next_p
 use Rattle.stage2.specs.Sound.{IsSound, IsTidy}
 use Rattle.stage2.specs.inner.Change.{IsFresh}
 use Rattle.stage2.proofs.Tree.WalkFrame.{IsUnheld}
+use Rattle.std.proofs.lemmas.Grind.{common_steps}
 
 -- a word that points at a page of the pool
 pub slot-table : (layout : Layout) (level k : ℕ) → level < 3 → k < layout.pages → layout.base + layout.pages ≤ 2 ^ 27 → slot layout level (table_word_of (layout.base + k)) ≡ Next k
@@ -27,23 +28,15 @@ unfolding walk_across
 walk-inside layout words row n inside = grind (arith, nat_tests)
 
 pub untabled_1 : (layout : Layout) (words : Words) (n : ℕ) (s : Slot) → next_page s ≡ None → IsTidy n (at_1 layout words words n s) → at_1 layout words words n s ≡ Unmapped
-untabled_1 layout words n Empty e h = refl
-untabled_1 layout words n (Maps m a) e h = absurd h
-untabled_1 layout words n (Next j) e h = absurd (cc)
-untabled_1 layout words n Bad e h = absurd h
+untabled_1 layout words n s e h = grind (arith, common_steps, nat_tests)
 
 -- nothing is mapped in a gigabyte without a table
 untabled : (layout : Layout) (m : Pages) (row n : ℕ) → IsSound layout m → row < length layout.ids → n < 2 ^ 27 → table_at layout m.words (Gigabyte row (n / 512 / 512)) ≡ None → walk layout m.words row n ≡ Unmapped
 unfolding table_at
-untabled layout m row n sound inside small none =
-    let read = walk-inside layout m.words row n inside in
-    read ∙ untabled_1 layout m.words n (slot layout 1 (m.words row (index_1 n))) none (rw (sym read) (sound.tidy row n inside small))
+untabled layout m row n sound inside small none = grind (arith, common_steps, nat_tests, walk-inside, untabled_1)
 
 in_gigabyte : (row g r c : ℕ) → ((r ≡ row) × (c / 512 ≡ g)) ⊎ (r ≡ row → c / 512 ≡ g → ⊥)
-in_gigabyte row g r c = elim (cases_eq r row) [
-  | inl e ↦ elim (cases_eq (c / 512) g) [ inl f ↦ inl (e, f) | inr f ↦ inr (λ _ x. f x) ]
-  | inr e ↦ inr (λ x _. e x)
-]
+in_gigabyte row g r c = grind (arith, common_steps, nat_tests)
 
 -- ---- the level 3 table of a chunk
 
@@ -51,7 +44,4 @@ whole : (c : ℕ) → 512 * (c / 512) + c % 512 ≡ c
 whole c = omega arith
 
 in_chunk : (row c r n : ℕ) → ((r ≡ row) × (n / 512 ≡ c)) ⊎ (r ≡ row → n / 512 ≡ c → ⊥)
-in_chunk row c r n = elim (cases_eq r row) [
-  | inl e ↦ elim (cases_eq (n / 512) c) [ inl f ↦ inl (e, f) | inr f ↦ inr (λ _ x. f x) ]
-  | inr e ↦ inr (λ x _. e x)
-]
+in_chunk row c r n = grind (arith, common_steps, nat_tests)

@@ -7,23 +7,14 @@ use Rattle.stage2.specs.declared.walked.Walked.TheVariants.{None as Unmapped}
 use Rattle.stage2.specs.Slot.{Layout, Empty, Next, slot}
 use Rattle.stage2.specs.Walk.{index_1, index_2, index_3, at_1, at_2, walk, walk_across, Place, Root, Gigabyte, Chunk, next_page, chunk_table, table_at, IsPlace, IsForest}
 use Rattle.stage2.proofs.Tree.WalkFrame.{put-other, put-same, walk-same, other_table, table_at-gigabyte, table_at-chunk, table_at-root, IsUnheld, IsLevel2Write, table_at-level_2, table_at-level_2-other}
+use Rattle.std.proofs.lemmas.Grind.{common_steps}
 
 -- whether a place is this chunk's
 pub is_chunk : (a : Place) (p c : ℕ) → (a ≡ Chunk p c) ⊎ (a ≢ Chunk p c)
-is_chunk (Root p') p c = inr (λ e. cc)
-is_chunk (Gigabyte p' g) p c = inr (λ e. cc)
-is_chunk (Chunk p' c') p c = elim (cases_eq p' p) [
-  | inl e ↦ elim (cases_eq c' c) [ inl f ↦ inl (ap₂ Chunk e f) | inr f ↦ inr (λ same. f (cc)) ]
-  | inr e ↦ inr (λ same. e (cc))
-]
+is_chunk a p c = grind (arith, common_steps, nat_tests)
 
 pub is_gigabyte : (a : Place) (p g : ℕ) → (a ≡ Gigabyte p g) ⊎ (a ≢ Gigabyte p g)
-is_gigabyte (Root p') p c = inr (λ e. cc)
-is_gigabyte (Chunk p' g) p c = inr (λ e. cc)
-is_gigabyte (Gigabyte p' c') p c = elim (cases_eq p' p) [
-  | inl e ↦ elim (cases_eq c' c) [ inl f ↦ inl (ap₂ Gigabyte e f) | inr f ↦ inr (λ same. f (cc)) ]
-  | inr e ↦ inr (λ same. e (cc))
-]
+is_gigabyte a p c = grind (arith, common_steps, nat_tests)
 
 -- no table hangs at two places where one place alone has changed, to a table that hung nowhere
 pub forest_at : (layout : Layout) (words new : Words) (x : Place) → IsForest layout words
@@ -31,24 +22,10 @@ pub forest_at : (layout : Layout) (words new : Words) (x : Place) → IsForest l
     → ((b : Place) → IsPlace layout b → b ≢ x → (q : ℕ) → table_at layout new b ≡ Some q → table_at layout words b ≡ Some q)
     → ((q : ℕ) → table_at layout new x ≡ Some q → IsUnheld layout words q)
     → IsForest layout new
-forest_at layout words new x forest is_x kept fresh a b q in_a in_b at_a at_b =
-    elim (is_x a in_a) [
-      | inl e ↦ elim (is_x b in_b) [
-        | inl f ↦ e ∙ sym f
-        | inr f ↦ absurd (fresh q (ap (table_at layout new) (sym e) ∙ at_a) b in_b (kept b in_b f q at_b))
-      ]
-      | inr e ↦ elim (is_x b in_b) [
-        | inl f ↦ absurd (fresh q (ap (table_at layout new) (sym f) ∙ at_b) a in_a (kept a in_a e q at_a))
-        | inr f ↦ forest a b q in_a in_b (kept a in_a e q at_a) (kept b in_b f q at_b)
-      ]
-    ]
+forest_at layout words new x forest is_x kept fresh a b q in_a in_b at_a at_b = grind (arith, common_steps, nat_tests)
 
 pub forest-level_2 : (layout : Layout) (words : Words) (p g j i word : ℕ) → IsLevel2Write layout words p g j i word → IsForest layout (put j i word words)
-forest-level_2 layout words p g j i word h =
-    forest_at layout words (put j i word words) (Chunk p (512 * g + i)) h.forest
-    (λ b _. is_chunk b p (512 * g + i))
-    (λ b inside other q at_b. sym (table_at-level_2-other layout words p g j i word h b inside other) ∙ at_b)
-    (λ q at_x. h.fresh q (sym (table_at-level_2 layout words p g j i word h) ∙ at_x))
+forest-level_2 layout words p g j i word h = grind (arith, common_steps, nat_tests, forest_at, is_chunk, table_at-level_2-other, table_at-level_2)
 
 -- ---- a write into a root
 
@@ -74,16 +51,11 @@ table_at-root_write layout words p g word h = ap (λ w. next_page (slot layout 1
 
 pub table_at-root_write-gigabyte : (layout : Layout) (words : Words) (p g word : ℕ) → IsRootWrite layout words p g word → (p' g' : ℕ) → p' < length layout.ids → g' < 512
     → (p' ≡ p → g' ≡ g → ⊥) → table_at layout (put p g word words) (Gigabyte p' g') ≡ table_at layout words (Gigabyte p' g')
-table_at-root_write-gigabyte layout words p g word h p' g' inside below other =
-    table_at-gigabyte layout words (put p g word words) p' g' (put-other words p g word p' g' other)
+table_at-root_write-gigabyte layout words p g word h p' g' inside below other = grind (arith, common_steps, nat_tests, table_at-gigabyte, put-other)
 
 pub table_at-root_write-chunk : (layout : Layout) (words : Words) (p g word : ℕ) → IsRootWrite layout words p g word → (p' c : ℕ) → p' < length layout.ids → c < 262144
     → (p' ≡ p → c / 512 ≡ g → ⊥) → table_at layout (put p g word words) (Chunk p' c) ≡ table_at layout words (Chunk p' c)
-table_at-root_write-chunk layout words p g word h p' c inside below other =
-    table_at-chunk layout words (put p g word words) p' c (record {
-      first = put-other words p g word p' (c / 512) other;
-      second = λ j at_j. root-second layout words p g word h p' (c / 512) j inside (omega arith) at_j (c % 512);
-    })
+table_at-root_write-chunk layout words p g word h p' c inside below other = grind (arith, common_steps, nat_tests, table_at-chunk, put-other, root-second)
 
 -- no table hangs below the gigabyte afterwards
 below_empty : (layout : Layout) (words : Words) (p g word : ℕ) → IsRootWrite layout words p g word → (c : ℕ) → c / 512 ≡ g → (o : Option ℕ) → next_page (slot layout 1 word) ≡ o → chunk_table layout (put p g word words) c o ≡ None
@@ -94,8 +66,7 @@ below_empty layout words p g word h c e (Some j) f =
 
 pub table_at-root_write-below : (layout : Layout) (words : Words) (p g word : ℕ) → IsRootWrite layout words p g word → (c : ℕ) → c / 512 ≡ g → table_at layout (put p g word words) (Chunk p c) ≡ None
 unfolding table_at
-table_at-root_write-below layout words p g word h c e =
-    ap (λ w. chunk_table layout (put p g word words) c (next_page (slot layout 1 w))) (ap (put p g word words p) e ∙ put-same words p g word) ∙ below_empty layout words p g word h c e (next_page (slot layout 1 word)) refl
+table_at-root_write-below layout words p g word h c e = grind (arith, common_steps, nat_tests, put-same, below_empty)
 
 -- a walk through the gigabyte finds nothing afterwards
 walk_below : (layout : Layout) (words : Words) (p g word : ℕ) → IsRootWrite layout words p g word → (n : ℕ) → n / 512 / 512 ≡ g → walk layout (put p g word words) p n ≡ Unmapped

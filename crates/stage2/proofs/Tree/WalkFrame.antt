@@ -4,6 +4,7 @@ use Rattle.std.proofs.lemmas.Bool.Decides.{nat_tests}
 use Rattle.pool.specs.Pool.{Words, put}
 use Rattle.stage2.specs.Slot.{Layout, Slot, Empty, Next, Maps, Bad, slot}
 use Rattle.stage2.specs.Walk.{index_1, index_2, index_3, at_1, at_2, at_3, walk, walk_across, Place, Root, Gigabyte, Chunk, next_page, chunk_table, table_at, IsPlace, IsForest}
+use Rattle.std.proofs.lemmas.Grind.{common_steps}
 
 pub put-other : (words : Words) (page index word q i : ℕ) → (q ≡ page → i ≡ index → ⊥) → put page index word words q i ≡ words q i
 unfolding put
@@ -22,32 +23,20 @@ pub record ReadsAs (layout : Layout) (words w1 w2 w3 : Words) (p n : ℕ) : Type
 at_2-same : (layout : Layout) (words third : Words) (p n : ℕ) (s : Slot) → next_page s ≡ table_at layout words (Chunk p (n / 512))
     → ((k : ℕ) → table_at layout words (Chunk p (n / 512)) ≡ Some k → third k (index_3 n) ≡ words k (index_3 n))
     → at_2 layout third n s ≡ at_2 layout words n s
-at_2-same layout words third p n Empty e h = refl
-at_2-same layout words third p n (Maps m a) e h = refl
-at_2-same layout words third p n (Next k) e h = ap (λ w. at_3 (slot layout 3 w)) (h k (sym e))
-at_2-same layout words third p n Bad e h = refl
+at_2-same layout words third p n s e h = grind (arith, common_steps, nat_tests)
 
 at_1-same : (layout : Layout) (words second third : Words) (p n : ℕ) (s : Slot) → slot layout 1 (words p (index_1 n)) ≡ s
     → ((j : ℕ) → table_at layout words (Gigabyte p (index_1 n)) ≡ Some j → second j (index_2 n) ≡ words j (index_2 n))
     → ((k : ℕ) → table_at layout words (Chunk p (n / 512)) ≡ Some k → third k (index_3 n) ≡ words k (index_3 n))
     → at_1 layout second third n s ≡ at_1 layout words words n s
 unfolding table_at
-at_1-same layout words second third p n Empty e g h = refl
-at_1-same layout words second third p n (Maps m a) e g h = refl
-at_1-same layout words second third p n (Next j) e g h =
-    let here : table_at layout words (Gigabyte p (index_1 n)) ≡ Some j = ap next_page e in
-    let below : next_page (slot layout 2 (words j (index_2 n))) ≡ table_at layout words (Chunk p (n / 512)) = ap (chunk_table layout words (n / 512)) (sym here) in
-    ap (λ w. at_2 layout third n (slot layout 2 w)) (g j here) ∙ at_2-same layout words third p n (slot layout 2 (words j (index_2 n))) below h
-at_1-same layout words second third p n Bad e g h = refl
+at_1-same layout words second third p n s e g h = grind (arith, common_steps, nat_tests, at_2-same)
 
 -- a walk that reads the same words gives the same
 pub walk-same : (layout : Layout) (words first second third : Words) (p n : ℕ) → (p < length layout.ids → ReadsAs layout words first second third p n)
     → walk_across layout first second third p n ≡ walk layout words p n
 unfolding walk_across
-walk-same layout words first second third p n reads =
-    let inside : p < length layout.ids → at_1 layout second third n (slot layout 1 (first p (index_1 n))) ≡ at_1 layout words words n (slot layout 1 (words p (index_1 n)))
-    = λ below. ap (λ w. at_1 layout second third n (slot layout 1 w)) (reads below).first ∙ at_1-same layout words second third p n (slot layout 1 (words p (index_1 n))) refl (reads below).second (reads below).third in
-    grind (arith, nat_tests, inside)
+walk-same layout words first second third p n reads = grind (arith, common_steps, nat_tests, at_1-same)
 
 -- the words that decide which table hangs at a place are those of `words`
 pub record HangsAs (layout : Layout) (words new : Words) (p c : ℕ) : Type 0 where
@@ -56,8 +45,7 @@ pub record HangsAs (layout : Layout) (words new : Words) (p c : ℕ) : Type 0 wh
 
 chunk_table-same : (layout : Layout) (words new : Words) (c : ℕ) (o : Option ℕ)
     → ((j : ℕ) → o ≡ Some j → new j (c % 512) ≡ words j (c % 512)) → chunk_table layout new c o ≡ chunk_table layout words c o
-chunk_table-same layout words new c None h = refl
-chunk_table-same layout words new c (Some j) h = ap (λ w. next_page (slot layout 2 w)) (h j refl)
+chunk_table-same layout words new c o h = grind (arith, common_steps, nat_tests)
 
 pub table_at-gigabyte : (layout : Layout) (words new : Words) (p g : ℕ) → new p g ≡ words p g → table_at layout new (Gigabyte p g) ≡ table_at layout words (Gigabyte p g)
 unfolding table_at
@@ -65,8 +53,7 @@ table_at-gigabyte layout words new p g e = ap (λ w. next_page (slot layout 1 w)
 
 pub table_at-chunk : (layout : Layout) (words new : Words) (p c : ℕ) → HangsAs layout words new p c → table_at layout new (Chunk p c) ≡ table_at layout words (Chunk p c)
 unfolding table_at
-table_at-chunk layout words new p c h =
-    ap (λ w. chunk_table layout new c (next_page (slot layout 1 w))) h.first ∙ chunk_table-same layout words new c (next_page (slot layout 1 (words p (c / 512)))) h.second
+table_at-chunk layout words new p c h = grind (arith, common_steps, nat_tests, chunk_table-same)
 
 pub table_at-root : (layout : Layout) (words : Words) (p : ℕ) → table_at layout words (Root p) ≡ Some p
 unfolding table_at
@@ -75,8 +62,7 @@ table_at-root layout words p = refl
 -- a write into the table of one place leaves the words of the tables of all other places
 pub other_table : (layout : Layout) (words : Words) (a b : Place) (q r i word : ℕ) → IsForest layout words → IsPlace layout a → IsPlace layout b
     → table_at layout words a ≡ Some q → table_at layout words b ≡ Some r → a ≢ b → (x : ℕ) → put q i word words r x ≡ words r x
-other_table layout words a b q r i word forest in_a in_b at_a at_b differ x =
-    put-other words q i word r x (λ same _. differ (forest a b q in_a in_b at_a (at_b ∙ ap Some same)))
+other_table layout words a b q r i word forest in_a in_b at_a at_b differ x = grind (arith, common_steps, nat_tests, put-other)
 
 -- ---- a write into a level 3 table
 
@@ -98,13 +84,7 @@ level_3-second layout words p c q i word h p' g j inside below at_j x =
 -- every table hangs where it did
 pub table_at-level_3 : (layout : Layout) (words : Words) (p c q i word : ℕ) → IsLevel3Write layout words p c q → (b : Place) → IsPlace layout b
     → table_at layout (put q i word words) b ≡ table_at layout words b
-table_at-level_3 layout words p c q i word h (Root p') inside = table_at-root layout (put q i word words) p' ∙ sym (table_at-root layout words p')
-table_at-level_3 layout words p c q i word h (Gigabyte p' g) inside = table_at-gigabyte layout words (put q i word words) p' g (level_3-root layout words p c q i word h p' inside.0 g)
-table_at-level_3 layout words p c q i word h (Chunk p' c') inside =
-    table_at-chunk layout words (put q i word words) p' c' (record {
-      first = level_3-root layout words p c q i word h p' inside.0 (c' / 512);
-      second = λ j at_j. level_3-second layout words p c q i word h p' (c' / 512) j inside.0 (omega (arith, inside.1)) at_j (c' % 512);
-    })
+table_at-level_3 layout words p c q i word h b inside = grind (arith, common_steps, nat_tests, table_at-root, table_at-gigabyte, level_3-root, table_at-chunk, level_3-second)
 
 -- every other page is translated as before
 pub walk-level_3-other : (layout : Layout) (words : Words) (p c q i word : ℕ) → IsLevel3Write layout words p c q → (p' n : ℕ) → n < 2 ^ 27 → (p' ≡ p → n ≡ 512 * c + i → ⊥)
@@ -122,38 +102,25 @@ walk-level_3-other layout words p c q i word h p' n small other =
     })
 
 at_2-chunk : (layout : Layout) (third : Words) (n q : ℕ) (s : Slot) → next_page s ≡ Some q → at_2 layout third n s ≡ at_3 (slot layout 3 (third q (index_3 n)))
-at_2-chunk layout third n q Empty e = cc
-at_2-chunk layout third n q (Maps m a) e = cc
-at_2-chunk layout third n q (Next k) e = let same : k ≡ q = cc in ap (λ x. at_3 (slot layout 3 (third x (index_3 n)))) same
-at_2-chunk layout third n q Bad e = cc
+at_2-chunk layout third n q s e = grind (arith, common_steps, nat_tests)
 
 at_1-chunk : (layout : Layout) (words : Words) (n q : ℕ) (s : Slot) → chunk_table layout words (n / 512) (next_page s) ≡ Some q → at_1 layout words words n s ≡ at_3 (slot layout 3 (words q (index_3 n)))
-at_1-chunk layout words n q Empty e = cc
-at_1-chunk layout words n q (Maps m a) e = cc
-at_1-chunk layout words n q (Next j) e = at_2-chunk layout words n q (slot layout 2 (words j (index_2 n))) e
-at_1-chunk layout words n q Bad e = cc
+at_1-chunk layout words n q s e = grind (arith, common_steps, nat_tests, at_2-chunk)
 
 -- a walk through the table of its chunk
 pub walk-chunk : (layout : Layout) (words : Words) (p n q : ℕ) → p < length layout.ids → table_at layout words (Chunk p (n / 512)) ≡ Some q
     → walk layout words p n ≡ at_3 (slot layout 3 (words q (index_3 n)))
 unfolding walk_across table_at
-walk-chunk layout words p n q inside table =
-    let h = at_1-chunk layout words n q (slot layout 1 (words p (index_1 n))) table in
-    grind (arith, nat_tests, h)
+walk-chunk layout words p n q inside table = grind (arith, common_steps, nat_tests, at_1-chunk)
 
 pub at_1-gigabyte : (layout : Layout) (words : Words) (n j : ℕ) (s : Slot) → next_page s ≡ Some j → at_1 layout words words n s ≡ at_2 layout words n (slot layout 2 (words j (index_2 n)))
-at_1-gigabyte layout words n j Empty e = cc
-at_1-gigabyte layout words n j (Maps m a) e = cc
-at_1-gigabyte layout words n j (Next k) e = let same : k ≡ j = cc in ap (λ x. at_2 layout words n (slot layout 2 (words x (index_2 n)))) same
-at_1-gigabyte layout words n j Bad e = cc
+at_1-gigabyte layout words n j s e = grind (arith, common_steps, nat_tests)
 
 -- a walk through the table of its gigabyte
 pub walk-gigabyte : (layout : Layout) (words : Words) (p n j : ℕ) → p < length layout.ids → table_at layout words (Gigabyte p (index_1 n)) ≡ Some j
     → walk layout words p n ≡ at_2 layout words n (slot layout 2 (words j (index_2 n)))
 unfolding walk_across table_at
-walk-gigabyte layout words p n j inside table =
-    let h = at_1-gigabyte layout words n j (slot layout 1 (words p (index_1 n))) table in
-    grind (arith, nat_tests, h)
+walk-gigabyte layout words p n j inside table = grind (arith, common_steps, nat_tests, at_1-gigabyte)
 
 -- the page itself is translated as the new word says
 pub walk-level_3 : (layout : Layout) (words : Words) (p c q i word : ℕ) → IsLevel3Write layout words p c q → i < 512
@@ -166,8 +133,7 @@ walk-level_3 layout words p c q i word h small =
     walk-chunk layout new p (512 * c + i) q h.partition here ∙ ap (λ w. at_3 (slot layout 3 w)) (ap (new q) index ∙ put-same words q i word)
 
 pub forest-level_3 : (layout : Layout) (words : Words) (p c q i word : ℕ) → IsLevel3Write layout words p c q → IsForest layout (put q i word words)
-forest-level_3 layout words p c q i word h a b r in_a in_b at_a at_b =
-    h.forest a b r in_a in_b (sym (table_at-level_3 layout words p c q i word h a in_a) ∙ at_a) (sym (table_at-level_3 layout words p c q i word h b in_b) ∙ at_b)
+forest-level_3 layout words p c q i word h a b r in_a in_b at_a at_b = grind (arith, common_steps, nat_tests, table_at-level_3)
 
 -- ---- a write into a page where no table hangs
 
@@ -221,23 +187,12 @@ level_2-root layout words p g j i word h p' inside x =
 
 level_2-second : (layout : Layout) (words : Words) (p g j i word : ℕ) → IsLevel2Write layout words p g j i word → (p' c j' : ℕ) → p' < length layout.ids → c < 262144
     → (p' ≡ p → c ≡ 512 * g + i → ⊥) → table_at layout words (Gigabyte p' (c / 512)) ≡ Some j' → put j i word words j' (c % 512) ≡ words j' (c % 512)
-level_2-second layout words p g j i word h p' c j' inside below other at_j =
-    put-other words j i word j' (c % 512) (λ same index.
-    let e : Gigabyte p' (c / 512) ≡ Gigabyte p g = h.forest (Gigabyte p' (c / 512)) (Gigabyte p g) j (inside, omega arith) (h.partition, h.gigabyte) (at_j ∙ ap Some same) h.table in
-    let e_p : p' ≡ p = cc in
-    let e_g : c / 512 ≡ g = cc in
-    other e_p (omega arith))
+level_2-second layout words p g j i word h p' c j' inside below other at_j = grind (arith, common_steps, nat_tests, put-other)
 
 -- all but the table of the chunk hang where they did
 pub table_at-level_2-other : (layout : Layout) (words : Words) (p g j i word : ℕ) → IsLevel2Write layout words p g j i word → (b : Place) → IsPlace layout b → b ≢ Chunk p (512 * g + i)
     → table_at layout (put j i word words) b ≡ table_at layout words b
-table_at-level_2-other layout words p g j i word h (Root p') inside other = table_at-root layout (put j i word words) p' ∙ sym (table_at-root layout words p')
-table_at-level_2-other layout words p g j i word h (Gigabyte p' g') inside other = table_at-gigabyte layout words (put j i word words) p' g' (level_2-root layout words p g j i word h p' inside.0 g')
-table_at-level_2-other layout words p g j i word h (Chunk p' c') inside other =
-    table_at-chunk layout words (put j i word words) p' c' (record {
-      first = level_2-root layout words p g j i word h p' inside.0 (c' / 512);
-      second = λ j' at_j. level_2-second layout words p g j i word h p' c' j' inside.0 inside.1 (λ e_p e_c. other (ap₂ Chunk e_p e_c)) at_j;
-    })
+table_at-level_2-other layout words p g j i word h b inside other = grind (arith, common_steps, nat_tests, table_at-root, table_at-gigabyte, level_2-root, table_at-chunk, level_2-second)
 
 chunk_table-Some : (layout : Layout) (words : Words) (c j : ℕ) (o : Option ℕ) → o ≡ Some j → chunk_table layout words c o ≡ next_page (slot layout 2 (words j (c % 512)))
 chunk_table-Some layout words c j o e = ap (chunk_table layout words c) e

@@ -14,6 +14,8 @@ use Rattle.stage2.specs.Moments.{words_after, Since, Walker, Begins, Second, Thi
 use Rattle.stage2.proofs.Tree.WalkFrame.{table_at-root, table_at-chunk_in, walk-gigabyte, walk-chunk}
 use Rattle.stage2.proofs.Walkers.UnderWay.{outlast}
 use Rattle.stage2.proofs.Walkers.InStep.{walk-inside, gigabyte-now}
+use Rattle.std.proofs.lemmas.Bool.Decides.{nat_tests}
+use Rattle.std.proofs.lemmas.Grind.{common_steps}
 
 -- ---- invalid words
 

@@ -17,6 +17,8 @@ use Rattle.stage2.proofs.Walkers.InStep.{gigabyte-now}
 use Rattle.stage2.proofs.Walkers.UnderWay.{under_way-now}
 use Rattle.stage2.proofs.Walkers.BreakBeforeMake.{second-at, third-at}
 use Rattle.stage2.proofs.Walkers.TableWrites.{no-table-below}
+use Rattle.std.proofs.lemmas.Bool.Decides.{nat_tests}
+use Rattle.std.proofs.lemmas.Grind.{common_steps}
 
 -- ---- the next call
 
@@ -71,19 +73,10 @@ module _ (layout : Layout) (linked : Words) (p g : ℕ) (forest : IsForest layou
 
   -- so while the word is 0, the tables below it may be written
   pub unheld-gigabyte : (j : ℕ) → g < 512 → table_at layout linked (Gigabyte p g) ≡ Some j → IsUnheld layout (put p g 0 linked) j
-  unheld-gigabyte j small at b inside at_b =
-      let same : Gigabyte p g ≡ b = forest (Gigabyte p g) b j (partition, small) inside at (hangs-linked b j inside at_b) in
-      let here : table_at layout (put p g 0 linked) (Gigabyte p g) ≡ Some j = ap (table_at layout (put p g 0 linked)) same ∙ at_b in
-      let none = gone in
-      absurd (cc)
+  unheld-gigabyte j small at b inside at_b = grind (arith, common_steps, nat_tests, hangs-linked, gone)
 
   pub unheld-chunk : (c k : ℕ) → c < 262144 → c / 512 ≡ g → table_at layout linked (Chunk p c) ≡ Some k → IsUnheld layout (put p g 0 linked) k
-  unheld-chunk c k small e at b inside at_b =
-      let same : Chunk p c ≡ b = forest (Chunk p c) b k (partition, small) inside at (hangs-linked b k inside at_b) in
-      let here : table_at layout (put p g 0 linked) (Chunk p c) ≡ Some k = ap (table_at layout (put p g 0 linked)) same ∙ at_b in
-      let up : table_at layout (put p g 0 linked) (Gigabyte p (c / 512)) ≡ None = rw e gone in
-      let none = no-table-below layout (put p g 0 linked) p c up in
-      absurd (cc)
+  unheld-chunk c k small e at b inside at_b = grind (arith, common_steps, nat_tests, hangs-linked, gone, no-table-below)
 
 -- ---- what a call cannot do and have `Moments`
 

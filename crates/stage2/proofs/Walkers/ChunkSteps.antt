@@ -18,6 +18,7 @@ use Rattle.stage2.proofs.Walkers.ZeroedTables.{stays-wider, stays-more, stays-as
 use Rattle.stage2.proofs.Walkers.SeatedChunks.{seated-after}
 use Rattle.stage2.proofs.Walkers.Disturbed.{below-more, disturbs-same}
 use Rattle.base.proofs.Booleans.{both}
+use Rattle.std.proofs.lemmas.Grind.{common_steps}
 
 module _ (layout : Layout) (row g j : ℕ) (runs : List PageRun) (access : View) (old : Pages) (inside : row < length layout.ids) (below : g < 512) (i : ℕ) (lt : i < 512) (mid : Pages) (h : IsUnderway layout row g j i (edited runs access (answers layout (linked layout row g j old).words row)) old mid) where
   abbrev first : ℕ → View
@@ -39,10 +40,7 @@ module _ (layout : Layout) (row g j : ℕ) (runs : List PageRun) (access : View)
       ]
 
   pub march-turns : Turns (λ n. eqb (n / 512 / 512) g) runs access (answers layout (linked layout row g j old).words row) → Turns (λ n. eqb (n / 512) (512 * g + i)) runs access (answers_in layout row (512 * g + i) j mid)
-  march-turns turns n at covered =
-      let here : n / 512 ≡ 512 * g + i = eqb-true _ _ at in
-      let inside_g : n / 512 / 512 ≡ g = omega (arith, here, lt) in
-      ap (λ a. is_some a) (still-answers layout row g j runs access old inside below i lt mid h n (omega (arith, here, below, lt)) here) ∙ turns n (grind (arith, nat_tests)) covered
+  march-turns turns n at covered = grind (arith, common_steps, nat_tests, still-answers)
 
   pub march-edit : (a b c : Pool) → touches_chunk (512 * g + i) runs ≡ true
       → StaysInStep layout row (disturbed_below g i runs (answers layout (linked layout row g j old).words row) (edited runs access (answers layout (linked layout row g j old).words row))) (λ n. walked n (edited runs access (answers layout (linked layout row g j old).words row) n)) a b

@@ -15,38 +15,28 @@ use Rattle.stage2.specs.Moments.{StaysInStep}
 use Rattle.stage2.specs.inner.Steps.{disturbed_below}
 use Rattle.stage2.proofs.Walkers.ZeroedTables.{stays-wider}
 use Rattle.base.proofs.Booleans.{both}
+use Rattle.std.proofs.lemmas.Grind.{common_steps}
 
 at_chunk : (x c : ℕ) (b : Bool) → eqb x c ≡ true → (x ≡ c → b ≡ true) → (eqb x c && b) ≡ true
 at_chunk x c b e f = rw (e, f (eqb-true x c e)) refl
 
 all_of : (covered mixed : Bool) → mixed ≡ false → (covered || not mixed) ≡ true
-all_of true mixed e = refl
-all_of false mixed e = rw e refl
+all_of covered mixed e = grind (arith, common_steps, nat_tests)
 
 -- a chunk that has no table, before or after
 pub stays-whole : (layout : Layout) (row c : ℕ) (runs : List PageRun) (access : View) (view : ℕ → View) (old new : Pool) → (is_mixed view c && is_mixed (edited runs access view) c) ≡ false
     → StaysInStep layout row (λ n. eqb (n / 512) c) (λ n. walked n (edited runs access view n)) old new
     → StaysInStep layout row (λ n. eqb (n / 512) c && disturbs runs view (edited runs access view) n) (λ n. walked n (edited runs access view n)) old new
-stays-whole layout row c runs access view old new one stays =
-    let after : ℕ → View = edited runs access view in
-    stays-wider layout row (λ n. eqb (n / 512) c) (λ n. eqb (n / 512) c && disturbs runs view after n) (λ n. walked n (after n)) (λ n. walked n (after n)) old new stays
-    (λ n small w. (at_chunk (n / 512) c (disturbs runs view after n) w (λ e. all_of (covers runs n) (is_mixed view (n / 512) && is_mixed after (n / 512)) (ap (λ x. is_mixed view x && is_mixed after x) e ∙ one)), inr refl))
+stays-whole layout row c runs access view old new one stays = grind (arith, common_steps, nat_tests, stays-wider, at_chunk, all_of)
 
 -- pages of a table
 pub stays-covered : (layout : Layout) (row c : ℕ) (runs : List PageRun) (access : View) (view : ℕ → View) (answer : ℕ → Walked) (old new : Pool) → ((n : ℕ) → answer n ≡ walked n access)
     → StaysInStep layout row (λ n. covers runs n && eqb (n / 512) c) answer old new
     → StaysInStep layout row (λ n. eqb (n / 512) c && disturbs runs view (edited runs access view) n) (λ n. walked n (edited runs access view n)) old new
-stays-covered layout row c runs access view answer old new is stays =
-    let after : ℕ → View = edited runs access view in
-    stays-wider layout row (λ n. covers runs n && eqb (n / 512) c) (λ n. eqb (n / 512) c && disturbs runs view after n) answer (λ n. walked n (after n)) old new stays
-    (λ n small w. let h = both (covers runs n) (eqb (n / 512) c) w in (rw (h.0, h.1) refl, inr (is n ∙ rw h.0 refl)))
+stays-covered layout row c runs access view answer old new is stays = grind (arith, common_steps, nat_tests, stays-wider, both)
 
 pub unmixed-after : (c : ℕ) (before after : ℕ → View) (one : View) → IsOutcome c after (Some one) → (is_mixed before c && is_mixed after c) ≡ false
-unmixed-after c before after one outcome = rw (sym outcome.mixed) (none (is_mixed before c))
-  where
-    none : (b : Bool) → (b && false) ≡ false
-    none true = refl
-    none false = refl
+unmixed-after c before after one outcome = grind (arith, common_steps, nat_tests)
 
 pub unmixed-before : (c : ℕ) (before after : ℕ → View) → is_mixed before c ≡ false → (is_mixed before c && is_mixed after c) ≡ false
 unmixed-before c before after e = rw e refl
@@ -54,46 +44,14 @@ unmixed-before c before after e = rw e refl
 -- ---- chunk after chunk of a gigabyte
 
 one-more : (g i x q : ℕ) (d : Bool) → i < 512 → q ≡ x / 512 → ((eqb q g && ltb x (512 * g + (i + 1))) && d) ≡ (((eqb q g && ltb x (512 * g + i)) && d) || (eqb x (512 * g + i) && d))
-one-more g i x q d lt e = split (eqb q g && ltb x (512 * g + (i + 1))) (eqb q g && ltb x (512 * g + i)) (eqb x (512 * g + i)) d more
-  where
-    more : (eqb q g && ltb x (512 * g + (i + 1))) ≡ ((eqb q g && ltb x (512 * g + i)) || eqb x (512 * g + i))
-    more = elim (cases_Bool (eqb x (512 * g + i))) [
-      | inl t ↦
-          let at : x ≡ 512 * g + i = eqb-true _ _ t in
-          let is : q ≡ g = omega (arith, e, at, lt) in
-          grind (arith, nat_tests)
-      | inr f ↦ let same : ltb x (512 * g + (i + 1)) ≡ ltb x (512 * g + i) = grind (arith, nat_tests) in rw (same, f) (sym (no (eqb q g && ltb x (512 * g + i))))
-    ]
-      where
-        no : (b : Bool) → (b || false) ≡ b
-        no true = refl
-        no false = refl
-
-    spread : (some one d : Bool) → ((some || one) && d) ≡ ((some && d) || (one && d))
-    spread true true true = refl
-    spread true false true = refl
-    spread false true true = refl
-    spread false false true = refl
-    spread true true false = refl
-    spread true false false = refl
-    spread false true false = refl
-    spread false false false = refl
-
-    split : (all some one d : Bool) → all ≡ (some || one) → (all && d) ≡ ((some && d) || (one && d))
-    split all some one d f = ap (λ b. b && d) f ∙ spread some one d
+one-more g i x q d lt e = grind (arith, common_steps, nat_tests)
 
 pub below-more : (g i : ℕ) (runs : List PageRun) (before after : ℕ → View) (n : ℕ) → i < 512
     → disturbed_below g (i + 1) runs before after n ≡ (disturbed_below g i runs before after n || (eqb (n / 512) (512 * g + i) && disturbed runs before after n))
 below-more g i runs before after n lt = one-more g i (n / 512) (n / 512 / 512) (disturbed runs before after n) lt refl
 
 pub below-all : (g : ℕ) (runs : List PageRun) (before after : ℕ → View) (n : ℕ) → disturbed_below g 512 runs before after n ≡ (eqb (n / 512 / 512) g && disturbed runs before after n)
-below-all g runs before after n = ap (λ b. b && disturbed runs before after n) (whole (n / 512) (n / 512 / 512) refl)
-  where
-    whole : (x q : ℕ) → q ≡ x / 512 → (eqb q g && ltb x (512 * g + 512)) ≡ eqb q g
-    whole x q e = elim (cases_Bool (eqb q g)) [
-      | inl t ↦ let at : q ≡ g = eqb-true _ _ t in let lt : x < 512 * g + 512 = omega (arith, e, at) in grind (arith, nat_tests)
-      | inr f ↦ rw f refl
-    ]
+below-all g runs before after n = grind (arith, common_steps, nat_tests)
 
 -- what the edit of a chunk disturbs, told by the views at first
 pub disturbs-same : (c : ℕ) (runs : List PageRun) (before after now then_after : ℕ → View) (n : ℕ) → n / 512 ≡ c → is_mixed now c ≡ is_mixed before c → is_mixed then_after c ≡ is_mixed after c → disturbs runs now then_after n ≡ disturbs runs before after n

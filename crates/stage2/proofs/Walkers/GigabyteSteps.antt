@@ -16,38 +16,21 @@ use Rattle.stage2.proofs.Editing.GigabyteByGigabyte.{still-answers, still-edited
 use Rattle.stage2.proofs.Counting.Needs.{mixed-same}
 use Rattle.stage2.proofs.Walkers.ZeroedTables.{stays-wider, stays-more}
 use Rattle.base.proofs.Booleans.{both}
+use Rattle.std.proofs.lemmas.Grind.{common_steps}
 
 -- the pages that the edit of a row's gigabytes before the i-th may disturb
 abbrev pub disturbed_before : ℕ → List PageRun → (ℕ → View) → (ℕ → View) → ℕ → Bool
 disturbed_before i runs before after n = ltb (n / 512 / 512) i && disturbed runs before after n
 
 one-more : (g x : ℕ) (d : Bool) → (ltb x (g + 1) && d) ≡ ((ltb x g && d) || (eqb x g && d))
-one-more g x d = ap (λ b. b && d) more ∙ spread (ltb x g) (eqb x g) d
-  where
-    more : ltb x (g + 1) ≡ (ltb x g || eqb x g)
-    more = grind (arith, nat_tests)
-
-    spread : (some one d : Bool) → ((some || one) && d) ≡ ((some && d) || (one && d))
-    spread true true true = refl
-    spread true false true = refl
-    spread false true true = refl
-    spread false false true = refl
-    spread true true false = refl
-    spread true false false = refl
-    spread false true false = refl
-    spread false false false = refl
+one-more g x d = grind (arith, common_steps, nat_tests)
 
 module _ (layout : Layout) (row : ℕ) (runs : List PageRun) (access : View) (old : Pages) (inside : row < length layout.ids) (g : ℕ) (lt : g < 512) (mid : Pages) (h : IsPast layout row g (edited runs access (answers layout old.words row)) old mid) where
   pub cross-free : AreFree (λ n. true) runs access (answers layout old.words row) → AreFree (λ n. eqb (n / 512 / 512) g) runs access (answers layout mid.words row)
-  cross-free free n small at covered = elim (free n small refl covered) [
-    | inl none ↦ inl none
-    | inr none ↦ inr (still-answers layout row runs access old inside g lt mid h n (eqb-true _ _ at) ∙ none)
-  ]
+  cross-free free n small at covered = grind (arith, common_steps, nat_tests, still-answers)
 
   pub cross-turns : Turns (λ n. ltb n (2 ^ 27)) runs access (answers layout old.words row) → Turns (λ n. eqb (n / 512 / 512) g) runs access (answers layout mid.words row)
-  cross-turns turns n at covered =
-      let here : n / 512 / 512 ≡ g = eqb-true _ _ at in
-      ap (λ a. is_some a) (still-answers layout row runs access old inside g lt mid h n here) ∙ turns n (lt-ltb n (2 ^ 27) (omega (arith, here, lt))) covered
+  cross-turns turns n at covered = grind (arith, common_steps, nat_tests, still-answers)
 
   pub cross-edit : (a b c : Pool)
       → StaysInStep layout row (disturbed_before g runs (answers layout old.words row) (edited runs access (answers layout old.words row))) (λ n. walked n (edited runs access (answers layout old.words row) n)) a b
@@ -71,15 +54,8 @@ module _ (layout : Layout) (row : ℕ) (runs : List PageRun) (access : View) (ol
 
 pub cross-skip : (layout : Layout) (row g : ℕ) (runs : List PageRun) (before after : ℕ → View) (a b : Pool)
     → StaysInStep layout row (disturbed_before g runs before after) (λ n. walked n (after n)) a b → StaysInStep layout row (disturbed_before (g + 1) runs before after) (λ n. walked n (after n)) a b
-cross-skip layout row g runs before after a b so =
-    stays-wider layout row (disturbed_before g runs before after) (disturbed_before (g + 1) runs before after) (λ n. walked n (after n)) (λ n. walked n (after n)) a b so
-    (λ n small is. let two = both (ltb (n / 512 / 512) g) (disturbed runs before after n) is in (rw (later g (n / 512 / 512) two.0, two.1) refl, inr refl))
-  where
-    later : (g x : ℕ) → ltb x g ≡ true → ltb x (g + 1) ≡ true
-    later g x t = grind (arith, nat_tests)
+cross-skip layout row g runs before after a b so = grind (arith, common_steps, nat_tests, stays-wider, both)
 
 pub cross-all : (layout : Layout) (row i : ℕ) (runs : List PageRun) (before after : ℕ → View) (a b : Pool) → i ≡ 512
     → StaysInStep layout row (disturbed_before i runs before after) (λ n. walked n (after n)) a b → StaysInStep layout row (disturbed runs before after) (λ n. walked n (after n)) a b
-cross-all layout row i runs before after a b end so =
-    stays-wider layout row (disturbed_before i runs before after) (disturbed runs before after) (λ n. walked n (after n)) (λ n. walked n (after n)) a b so
-    (λ n small is. ((both (ltb (n / 512 / 512) i) (disturbed runs before after n) is).1, inr refl))
+cross-all layout row i runs before after a b end so = grind (arith, common_steps, nat_tests, stays-wider, both)

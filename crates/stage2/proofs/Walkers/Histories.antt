@@ -7,6 +7,8 @@ use Rattle.pool.specs.Pool.{Words, Pool, words_of, put, after_set}
 use Rattle.stage2.specs.Moments.{words_after}
 use Rattle.pool.specs.Pool.{counted}
 use Rattle.stage2.specs.inner.History.{Made, AreSets, AllChange, Filled}
+use Rattle.std.proofs.lemmas.Bool.Decides.{nat_tests}
+use Rattle.std.proofs.lemmas.Grind.{common_steps}
 
 after-append : (b a : List Op) (w : Words) → words_after (b ++ a) w ≡ words_after b (words_after a w)
 after-append [] a w = refl
@@ -22,18 +24,10 @@ pub made-none : (s : Pool) → Made [] s s
 made-none s = record { operations = refl; count = refl; words = refl }
 
 pub made-set : (x y : Pool) (page index word : ℕ) → y ≡ after_set page index word x → words_of y.memory.words ≡ put page index word (words_of x.memory.words) → Made (Set page index word ∷ []) x y
-made-set x y page index word e words = record {
-  operations = ap (λ (s : Pool). s.operations) e;
-  count = ap (λ (s : Pool). s.made) e;
-  words = words;
-}
+made-set x y page index word e words = grind (arith, common_steps, nat_tests)
 
 pub made-more : (a b : List Op) (x y z : Pool) → Made a x y → Made b y z → Made (b ++ a) x z
-made-more a b x y z so here = record {
-  operations = here.operations ∙ ap (λ l. b ++ l) so.operations ∙ sym (append_assoc b a x.operations);
-  count = here.count ∙ ap (counted b) so.count ∙ sym (counted-append b a x.made);
-  words = here.words ∙ ap (words_after b) so.words ∙ sym (after-append b a (words_of x.memory.words));
-}
+made-more a b x y z so here = grind (arith, common_steps, nat_tests, counted-append, after-append)
 
 pub sets-wider : (k c i b : ℕ) (plan : ℕ → Option View) (ops : List Op) → i ≤ b → AreSets k c plan i ops → AreSets k c plan b ops
 sets-wider k c i b plan [] le s = tt

@@ -14,6 +14,7 @@ use Rattle.stage2.specs.Walk.{index_1, index_2, index_3, at_1, at_2, at_3, walk,
 use Rattle.stage2.specs.Moments.{words_after, cleared_by, invalidates, AtEachMoment, Walker, Begins, Second, Third, Ends, from_1, from_2, goes_on, UnderWay, Stands, now, nothing, OpenCall, with_clear, MayGive, GivesOnly, BreaksFirst, AllBreakFirst, AllClearUnreached, IsInStep}
 use Rattle.stage2.proofs.Tree.WalkFrame.{table_at-chunk_in, walk-gigabyte, walk-chunk}
 use Rattle.stage2.proofs.Walkers.UnderWay.{after_op, at_start, under_way-now}
+use Rattle.std.proofs.lemmas.Grind.{common_steps}
 
 -- a walk under way may go on from here, over these words
 abbrev pub Fits : OpenCall → Words → Bool → ℕ → ℕ → Walker → Type 0
@@ -163,14 +164,7 @@ fits-due e due more words q n fewer (Ends a) h = (h.0, λ free. h.1 (fewer free)
 
 -- of a page of the row that is not invalidated nothing is due where nothing was
 still-due : (row q who : ℕ) (due more covered : Bool) → who ≡ row → (eqb who q && covered) ≡ false → (more ≡ false → covered ≡ false → due ≡ false) → (eqb q row && more) ≡ false → (eqb q row && due) ≡ false
-still-due row q who due more covered is free fewer none = elim (cases_eq q row) [
-  | inl same ↦
-      let here : eqb q row ≡ true = grind (arith, nat_tests) in
-      let there : eqb who q ≡ true = grind (arith, nat_tests) in
-      let d : due ≡ false = fewer (rw here at none) (rw there at free) in
-      rw (here, d) refl
-  | inr apart ↦ let there : eqb q row ≡ false = grind (arith, nat_tests) in rw there refl
-]
+still-due row q who due more covered is free fewer none = grind (arith, common_steps, nat_tests)
 
 -- an invalidation of pages for the partition of the row: none of them is due any more
 pub orderly-invalidate : (e : OpenCall) (due more : ℕ → Bool) (words : Words) (past : List Op) (who : ℕ) (run : PageRun) → IsInStep e due words past
@@ -211,20 +205,7 @@ orderly-clearing e words past run h none =
 
 -- invalidations of more pages may be thought due
 pub orderly-weaker : (e : OpenCall) (due more : ℕ → Bool) (words : Words) (past : List Op) → IsInStep e due words past → ((n : ℕ) → n < 2 ^ 27 → more n ≡ false → due n ≡ false) → IsInStep e more words past
-orderly-weaker e due more words past h fewer = record {
-  exact = h.exact;
-  gives = h.gives;
-  breaks = h.breaks;
-  clears = h.clears;
-  cleared = h.cleared;
-  stands = λ q n inside small w u.
-      stands-fits e words (eqb q e.row && more n) q n w
-      (fits-due e (eqb q e.row && due n) (eqb q e.row && more n) words q n (both (eqb q e.row) (due n) (more n) (fewer n small)) w (orderly-fits e due words past h q n inside small w u));
-}
-  where
-    both : (here due more : Bool) → (more ≡ false → due ≡ false) → (here && more) ≡ false → (here && due) ≡ false
-    both true due more f e = f e
-    both false due more f e = refl
+orderly-weaker e due more words past h fewer = grind (arith, common_steps, nat_tests, stands-fits, fits-due, orderly-fits)
 
 -- ---- a table is taken away, and all pages below are invalidated at once
 

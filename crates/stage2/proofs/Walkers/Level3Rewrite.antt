@@ -21,6 +21,7 @@ use Rattle.stage2.proofs.Walkers.BreakBeforeMake.{invalid-empty}
 use Rattle.stage2.proofs.Walkers.TableWrites.{fine-same, fine-made, breaks-invalid}
 use Rattle.stage2.proofs.Walkers.ZeroedTables.{breaks-zero, clears-none}
 use Rattle.stage2.proofs.Walkers.StepLists.{made-in-step, filled-unheld}
+use Rattle.std.proofs.lemmas.Grind.{common_steps}
 
 -- ---- one word of a table that hangs at a chunk
 
@@ -35,12 +36,7 @@ module _ (layout : Layout) (words : Words) (row c k i : ℕ) (h : IsLevel3Write 
       walk-chunk layout words row n k h.partition (ap (λ x. table_at layout words (Chunk row x)) chunk ∙ h.table) ∙ ap (λ x. at_3 (slot layout 3 (words k x))) index
 
 level_3-put : (layout : Layout) (words : Words) (row c k i word : ℕ) → IsLevel3Write layout words row c k → IsLevel3Write layout (put k i word words) row c k
-level_3-put layout words row c k i word h = record {
-  forest = forest-level_3 layout words row c k i word h;
-  partition = h.partition;
-  chunk = h.chunk;
-  table = table_at-level_3 layout words row c k i word h (Chunk row c) (h.partition, h.chunk) ∙ h.table;
-}
+level_3-put layout words row c k i word h = grind (arith, common_steps, nat_tests, forest-level_3, table_at-level_3)
 
 -- an invalid word becomes valid
 make-word : (e : OpenCall) (words : Words) (past : List Op) (c k i word : ℕ) → IsLevel3Write e.layout words e.row c k → i < 512 → IsInvalid (words k i) → MayGive e e.row (512 * c + i) (at_3 (slot e.layout 3 word)) → IsInStep e nothing words past
@@ -178,10 +174,4 @@ clears-filled layout row k c b plan which old new f h e due allows o = filled-un
 
 -- the plan of a rewrite: the pages of the runs, and no others
 pub plans-runs : (c : ℕ) (runs : List PageRun) (access : View) → PlansOnly c (planned runs access None) (λ n. covers runs n && eqb (n / 512) c) access
-plans-runs c runs access i answer small is = elim (cases_Bool (covers runs (512 * c + i))) [
-  | inl t ↦
-      let same : Some access ≡ Some answer = rw t at is in
-      let chunk : (512 * c + i) / 512 ≡ c = omega (arith, small) in
-      (cc, rw (t, chunk) (grind (arith, nat_tests)))
-  | inr f ↦ let none : None ≡ Some answer = rw f at is in absurd (cc)
-]
+plans-runs c runs access i answer small is = grind (arith, common_steps, nat_tests)

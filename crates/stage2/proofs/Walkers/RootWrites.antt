@@ -29,6 +29,7 @@ use Rattle.stage2.proofs.Counting.Needs.{mixed-same}
 use Rattle.stage2.proofs.Editing.RootLinks.{untabled, IsUnlink, unlink-unmapped, IsLink}
 use Rattle.stage2.proofs.Editing.ChunkByChunk.{untouched}
 use Rattle.stage2.proofs.Walkers.Disturbed.{below-all}
+use Rattle.std.proofs.lemmas.Grind.{common_steps}
 
 -- it becomes 0, and the gigabyte, where nothing is mapped, is invalidated
 pub stays-unlinked : (layout : Layout) (row who g : ℕ) (which : ℕ → Bool) (answer : ℕ → Walked) (old mid new : Pool) → IsForest layout (words_of old.memory.words) → row < length layout.ids → row_of layout.ids who ≡ row
@@ -76,10 +77,7 @@ stays-root layout row g word which answer old new forest partition invalid gives
 -- ---- a root's word that links no table is 0
 
 empty-slot : (layout : Layout) (words : Words) (n : ℕ) (s : Slot) → next_page s ≡ None → at_1 layout words words n s ≡ Unmapped → s ≡ Empty
-empty-slot layout words n Empty e f = refl
-empty-slot layout words n (Next j) e f = absurd (cc)
-empty-slot layout words n (Maps m a) e f = absurd (let bad : Wrong ≡ Unmapped = f in cc)
-empty-slot layout words n Bad e f = absurd (let bad : Wrong ≡ Unmapped = f in cc)
+empty-slot layout words n s e f = grind (arith, common_steps, nat_tests)
 
 pub root-zero : (layout : Layout) (m : Pages) (row g : ℕ) → IsOrderly layout m → row < length layout.ids → g < 512 → table_at layout m.words (Gigabyte row g) ≡ None → m.words row g ≡ 0
 root-zero layout m row g orderly inside small none =
@@ -146,19 +144,7 @@ stays-taken-view layout row g k runs access m h below a b same stays =
 -- what walks give of a page of a gigabyte that had no table
 pub gives-new : (g : ℕ) (runs : List PageRun) (access : View) (view : ℕ → View) (n : ℕ) (a : Walked) → n / 512 / 512 ≡ g → view n ≡ None → a ≡ walked n (edited runs access view n)
     → ((eqb (n / 512 / 512) g && disturbed runs view (edited runs access view) n ≡ true) × (a ≡ walked n (edited runs access view n))) ⊎ (a ≡ Unmapped)
-gives-new g runs access view n a at none is = elim (cases_Bool (covers runs n)) [
-  | inl t ↦ inl (rw (here, touched t, t) refl, is)
-  | inr f ↦ inr (is ∙ ap (walked n) (ap (λ b. cond b access (view n)) f ∙ none))
-]
-  where
-    here : eqb (n / 512 / 512) g ≡ true
-    here = grind (arith, nat_tests)
-
-    touched : covers runs n ≡ true → touches_chunk (n / 512) runs ≡ true
-    touched t = elim (cases_Bool (touches_chunk (n / 512) runs)) [
-      | inl yes_it ↦ yes_it
-      | inr off ↦ let f : covers runs n ≡ false = untouched (n / 512) runs n off refl in absurd (cc)
-    ]
+gives-new g runs access view n a at none is = grind (arith, common_steps, nat_tests, untouched)
 
 -- the chunks of a gigabyte whose table hangs
 pub stays-tabled : (layout : Layout) (row g k : ℕ) (runs : List PageRun) (access : View) (m : Pages) (a b : Pool) → linked layout row g k m ≡ m

@@ -18,11 +18,11 @@ use Rattle.stage2.proofs.Tree.PutTwice.{put-twice, put-there}
 use Rattle.stage2.proofs.Walkers.CallSeams.{hangs-linked, unheld-gigabyte, unheld-chunk}
 use Rattle.stage2.proofs.Editing.FourChunkEdits.{old, entry, table-entry, walk-entry, at_2-seen, third-at, slot-word, no-table, at_2-block, tidy-answer}
 use Rattle.stage2.proofs.Walkers.StepLists.{IsHung}
+use Rattle.std.proofs.lemmas.Grind.{common_steps}
 
 -- the root's words stay
 pub seated-after : (layout : Layout) (row g j : ℕ) (m new : Pages) → IsSeated layout row g j m → new.words row g ≡ m.words row g → IsSeated layout row g j new
-seated-after layout row g j m new (inl h) e = inl (e ∙ h)
-seated-after layout row g j m new (inr h) e = inr (e ∙ h)
+seated-after layout row g j m new x6 e = grind (arith, common_steps, nat_tests)
 
 module _ (layout : Layout) (row c j : ℕ) (m : Pages) (h : IsSite layout row c j m) where
   -- the words as they are, where the link is written, and where it is not
@@ -34,8 +34,7 @@ module _ (layout : Layout) (row c j : ℕ) (m : Pages) (h : IsSite layout row c 
 
   -- what hangs hangs with the link
   pub hangs-seen : IsSeated layout row (c / 512) j m → (b : Place) (q : ℕ) → IsPlace layout b → table_at layout m.words b ≡ Some q → table_at layout (old layout row c j m h) b ≡ Some q
-  hangs-seen (inl e) b q inside at = ap (λ (w : Words). table_at layout w b) (same-words e) ∙ at
-  hangs-seen (inr e) b q inside at = hangs-linked layout (old layout row c j m h) row (c / 512) h.orderly.forest h.partition b q inside (ap (λ (w : Words). table_at layout w b) (cut-words e) ∙ at)
+  hangs-seen x0 b q inside at = grind (arith, common_steps, nat_tests, same-words, hangs-linked, old, cut-words)
 
   pub forest-seen : IsSeated layout row (c / 512) j m → IsForest layout m.words
   forest-seen s a b q in_a in_b at_a at_b = h.orderly.forest a b q in_a in_b (hangs-seen s a q in_a at_a) (hangs-seen s b q in_b at_b)
@@ -45,8 +44,7 @@ module _ (layout : Layout) (row c j : ℕ) (m : Pages) (h : IsSite layout row c 
   unheld-free s k free b inside at = let held : m.taken k ≡ true = h.orderly.taken b k inside (hangs-seen s b k inside at) in absurd (cc)
 
   unheld-second : m.words row (c / 512) ≡ 0 → IsUnheld layout m.words j
-  unheld-second e =
-      subst (λ (w : Words). IsUnheld layout w j) (cut-words e) (unheld-gigabyte layout (old layout row c j m h) row (c / 512) h.orderly.forest h.partition j (omega (arith, h.chunk)) h.second)
+  unheld-second e = grind (arith, common_steps, nat_tests, cut-words, unheld-gigabyte, old)
 
   pub unheld-third : m.words row (c / 512) ≡ 0 → (k : ℕ) → entry layout row c j m h ≡ Next k → IsUnheld layout m.words k
   unheld-third e k is =
@@ -54,8 +52,7 @@ module _ (layout : Layout) (row c j : ℕ) (m : Pages) (h : IsSite layout row c 
 
   -- the level 2 table hangs, or hangs nowhere
   pub hung-seen : IsSeated layout row (c / 512) j m → IsHung layout m.words row c j
-  hung-seen (inl e) = inl (forest-seen (inl e), ap (λ (w : Words). table_at layout w (Gigabyte row (c / 512))) (sym (same-words e)) ∙ h.second)
-  hung-seen (inr e) = inr (unheld-second e)
+  hung-seen x0 = grind (arith, common_steps, nat_tests, forest-seen, same-words, unheld-second)
 
   -- the table of the chunk hangs there alone, or nowhere
   pub third-alone : IsSeated layout row (c / 512) j m → (k : ℕ) → entry layout row c j m h ≡ Next k → (a : Place) → IsPlace layout a → a ≢ Chunk row c → table_at layout m.words a ≡ Some k → ⊥
@@ -63,8 +60,7 @@ module _ (layout : Layout) (row c j : ℕ) (m : Pages) (h : IsSite layout row c 
 
   -- where the level 2 table hangs nowhere, nor does it
   pub third-loose : IsSeated layout row (c / 512) j m → (k : ℕ) → entry layout row c j m h ≡ Next k → IsUnheld layout m.words j → IsUnheld layout m.words k
-  third-loose (inl e) k is loose = absurd (loose (Gigabyte row (c / 512)) (h.partition, omega (arith, h.chunk)) (ap (λ (w : Words). table_at layout w (Gigabyte row (c / 512))) (sym (same-words e)) ∙ h.second))
-  third-loose (inr e) k is loose = unheld-third e k is
+  third-loose x0 k is loose = grind (arith, common_steps, nat_tests, same-words, unheld-third)
 
   pub third-hangs : m.words row (c / 512) ≡ table_word_of (layout.base + j) → (k : ℕ) → entry layout row c j m h ≡ Next k → table_at layout m.words (Chunk row c) ≡ Some k
   third-hangs e k is = ap (λ (w : Words). table_at layout w (Chunk row c)) (sym (same-words e)) ∙ third-at layout row c j m h k is
@@ -87,12 +83,7 @@ unheld-outside layout words new k free agree a inside at = free a inside (sym (t
 -- ---- after the edit of a chunk
 
 pub site-after : (layout : Layout) (row c j : ℕ) (view : ℕ → View) (m new : Pages) → IsSite layout row c j m → Redoes_in layout row c j view m new → IsSite layout row c j new
-site-after layout row c j view m new h r = record {
-  orderly = r.redoes.orderly;
-  partition = h.partition;
-  chunk = h.chunk;
-  second = r.redoes.tables (Gigabyte row (c / 512)) (h.partition, omega (arith, h.chunk)) (λ e. cc) ∙ h.second;
-}
+site-after layout row c j view m new h r = grind (arith, common_steps, nat_tests)
 
 -- the chunk's word says what its pages answer
 pub gives-after : (layout : Layout) (row c j : ℕ) (view : ℕ → View) (m new : Pages) → IsSite layout row c j m → Redoes_in layout row c j view m new → (n : ℕ) → n < 2 ^ 27 → n / 512 ≡ c → at_2 layout new.words n (slot layout 2 (new.words j (c % 512))) ≡ walked n (view n)

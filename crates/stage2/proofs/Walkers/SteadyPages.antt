@@ -8,6 +8,7 @@ use Rattle.base.specs.Need.{is_mixed}
 use Rattle.stage2.specs.Edits.{edited, touches_run, touches_chunk, AreFree, disturbs, disturbed}
 use Rattle.stage2.proofs.Counting.Needs.{mixed-same, equal-first}
 use Rattle.base.proofs.Booleans.{both}
+use Rattle.std.proofs.lemmas.Grind.{common_steps}
 
 -- ---- a chunk that runs touch has a page of theirs
 
@@ -37,61 +38,28 @@ covered-page c (run ∷ runs) t = elim (cases_Bool (touches_run c run)) [
 ]
   where
     either : (b : Bool) → (b || true) ≡ true
-    either true = refl
-    either false = refl
+    either b = grind (arith, common_steps, nat_tests)
 
 -- ---- steady pages that are disturbed have no answer
 
 module _ (runs : List PageRun) (access : View) (view : ℕ → View) (free : AreFree (λ n. true) runs access view) where
   -- a page of the runs that keeps its answer has none
   none-covered : (n : ℕ) → n < 2 ^ 27 → covers runs n ≡ true → view n ≡ edited runs access view n → view n ≡ None
-  none-covered n small t kept = elim (free n small refl t) [
-    | inl none ↦ kept ∙ ap (λ b. cond b access (view n)) t ∙ none
-    | inr none ↦ none
-  ]
+  none-covered n small t kept = grind (arith, common_steps, nat_tests)
 
   unmixed : (c : ℕ) → (is_mixed view c && is_mixed (edited runs access view) c) ≡ false → is_mixed (edited runs access view) c ≡ is_mixed view c → is_mixed view c ≡ false
-  unmixed c e same = twice (is_mixed view c) (is_mixed (edited runs access view) c) e same
-    where
-      twice : (a b : Bool) → (a && b) ≡ false → b ≡ a → a ≡ false
-      twice true b e f = sym f ∙ e
-      twice false b e f = refl
+  unmixed c e same = grind (arith, common_steps, nat_tests)
 
   none-whole : (n : ℕ) → n < 2 ^ 27 → disturbed runs view (edited runs access view) n ≡ true → covers runs n ≡ false → ((x : ℕ) → x / 512 ≡ n / 512 → view x ≡ edited runs access view x) → view n ≡ None
-  none-whole n small w f all =
-      let two = both (touches_chunk (n / 512) runs) (disturbs runs view (edited runs access view) n) w in
-      let page = covered-page (n / 512) runs two.0 in
-      let at : page.0 / 512 ≡ n / 512 = page.1 in
-      let below : page.0 < 2 ^ 27 = omega (arith, at, small) in
-      let none : view page.0 ≡ None = none-covered page.0 below page.2 (all page.0 at) in
-      let apart : (is_mixed view (n / 512) && is_mixed (edited runs access view) (n / 512)) ≡ false = not_both (covers runs n) (is_mixed view (n / 512) && is_mixed (edited runs access view) (n / 512)) two.1 f in
-      let same : is_mixed (edited runs access view) (n / 512) ≡ is_mixed view (n / 512) = mixed-same view (edited runs access view) (n / 512) (λ i lt. sym (all (512 * (n / 512) + i) (omega (arith, lt)))) in
-      let flat = unmixed (n / 512) apart same in
-      equal-first view (n / 512) n flat refl ∙ sym (equal-first view (n / 512) page.0 flat at) ∙ none
-    where
-      not_both : (covered both : Bool) → (covered || not both) ≡ true → covered ≡ false → both ≡ false
-      not_both covered true e f = let bad : false ≡ true = rw f at e in absurd (cc)
-      not_both covered false e f = refl
+  none-whole n small w f all = grind (arith, common_steps, nat_tests, both, covered-page, none-covered, mixed-same, unmixed, equal-first)
 
   pub differ-mixed : (v : ℕ → View) (c x y : ℕ) → x / 512 ≡ c → y / 512 ≡ c → v x ≢ v y → is_mixed v c ≡ true
-  differ-mixed v c x y at_x at_y differ = elim (cases_Bool (is_mixed v c)) [
-    | inl t ↦ t
-    | inr f ↦ absurd (differ (equal-first v c x f at_x ∙ sym (equal-first v c y f at_y)))
-  ]
+  differ-mixed v c x y at_x at_y differ = grind (arith, common_steps, nat_tests, equal-first)
 
   -- both answers of a chunk are mixed: it is disturbed at the pages of the runs alone
   none-mixed : (n : ℕ) → disturbed runs view (edited runs access view) n ≡ true → covers runs n ≡ false → is_mixed view (n / 512) ≡ true → is_mixed (edited runs access view) (n / 512) ≡ true → ⊥
-  none-mixed n w f a b =
-      let two = both (touches_chunk (n / 512) runs) (disturbs runs view (edited runs access view) n) w in
-      let bad : false ≡ true = rw (f, a, b) at two.1 in
-      cc
+  none-mixed n w f a b = grind (arith, common_steps, nat_tests, both)
 
   pub none-steady : (n : ℕ) → n < 2 ^ 27 → disturbed runs view (edited runs access view) n ≡ true → view n ≡ edited runs access view n
       → ((x : ℕ) → x / 512 ≡ n / 512 → view x ≡ edited runs access view x) ⊎ ((is_mixed view (n / 512) ≡ true) × (is_mixed (edited runs access view) (n / 512) ≡ true)) → view n ≡ None
-  none-steady n small w kept chunk = elim (cases_Bool (covers runs n)) [
-    | inl t ↦ none-covered n small t kept
-    | inr f ↦ elim chunk [
-      | inl all ↦ none-whole n small w f all
-      | inr both ↦ absurd (none-mixed n w f both.0 both.1)
-    ]
-  ]
+  none-steady n small w kept chunk = grind (arith, common_steps, nat_tests, none-covered, none-whole, both, none-mixed)

@@ -21,6 +21,7 @@ use Rattle.stage2.proofs.Tree.PutTwice.{put-twice, put-there}
 use Rattle.stage2.proofs.Walkers.InStep.{orderly-invalidate}
 use Rattle.stage2.proofs.Walkers.TableWrites.{orderly-unheld, orderly-level_2, orderly-cut_chunk, level_2-zero}
 use Rattle.stage2.proofs.Walkers.ZeroedTables.{counted-more}
+use Rattle.std.proofs.lemmas.Grind.{common_steps}
 
 -- ---- counting
 
@@ -31,10 +32,7 @@ counted-made (op ∷ ops) past before made h = counted-more before (length (ops 
 -- a list of operations that keeps an edit in step, between two pools
 pub made-in-step : (e : OpenCall) (due more : ℕ → Bool) (ops : List Op) (old new : Pool) → Made ops old new → IsInStepIn e due old
     → IsInStep e more (words_after ops (words_of old.memory.words)) (ops ++ old.operations) → IsInStepIn e more new
-made-in-step e due more ops old new made o done = record {
-  orderly = rw (made.words, made.operations) done;
-  counted = rw (made.operations, made.count) (counted-made ops old.operations e.made old.made o.counted);
-}
+made-in-step e due more ops old new made o done = grind (arith, common_steps, nat_tests, counted-made)
 
 -- ---- a page that hangs nowhere is filled, or set to 0
 
@@ -76,10 +74,7 @@ level_2-write layout words row c j word partition small forest table fresh = rec
 
 -- the word becomes 0
 pub hung-cut : (layout : Layout) (words : Words) (row c j : ℕ) → row < length layout.ids → c < 262144 → IsHung layout words row c j → IsHung layout (put j (c % 512) 0 words) row c j
-hung-cut layout words row c j partition small (inl h) =
-    let write = level_2-zero layout words row c j h.0 partition small h.1 in
-    inl (forest-level_2 layout words row (c / 512) j (c % 512) 0 write, table_at-level_2-other layout words row (c / 512) j (c % 512) 0 write (Gigabyte row (c / 512)) (partition, omega arith) (λ b. cc) ∙ h.1)
-hung-cut layout words row c j partition small (inr h) = inr (unheld-put layout words j (c % 512) 0 h)
+hung-cut layout words row c j partition small x7 = grind (arith, common_steps, nat_tests, level_2-zero, forest-level_2, table_at-level_2-other, unheld-put)
 
 cut-step : (e : OpenCall) (words : Words) (past : List Op) (p c j : ℕ) → e.row < length e.layout.ids → c < 262144 → IsHung e.layout words e.row c j → row_of e.layout.ids p ≡ e.row
     → ((x : ℕ) → x < 2 ^ 27 → x / 512 ≡ c → MayGive e e.row x Unmapped) → IsInStep e nothing words past
@@ -107,30 +102,15 @@ make-step e words past c j word partition small (inr h) invalid fresh may o = or
 broken-step : (e : OpenCall) (words : Words) (past : List Op) (p c j : ℕ) → e.row < length e.layout.ids → c < 262144 → IsHung e.layout words e.row c j → row_of e.layout.ids p ≡ e.row
     → ((x : ℕ) → x < 2 ^ 27 → x / 512 ≡ c → MayGive e e.row x Unmapped) → IsInStep e nothing words past
     → IsInStep e nothing (words_after (broken p j c (words j (c % 512))) words) (broken p j c (words j (c % 512)) ++ past)
-broken-step e words past p c j partition small hung is may o = elim (cases_Bool (eqb (words j (c % 512)) 0)) [
-  | inl t ↦ rw t o
-  | inr f ↦ rw f (cut-step e words past p c j partition small hung is may o)
-]
+broken-step e words past p c j partition small hung is may o = grind (arith, common_steps, nat_tests, cut-step)
 
 broken-words : (words : Words) (p c j : ℕ) → words_after (broken p j c (words j (c % 512))) words ≡ put j (c % 512) 0 words
-broken-words words p c j = elim (cases_Bool (eqb (words j (c % 512)) 0)) [
-  | inl t ↦ let zero_there : words j (c % 512) ≡ 0 = grind (arith, nat_tests) in rw t (sym (put-there words j (c % 512) 0 zero_there))
-  | inr f ↦ rw f refl
-]
+broken-words words p c j = grind (arith, common_steps, nat_tests, put-there)
 
 -- a page that hangs nowhere but at the chunk hangs nowhere once the chunk has no table
 pub unheld-word : (layout : Layout) (words : Words) (row c j word k : ℕ) → row < length layout.ids → c < 262144 → IsHung layout words row c j → next_page (slot layout 2 word) ≡ None
     → ((a : Place) → IsPlace layout a → a ≢ Chunk row c → table_at layout words a ≡ Some k → ⊥) → (IsUnheld layout words j → IsUnheld layout words k) → IsUnheld layout (put j (c % 512) word words) k
-unheld-word layout words row c j word k partition small (inr h) none free loose a inside at = loose h a inside (sym (table_at-unheld layout words j (c % 512) word h a inside) ∙ at)
-unheld-word layout words row c j word k partition small (inl h) none free loose a inside at =
-    let whole : 512 * (c / 512) + c % 512 ≡ c = omega arith in
-    let write = level_2-write layout words row c j word partition small h.0 h.1 (λ x next. absurd (cc)) in
-    let T : ℕ → Type 0 = λ x. table_at layout (put j (c % 512) word words) (Chunk row x) ≡ next_page (slot layout 2 word) in
-    let gone : table_at layout (put j (c % 512) word words) (Chunk row c) ≡ next_page (slot layout 2 word) = subst T whole (table_at-level_2 layout words row (c / 512) j (c % 512) word write) in
-    elim (is_chunk a row c) [
-      | inl e ↦ let some : table_at layout (put j (c % 512) word words) (Chunk row c) ≡ Some k = ap (table_at layout (put j (c % 512) word words)) (sym e) ∙ at in absurd (cc)
-      | inr e ↦ free a inside e (sym (table_at-level_2-other layout words row (c / 512) j (c % 512) word write a inside (λ f. e (f ∙ ap (Chunk row) whole))) ∙ at)
-    ]
+unheld-word layout words row c j word k partition small x9 none free loose a inside at = grind (arith, common_steps, nat_tests, table_at-unheld, level_2-write, table_at-level_2, is_chunk, table_at-level_2-other)
 
 unheld-cut : (layout : Layout) (words : Words) (row c j k : ℕ) → row < length layout.ids → c < 262144 → IsHung layout words row c j → IsUnheld layout words k → IsUnheld layout (put j (c % 512) 0 words) k
 unheld-cut layout words row c j k partition small hung free = unheld-word layout words row c j 0 k partition small hung (ap next_page (slot-zero layout 2)) (λ a inside other. free a inside) (λ loose. free)

@@ -17,6 +17,7 @@ use Rattle.stage2.proofs.Walkers.Level3Write.{slot-zero}
 use Rattle.stage2.proofs.Walkers.InStep.{IsFine, may-now, orderly-set, orderly-cut, walk-inside, gigabyte-now}
 use Rattle.stage2.proofs.Walkers.BreakBeforeMake.{invalid-empty, none-stood}
 use Rattle.stage2.proofs.Walkers.ZeroedTables.{breaks-zero}
+use Rattle.std.proofs.lemmas.Grind.{common_steps}
 
 -- ---- pages whose walks do not change
 
@@ -24,17 +25,11 @@ use Rattle.stage2.proofs.Walkers.ZeroedTables.{breaks-zero}
 pub fine-same : (e : OpenCall) (due : Bool) (words new : Words) (q n : ℕ)
     → table_at e.layout new (Gigabyte q (index_1 n)) ≡ table_at e.layout words (Gigabyte q (index_1 n)) → table_at e.layout new (Chunk q (n / 512)) ≡ table_at e.layout words (Chunk q (n / 512))
     → walk e.layout new q n ≡ walk e.layout words q n → MayGive e q n (walk e.layout words q n) → IsFine e due due words new q n
-fine-same e due words new q n gigabyte chunk same may = record {
-  gigabyte = λ j at. gigabyte ∙ at;
-  chunk = λ k at. chunk ∙ at;
-  may = subst (λ (a : Walked). MayGive e q n a) (sym same) may;
-  owed = λ free. (free, inl same);
-}
+fine-same e due words new q n gigabyte chunk same may = grind (arith, common_steps, nat_tests)
 
 -- nothing is due
 due_nothing : (b : Bool) → (b && false) ≡ false
-due_nothing true = refl
-due_nothing false = refl
+due_nothing b = grind (arith, common_steps, nat_tests)
 
 -- a page that was not mapped, on whose way a table may be new
 pub fine-made : (e : OpenCall) (words new : Words) (q n : ℕ)
@@ -67,19 +62,13 @@ orderly-unheld e due words past page index word unheld o =
 -- ---- an invalid word of a level 3 table becomes valid
 
 pub unmapped_3 : (s : Slot) → at_3 s ≡ Unmapped → s ≡ Empty
-unmapped_3 Empty e = refl
-unmapped_3 (Next k) e = cc
-unmapped_3 (Maps m a) e = cc
-unmapped_3 Bad e = cc
+unmapped_3 s e = grind (arith, common_steps, nat_tests)
 
 -- ---- a word of a level 2 table
 
 -- whether a page is in the chunk of a row
 in_chunk : (p c q x : ℕ) → ((q ≡ p) × (x / 512 ≡ c)) ⊎ (q ≡ p → x / 512 ≡ c → ⊥)
-in_chunk p c q x = elim (cases_eq q p) [
-  | inl e ↦ elim (cases_eq (x / 512) c) [ inl f ↦ inl (e, f) | inr f ↦ inr (λ _ g. f g) ]
-  | inr e ↦ inr (λ g _. e g)
-]
+in_chunk p c q x = grind (arith, common_steps, nat_tests)
 
 fine-level_2-other : (e : OpenCall) (due : ℕ → Bool) (words : Words) (past : List Op) (p g j i word q x : ℕ) → IsLevel2Write e.layout words p g j i word → IsInStep e due words past → q < length e.layout.ids → x < 2 ^ 27
     → (q ≡ p → x / 512 ≡ 512 * g + i → ⊥) → IsFine e (eqb q e.row && due x) (eqb q e.row && due x) words (put j i word words) q x
@@ -137,23 +126,13 @@ orderly-cut_chunk e due words past g j i who h is gives o =
 
 -- the write of 0 at a chunk
 pub level_2-zero : (layout : Layout) (words : Words) (row c j : ℕ) → IsForest layout words → row < length layout.ids → c < 262144 → table_at layout words (Gigabyte row (c / 512)) ≡ Some j → IsLevel2Write layout words row (c / 512) j (c % 512) 0
-level_2-zero layout words row c j forest partition small table = record {
-  forest = forest;
-  partition = partition;
-  gigabyte = omega arith;
-  index = omega arith;
-  table = table;
-  fresh = λ k next. let empty : next_page (slot layout 2 0) ≡ None = ap next_page (slot-zero layout 2) in absurd (cc);
-}
+level_2-zero layout words row c j forest partition small table = grind (arith, common_steps, nat_tests, slot-zero)
 
 -- ---- a word of a root
 
 -- whether a page is in the gigabyte of a row
 in_gigabyte : (p g q x : ℕ) → ((q ≡ p) × (index_1 x ≡ g)) ⊎ (q ≡ p → index_1 x ≡ g → ⊥)
-in_gigabyte p g q x = elim (cases_eq q p) [
-  | inl e ↦ elim (cases_eq (index_1 x) g) [ inl f ↦ inl (e, f) | inr f ↦ inr (λ _ h. f h) ]
-  | inr e ↦ inr (λ h _. e h)
-]
+in_gigabyte p g q x = grind (arith, common_steps, nat_tests)
 
 module _ (e : OpenCall) (words : Words) (g word : ℕ) (forest : IsForest e.layout words) (partition : e.row < length e.layout.ids) where
   -- all other tables keep their words

@@ -16,13 +16,12 @@ use Rattle.stage2.proofs.Tree.Rows.{same_row}
 use Rattle.stage2.proofs.Editing.ChunkKeeps.{answer-walked}
 use Rattle.stage2.proofs.Walkers.SteadyPages.{differ-mixed, none-steady}
 use Rattle.stage2.proofs.Walkers.WholeEdit.{orderly-begun, moments-of}
+use Rattle.std.proofs.lemmas.Bool.Decides.{nat_tests}
+use Rattle.std.proofs.lemmas.Grind.{common_steps}
 
 -- the pages of a map are not reached, as the tables say
 pub free-views : (t : TablesView) (before : ℕ → ℕ → View) (p : ℕ) (runs : List PageRun) (access : View) → Agrees t.layout (words_of t.pool.memory.words) before → AreFreeFor p runs access before → AreFree (λ n. true) runs access (view_of t p)
-free-views t before p runs access starts free n small _ here = elim (free n small here) [
-  | inl none ↦ inl none
-  | inr none ↦ inr (ap answer_of (starts p n small) ∙ answer-walked n (before p n) ∙ none)
-]
+free-views t before p runs access starts free n small x9 here = grind (arith, common_steps, nat_tests, answer-walked)
 
 -- ---- its steps
 
@@ -47,8 +46,7 @@ call-edited entry old new p runs access cleared begun edits placed same free =
 -- ---- its end
 
 cond-walked : (b : Bool) (n : ℕ) (a x : View) → cond b (walked n a) (walked n x) ≡ walked n (cond b a x)
-cond-walked true n a x = refl
-cond-walked false n a x = refl
+cond-walked b n a x = grind (arith, common_steps, nat_tests)
 
 module _ (entry : TablesView) (before : ℕ → ℕ → View) (p : ℕ) (runs : List PageRun) (access : View)
     (root : has_root entry p ≡ true) (starts : Agrees entry.layout (words_of entry.pool.memory.words) before) where
@@ -63,9 +61,7 @@ module _ (entry : TablesView) (before : ℕ → ℕ → View) (p : ℕ) (runs : 
   told-after q n small at = ap (λ a. cond (covers runs n) access a) (told q n small at) ∙ sym (ap (λ b. cond (b && covers runs n) access (before q n)) (own q at))
 
   agrees-after : (now : TablesView) → now.layout ≡ entry.layout → ReachSo p runs access entry now → Agrees entry.layout (words_of now.pool.memory.words) (with_pages p runs access before)
-  agrees-after now placed walks q n small =
-      ap (λ (l : Layout). translation l (words_of now.pool.memory.words) q n) (sym placed) ∙ walks q n small
-      ∙ ap (λ a. cond (eqb q p && covers runs n) (walked n access) a) (starts q n small) ∙ cond-walked (eqb q p && covers runs n) n access (before q n)
+  agrees-after now placed walks q n small = grind (arith, common_steps, nat_tests, cond-walked)
 
   -- a steady page that is disturbed is not reached
   steady-none : AreFreeFor p runs access before → (q n : ℕ) → n < 2 ^ 27 → row_of entry.layout.ids q ≡ row_of entry.layout.ids p

@@ -13,16 +13,15 @@ use Rattle.stage2.specs.Walk.{walked, Agrees}
 use Rattle.stage2.specs.Moments.{AtEachMoment, Walker, Begins, Second, Third, Ends, IsLinked, Stands, OpenCall, MayGive, GivesOnly, IsInStepIn, nothing, MayAnswer, GivesOldOrNew, KeepsAnswers, IsSteady, Moments}
 use Rattle.stage2.proofs.Walkers.InStep.{orderly-start}
 use Rattle.base.proofs.Booleans.{both}
+use Rattle.std.proofs.lemmas.Bool.Decides.{nat_tests}
+use Rattle.std.proofs.lemmas.Grind.{common_steps}
 
 pub at_each : (P Q : List Op → Type 0) → ((past : List Op) → P past → Q past) → (past : List Op) → AtEachMoment P past → AtEachMoment Q past
 at_each P Q f [] h = f [] h
 at_each P Q f (op ∷ past) h = (f (op ∷ past) h.0, at_each P Q f past h.1)
 
 stands-linked : (layout : Layout) (words : Words) (due : Bool) (q n : ℕ) (w : Walker) → Stands layout words due q n w → IsLinked layout words q n w
-stands-linked layout words due q n Begins h = tt
-stands-linked layout words due q n (Second j) h = h
-stands-linked layout words due q n (Third k) h = h
-stands-linked layout words due q n (Ends a) h = tt
+stands-linked layout words due q n w h = grind (arith, common_steps, nat_tests)
 
 -- an edit of a row, from one pool to another
 abbrev pub edit_of : Layout → Pool → ℕ → (ℕ → Bool) → (ℕ → Walked) → List PageRun → OpenCall
@@ -38,45 +37,19 @@ module _ (layout : Layout) (old new : Pool) (before after : ℕ → ℕ → View
   at_row q n e = let h = both (eqb (row_of layout.ids q) row) (which n) e in (eqb-true _ _ h.0, h.1)
 
   gives_one : (q n : ℕ) (a : Walked) → n < 2 ^ 27 → MayGive (edit_of layout old row which answer cleared) (row_of layout.ids q) n a → (a ≡ Unmapped) ⊎ (a ≡ walked n (before q n)) ⊎ (a ≡ walked n (after q n))
-  gives_one q n a small may = elim may [
-    | inl was ↦ inr (inl (was ∙ starts q n small))
-    | inr h ↦ elim h.1 [
-      | inl none ↦ inl none
-      | inr is ↦ let at = at_row q n h.0 in inr (inr (is ∙ changed q n small at.0 at.1))
-    ]
-  ]
+  gives_one q n a small may = grind (arith, common_steps, nat_tests, at_row)
 
   keeps_one : (q n : ℕ) (a : Walked) → n < 2 ^ 27 → IsSteady before after q n → MayGive (edit_of layout old row which answer cleared) (row_of layout.ids q) n a → a ≡ walked n (before q n)
-  keeps_one q n a small steady may = elim may [
-    | inl was ↦ was ∙ starts q n small
-    | inr h ↦ let at = at_row q n h.0 in elim h.1 [
-      | inl none ↦ none ∙ kept q n small at.0 at.1 steady
-      | inr is ↦ is ∙ changed q n small at.0 at.1 ∙ ap (walked n) (sym steady.kept)
-    ]
-  ]
+  keeps_one q n a small steady may = grind (arith, common_steps, nat_tests, at_row)
 
   due_nothing : (b : Bool) → (b && false) ≡ false
-  due_nothing true = refl
-  due_nothing false = refl
+  due_nothing b = grind (arith, common_steps, nat_tests)
 
   fresh_one : (q n : ℕ) (a : Walked) → MayAnswer layout (words_of old.memory.words) new.operations q n a → (a ≡ Unmapped) ⊎ (a ≡ walked n (after q n))
-  fresh_one q n a u = elim (o.orderly.stands (row_of layout.ids q) n u.0 u.1 (Ends a) u.2 (due_nothing (eqb (row_of layout.ids q) row))) [
-    | inl none ↦ inl none
-    | inr is ↦ inr (is ∙ ends q n u.1)
-  ]
+  fresh_one q n a u = grind (arith, common_steps, nat_tests, due_nothing)
 
   pub moments-of : Moments layout old new before after
-  moments-of = record {
-    exact = o.orderly.exact;
-    counted = o.counted;
-    gives = at_each (GivesOnly (edit_of layout old row which answer cleared)) (GivesOldOrNew layout (words_of old.memory.words) before after) (λ past h q n a u. gives_one q n a u.1 (h (row_of layout.ids q) n u.0 u.1 a u.2)) new.operations o.orderly.gives;
-    keeps = at_each (GivesOnly (edit_of layout old row which answer cleared)) (KeepsAnswers layout (words_of old.memory.words) before after) (λ past h q n a same u. keeps_one q n a u.1 same (h (row_of layout.ids q) n u.0 u.1 a u.2)) new.operations o.orderly.gives;
-    breaks = o.orderly.breaks;
-    clears = o.orderly.clears;
-    within = within;
-    fresh = fresh_one;
-    linked = λ q n inside small w u. stands-linked layout (words_of new.memory.words) (eqb q row && false) q n w (o.orderly.stands q n inside small w u);
-  }
+  moments-of = grind (arith, common_steps, nat_tests, at_each, gives_one, keeps_one, fresh_one, stands-linked)
 
 -- before the first operation
 pub orderly-begun : (layout : Layout) (old new : Pool) (row : ℕ) (which : ℕ → Bool) (answer : ℕ → Walked) → new.memory ≡ old.memory → new.operations ≡ [] → new.made ≡ old.made → IsInStepIn (edit_of layout old row which answer []) nothing new

@@ -10,6 +10,8 @@ use Rattle.stage2.specs.declared.walked.Walked.TheVariants.{None as Unmapped}
 use Rattle.stage2.specs.Slot.{Layout}
 use Rattle.stage2.specs.Moments.{BreaksFirst, OpenCall, MayGive, IsInStepIn, IsLogged, nothing, Allows, LeavesDue, Settles, StaysInStep}
 use Rattle.stage2.proofs.Walkers.InStep.{orderly-invalidate, orderly-weaker}
+use Rattle.std.proofs.lemmas.Bool.Decides.{nat_tests}
+use Rattle.std.proofs.lemmas.Grind.{common_steps}
 
 -- 0 may be written anywhere
 pub breaks-zero : (layout : Layout) (entry : Words) (past : List Op) (page index : ℕ) → BreaksFirst layout entry past page index 0
@@ -23,13 +25,10 @@ pub counted-more : (a l m k : ℕ) → m % 2 ^ 64 ≡ (a + l) % 2 ^ 64 → k ≡
 counted-more a l m k e f = omega (arith, e, f)
 
 no : (a b : Bool) → (a || b) ≡ false → (a ≡ false) × (b ≡ false)
-no false b e = (refl, e)
-no true b e = absurd (cc)
+no a b e = grind (arith, common_steps, nat_tests)
 
 pub counted-op : (e : OpenCall) (op : Op) (old new : Pool) → IsLogged op old new → old.made % 2 ^ 64 ≡ (e.made + length old.operations) % 2 ^ 64 → new.made % 2 ^ 64 ≡ (e.made + length new.operations) % 2 ^ 64
-counted-op e op old new is counted =
-    let count : length new.operations ≡ suc (length old.operations) = ap (λ (ops : List Op). length ops) is.operations in
-    rw count (counted-more e.made (length old.operations) old.made new.made counted is.made)
+counted-op e op old new is counted = grind (arith, common_steps, nat_tests, counted-more)
 
 -- ---- one after another
 
@@ -40,17 +39,13 @@ fewer-pages : (e : OpenCall) (layout : Layout) (row : ℕ) (which all : ℕ → 
 fewer-pages e layout row which all answer within h = record { same_layout = h.same_layout; same_row = h.same_row; may = λ n small w. h.may n small (within n small w) }
 
 left_of : (all which more : Bool) → all ≡ (which || more) → which ≡ true → all ≡ true
-left_of all true more e w = e
-left_of all false more e w = absurd (cc)
+left_of all which more e w = grind (arith, common_steps, nat_tests)
 
 right_of : (all which more : Bool) → all ≡ (which || more) → more ≡ true → all ≡ true
-right_of all true true e w = e
-right_of all false true e w = e
-right_of all which false e w = absurd (cc)
+right_of all which more e w = grind (arith, common_steps, nat_tests)
 
 due_left : (due all : Bool) → (due || all) ≡ false → due ≡ false
-due_left true all f = absurd (cc)
-due_left false all f = refl
+due_left due all f = grind (arith, common_steps, nat_tests)
 
 pub clears-none : (layout : Layout) (row : ℕ) (which : ℕ → Bool) (a : Pool) → LeavesDue layout row which a a
 clears-none layout row which a e due allows o = weaker e due (λ n. due n || which n) a o (λ n small f. due_left (due n) (which n) f)
@@ -58,9 +53,7 @@ clears-none layout row which a e due allows o = weaker e due (λ n. due n || whi
 -- ---- invalidations
 
 and_not : (due which : Bool) → (due && not which) ≡ false → which ≡ false → due ≡ false
-and_not due true e f = absurd (cc)
-and_not true false e f = absurd (cc)
-and_not false false e f = refl
+and_not due which e f = grind (arith, common_steps, nat_tests)
 
 pub settles-one : (who : ℕ) (run : PageRun) (a b : Pool) → b.memory ≡ a.memory → IsLogged (Invalidate who run) a b → Settles who (λ n. in_run run n) a b
 settles-one who run a b same is e due row o =
@@ -72,9 +65,7 @@ settles-one who run a b same is e due row o =
     }
 
 settled_twice : (due all which more : Bool) → all ≡ (which || more) → (due && not all) ≡ false → ((due && not which) && not more) ≡ false
-settled_twice false all which more e f = refl
-settled_twice true all true more e f = refl
-settled_twice true all false more e f = rw e at f
+settled_twice due all which more e f = grind (arith, common_steps, nat_tests)
 
 pub settles-more : (who : ℕ) (which more all : ℕ → Bool) (a b c : Pool) → Settles who which a b → Settles who more b c → ((n : ℕ) → n < 2 ^ 27 → all n ≡ (which n || more n)) → Settles who all a c
 settles-more who which more all a b c so here is e due row o =
@@ -87,8 +78,7 @@ settles-as who which all a b so is e due row o = weaker e (λ n. due n && not (w
 -- ---- edits after which nothing is due
 
 due_of : (which : Bool) → ((false || which) && not which) ≡ false
-due_of true = refl
-due_of false = refl
+due_of which = grind (arith, common_steps, nat_tests)
 
 pub stays-cleared : (layout : Layout) (row who : ℕ) (which : ℕ → Bool) (a b c : Pool) → row_of layout.ids who ≡ row → LeavesDue layout row which a b → Settles who which b c → StaysInStep layout row which (λ n. Unmapped) a c
 stays-cleared layout row who which a b c is clears settles e allows o =
@@ -100,9 +90,7 @@ stays-none layout row which answer a e allows o = o
 
 pub stays-more : (layout : Layout) (row : ℕ) (which more all : ℕ → Bool) (answer : ℕ → Walked) (a b c : Pool) → StaysInStep layout row which answer a b → StaysInStep layout row more answer b c → ((n : ℕ) → n < 2 ^ 27 → all n ≡ (which n || more n))
     → StaysInStep layout row all answer a c
-stays-more layout row which more all answer a b c so here is e allows o =
-    here e (fewer-pages e layout row more all answer (λ n small w. right_of (all n) (which n) (more n) (is n small) w) allows)
-    (so e (fewer-pages e layout row which all answer (λ n small w. left_of (all n) (which n) (more n) (is n small) w) allows) o)
+stays-more layout row which more all answer a b c so here is e allows o = grind (arith, common_steps, nat_tests, fewer-pages, right_of, left_of)
 
 pub stays-as : (layout : Layout) (row : ℕ) (which all : ℕ → Bool) (answer : ℕ → Walked) (a b : Pool) → StaysInStep layout row which answer a b → ((n : ℕ) → n < 2 ^ 27 → all n ≡ which n) → StaysInStep layout row all answer a b
 stays-as layout row which all answer a b so is e allows o = so e (fewer-pages e layout row which all answer (λ n small w. is n small ∙ w) allows) o
@@ -110,20 +98,7 @@ stays-as layout row which all answer a b so is e allows o = so e (fewer-pages e 
 -- of an edit that may disturb more, and give other answers
 pub stays-wider : (layout : Layout) (row : ℕ) (which all : ℕ → Bool) (answer other : ℕ → Walked) (a b : Pool) → StaysInStep layout row which answer a b → ((n : ℕ) → n < 2 ^ 27 → which n ≡ true → (all n ≡ true) × ((answer n ≡ Unmapped) ⊎ (answer n ≡ other n)))
     → StaysInStep layout row all other a b
-stays-wider layout row which all answer other a b so within e allows o =
-    so e (record {
-      same_layout = allows.same_layout;
-      same_row = allows.same_row;
-      may = λ n small w.
-          let h = within n small w in
-          let m = allows.may n small h.0 in (
-            m.0,
-            elim h.1 [
-              | inl none ↦ subst (λ (x : Walked). MayGive e e.row n x) (sym none) m.0
-              | inr is ↦ subst (λ (x : Walked). MayGive e e.row n x) (sym is) m.1
-            ],
-          );
-    }) o
+stays-wider layout row which all answer other a b so within e allows o = grind (arith, common_steps, nat_tests)
 
 -- one edit after another
 pub stays-after : (layout : Layout) (row : ℕ) (which : ℕ → Bool) (answer : ℕ → Walked) (a b c : Pool) → StaysInStep layout row which answer a b → StaysInStep layout row which answer b c → StaysInStep layout row which answer a c
