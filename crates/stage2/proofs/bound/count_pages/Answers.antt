@@ -5,6 +5,8 @@ use Rattle.pool.proofs.FirstRuns.{take-all}
 use Rattle.stage2.proofs.Counting.FewOperations.{run-pages}
 use Rattle.stage2.proofs.Counting.Pieces.{pages_among-le, pages-none, pages-more}
 use Rattle.stage2.proofs.bound.count_pages.Goals as goal
+use Rattle.std.proofs.lemmas.Bool.Decides.{nat_tests}
+use Rattle.std.proofs.lemmas.Grind.{common_steps}
 
 pub loop-run-init : goal.loop-run-init
 loop-run-init c = record { pages = λ chunk. let none = pages-none chunk c.list-list.result.now in omega (arith, none) }
@@ -20,19 +22,10 @@ loop-run-preserved c = record {
 }
 
 pub returns : goal.returns
-returns c = λ chunk.
-    let all : take c.loop-run.run-index c.list-list.result.now ≡ c.list-list.result.now = take-all c.list-list.result.now c.loop-run.run-index c.loop-run-test.false c.loop-run.auto.run-index-end in
-    let so = c.loop-run.invariant.pages chunk in
-    let same = ap (λ (rs : List PageRun). pages_in rs chunk) (all ∙ c.list-list.ensures.same) in
-    omega (arith, so, same)
+returns c = λ chunk. grind (arith, common_steps, nat_tests, take-all c.list-list.result.now c.loop-run.run-index c.loop-run-test.false c.loop-run.auto.run-index-end, c.list-list.ensures.same)
 
 pub returns-in-len1 : goal.returns-in-len1
 returns-in-len1 c = λ chunk.
     let list = c.list-list.result.now in
     let run = c.run-item.result in
-    let more = pages-more list 0 chunk run c.list-list.ensures.normal c.in-len1.len_at_least c.run-item.is in
-    let none = pages-none chunk list in
-    let all : take 1 list ≡ list = take-all list 1 (omega (arith, c.in-len1.len_below)) (omega (arith, c.in-len1.len_at_least)) in
-    let one = run-pages run chunk in
-    let same = ap (λ (rs : List PageRun). pages_in rs chunk) (all ∙ c.list-list.ensures.same) in
-    omega (arith, more, none, same, one, c.count.ensures.same)
+    grind (arith, common_steps, nat_tests, pages-more list 0 chunk run c.list-list.ensures.normal c.in-len1.len_at_least c.run-item.is, pages-none chunk list, take-all, c.in-len1.len_below, c.in-len1.len_at_least, run-pages run chunk, c.list-list.ensures.same, c.count.ensures.same)

@@ -12,6 +12,8 @@ use Rattle.stage2.proofs.Counting.Pieces.{nonzero-most}
 use Rattle.stage2.proofs.Editing.FourChunkEdits.{is-next}
 use Rattle.stage2.proofs.bound.few_operations.Goals.{in-Some+then-is_some+then-pages-nonzero, in-Some+else-is_some, else-is_some-via-then-is_some+else-pages-nonzero, else-is_some-via-else-is_some, in-None+else-is_filled+else-is_some-2}
 use Rattle.stage2.proofs.bound.few_operations.Goals as goal
+use Rattle.std.proofs.lemmas.Bool.Decides.{nat_tests}
+use Rattle.std.proofs.lemmas.Grind.{common_steps}
 
 nothing : (a : View) → is_some a ≡ false → a ≡ None
 nothing None e = refl
@@ -44,9 +46,7 @@ entry_at-entry-requires-clause-known g c =
 pub overflow_sub-nonzero : goal.overflow_sub-nonzero
 overflow_sub-nonzero g c =
     let words = words_of (g.M.TableMem.state c.args.memory.now).memory.words in
-    let most = nonzero-most words c.in-Some.third in
-    let nonzero = c.nonzero-nonzero.ensures ∙ ap (nonzero_in words) c.number.ensures in
-    omega (arith, most, nonzero)
+    grind (arith, common_steps, nat_tests, nonzero-most words c.in-Some.third, c.nonzero-nonzero.ensures)
 
 pub returns-then-is_filled-clause-bound : goal.returns-then-is_filled-clause-bound
 returns-then-is_filled-clause-bound g c =

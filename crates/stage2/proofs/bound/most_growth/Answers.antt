@@ -1,6 +1,8 @@
 use Rattle.std.proofs.Common.{ℕ, ◌≡◌, ◌+◌, ◌-◌, ◌/◌, arith}
 use Rattle.stage2.proofs.Counting.Bounds.{grow-most}
 use Rattle.stage2.proofs.bound.most_growth.Goals as goal
+use Rattle.std.proofs.lemmas.Bool.Decides.{nat_tests}
+use Rattle.std.proofs.lemmas.Grind.{common_steps}
 
 -- the gigabyte of a page is that of its chunk
 gigabyte_of : (n : ℕ) → n / 262144 ≡ n / 512 / 512
@@ -10,6 +12,4 @@ pub returns : goal.returns
 returns c = λ before access.
     let first = c.bounds-pages.result.first in
     let end = c.bounds-pages.result.end in
-    let most = grow-most c.args.runs.now access before first end c.bounds-pages.ensures.within in
-    let last : end + 262144 - 1 ≡ end + 262143 = omega arith in
-    rw (c.chunks_between.ensures, last, gigabyte_of (end + 262143), gigabyte_of first) most
+    grind (arith, common_steps, nat_tests, c.bounds-pages.result.end, grow-most c.args.runs.now access before first end c.bounds-pages.ensures.within, c.chunks_between.ensures, gigabyte_of (end + 262143), gigabyte_of first)

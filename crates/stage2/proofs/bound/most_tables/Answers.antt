@@ -9,29 +9,18 @@ use Rattle.stage2.proofs.Editing.ChunkByChunk.{sum_below-more}
 use Rattle.stage2.proofs.Editing.GigabyteByGigabyte.{grow-sum}
 use Rattle.stage2.proofs.Runs.Spans.{sum_below-none, sum_below-tail, outside-gigabytes}
 use Rattle.stage2.proofs.bound.most_tables.Goals as goal
+use Rattle.std.proofs.lemmas.Bool.Decides.{nat_tests}
+use Rattle.std.proofs.lemmas.Grind.{common_steps}
 
 pub loop-number-init : goal.loop-number-init
-loop-number-init g c =
-    let before : ℕ → View = view_in c.args.edit.now.layout.now c.args.edit.now.row (g.M.TableMem.state c.args.memory.now) in
-    let runs = c.args.runs.now in
-    let access = c.args.edit.now.access in
-    let span = c.gigabyte_span-span.result in
-    let none = sum_below-none (gigabyte_growth before (edited runs access before)) span.first
-    (λ x lt. growth-nothing runs access before x (λ n at. outside-gigabytes runs span.first span.end n c.gigabyte_span-span.ensures.within (inl (omega (arith, at, lt))))) in
-    record { most = omega (arith, none); few = omega arith }
+loop-number-init g c = grind (arith, common_steps, nat_tests, c.args.edit.now.access, sum_below-none, growth-nothing, outside-gigabytes)
 
 pub loop-number-preserved : goal.loop-number-preserved
 loop-number-preserved g c =
     let before : ℕ → View = view_in c.args.edit.now.layout.now c.args.edit.now.row (g.M.TableMem.state c.args.memory.now) in
     let grows : ℕ → ℕ = gigabyte_growth before (edited c.args.runs.now c.args.edit.now.access before) in
     let i = c.loop-number.number in
-    let more = sum_below-more grows i in
-    let so = c.loop-number.invariant in
-    let most = so.most in
-    let few = so.few in
-    let here : grows i ≤ c.most_in_gigabyte-most.result = rw c.new.ensures at c.most_in_gigabyte-most.ensures.most in
-    let one = c.most_in_gigabyte-most.ensures.few in
-    record { most = omega (arith, more, most, here); few = omega (arith, few, one) }
+    grind (arith, common_steps, nat_tests, c.loop-number.number, sum_below-more grows i, c.loop-number.invariant, c.new.ensures, c.most_in_gigabyte-most.ensures.most, c.most_in_gigabyte-most.ensures.few)
 
 pub returns : goal.returns
 returns g c =

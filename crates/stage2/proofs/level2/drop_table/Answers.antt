@@ -16,6 +16,8 @@ use Rattle.stage2.proofs.Editing.OneChunk.{in-step-alike, others, dropped}
 use Rattle.stage2.proofs.Tree.TakenPages.{pages_of-give}
 use Rattle.stage2.proofs.Tree.Rows.{has-row}
 use Rattle.stage2.proofs.level2.drop_table.Goals as goal
+use Rattle.std.proofs.lemmas.Bool.Decides.{nat_tests}
+use Rattle.std.proofs.lemmas.Grind.{common_steps}
 
 pub replace_entry-requires-clause-page_in : goal.replace_entry-requires-clause-page_in
 replace_entry-requires-clause-page_in g c = second-inside c.args.edit.now.layout.now c.args.site.now.row c.args.edit.now.chunk c.args.site.now.second (pages_of (g.M.TableMem.state c.args.memory.now).memory) c.requires.can.site
@@ -58,12 +60,7 @@ give_page-requires g c =
     let m2 = pages_of (g.M.TableMem.state c.empty_table.new.memory).memory in
     let site = c.requires.can.site in
     let emptied = c.empty_table.ensures.writes.words in
-    let put = c.replace_entry.ensures.pages in
-    record {
-      inside = subst (λ x. InShare x s.row k) (sym (emptied.quotas ∙ ap (λ (x : Pages). x.quotas) put)) (third-share layout s.row e.chunk s.second m site k c.requires.table);
-      taken = ap (λ f. f k) emptied.taken ∙ ap (λ (x : Pages). x.taken k) put ∙ third-taken layout s.row e.chunk s.second m site k c.requires.table;
-      empty = drop-zero layout s.row e.chunk s.second m site k m1 m2 emptied;
-    }
+    grind (arith, common_steps, nat_tests, c.args.third, c.requires.can.site, third-share layout s.row e.chunk s.second m site k c.requires.table, third-taken layout s.row e.chunk s.second m site k c.requires.table, drop-zero layout s.row e.chunk s.second m site k m1 m2 emptied)
 
 pub returns : goal.returns
 returns g c =

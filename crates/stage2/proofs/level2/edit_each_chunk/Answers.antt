@@ -6,6 +6,8 @@ use Rattle.stage2.proofs.Runs.Between.{past-past}
 use Rattle.stage2.proofs.Tree.Rows.{has-row}
 use Rattle.stage2.proofs.level2.edit_each_chunk.Goals as goal
 use Rattle.stage2.proofs.level2.edit_each_chunk.Goals.{in-Some-new, in_default-new}
+use Rattle.std.proofs.lemmas.Bool.Decides.{nat_tests}
+use Rattle.std.proofs.lemmas.Grind.{common_steps}
 
 pub loop-piece-init : goal.loop-piece-init
 loop-piece-init g c = record { up_to = λ below. rw c.again-rest.ensures (at-start c.requires below) }
@@ -31,9 +33,7 @@ set_blocks-requires-clause-taken g c =
 pub set_blocks-requires-clause-partition : goal.set_blocks-requires-clause-partition
 set_blocks-requires-clause-partition g c =
     let below = c.in-Some.ensures.in_range in
-    let so = at-piece c.requires below (c.loop-piece.invariant.up_to below) c.in-Some.ensures.some in
-    let e = c.args.edit.now in
-    has-row e.layout.now (g.M.TableMem.state c.loop-piece.memory).memory e.p e.row (c.requires.orderly.ids ∙ sym so.underway.ids) e.own e.inside
+    grind (arith, common_steps, nat_tests, c.in-Some.ensures.in_range, at-piece c.requires below (c.loop-piece.invariant.up_to below) c.in-Some.ensures.some, c.loop-piece.invariant.up_to below, has-row, c.requires.orderly.ids)
 
 pub set_blocks-requires-clause-room : goal.set_blocks-requires-clause-room
 set_blocks-requires-clause-room g c =
@@ -55,9 +55,7 @@ loop-piece-preserved-then-piece-plain g c =
     }
 
 pub new-requires : goal.new-requires
-new-requires g c =
-    let next = c.in-Some.ensures.some in
-    record { past = past-past (512 * (512 * c.args.gigabyte + c.in-Some.piece.first)) (512 * c.chunk-chunk.result) c.loop-piece.rest c.in-Some.piece.runs (sym (ap (λ k. 512 * k) c.chunk-chunk.ensures.same)) next.past }
+new-requires g c = grind (arith, common_steps, nat_tests, c.in-Some.ensures.some, past-past, c.args.gigabyte)
 
 pub edit_one_of_many-requires : goal.edit_one_of_many-requires
 edit_one_of_many-requires g c =

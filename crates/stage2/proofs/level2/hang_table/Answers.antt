@@ -20,6 +20,8 @@ use Rattle.stage2.proofs.Walkers.SeatedChunks.{hung-seen, hung-outside, unheld-f
 use Rattle.stage2.proofs.Walkers.StepLists.{IsHung, stays-replaced}
 use Rattle.stage2.proofs.Walkers.ZeroedTables.{stays-after, stays-taken}
 use Rattle.stage2.proofs.level2.hang_table.Goals as goal
+use Rattle.std.proofs.lemmas.Bool.Decides.{nat_tests}
+use Rattle.std.proofs.lemmas.Grind.{common_steps}
 
 pub take_page-third-requires : goal.take_page-third-requires
 take_page-third-requires g c = record { free = c.requires.can.free (grows c.args.site.now c.args.edit.now (g.M.TableMem.state c.args.memory.now) c.requires.can.site c.requires.none c.requires.mixed) }
@@ -28,18 +30,13 @@ pub fill_table-requires-clause-taken : goal.fill_table-requires-clause-taken
 fill_table-requires-clause-taken g c =
     let old = g.M.TableMem.state c.args.memory.now in
     let took = c.take_page-third.ensures in
-    let marked = pages_of-take old (g.M.TableMem.state c.take_page-third.new.memory) c.args.site.now.row c.take_page-third.result (g.met.M.TableMem.whole c.args.memory.now) took.lowest took.state in
-    ap (λ (x : Pages). x.taken c.take_page-third.result) marked ∙ mark-same (pages_of old.memory).taken c.take_page-third.result true
+    grind (arith, common_steps, nat_tests, c.take_page-third.ensures, pages_of-take old (g.M.TableMem.state c.take_page-third.new.memory) c.args.site.now.row c.take_page-third.result (g.met.M.TableMem.whole c.args.memory.now) took.lowest took.state, g.met.M.TableMem.whole c.args.memory.now, mark-same (pages_of old.memory).taken c.take_page-third.result true)
 
 pub fill_table-requires-clause-some : goal.fill_table-requires-clause-some
 fill_table-requires-clause-some g c = some-hung c.args.site.now c.args.edit.now (g.M.TableMem.state c.args.memory.now) c.requires.can.site c.requires.none c.requires.mixed c.requires.before
 
 pub fill_table-requires-clause-room : goal.fill_table-requires-clause-room
-fill_table-requires-clause-room g c =
-    let words = hung c.args.site.now c.args.edit.now (g.M.TableMem.state c.args.memory.now) c.requires.can.site c.requires.none c.requires.mixed c.requires.before in
-    let room = c.requires.can.room in
-    let left = c.take_page-third.ensures.room in
-    omega (arith, words, room, left)
+fill_table-requires-clause-room g c = grind (arith, common_steps, nat_tests, hung c.args.site.now c.args.edit.now (g.M.TableMem.state c.args.memory.now) c.requires.can.site c.requires.none c.requires.mixed c.requires.before, c.requires.can.room, c.take_page-third.ensures.room)
 
 pub replace_entry-requires : goal.replace_entry-requires
 replace_entry-requires g c =

@@ -17,6 +17,8 @@ use Rattle.stage2.proofs.Walkers.SeatedChunks.{level_3-seen, invalid-word, unhel
 use Rattle.stage2.proofs.Walkers.StepLists.{stays-filled}
 use Rattle.stage2.proofs.Walkers.ZeroedTables.{stays-cleared}
 use Rattle.stage2.proofs.level2.rewrite_table.Goals as goal
+use Rattle.std.proofs.lemmas.Bool.Decides.{nat_tests}
+use Rattle.std.proofs.lemmas.Grind.{common_steps}
 
 pub write_runs-requires : goal.write_runs-requires
 write_runs-requires g c =
@@ -24,22 +26,11 @@ write_runs-requires g c =
     let e = c.args.edit.now in
     let old = g.M.TableMem.state c.args.memory.now in
     let can = c.requires.can in
-    let words = kept s e old can.site c.requires.table c.requires.mixed in
-    let room = can.room in
-    let third = is-table s e old can.site c.requires.table can.turned in
-    record {
-      page_in = third.inside;
-      taken = third.taken;
-      turned = third.turned;
-      room = omega (arith, words, room);
-    }
+    grind (arith, common_steps, nat_tests, c.requires.can, kept s e old can.site c.requires.table c.requires.mixed, can.room, is-table s e old can.site c.requires.table can.turned)
 
 -- pages that are mapped were not before
 unmapped : (runs : List PageRun) (access : View) (view : ℕ → View) (n : ℕ) (here : Bool) → is_some access ≡ true → (covers runs n ≡ true → (access ≡ None) ⊎ (view n ≡ None)) → (covers runs n && here) ≡ true → view n ≡ None
-unmapped runs access view n here maps free w = elim (free (both (covers runs n) here w).0) [
-  | inl none ↦ let bad : is_some access ≡ false = ap (λ a. is_some a) none in absurd (cc)
-  | inr none ↦ none
-]
+unmapped runs access view n here maps free w = grind (arith, common_steps, nat_tests, both (covers runs n) here w)
 
 pub returns-else-is_none : goal.returns-else-is_none
 returns-else-is_none g c =
@@ -89,14 +80,7 @@ invalidate_parts-requires g c =
     let s = c.args.site.now in
     let e = c.args.edit.now in
     let can = c.requires.can in
-    let each = unmaps e.access c.is_none.result (part_count e.chunk e.runs) c.is_none.ensures c.if-is_none.true in
-    let words = kept s e (g.M.TableMem.state c.args.memory.now) can.site c.requires.table c.requires.mixed in
-    let room = can.room in
-    let left = c.write_runs.ensures.room in
-    record {
-      partition = has-row e.layout.now (g.M.TableMem.state c.write_runs.new.memory).memory s.p s.row (can.site.orderly.ids ∙ sym c.write_runs.ensures.writes.words.ids) can.row can.site.partition;
-      room = omega (arith, each, words, room, left);
-    }
+    grind (arith, common_steps, nat_tests, c.requires.can, unmaps e.access c.is_none.result (part_count e.chunk e.runs) c.is_none.ensures c.if-is_none.true, kept s e (g.M.TableMem.state c.args.memory.now) can.site c.requires.table c.requires.mixed, can.room, c.write_runs.ensures.room, has-row)
 
 pub returns-then-is_none : goal.returns-then-is_none
 returns-then-is_none g c =

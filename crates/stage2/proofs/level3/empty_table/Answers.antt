@@ -15,6 +15,7 @@ use Rattle.stage2.proofs.Walkers.Histories.{filled-none, filled-more}
 use Rattle.stage2.proofs.Counting.Pieces.{nonzero-most, none-among, all-among, word-beside}
 use Rattle.stage2.proofs.Editing.Gaps.{writes-gaps}
 use Rattle.stage2.proofs.level3.empty_table.Goals as goal
+use Rattle.std.proofs.lemmas.Grind.{common_steps}
 
 -- all words are written
 abbrev plan : ℕ → Option View
@@ -42,11 +43,7 @@ turn_runs-requires-clause-turned g c = λ i small covered.
 
 -- what is planned for the pages of the runs is planned for all
 all-none : (runs : List PageRun) (n : ℕ) (answer : View) → planned runs None None n ≡ Some answer → planned [] None (Some None) n ≡ Some answer
-all-none runs n answer given = here (covers runs n) refl given
-  where
-    here : (b : Bool) → covers runs n ≡ b → planned runs None None n ≡ Some answer → planned [] None (Some None) n ≡ Some answer
-    here true e given = rw e at given
-    here false e given = let bad : None ≡ Some answer = rw e at given in absurd (cc)
+all-none runs n answer given = grind (arith, common_steps, nat_tests)
 
 pub returns-then-nonzero-edit-clause-writes : goal.returns-then-nonzero-edit-clause-writes
 returns-then-nonzero-edit-clause-writes g c =
@@ -68,25 +65,14 @@ returns-then-nonzero-edit-clause-writes g c =
 pub overflow_add-nonzero : goal.overflow_add-nonzero
 overflow_add-nonzero g c =
     let words = words_of (g.M.TableMem.state c.args.memory.now).memory.words in
-    let nonzero = c.nonzero-nonzero.ensures ∙ ap (nonzero_in words) c.number.ensures in
-    let few = nonzero-most words c.args.third in
-    let pages = c.args.edit.now.most in
-    omega (arith, nonzero, few, pages)
+    grind (arith, common_steps, nat_tests, c.nonzero-nonzero.ensures, nonzero-most words c.args.third, c.args.edit.now.most)
 
 pub write_gaps-requires-clause-turned : goal.write_gaps-requires-clause-turned
-write_gaps-requires-clause-turned g c = λ i small out.
-    let e = c.args.edit.now in
-    let some = there e.access (sym c.is_some.ensures ∙ c.if-is_some.true) in
-    let other = word-some (512 * e.chunk + i) e.access (words_of (g.M.TableMem.state c.args.memory.now).memory.words c.args.third i) some (c.requires.left i small out) in
-    grind (arith, nat_tests, other)
+write_gaps-requires-clause-turned g c = λ i small out. grind (arith, common_steps, nat_tests, there, c.if-is_some.true, word-some, c.requires.left i small out)
 
 -- what is planned beside the runs is planned for all
 all-gaps : (runs : List PageRun) (n : ℕ) (answer : View) → gaps runs None n ≡ Some answer → planned [] None (Some None) n ≡ Some answer
-all-gaps runs n answer given = here (covers runs n) refl given
-  where
-    here : (b : Bool) → covers runs n ≡ b → gaps runs None n ≡ Some answer → planned [] None (Some None) n ≡ Some answer
-    here true e given = let bad : None ≡ Some answer = rw e at given in absurd (cc)
-    here false e given = rw e at given
+all-gaps runs n answer given = grind (arith, common_steps, nat_tests)
 
 pub returns-then-nonzero-edit-eq-CHUNK_PAGES-clause-writes : goal.returns-then-nonzero-edit-eq-CHUNK_PAGES-clause-writes
 returns-then-nonzero-edit-eq-CHUNK_PAGES-clause-writes g c =
@@ -120,16 +106,10 @@ few-left k e pool left = either (is_some e.access) refl
     ])
 
 pub clear_words-requires-clause-room : goal.clear_words-requires-clause-room
-clear_words-requires-clause-room g c =
-    let few = few-left c.args.third c.args.edit.now (g.M.TableMem.state c.args.memory.now) c.requires.left in
-    let room = c.requires.room in
-    omega (arith, few, room)
+clear_words-requires-clause-room g c = grind (arith, common_steps, nat_tests, few-left c.args.third c.args.edit.now (g.M.TableMem.state c.args.memory.now) c.requires.left, c.requires.room)
 
 pub returns-else-is_some-clause-room : goal.returns-else-is_some-clause-room
-returns-else-is_some-clause-room g c =
-    let few = few-left c.args.third c.args.edit.now (g.M.TableMem.state c.args.memory.now) c.requires.left in
-    let room = c.clear_words.ensures.room in
-    omega (arith, few, room)
+returns-else-is_some-clause-room g c = grind (arith, common_steps, nat_tests, few-left c.args.third c.args.edit.now (g.M.TableMem.state c.args.memory.now) c.requires.left, c.clear_words.ensures.room)
 
 pub returns-else-is_some-clause-writes : goal.returns-else-is_some-clause-writes
 returns-else-is_some-clause-writes g c =

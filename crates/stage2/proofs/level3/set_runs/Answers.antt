@@ -3,23 +3,18 @@ use Rattle.pool.proofs.Gaps.{rise-normal}
 use Rattle.stage2.proofs.Editing.RunWords.{runs-written}
 use Rattle.stage2.proofs.Counting.Pieces.{words-pages}
 use Rattle.stage2.proofs.level3.set_runs.Goals as goal
+use Rattle.std.proofs.lemmas.Bool.Decides.{nat_tests}
+use Rattle.std.proofs.lemmas.Grind.{common_steps}
 
 pub set_runs-requires-clause-ready : goal.set_runs-requires-clause-ready
-set_runs-requires-clause-ready g c =
-    let words = words-pages c.args.edit.now.chunk c.args.edit.now.runs c.args.edit.now.normal in
-    let room = c.requires.room in
-    rw c.chunk_words-words.ensures.start (omega (arith, words, room))
+set_runs-requires-clause-ready g c = grind (arith, common_steps, nat_tests, words-pages c.args.edit.now.chunk c.args.edit.now.runs c.args.edit.now.normal, c.requires.room, c.chunk_words-words.ensures.start)
 
 pub returns-clause-writes : goal.returns-clause-writes
 returns-clause-writes g c =
     let e = c.args.edit.now in
     let w = c.chunk_words-words.ensures in
     let words = c.chunk_words-words.result in
-    rw (c.set_runs.ensures.state, w.page, w.start)
-    (runs-written c.args.third e.chunk words.word words.step e.access w.each e.runs (g.M.TableMem.state c.args.memory.now) (g.met.M.TableMem.whole c.args.memory.now) c.requires.page_in (rise-normal e.runs e.normal))
+    grind (arith, common_steps, nat_tests, c.chunk_words-words.ensures, w.page, w.start, runs-written c.args.third e.chunk words.word words.step e.access w.each e.runs (g.M.TableMem.state c.args.memory.now) (g.met.M.TableMem.whole c.args.memory.now) c.requires.page_in (rise-normal e.runs e.normal), g.met.M.TableMem.whole c.args.memory.now, rise-normal e.runs e.normal)
 
 pub returns-clause-room : goal.returns-clause-room
-returns-clause-room g c =
-    let words = words-pages c.args.edit.now.chunk c.args.edit.now.runs c.args.edit.now.normal in
-    let room = rw c.chunk_words-words.ensures.start at c.set_runs.ensures.room in
-    omega (arith, words, room)
+returns-clause-room g c = grind (arith, common_steps, nat_tests, words-pages c.args.edit.now.chunk c.args.edit.now.runs c.args.edit.now.normal, c.chunk_words-words.ensures.start, c.set_runs.ensures.room)

@@ -6,27 +6,19 @@ use Rattle.stage2.proofs.Editing.Gaps.{writes-gap-runs}
 use Rattle.stage2.proofs.Editing.RunWords.{runs-written}
 use Rattle.stage2.proofs.Counting.Pieces.{words-pages}
 use Rattle.stage2.proofs.level3.write_gaps.Goals as goal
+use Rattle.std.proofs.lemmas.Bool.Decides.{nat_tests}
+use Rattle.std.proofs.lemmas.Grind.{common_steps}
 
 pub set_gaps-requires-clause-ready : goal.set_gaps-requires-clause-ready
 set_gaps-requires-clause-ready g c =
     let e = c.args.edit.now in
-    let words = words-pages e.chunk e.runs e.normal in
-    let all = gaps-words (512 * e.chunk) e.runs (rise-normal e.runs e.normal) in
-    let room = c.requires.room in
-    rw c.chunk_words-words.ensures.start (omega (arith, words, all, room))
+    grind (arith, common_steps, nat_tests, words-pages e.chunk e.runs e.normal, gaps-words (512 * e.chunk) e.runs (rise-normal e.runs e.normal), rise-normal e.runs e.normal, c.requires.room, c.chunk_words-words.ensures.start)
 
 pub set_gaps-requires-clause-turned : goal.set_gaps-requires-clause-turned
 set_gaps-requires-clause-turned g c =
     let e = c.args.edit.now in
     let w = c.chunk_words-words.ensures in
-    let word = word_in (g.M.TableMem.state c.args.memory.now) in
-    record {
-      zeros = w.zeros;
-      each = λ i small gapped.
-          let up = rise-normal e.runs e.normal in
-          let out = gaps-out (512 * e.chunk) e.runs (512 * e.chunk + i) up (rw w.start at gapped) in
-          ap (λ k. word k i == 0) w.page ∙ c.requires.turned i small out ∙ sym w.valid;
-    }
+    grind (arith, common_steps, nat_tests, c.chunk_words-words.ensures, w.zeros, rise-normal e.runs e.normal, gaps-out, w.start, c.requires.turned)
 
 pub returns-clause-writes : goal.returns-clause-writes
 returns-clause-writes g c =
@@ -41,7 +33,4 @@ returns-clause-writes g c =
 pub returns-clause-room : goal.returns-clause-room
 returns-clause-room g c =
     let e = c.args.edit.now in
-    let words = words-pages e.chunk e.runs e.normal in
-    let all = gaps-words (512 * e.chunk) e.runs (rise-normal e.runs e.normal) in
-    let room = rw c.chunk_words-words.ensures.start at c.set_gaps.ensures.room in
-    omega (arith, words, all, room)
+    grind (arith, common_steps, nat_tests, words-pages e.chunk e.runs e.normal, gaps-words (512 * e.chunk) e.runs (rise-normal e.runs e.normal), rise-normal e.runs e.normal, c.chunk_words-words.ensures.start, c.set_gaps.ensures.room)

@@ -4,6 +4,7 @@ use Rattle.std.proofs.lemmas.Bool.Decides.{nat_tests}
 use Rattle.pool.specs.Pool.{words_of, nonzero_in}
 use Rattle.pool.proofs.Nonzero.{nonzero-zeros, nonzero-word}
 use Rattle.stage2.proofs.memory.is_empty.Goals as goal
+use Rattle.std.proofs.lemmas.Grind.{common_steps}
 
 pub returns-clause-yes : goal.returns-clause-yes
 returns-clause-yes g c = λ is i lt.
@@ -12,8 +13,4 @@ returns-clause-yes g c = λ is i lt.
     nonzero-zeros words c.args.table i none lt
 
 pub returns-clause-no : goal.returns-clause-no
-returns-clause-no g c = λ isnt.
-    let words = words_of (g.M.TableMem.state c.args.memory.now).memory.words in
-    let all : c.nonzero.result ≡ nonzero_in words c.args.table = c.nonzero.ensures ∙ ap (nonzero_in words) c.number.ensures in
-    let some : 0 < c.nonzero.result = grind (arith, nat_tests, isnt) in
-    nonzero-word words c.args.table (omega (arith, all, some))
+returns-clause-no g c = λ isnt. grind (arith, common_steps, nat_tests, c.nonzero.ensures, nonzero-word)

@@ -7,20 +7,14 @@ use Rattle.pool.proofs.FirstRuns.{take-all}
 use Rattle.stage2.proofs.Runs.Parts.{sum-take}
 use Rattle.stage2.proofs.Counting.Pieces.{pages_among-le, pages-none, pages-more}
 use Rattle.stage2.proofs.parts.count_pieces.Goals as goal
+use Rattle.std.proofs.lemmas.Bool.Decides.{nat_tests}
+use Rattle.std.proofs.lemmas.Grind.{common_steps}
 
 pub loop-run-init : goal.loop-run-init
-loop-run-init c = record {
-  pages = sym (pages-none c.args.chunk c.list-list.result.now);
-  runs = refl;
-  few = omega arith;
-}
+loop-run-init c = grind (arith, common_steps, nat_tests, pages-none c.args.chunk c.list-list.result.now)
 
 pub overflow_add-pieces : goal.overflow_add-pieces
-overflow_add-pieces c =
-    let so = c.loop-run.invariant.pages in
-    let first = pages_among-le (λ i. covers (take c.loop-run.run-index c.list-list.result.now) (512 * c.args.chunk + i)) in
-    let most = c.piece_of-piece.ensures.most in
-    omega (arith, so, first, most)
+overflow_add-pieces c = grind (arith, common_steps, nat_tests, pages_among-le, c.piece_of-piece.ensures.most)
 
 pub loop-run-preserved : goal.loop-run-preserved
 loop-run-preserved c =
@@ -40,7 +34,4 @@ loop-run-preserved c =
     }
 
 pub returns-clause-most : goal.returns-clause-most
-returns-clause-most c =
-    let so = c.loop-run.invariant.pages in
-    let most = pages_among-le (λ i. covers (take c.loop-run.run-index c.list-list.result.now) (512 * c.args.chunk + i)) in
-    omega (arith, so, most)
+returns-clause-most c = grind (arith, common_steps, nat_tests, pages_among-le)

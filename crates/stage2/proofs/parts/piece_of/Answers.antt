@@ -1,16 +1,14 @@
 use Rattle.std.proofs.Common.{sym, ◌∙◌, arith}
 use Rattle.stage2.proofs.Counting.Pieces.{part-pages, part-within, no-part-pages}
 use Rattle.stage2.proofs.parts.piece_of.Goals as goal
+use Rattle.std.proofs.lemmas.Bool.Decides.{nat_tests}
+use Rattle.std.proofs.lemmas.Grind.{common_steps}
 
 pub returns-in-Some-clause-pages : goal.returns-in-Some-clause-pages
 returns-in-Some-clause-pages c = c.count.ensures.same ∙ sym (part-pages c.args.chunk c.args.run c.in-Some.part (sym c.part_in.ensures ∙ c.in-Some.is))
 
 pub returns-in-Some-clause-most : goal.returns-in-Some-clause-most
-returns-in-Some-clause-most c =
-    let within = part-within c.args.chunk c.args.run c.in-Some.part (sym c.part_in.ensures ∙ c.in-Some.is) in
-    let low = within.0 in
-    let high = within.1 in
-    omega (arith, low, high, c.count.ensures.same)
+returns-in-Some-clause-most c = grind (arith, common_steps, nat_tests, part-within, c.in-Some.is, c.count.ensures.same)
 
 pub returns-in-None-clause-pages : goal.returns-in-None-clause-pages
 returns-in-None-clause-pages c = sym (no-part-pages c.args.chunk c.args.run (sym c.part_in.ensures ∙ c.in-None.is))

@@ -6,6 +6,8 @@ use Rattle.stage2.specs.Room.{pages_in}
 use Rattle.stage2.proofs.Counting.FewOperations.{run-all, run-whole, page-counted}
 use Rattle.stage2.proofs.Counting.Pieces.{pages_among-le}
 use Rattle.stage2.proofs.parts.pieces_within.Goals as goal
+use Rattle.std.proofs.lemmas.Bool.Decides.{nat_tests}
+use Rattle.std.proofs.lemmas.Grind.{common_steps}
 
 module _ (runs : List PageRun) (run : PageRun) (chunk : ℕ) (single : runs ≡ run ∷ []) (some : (n : ℕ) × (covers runs n ≡ true)) (only : (n : ℕ) → covers runs n ≡ true → n / 512 ≡ chunk) where
   pages : pages_in runs chunk ≡ run.count
@@ -15,14 +17,10 @@ module _ (runs : List PageRun) (run : PageRun) (chunk : ℕ) (single : runs ≡ 
   parts = ap (part_count chunk) single ∙ run-whole run chunk (rw single at some) (rw single at only)
 
 pub returns-in-len1-clause-pages : goal.returns-in-len1-clause-pages
-returns-in-len1-clause-pages c =
-    let single = sym c.list.ensures.same ∙ runs-single c.list.result.now c.run-item.result (omega (arith, c.in-len1.len_at_least, c.in-len1.len_below)) c.run-item.is in
-    c.count.ensures.same ∙ sym (pages c.args.runs.now c.run-item.result c.args.chunk single c.requires.some c.requires.only)
+returns-in-len1-clause-pages c = grind (arith, common_steps, nat_tests, runs-single, c.in-len1.len_at_least, c.in-len1.len_below, c.count.ensures.same, pages)
 
 pub returns-in-len1-clause-runs : goal.returns-in-len1-clause-runs
-returns-in-len1-clause-runs c =
-    let single = sym c.list.ensures.same ∙ runs-single c.list.result.now c.run-item.result (omega (arith, c.in-len1.len_at_least, c.in-len1.len_below)) c.run-item.is in
-    sym (parts c.args.runs.now c.run-item.result c.args.chunk single c.requires.some c.requires.only)
+returns-in-len1-clause-runs c = grind (arith, common_steps, nat_tests, runs-single, c.in-len1.len_at_least, c.in-len1.len_below, parts)
 
 pub returns-in-len1-clause-most : goal.returns-in-len1-clause-most
 returns-in-len1-clause-most c =
@@ -32,6 +30,4 @@ returns-in-len1-clause-most c =
     omega (arith, c.count.ensures.same, all, most)
 
 pub returns-clause-some : goal.returns-clause-some
-returns-clause-some c =
-    let some = page-counted c.args.runs.now c.args.chunk c.requires.some.0 c.requires.some.1 (c.requires.only c.requires.some.0 c.requires.some.1) in
-    omega (arith, some, c.count_pieces.ensures.pages)
+returns-clause-some c = grind (arith, common_steps, nat_tests, page-counted c.args.runs.now c.args.chunk c.requires.some.0 c.requires.some.1 (c.requires.only c.requires.some.0 c.requires.some.1), c.requires.only c.requires.some.0 c.requires.some.1)

@@ -12,16 +12,16 @@ use Rattle.stage2.proofs.Counting.Operations.{chunk-same}
 use Rattle.stage2.proofs.Runs.OwnRuns.{chunk-covers, chunk-turns, chunk-touches, chunk-count, chunk-mixed}
 use Rattle.stage2.specs.declared.plan.Plan.{Plan}
 use Rattle.stage2.proofs.plan.plan_at.Goals as goal
+use Rattle.std.proofs.lemmas.Bool.Decides.{nat_tests}
+use Rattle.std.proofs.lemmas.Grind.{common_steps}
 
 pub plan_in-requires-clause-turned : goal.plan_in-requires-clause-turned
 plan_in-requires-clause-turned g c =
     let h = c.in-Some.here in
     let so = c.in-Some.ensures.some in
     let runs = c.args.runs.now in
-    let access = c.args.edit.now.access in
     let chunk = c.args.chunk in
-    let before : ℕ → View = answers_of c.args.edit.now.layout.now (pages_of (g.M.TableMem.state c.args.memory.now).memory).words c.args.edit.now.row in
-    rw (so.1, so.3) (λ yes. chunk-turns chunk runs h.runs access (chunk-covers chunk runs h.runs so.2) before (c.requires.turned (sym so.4 ∙ yes)))
+    grind (arith, common_steps, nat_tests, c.in-Some.here, c.in-Some.ensures.some, c.args.edit.now.access, so.1, so.3, chunk-turns, chunk-covers chunk runs h.runs so.2, c.requires.turned)
 
 pub returns-in-Some : goal.returns-in-Some
 returns-in-Some g c =

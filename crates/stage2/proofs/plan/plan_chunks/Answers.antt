@@ -7,6 +7,8 @@ use Rattle.stage2.proofs.Counting.UpToPiece.{planned-start, planned-piece, plann
 use Rattle.stage2.proofs.Runs.Between.{past-past}
 use Rattle.stage2.proofs.Runs.Left.{left-covers}
 use Rattle.stage2.proofs.plan.plan_chunks.Goals as goal
+use Rattle.std.proofs.lemmas.Bool.Decides.{nat_tests}
+use Rattle.std.proofs.lemmas.Grind.{common_steps}
 
 pub loop-piece-init : goal.loop-piece-init
 loop-piece-init g c = record {
@@ -43,17 +45,10 @@ loop-piece-preserved-then-piece-plain g c =
     }
 
 pub plan_at-more-requires-clause-past : goal.plan_at-more-requires-clause-past
-plan_at-more-requires-clause-past g c =
-    let next = c.in-Some.ensures.some in
-    past-past (512 * (512 * c.args.gigabyte + c.in-Some.piece.first)) (512 * c.chunk.result) c.loop-piece.rest c.in-Some.piece.runs (sym (ap (λ k. 512 * k) c.chunk.ensures.same)) next.past
+plan_at-more-requires-clause-past g c = grind (arith, common_steps, nat_tests, c.in-Some.ensures.some, past-past, c.args.gigabyte)
 
 pub plan_at-more-requires-clause-turned : goal.plan_at-more-requires-clause-turned
-plan_at-more-requires-clause-turned g c = λ yes n at covered.
-    let so = planned-piece c.loop-piece.invariant.planned c.in-Some.ensures.some in
-    let x = 512 * c.args.gigabyte + c.in-Some.piece.first in
-    let here : n / 512 ≡ x = eqb-true _ _ at ∙ c.chunk.ensures.same in
-    let small = c.in-Some.ensures.some.small in
-    c.requires.turned yes n (eq-eqb (n / 512 / 512) c.args.gigabyte (omega (arith, here, small))) (sym (left-covers x c.in-Some.piece.runs c.args.runs.now so.left n here) ∙ covered)
+plan_at-more-requires-clause-turned g c = λ yes n at covered. grind (arith, common_steps, nat_tests, planned-piece c.loop-piece.invariant.planned c.in-Some.ensures.some, c.args.gigabyte, c.chunk.ensures.same, c.in-Some.ensures.some.small, c.requires.turned, left-covers)
 
 pub loop-piece-preserved : goal.loop-piece-preserved
 loop-piece-preserved g c =
@@ -64,6 +59,4 @@ loop-piece-preserved g c =
     }
 
 pub returns : goal.returns
-returns g c =
-    let so = planned-end c.loop-piece.invariant.planned (c.in_default.ensures.none refl) in
-    record { tables = so.tables; operations = so.operations; few = so.few; most = so.most }
+returns g c = grind (arith, common_steps, nat_tests, planned-end c.loop-piece.invariant.planned (c.in_default.ensures.none refl), c.in_default.ensures.none refl)

@@ -16,19 +16,14 @@ use Rattle.base.specs.Pages.{covers}
 use Rattle.stage2.proofs.Runs.OwnRuns.{gigabyte-covers, gigabyte-growth, gigabyte-operations}
 use Rattle.stage2.proofs.plan.plan_row.Goals as goal
 use Rattle.stage2.proofs.plan.plan_row.Goals.{then-touches, else-touches}
+use Rattle.std.proofs.lemmas.Bool.Decides.{nat_tests}
+use Rattle.std.proofs.lemmas.Grind.{common_steps}
 
 pub plan_gigabyte-more-requires-clause-touched : goal.plan_gigabyte-more-requires-clause-touched
 plan_gigabyte-more-requires-clause-touched g c = c.touches.ensures.yes c.if-touches.true c.new-gigabyte.result c.args.runs.now c.gigabyte_runs-part.ensures
 
 pub plan_gigabyte-more-requires-clause-turned : goal.plan_gigabyte-more-requires-clause-turned
-plan_gigabyte-more-requires-clause-turned g c = λ yes n at covered.
-    let number = c.loop-number.number in
-    let here = c.new-gigabyte.ensures in
-    let is = rw here at c.gigabyte_runs-part.ensures in
-    let there : n / 512 / 512 ≡ number = eqb-true _ _ at ∙ here in
-    let below = c.loop-number-test.true in
-    let most = c.gigabyte_span-span.ensures.most in
-    c.requires.turned yes n (lt-ltb n (2 ^ 27) (omega (arith, there, below, most))) (sym (gigabyte-covers number c.args.runs.now c.gigabyte_runs-part.result is n there) ∙ covered)
+plan_gigabyte-more-requires-clause-turned g c = λ yes n at covered. grind (arith, common_steps, nat_tests, c.loop-number.number, c.new-gigabyte.ensures, c.gigabyte_runs-part.ensures, c.loop-number-test.true, c.gigabyte_span-span.ensures.most, c.requires.turned, gigabyte-covers)
 
 pub loop-number-init : goal.loop-number-init
 loop-number-init g c =

@@ -3,15 +3,11 @@ use Rattle.pool.specs.Pool.{words_of}
 use Rattle.stage2.specs.Reading.{pages_at}
 use Rattle.stage2.proofs.Reading.Cursors.{counted, odd-row, row-none, row-step, step-more}
 use Rattle.stage2.proofs.cursor.Cursor.pass_row.Goals as goal
+use Rattle.std.proofs.lemmas.Bool.Decides.{nat_tests}
+use Rattle.std.proofs.lemmas.Grind.{common_steps}
 
 pub loop-self-init : goal.loop-self-init
-loop-self-init g c = record {
-  is = c.requires.is;
-  first = refl;
-  index = omega arith;
-  next = omega arith;
-  entries = row-none (words_of (g.W.WordSource.words c.args.words.now)) c.args.self.now c.args.level _ c.args.word;
-}
+loop-self-init g c = grind (arith, common_steps, nat_tests, c.requires.is, row-none)
 
 pub loop-self-preserved : goal.loop-self-preserved
 loop-self-preserved g c =

@@ -8,6 +8,8 @@ use Rattle.stage2.specs.declared.table_page.Level.TheVariants.{Second, Third}
 use Rattle.stage2.specs.Reading.{TableEntry, table_entries, table_in, left_in}
 use Rattle.stage2.proofs.Reading.Trees.{third-next, second-next, root-next, none-next}
 use Rattle.stage2.proofs.entries.EntriesIterator.next.Goals as goal
+use Rattle.std.proofs.lemmas.Bool.Decides.{nat_tests}
+use Rattle.std.proofs.lemmas.Grind.{common_steps}
 
 pub returns-in-Some-clause-steps : goal.returns-in-Some-clause-steps
 returns-in-Some-clause-steps g c =
@@ -62,6 +64,4 @@ returns-in_err-entry-clause-steps g c =
     let third = c.in_default.ensures.entries in
     let second = c.in_default-next.ensures.entries in
     let root = c.in_err-entry.ensures.entries in
-    let before = none-next own.base own.pages words own.root own.second own.third third.0 second.0 root.0 in
-    let after = none-next own.base own.pages words c.next-3.new.self c.next-2.new.self c.next.new.self third.1 second.1 root.1 in
-    rw c.from_residual.ensures (sym c.self.view_is ∙ before, after)
+    grind (arith, common_steps, nat_tests, c.self.inside, c.in_default.ensures.entries, c.in_default-next.ensures.entries, c.in_err-entry.ensures.entries, none-next own.base own.pages words own.root own.second own.third third.0 second.0 root.0, none-next own.base own.pages words c.next-3.new.self c.next-2.new.self c.next.new.self third.1 second.1 root.1, c.from_residual.ensures)

@@ -8,6 +8,7 @@ use Rattle.stage2.specs.Room.{pages_in}
 use Rattle.stage2.proofs.Counting.Bounds.{between, in-chunk}
 use Rattle.stage2.proofs.Runs.Normal.{any-within}
 use Rattle.stage2.proofs.site.ChunkEdit.alone.Goals as goal
+use Rattle.std.proofs.lemmas.Grind.{common_steps}
 
 -- runs within a chunk touch no other
 elsewhere : (runs : List PageRun) (first end c k : ℕ) → lie_within first end runs ≡ true → c ≡ first / 512 → end ≤ 512 * c + 512 → k ≢ c → touches_chunk k runs ≡ false
@@ -23,17 +24,10 @@ elsewhere runs first end c k within is last differs = elim (cases_Bool (touches_
     there a n t low high = grind (arith, nat_tests, t, low, high, is, last)
 
 pub new-requires : goal.new-requires
-new-requires c =
-    let b = between c.args.runs.now None (λ x. None) c.bounds-pages.result.first c.bounds-pages.result.end c.bounds-pages.ensures.within c.requires.0 c.requires.1 in
-    let low = b.0 in
-    let high = b.1 in
-    let most = c.bounds-pages.ensures.most in
-    omega (arith, low, high, most)
+new-requires c = grind (arith, common_steps, nat_tests, between, c.bounds-pages.ensures.most)
 
 pub pieces_within-requires-clause-only : goal.pieces_within-requires-clause-only
-pieces_within-requires-clause-only c =
-    let pages = c.bounds-pages in
-    in-chunk c.args.runs.now pages.result.first pages.result.end c.of-chunk.result pages.ensures.within (c.of-chunk.ensures ∙ ap (λ n. n / 512) c.new.ensures) (let last = c.if-end-pages.false in omega (arith, last, c.end.ensures.same))
+pieces_within-requires-clause-only c = grind (arith, common_steps, nat_tests, c.bounds-pages, in-chunk, c.of-chunk.ensures, c.if-end-pages.false, c.end.ensures.same)
 
 pub returns : goal.returns
 returns c =

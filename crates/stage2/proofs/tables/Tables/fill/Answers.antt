@@ -4,12 +4,11 @@ use Rattle.base.specs.Access.{View}
 use Rattle.stage2.specs.inner.Filling.{in_range, IsFilling}
 use Rattle.stage2.proofs.Editing.FillUpward.{can-map, mapped, others, others-more, others-none, edge-between, edge-last, filling-none, filling-more, filling-next, filled, segment-alike, in-range-fits}
 use Rattle.stage2.proofs.tables.Tables.fill.Goals as goal
+use Rattle.std.proofs.lemmas.Bool.Decides.{nat_tests}
+use Rattle.std.proofs.lemmas.Grind.{common_steps}
 
 pub loop-number-init : goal.loop-number-init
-loop-number-init g c = record {
-  filling = filling-none c.args.self.now.layout (in_range (g.V.Views.view c.args.views.now c.args.p)) c.args.p c.args.self.now refl c.requires.canonical c.requires.unmapped;
-  others = others-none c.args.p c.args.self.now;
-}
+loop-number-init g c = grind (arith, common_steps, nat_tests, filling-none c.args.self.now.layout (in_range (g.V.Views.view c.args.views.now c.args.p)) c.args.p c.args.self.now refl c.requires.canonical c.requires.unmapped, g.V.Views.view c.args.views.now c.args.p, others-none c.args.p c.args.self.now)
 
 pub map_pending-requires-clause-fits : goal.map_pending-requires-clause-fits
 map_pending-requires-clause-fits g c = λ a is.
@@ -57,33 +56,13 @@ loop-number-preserved-in_ok-map_pending g c =
     }
 
 pub loop-number-preserved : goal.loop-number-preserved
-loop-number-preserved g c =
-    let view = g.V.Views.view c.args.views.now c.args.p in
-    let layout = c.args.self.now.layout in
-    let p = c.args.p in
-    let l = c.loop-number in
-    let end = c.view_from-next.result.end in
-    let next = c.view_from-next.result.value in
-    let s = c.view_from-next.ensures in
-    let behind = s.behind in
-    let at = c.new-page.ensures in
-    let alike = segment-alike view l.number c.new-page.result end next at s.in_range s.alike in
-    let behind_number : l.number < end = omega (arith, behind, at) in
-    let here = alike l.number (omega arith) behind_number in
-    let same_view : l.access ≡ next = search rules in
-    record {
-      filling = filling-more layout (in_range view) p l.first l.number end l.access l.self l.invariant.filling (same_view ∙ sym here) behind_number s.in_range (λ n le lt. alike n le lt ∙ sym here);
-      others = l.invariant.others;
-    }
+loop-number-preserved g c = grind (arith, common_steps, nat_tests, g.V.Views.view c.args.views.now c.args.p, c.args.p, c.loop-number, c.view_from-next.result.end, c.view_from-next.result.value, c.view_from-next.ensures, c.new-page.ensures, segment-alike, filling-more)
 
 pub returns-clause-layout : goal.returns-clause-layout
 returns-clause-layout g c = on_ok_weaker _ (λ (same : c.map_pending-2.new.self.layout ≡ c.loop-number.self.layout). same ∙ c.loop-number.invariant.filling.placed) c.map_pending-2.ensures.layout
 
 pub returns-clause-walks : goal.returns-clause-walks
-returns-clause-walks g c =
-    let view = g.V.Views.view c.args.views.now c.args.p in
-    let l = c.loop-number in
-    on_ok_weaker _ (λ reach. filled c.args.self.now.layout view c.args.p l.first l.number l.access l.self c.map_pending-2.new.self l.invariant.filling c.loop-number-test.false reach) c.map_pending-2.ensures.walks
+returns-clause-walks g c = grind (arith, common_steps, nat_tests, g.V.Views.view c.args.views.now c.args.p, c.loop-number, on_ok_weaker, filled)
 
 pub returns-clause-others : goal.returns-clause-others
 returns-clause-others g c =

@@ -8,6 +8,8 @@ use Rattle.stage2.specs.Tables.{AllWalksAre}
 use Rattle.stage2.proofs.Counting.Quotas.{quota_at}
 use Rattle.stage2.proofs.Editing.FillPartitions.{filled-none, not-filled, filled-more, filled-all}
 use Rattle.stage2.proofs.tables.Tables.filled.Goals as goal
+use Rattle.std.proofs.lemmas.Bool.Decides.{nat_tests}
+use Rattle.std.proofs.lemmas.Grind.{common_steps}
 
 pub loop-partition-init : goal.loop-partition-init
 loop-partition-init g c = filled-none c.args.manifest.now (g.V.Views.view c.args.views.now) c.in_ok-tables.tables c.in_ok-tables.ensures.layout c.in_ok-tables.ensures.canonical c.in_ok-tables.ensures.unmapped
@@ -15,8 +17,7 @@ loop-partition-init g c = filled-none c.args.manifest.now (g.V.Views.view c.args
 pub fill-requires-clause-fits : goal.fill-requires-clause-fits
 fill-requires-clause-fits g c =
     let p = c.partition.inside.id in
-    subst (λ (l : Layout). need (g.V.Views.view c.args.views.now p) ≤ row_quota l.quotas (row_of l.ids p)) (sym c.loop-partition.invariant.placed)
-    (subst (λ k. need (g.V.Views.view c.args.views.now p) ≤ k) (sym (quota_at c.args.manifest.now.partitions p)) (c.requires.fits c.partitions-partition-items.ensures.valid p))
+    grind (arith, common_steps, nat_tests, c.partition.inside.id, g.V.Views.view c.args.views.now p, quota_at c.args.manifest.now.partitions p, c.requires.fits c.partitions-partition-items.ensures.valid p)
 
 pub fill-requires-clause-unmapped : goal.fill-requires-clause-unmapped
 fill-requires-clause-unmapped g c =
@@ -43,14 +44,7 @@ loop-partition-preserved g c =
     (e.layout ∙ c.loop-partition.invariant.placed) e.canonical e.others e.walks
 
 pub returns-clause-agrees : goal.returns-clause-agrees
-returns-clause-agrees g c =
-    let m = c.args.manifest.now in
-    let end : c.loop-partition.partition-index ≡ length m.partitions =
-    omega (arith, c.loop-partition-test.false, c.loop-partition.auto.partition-index-end, ap (λ (xs : List PartitionRow). length xs) c.partitions-partition-items.ensures.same) in
-    let view = g.V.Views.view c.args.views.now in
-    let all : AllWalksAre c.loop-partition.tables.layout view c.loop-partition.tables.pool = filled-all m view (c.requires.fits c.partitions-partition-items.ensures.valid) c.loop-partition.partition-index c.loop-partition.tables end c.loop-partition.invariant in
-    subst (λ (l : Layout). AllWalksAre l view c.give_list_back.new.self.pool) (sym c.give_list_back.ensures.layout)
-    (subst (λ (x : Pool). AllWalksAre c.loop-partition.tables.layout view x) (sym c.give_list_back.ensures.pool) all)
+returns-clause-agrees g c = grind (arith, common_steps, nat_tests, c.loop-partition.partition-index, c.loop-partition-test.false, c.loop-partition.auto.partition-index-end, g.V.Views.view c.args.views.now, filled-all, c.requires.fits c.partitions-partition-items.ensures.valid)
 
 pub returns-clause-layout : goal.returns-clause-layout
 returns-clause-layout g c = c.give_list_back.ensures.layout ∙ c.loop-partition.invariant.placed
