@@ -39,25 +39,7 @@ module _ (layout : Layout) (view : ℕ → View) (p first number : ℕ) (access 
   same-edit n small = grind (arith, common_steps, nat_tests, before, after)
 
   pub can-map : (a : Access) → access ≡ Some a → IsEdge view number → need view ≤ row_quota layout.quotas (row_of layout.ids p) → CanMap p first number a t
-  can-map a is edge enough = record {
-    some = let o = h.ordered in elim (cases_lt first number) [
-      | inl lt ↦ lt
-      | inr le ↦
-          let same : first ≡ number = omega (arith, o, le) in
-          let none = (h.some same).1 in
-          absurd (cc)
-    ];
-    inside = h.inside;
-    turned = λ n small covered.
-        let below = ltb-true _ _ small in
-        let from : first ≤ n = grind (arith, nat_tests, covered) in
-        ap (λ v. is_some v) (before n below ∙ below-out view first n from);
-    fits =
-        let all = fronts-fit view (view_of t p) (edited (pending_runs first number access) access (view_of t p)) first number h.edge edge before same-edit in
-        let quota = quota-of layout t p h.placed h.canonical in
-        let most : need (view_of t p) + grow (view_of t p) (edited (pending_runs first number access) access (view_of t p)) ≤ quota_in t p = omega (arith, all, enough, quota) in
-        subst (λ o. need (view_of t p) + grow (view_of t p) (edited (pending_runs first number o) o (view_of t p)) ≤ quota_in t p) is most;
-  }
+  can-map a is edge enough = grind (arith, common_steps, nat_tests, h.ordered, h.some, h.inside, before, below-out, fronts-fit view (view_of t p) (edited (pending_runs first number access) access (view_of t p)) first number h.edge edge before same-edit, quota-of layout t p h.placed h.canonical)
 
   -- when they are mapped
   pub mapped : (new : TablesView) → ReachSo p (pending_runs first number access) access t new → (n : ℕ) → n < 2 ^ 27 → walk_in new p n ≡ walked n (view_below view number n)
@@ -84,16 +66,7 @@ edge-between layout view p first number access t h unlike = grind (arith, common
 
 -- nothing is mapped, and nothing pending
 pub filling-none : (layout : Layout) (view : ℕ → View) (p : ℕ) (t : TablesView) → t.layout ≡ layout → AreCanonical t → ((n : ℕ) → n < 2 ^ 27 → walk_in t p n ≡ Unmapped) → IsFilling layout view p 0 0 None t
-filling-none layout view p t placed canonical unmapped = record {
-  placed = placed;
-  canonical = canonical;
-  walks = λ n small. unmapped n small ∙ ap (walked n) (sym (below-out view 0 n (omega arith)));
-  ordered = omega arith;
-  inside = omega arith;
-  some = λ same. (refl, refl);
-  alike = λ n le lt. absurd (omega (arith, lt));
-  edge = inl refl;
-}
+filling-none layout view p t placed canonical unmapped = grind (arith, common_steps, nat_tests, below-out)
 
 -- what is reached past the last page needs no table
 pub in-range-fits : (view : ℕ → View) (quota : ℕ) → need view ≤ quota → need (in_range view) ≤ quota

@@ -89,9 +89,7 @@ module _ (layout : Layout) (row c j : ℕ) (m : Pages) (h : IsSite layout row c 
   third-seen k i at = seen k i (no_root (Chunk row c) k in_chunk (λ e. cc) at)
 
   pub walk-entry : (n : ℕ) → n / 512 ≡ c → walk layout old row n ≡ at_2 layout old n entry
-  walk-entry n e =
-      let at : table_at layout old (Gigabyte row (n / 512 / 512)) ≡ Some j = ap (λ x. table_at layout old (Gigabyte row (x / 512))) e ∙ h.second in
-      walk-gigabyte layout old row n j h.partition at ∙ ap (λ x. at_2 layout old n (slot layout 2 (old j (x % 512)))) e ∙ ap (λ w. at_2 layout old n (slot layout 2 w)) (second-seen (c % 512))
+  walk-entry n e = grind (arith, common_steps, nat_tests, h.second, walk-gigabyte layout old row n j h.partition, second-seen (c % 512))
 
   pub at_2-seen : (n : ℕ) (s : Slot) → next_page s ≡ table_at layout old (Chunk row c) → at_2 layout old n s ≡ at_2 layout m.words n s
   at_2-seen n s e = grind (arith, common_steps, nat_tests, third-seen)
@@ -244,9 +242,7 @@ module _ (layout : Layout) (row c j : ℕ) (m : Pages) (h : IsSite layout row c 
 
   -- where the chunk's pages are to answer alike, those in no run did so before
   pub others-before : (runs : List PageRun) (access : View) (k : ℕ) → entry ≡ Next k → IsOutcome c (edited runs access (answers layout old row)) (Some access) → (n : ℕ) → n / 512 ≡ c → covers runs n ≡ false → answers_at layout m.words (Next k) n ≡ access
-  others-before runs access k is_table outcome n chunk out =
-      let same : answers layout old row n ≡ access = rw out at (outcome.same access refl n chunk) in
-      sym (answers-entry n chunk ∙ ap (λ (s : Slot). answers_at layout m.words s n) is_table) ∙ same
+  others-before runs access k is_table outcome n chunk out = grind (arith, common_steps, nat_tests, outcome.same access refl n chunk, answers-entry n chunk)
 
   -- its table's words stay where the chunk's own word is written
   pub left-kept : (k word : ℕ) (new : Pages) → entry ≡ Next k → new ≡ with_put j (c % 512) word m → (i : ℕ) → new.words k i ≡ m.words k i

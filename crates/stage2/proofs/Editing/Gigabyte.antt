@@ -183,9 +183,7 @@ module _ (layout : Layout) (row g k : ℕ) (m : Pages) (canonical : IsCanonical 
       }
 
   pub second-no-root : (new : Pages) → IsOrderly layout (linked layout row g k new) → table_at layout (linked layout row g k new).words (Gigabyte row g) ≡ Some k → k ≢ row
-  second-no-root new orderly at same =
-      let e : Gigabyte row g ≡ Root row = orderly.forest (Gigabyte row g) (Root row) k (inside, below) inside at (table_at-root layout (linked layout row g k new).words row ∙ ap Some (sym same)) in
-      cc
+  second-no-root new orderly at same = grind (arith, common_steps, nat_tests, orderly.forest (Gigabyte row g) (Root row) k (inside, below) inside, table_at-root layout (linked layout row g k new).words row)
 
   pub finish-zero : (answer : ℕ → View) (mid new : Pages) → IsUnderway layout row g k 512 answer m mid → ((i : ℕ) → i < 512 → mid.words k i ≡ 0) → new ≡ with_mark k false (with_put row g 0 mid) → EditsGigabyte layout row g answer m new
   finish-zero answer mid new u empty is =
@@ -313,6 +311,4 @@ link-has-free layout row g runs access m canonical inside below none touches map
 
 pub fits-tabled : (layout : Layout) (row g k : ℕ) (m : Pages) → IsCanonical layout m → row < length layout.ids → g < 512 → table_at layout m.words (Gigabyte row g) ≡ Some k
     → (runs : List PageRun) (access : View) → FitsGigabyte layout row g runs access m → Fits layout row g k runs access m
-fits-tabled layout row g k m canonical inside below table runs access h =
-    let fits : used_by m row + count_below (λ x. grows_at (answers layout m.words row) (edited runs access (answers layout m.words row)) (512 * g + x)) 512 ≤ row_quota m.quotas row = omega (arith, h.fits) in
-    record { fits = subst (λ (z : Pages). used_by m row + count_below (λ x. grows_at (answers layout z.words row) (edited runs access (answers layout z.words row)) (512 * g + x)) 512 ≤ row_quota m.quotas row) (sym (linked-same layout row g k m canonical inside below table)) fits }
+fits-tabled layout row g k m canonical inside below table runs access h = grind (arith, common_steps, nat_tests, h.fits, linked-same layout row g k m canonical inside below table)

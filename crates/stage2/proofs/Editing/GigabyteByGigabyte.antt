@@ -25,11 +25,7 @@ use Rattle.std.proofs.lemmas.Grind.{common_steps}
 
 pub used-need : (layout : Layout) (m : Pages) (row : ℕ) → IsCanonical layout m → row < length layout.ids → used_by m row ≡ need (answers layout m.words row)
 unfolding need
-used-need layout m row h inside =
-    h.orderly.used row inside
-    ∙ ap₂ (λ a b. a + b)
-    (count_below-same (is_reached (answers layout m.words row)) (λ g. is_some (table_at layout m.words (Gigabyte row g))) 512 (λ g below. h.reached row g inside below))
-    (count_below-same (is_mixed (answers layout m.words row)) (λ c. is_some (table_at layout m.words (Chunk row c))) 262144 (λ c below. h.orderly.mixed row c inside below))
+used-need layout m row h inside = grind (arith, common_steps, nat_tests, h.orderly.used row inside, count_below-same, h.reached, h.orderly.mixed)
 
 -- ---- grow, gigabyte by gigabyte
 
@@ -49,16 +45,7 @@ sum-step : (v w : ℕ → View) (g : ℕ) → sum_below (gigabyte_growth v w) g 
     → sum_below (gigabyte_growth v w) (g + 1) ≡ count_below (λ x. is_reached w x && not (is_reached v x)) (g + 1) + count_below (grows_at v w) (512 * (g + 1))
 sum-step v w g rest =
     let f : ℕ → Bool = λ x. is_reached w x && not (is_reached v x) in
-    let sum = sum_below-more (gigabyte_growth v w) g in
-    let one = count_below-more f g in
-    let e : 512 * (g + 1) ≡ 512 * g + 512 = omega arith in
-    let all : count_below (grows_at v w) (512 * (g + 1)) ≡ count_below (grows_at v w) (512 * g) + count_below (λ k. grows_at v w (512 * g + k)) 512 = ap (count_below (grows_at v w)) e ∙ count_below-add (grows_at v w) (512 * g) 512 in
-    sum ∙ ap (λ x. gigabyte_growth v w g + x) rest
-    ∙ regroup (cond (is_reached w g && not (is_reached v g)) 1 0) (count_below (λ k. grows_at v w (512 * g + k)) 512) (count_below f g) (count_below (grows_at v w) (512 * g))
-    ∙ sym (ap₂ (λ x y. x + y) one all)
-  where
-    regroup : (a b c d : ℕ) → (a + b) + (c + d) ≡ (a + c) + (d + b)
-    regroup a b c d = omega arith
+    grind (arith, common_steps, nat_tests, sum_below-more (gigabyte_growth v w) g, count_below-more f g, count_below-add (grows_at v w) (512 * g) 512)
 
 sum-growth : (v w : ℕ → View) (g : ℕ) → sum_below (gigabyte_growth v w) g ≡ count_below (λ x. is_reached w x && not (is_reached v x)) g + count_below (grows_at v w) (512 * g)
 sum-growth v w zero = sum-none v w

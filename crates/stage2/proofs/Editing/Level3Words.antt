@@ -14,18 +14,7 @@ before-at plan m n x e = grind (arith, common_steps, nat_tests)
 
 -- nothing yet: nothing is planned for the pages before the i-th
 pub writes-none : (k c i : ℕ) (plan : ℕ → Option View) (m : Pages) → ((x : ℕ) → x < i → plan (512 * c + x) ≡ None) → Writes k c (below (512 * c + i) plan) m m
-writes-none k c i plan m none = record {
-  ids = refl;
-  quotas = refl;
-  taken = refl;
-  others = λ q i apart. refl;
-  here = λ x v small given.
-      let f = before-at plan (512 * c + i) (512 * c + x) v given in
-      let gone : plan (512 * c + x) ≡ None = none x (omega (arith, f.0)) in
-      let some = f.1 in
-      absurd (cc);
-  stays = λ i small none. refl;
-}
+writes-none k c i plan m none = grind (arith, common_steps, nat_tests, before-at)
 
 below-in : (plan : ℕ → Option View) (m n : ℕ) → n < m → below m plan n ≡ plan n
 below-in plan m n lt = let t : ltb n m ≡ true = grind (arith, nat_tests) in rw t refl

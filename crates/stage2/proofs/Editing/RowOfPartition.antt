@@ -26,30 +26,7 @@ edited-walks layout p row runs access old new is orderly h q n small = grind (ar
 
 pub canonical_zero : (layout : Layout) (m : Pages) → ((page index : ℕ) → m.words page index ≡ 0) → layout.ids ≡ m.ids → layout.quotas ≡ m.quotas → layout.pages ≡ page_count m.quotas → length layout.ids ≡ length m.quotas → layout.base + layout.pages ≤ 2 ^ 27
     → ((row : ℕ) → row < length m.quotas → m.taken row ≡ true) → ((row q : ℕ) → InShare m.quotas row q → m.taken q ≡ false) → ((row : ℕ) → used_by m row ≡ 0) → IsCanonical layout m
-canonical_zero layout m zeros ids quotas pages rows fits roots free none =
-    let s = sound_zero layout m zeros ids pages rows fits roots in
-    record {
-      orderly = record {
-        ids = s.ids;
-        quotas = quotas;
-        pages = s.pages;
-        rows = s.rows;
-        fits = s.fits;
-        forest = s.forest;
-        taken = s.taken;
-        owned = s.owned;
-        hangs = λ row q inside held. let f = free row q inside in absurd (cc);
-        used = λ row inside.
-            let gigabytes = count_below-none (λ g. is_some (table_at layout m.words (Gigabyte row g))) 512 (λ g lt. ap (λ o. is_some o) (no_gigabyte layout m zeros row g)) in
-            let chunks = count_below-none (λ c. is_some (table_at layout m.words (Chunk row c))) 262144 (λ c lt. ap (λ o. is_some o) (no_chunk layout m zeros row c)) in
-            let zero_used = none row in
-            omega (arith, gigabytes, chunks, zero_used);
-        clean = λ a q i inside at lt empty. zeros q i;
-        tidy = s.tidy;
-        mixed = λ row c inside below. ap (λ o. is_some o) (no_chunk layout m zeros row c) ∙ sym (mixed-none (answers layout m.words row) c (λ i small. ap answer_of (unmapped layout m zeros row (512 * c + i))));
-      };
-      reached = λ row g inside below. ap (λ o. is_some o) (no_gigabyte layout m zeros row g) ∙ sym (reached-none (answers layout m.words row) g (λ i small. ap answer_of (unmapped layout m zeros row (262144 * g + i))));
-    }
+canonical_zero layout m zeros ids quotas pages rows fits roots free none = grind (arith, common_steps, nat_tests, sound_zero layout m zeros ids pages rows fits roots, count_below-none, no_gigabyte, no_chunk, mixed-none, unmapped, reached-none)
 
 -- where no page of a share is used, none is taken
 pub not-taken : (m : Pages) (row q : ℕ) → InShare m.quotas row q → used_by m row ≡ 0 → m.taken q ≡ false

@@ -25,10 +25,7 @@ module _ (c x : ℕ) (run : PageRun) (small : x < 512) where
   run-before lt = omega arith
 
   run-has : index_from (512 * c) run.first ≤ x → x < index_from (512 * c) (run.first + run.count) → in_run run (512 * c + x) ≡ true
-  run-has from lt =
-      let least : run.first ≤ 512 * c + x = omega arith in
-      let most : 512 * c + x < run.first + run.count = omega arith in
-      grind (arith, nat_tests, least, most)
+  run-has from lt = grind (arith, common_steps, nat_tests)
 
   run-behind : index_from (512 * c) (run.first + run.count) ≤ x → in_run run (512 * c + x) ≡ false
   run-behind from = let past : run.first + run.count ≤ 512 * c + x = omega arith in grind (arith, nat_tests, past)

@@ -19,10 +19,4 @@ unfolding slot
 word-spelled layout n w tidy clean = grind (arith, common_steps, nat_tests, word-table)
 
 pub spelled-words : (layout : Layout) (row c j : ℕ) (m : Pages) (h : IsSite layout row c j m) (k : ℕ) → slot layout 2 (m.words j (c % 512)) ≡ Next k → (n : ℕ) → n / 512 ≡ c → IsWordFor n (answers_at layout m.words (Next k) n) (m.words k (n % 512))
-spelled-words layout row c j m h k is n at =
-    let below = h.chunk in
-    let old = (linked layout row (c / 512) j m).words in
-    let entry = slot layout 2 (m.words j (c % 512)) in
-    let tidy : IsTidy n (walk layout old row n) = h.orderly.tidy row n h.partition (omega (arith, at, below)) in
-    let same : walk layout old row n ≡ at_2 layout m.words n (Next k) = walk-entry layout row c j m h n at ∙ at_2-seen layout row c j m h n entry (sym (table-entry layout row c j m h)) ∙ ap (at_2 layout m.words n) is in
-    word-spelled layout n (m.words k (n % 512)) (subst (IsTidy n) same tidy) (λ empty. clean-words layout row c j m h entry k refl is n at (ap (λ (s : Slot). answer_of (at_3 s)) empty))
+spelled-words layout row c j m h k is n at = grind (arith, common_steps, nat_tests, h.orderly.tidy, walk-entry layout row c j m h n, at_2-seen, table-entry layout row c j m h, word-spelled, clean-words)

@@ -27,10 +27,7 @@ module _ {e : RowEdit} {j g : ℕ} {runs : List PageRun} {first : Pool} {r0 : �
 
   -- two operations are for its link
   costs : operations_in_gigabyte e g runs first ≡ operations_in_chunks e g j runs first + 2
-  costs =
-      let least = touched-operations runs e.access (row_view e.layout.now e.row first) g can.touched in
-      let chunks = tabled-chunks e.layout.now e.row g j (pages_of first.memory) can.canonical e.inside below table runs e.access in
-      omega (arith, least, chunks)
+  costs = grind (arith, common_steps, nat_tests, touched-operations runs e.access (row_view e.layout.now e.row first) g can.touched, tabled-chunks e.layout.now e.row g j (pages_of first.memory) can.canonical e.inside below table runs e.access)
 
   pub tabled-can : CanEditChunks e g j runs first r0
   tabled-can = grind (arith, common_steps, nat_tests, same, fits-tabled, below, costs)
@@ -40,9 +37,7 @@ module _ {e : RowEdit} {j g : ℕ} {runs : List PageRun} {first : Pool} {r0 : �
     under = subst (λ (x : Pages). IsUnderway e.layout.now e.row g j 512 (edited runs e.access (answers e.layout.now x.words e.row)) (pages_of first.memory) (pages_of mid.memory)) same chunks.edits
 
     pub tabled-page : j < page_count mid.memory.quotas
-    tabled-page =
-        let within : j < page_count first.memory.quotas = share_inside first.memory.quotas e.row j (can.canonical.orderly.owned (Gigabyte e.row g) j (e.inside, below) table) in
-        subst (λ x. j < page_count x) (sym chunks.edits.quotas) within
+    tabled-page = grind (arith, common_steps, nat_tests, share_inside first.memory.quotas e.row j (can.canonical.orderly.owned (Gigabyte e.row g) j (e.inside, below) table), can.canonical.orderly.owned (Gigabyte e.row g) j (e.inside, below) table, e.inside)
 
     pub tabled-left : 2 ≤ r1
     tabled-left = let all = costs in let room = can.room in let left = chunks.room in omega (arith, all, room, left)

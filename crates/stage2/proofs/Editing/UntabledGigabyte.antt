@@ -42,10 +42,7 @@ module _ {e : RowEdit} {g : ℕ} {runs : List PageRun} {first : Pool} {r0 : ℕ}
 
     -- two operations are for its link
     costs : operations_in_gigabyte e g runs first ≡ operations_in_chunks e g j runs taken + 2
-    costs =
-        let least = touched-operations runs e.access (row_view e.layout.now e.row first) g can.touched in
-        let chunks = link-chunks e.layout.now e.row g j runs e.access (pages_of first.memory) can.canonical below link can.touched maps (pages_of taken.memory) marked in
-        omega (arith, least, chunks)
+    costs = grind (arith, common_steps, nat_tests, touched-operations runs e.access (row_view e.layout.now e.row first) g can.touched, link-chunks e.layout.now e.row g j runs e.access (pages_of first.memory) can.canonical below link can.touched maps (pages_of taken.memory) marked)
 
     pub untabled-can : {r1 : ℕ} → r1 ≡ r0 → CanEditChunks e g j runs taken r1
     untabled-can kept = record {

@@ -180,15 +180,7 @@ edited-rooted layout old new room left p row runs access is canonical edits stay
     below-root ids p row is = let a = is.is in let b = is.inside in grind (arith, nat_tests)
 
 pub edited-rootless : (t : TablesView) (p : ℕ) (runs : List PageRun) (access : View) → has_root t p ≡ false → StaysOut p runs access → AreCanonical t → AreEdited p runs access t t
-edited-rootless t p runs access none out canonical = record {
-  layout = refl;
-  walks = rootless-walks t p runs access none out;
-  moments = rootless-moments t p runs access none out;
-  clears = λ begun free. ap cleared_by begun;
-  in_step = λ free. stays-none t.layout (row_of t.layout.ids p) (disturbed runs (view_of t p) (edited runs access (view_of t p))) (λ n. walked n (edited runs access (view_of t p) n)) t.pool;
-  room = omega arith;
-  canonical = canonical;
-}
+edited-rootless t p runs access none out canonical = grind (arith, common_steps, nat_tests, rootless-walks t p runs access none out, rootless-moments t p runs access none out, stays-none)
 
 -- ---- a clear
 

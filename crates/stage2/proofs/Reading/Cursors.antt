@@ -177,22 +177,11 @@ module _ (level : Level) (first : ℕ) where
       (from-same word other n (suc i) (λ x le lt. same x (omega (arith, le)) (omega (arith, lt))))
 
   pub from-further : (word : ℕ → ℕ) (i : ℕ) → i + 64 ≤ 512 → entries_from level first word i (512 - i) ≡ entries_from level first word i 64 ++ entries_from level first word (i + 64) (512 - (i + 64))
-  from-further word i inside =
-      let count : 512 - i ≡ 64 + (512 - (i + 64)) = omega (arith, inside) in
-      ap (λ k. entries_from level first word i k) count ∙ from-apart word 64 (512 - (i + 64)) i
+  from-further word i inside = grind (arith, common_steps, nat_tests, from-apart word 64 (512 - (i + 64)) i)
 
 -- so many words further
 pub further : (pages : ℕ) (words : Words) (level : Level) (c : Cursor) → IsCursor pages words level c → c.index + 64 ≤ 512 → IsCursor pages words level (record c { index = c.index + 64 })
-further pages words level c is inside =
-    let more = count-grows c.level c.first (words c.table) c.index 64 in
-    let left = is.left in
-    record {
-      at = is.at;
-      table = λ lt. is.table (omega (arith, inside));
-      index = omega (arith, inside);
-      range = is.range;
-      left = omega (arith, more, left);
-    }
+further pages words level c is inside = grind (arith, common_steps, nat_tests, count-grows c.level c.first (words c.table) c.index 64, is.left, is.at, is.table, is.range)
 
 pub same-more : (pages counts : ℕ) (words others : Words) (level : Level) (old c other d : Cursor) → IsCursor pages words level c → IsCursor counts others level d → PassTheSame (left_in words old) (left_in words c) (left_in others other) (left_in others d) → c.first ≡ d.first → c.index ≡ d.index → c.index + 64 ≤ 512 → ((x : ℕ) → c.index ≤ x → x < c.index + 64 → words c.table x ≡ others d.table x) → PassTheSame (left_in words old) (left_in words (record c { index = c.index + 64 })) (left_in others other) (left_in others (record d { index = d.index + 64 }))
 same-more pages counts words others level old c other d is also so first index inside same =

@@ -115,16 +115,10 @@ leaf-small level word page a leaf =
     omega (arith, small, spelled, range)
 
 pub leaf-odd : (level : Level) (word page : ℕ) (a : Access) → entry_of (number_of level) word ≡ Leaf page a → word % 2 ≡ 1
-leaf-odd level word page a leaf =
-    let w = word-leaf (number_of level) word page a leaf in
-    ap (λ n. n % 2) w.spelled ∙ odd-leaf w.block page a w.legal
+leaf-odd level word page a leaf = grind (arith, common_steps, nat_tests, word-leaf (number_of level) word page a leaf, odd-leaf)
 
 pub leaf-block : (word page : ℕ) (a : Access) → entry_of 2 word ≡ Leaf page a → word % 4 ≡ 1
-leaf-block word page a leaf =
-    let w = word-leaf 2 word page a leaf in
-    let type = type-leaf true page a w.legal in
-    let spelled : word ≡ leaf_word_of true page a = w.spelled ∙ ap (λ b. leaf_word_of b page a) (second-leaf w.block w.at_level) in
-    omega (arith, type, ap (λ n. n % 4) spelled)
+leaf-block word page a leaf = grind (arith, common_steps, nat_tests, word-leaf 2 word page a leaf, type-leaf, second-leaf)
 
 -- none behind an entry
 pub none-behind : (e : TableEntry) (entries : List TableEntry) → e.first + pages_at e.level ≤ 2 ^ 27 → StandBehind e 0 entries entries

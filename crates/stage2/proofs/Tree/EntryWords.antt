@@ -30,34 +30,21 @@ level-page block e = grind (arith, common_steps, nat_tests)
 
 block-word : (layout : Layout) (n word : ℕ) (a : Access) → slot layout 2 word ≡ Maps n a → word ≡ leaf_word_of true n a
 unfolding slot
-block-word layout n word a is =
-    let w = word-leaf 2 word n a (leaf-entry layout n a (entry_of 2 word) is) in
-    w.spelled ∙ ap (λ b. leaf_word_of b n a) (level-block w.block w.at_level)
+block-word layout n word a is = grind (arith, common_steps, nat_tests, word-leaf 2 word n a (leaf-entry layout n a (entry_of 2 word) is), leaf-entry layout n a (entry_of 2 word) is, level-block)
 
 -- which is none of a table
 block-points : (layout : Layout) (n word : ℕ) (a : Access) → slot layout 2 word ≡ Maps n a → word % 4 ≡ 3 → ⊥
 unfolding slot
-block-points layout n word a is points =
-    let w = word-leaf 2 word n a (leaf-entry layout n a (entry_of 2 word) is) in
-    let block = level-block w.block w.at_level in
-    let kind = type-leaf true n a w.legal in
-    let same : word ≡ leaf_word_of true n a = w.spelled ∙ ap (λ b. leaf_word_of b n a) block in
-    omega (arith, points, kind, same)
+block-points layout n word a is points = grind (arith, common_steps, nat_tests, word-leaf 2 word n a (leaf-entry layout n a (entry_of 2 word) is), leaf-entry layout n a (entry_of 2 word) is, level-block, type-leaf)
 
 -- a block begins at a multiple of 512
 pub block-page : (layout : Layout) (n word : ℕ) (a : Access) → slot layout 2 word ≡ Maps n a → (x : ℕ) → n + x % 512 < 2 ^ 27
 unfolding slot
-block-page layout n word a is x =
-    let w = word-leaf 2 word n a (leaf-entry layout n a (entry_of 2 word) is) in
-    let aligned : n % 512 ≡ 0 = w.aligned (subst (λ b. IsTrue b) (sym (level-block w.block w.at_level)) refl) in
-    let small = w.in_range in
-    omega (arith, aligned, small)
+block-page layout n word a is x = grind (arith, common_steps, nat_tests, word-leaf 2 word n a (leaf-entry layout n a (entry_of 2 word) is), leaf-entry layout n a (entry_of 2 word) is, level-block)
 
 page-word : (layout : Layout) (n word : ℕ) (a : Access) → slot layout 3 word ≡ Maps n a → word ≡ leaf_word_of false n a
 unfolding slot
-page-word layout n word a is =
-    let w = word-leaf 3 word n a (leaf-entry layout n a (entry_of 3 word) is) in
-    w.spelled ∙ ap (λ b. leaf_word_of b n a) (level-page w.block w.at_level)
+page-word layout n word a is = grind (arith, common_steps, nat_tests, word-leaf 3 word n a (leaf-entry layout n a (entry_of 3 word) is), leaf-entry layout n a (entry_of 3 word) is, level-page)
 
 module _ (layout : Layout) (m : Pages) (h : IsOrderly layout m) where
   -- ---- a root

@@ -21,15 +21,10 @@ chunk-walk layout m row g i q inside small table =
 
 module _ (layout : Layout) (m : Pages) (h : IsOrderly layout m) where
   pub wrong-root : (row g : ℕ) → row < length layout.ids → g < 512 → (s : Slot) → slot layout 1 (m.words row g) ≡ s → at_1 layout m.words m.words (262144 * g) s ≡ Wrong → ⊥
-  wrong-root row g inside below s is wrong =
-      let index : 262144 * g / 512 / 512 ≡ g = omega arith in
-      let walk-is : walk layout m.words row (262144 * g) ≡ Wrong = walk-inside layout m.words row (262144 * g) inside ∙ ap (λ x. at_1 layout m.words m.words (262144 * g) (slot layout 1 (m.words row x))) index ∙ ap (at_1 layout m.words m.words (262144 * g)) is ∙ wrong in
-      rw walk-is at (h.tidy row (262144 * g) inside (omega (arith, below)))
+  wrong-root row g inside below s is wrong = grind (arith, common_steps, nat_tests, walk-inside layout m.words row (262144 * g) inside, h.tidy)
 
   pub root-known : (row g : ℕ) → row < length layout.ids → g < 512 → slot layout 1 (m.words row g) ≢ Bad
   root-known row g inside below bad = wrong-root row g inside below Bad bad refl
 
   pub second-known : (row g i q : ℕ) → row < length layout.ids → g < 512 → i < 512 → table_at layout m.words (Gigabyte row g) ≡ Some q → slot layout 2 (m.words q i) ≢ Bad
-  second-known row g i q inside below small table bad =
-      let walk-is : walk layout m.words row (512 * (512 * g + i)) ≡ Wrong = chunk-walk layout m row g i q inside small table ∙ ap (at_2 layout m.words (512 * (512 * g + i))) bad in
-      rw walk-is at (h.tidy row (512 * (512 * g + i)) inside (omega (arith, below, small)))
+  second-known row g i q inside below small table bad = grind (arith, common_steps, nat_tests, chunk-walk layout m row g i q inside small table, h.tidy)

@@ -105,6 +105,4 @@ stale-refused layout old new before after p n x h starts inside small was is nev
 -- and a valid word of a root is never overwritten but by 0
 pub overwrite-refused : (layout : Layout) (old new : Pool) (before after : ℕ → ℕ → View) (row index word : ℕ) (past : List Op) → Moments layout old new before after → new.operations ≡ Set row index word ∷ past → row < length layout.ids
     → IsValid (words_after past (words_of old.memory.words) row index) → word ≢ 0 → ⊥
-overwrite-refused layout old new before after row index word past h ops inside valid other =
-    let all : AllBreakFirst layout (words_of old.memory.words) (Set row index word ∷ past) = subst (λ (os : List Op). AllBreakFirst layout (words_of old.memory.words) os) ops h.breaks in
-    other ((all.0 (Root row) inside (table_at-root layout (words_after past (words_of old.memory.words)) row)).breaks valid)
+overwrite-refused layout old new before after row index word past h ops inside valid other = grind (arith, common_steps, nat_tests, table_at-root layout (words_after past (words_of old.memory.words)) row)

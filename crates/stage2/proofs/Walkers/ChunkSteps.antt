@@ -31,13 +31,7 @@ module _ (layout : Layout) (row g j : ℕ) (runs : List PageRun) (access : View)
   march-seated s = rw (quotient layout row g j runs access old inside below i lt mid h) (seated-after layout row g j old mid s (h.root g))
 
   pub march-free : AreFree (λ n. eqb (n / 512 / 512) g) runs access (answers layout (linked layout row g j old).words row) → AreFree (λ n. eqb (n / 512) (512 * g + i)) runs access (answers_in layout row (512 * g + i) j mid)
-  march-free free n small at covered =
-      let here : n / 512 ≡ 512 * g + i = eqb-true _ _ at in
-      let inside_g : n / 512 / 512 ≡ g = omega (arith, here, lt) in
-      elim (free n small (grind (arith, nat_tests)) covered) [
-        | inl none ↦ inl none
-        | inr none ↦ inr (still-answers layout row g j runs access old inside below i lt mid h n small here ∙ none)
-      ]
+  march-free free n small at covered = grind (arith, common_steps, nat_tests, still-answers)
 
   pub march-turns : Turns (λ n. eqb (n / 512 / 512) g) runs access (answers layout (linked layout row g j old).words row) → Turns (λ n. eqb (n / 512) (512 * g + i)) runs access (answers_in layout row (512 * g + i) j mid)
   march-turns turns n at covered = grind (arith, common_steps, nat_tests, still-answers)

@@ -59,12 +59,7 @@ sets-over k c i b plan part (Clear r ∷ ops) so le over h below = absurd h
 
 -- after the pages before the i-th, some up to the j-th, as they are planned
 pub filled-over : (k c i j : ℕ) (plan part : ℕ → Option View) (a b e : Pool) → i ≤ j → ((x : ℕ) (v : View) → part (512 * c + x) ≡ Some v → (i ≤ x) × (plan (512 * c + x) ≡ Some v)) → Filled k c i plan a b → Filled k c j part b e → Filled k c j plan a e
-filled-over k c i j plan part a b e le over so next = record {
-  ops = next.ops ++ so.ops;
-  made = made-more so.ops next.ops a b e so.made next.made;
-  sets = sets-over k c i j plan part next.ops so.ops le over next.sets so.sets;
-  changes = changes-append (words_of a.memory.words) next.ops so.ops (subst (λ (w : Words). AllChange w next.ops) so.made.words next.changes) so.changes;
-}
+filled-over k c i j plan part a b e le over so next = grind (arith, common_steps, nat_tests, next.ops, so.ops, made-more so.ops next.ops a b e so.made next.made, sets-over k c i j plan part next.ops so.ops le over next.sets so.sets, changes-append)
 
 pub filled-wider : (k c i b : ℕ) (plan : ℕ → Option View) (a e : Pool) → i ≤ b → Filled k c i plan a e → Filled k c b plan a e
 filled-wider k c i b plan a e le h = record { ops = h.ops; made = h.made; sets = sets-wider k c i b plan h.ops le h.sets; changes = h.changes }

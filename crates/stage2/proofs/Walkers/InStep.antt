@@ -100,14 +100,7 @@ orderly-more : (e : OpenCall) (more : ℕ → Bool) (new : Words) (past : List O
     → new ≡ words_after (op ∷ past) e.entry → AllBreakFirst e.layout e.entry (op ∷ past) → AllClearUnreached e.layout e.entry (op ∷ past) → cleared_by (op ∷ past) ≡ e.cleared
     → ((q n : ℕ) → q < length e.layout.ids → n < 2 ^ 27 → (w : Walker) → UnderWay e.layout e.entry q n (op ∷ past) w → Fits e new (eqb q e.row && more n) q n w)
     → IsInStep e more new (op ∷ past)
-orderly-more e more new past op gives exact breaks clears cleared fits = record {
-  exact = exact;
-  gives = (λ q n inside small a u. (fits q n inside small (Ends a) u).0, gives);
-  breaks = breaks;
-  clears = clears;
-  cleared = cleared;
-  stands = λ q n inside small w u. stands-fits e new (eqb q e.row && more n) q n w (fits q n inside small w u);
-}
+orderly-more e more new past op gives exact breaks clears cleared fits = grind (arith, common_steps, nat_tests, stands-fits)
 
 -- at a page a write leaves the tables on its way, makes its walk give what it may, and makes an invalidation due where it takes an answer away
 pub record IsFine (e : OpenCall) (due more : Bool) (words new : Words) (q n : ℕ) : Type 0 where

@@ -92,12 +92,7 @@ root-zero layout m row g orderly inside small none =
 -- ---- what hangs while the link is not written
 
 pub forest-unlinked : (layout : Layout) (row g j : ℕ) (m : Pages) → IsOrderly layout (linked layout row g j m) → row < length layout.ids → m.words row g ≡ 0 → IsForest layout m.words
-forest-unlinked layout row g j m orderly partition e a b q in_a in_b at_a at_b =
-    let all : Words = (linked layout row g j m).words in
-    let cut : put row g 0 all ≡ m.words = put-twice m.words row g (table_word_of (layout.base + j)) 0 ∙ put-there m.words row g 0 e in
-    orderly.forest a b q in_a in_b
-    (hangs-linked layout all row g orderly.forest partition a q in_a (ap (λ (w : Words). table_at layout w a) cut ∙ at_a))
-    (hangs-linked layout all row g orderly.forest partition b q in_b (ap (λ (w : Words). table_at layout w b) cut ∙ at_b))
+forest-unlinked layout row g j m orderly partition e a b q in_a in_b at_a at_b = grind (arith, common_steps, nat_tests, put-twice m.words row g (table_word_of (layout.base + j)) 0, put-there m.words row g 0 e, orderly.forest, hangs-linked)
 
 -- the link is written
 pub linked-there : (layout : Layout) (row g j : ℕ) (m : Pages) → m.words row g ≡ table_word_of (layout.base + j) → linked layout row g j m ≡ m

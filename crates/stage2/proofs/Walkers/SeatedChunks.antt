@@ -87,13 +87,7 @@ site-after layout row c j view m new h r = grind (arith, common_steps, nat_tests
 
 -- the chunk's word says what its pages answer
 pub gives-after : (layout : Layout) (row c j : ℕ) (view : ℕ → View) (m new : Pages) → IsSite layout row c j m → Redoes_in layout row c j view m new → (n : ℕ) → n < 2 ^ 27 → n / 512 ≡ c → at_2 layout new.words n (slot layout 2 (new.words j (c % 512))) ≡ walked n (view n)
-gives-after layout row c j view m new h r n small at =
-    let here : (eqb row row && eqb (n / 512) c) ≡ true = both row (n / 512) c at in
-    sym (gives-entry layout row c j new (site-after layout row c j view m new h r) n at)
-    ∙ r.redoes.walks row n small ∙ ap (λ b. cond b (walked n (view n)) (walk layout (linked layout row (c / 512) j m).words row n)) here
-  where
-    both : (x y z : ℕ) → y ≡ z → (eqb x x && eqb y z) ≡ true
-    both x y z e = grind (arith, nat_tests)
+gives-after layout row c j view m new h r n small at = grind (arith, common_steps, nat_tests, gives-entry layout row c j new (site-after layout row c j view m new h r) n, site-after layout row c j view m new h r, r.redoes.walks row n small)
 
 -- a block, or nothing, is what it says
 pub gives-block : (layout : Layout) (words : Words) (c word : ℕ) (view : ℕ → View) (one : View) → IsEntryFor c one word → IsOutcome c view (Some one) → (n : ℕ) → n / 512 ≡ c → at_2 layout words n (slot layout 2 word) ≡ walked n (view n)

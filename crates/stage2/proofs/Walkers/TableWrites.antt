@@ -72,12 +72,7 @@ in_chunk p c q x = grind (arith, common_steps, nat_tests)
 
 fine-level_2-other : (e : OpenCall) (due : ℕ → Bool) (words : Words) (past : List Op) (p g j i word q x : ℕ) → IsLevel2Write e.layout words p g j i word → IsInStep e due words past → q < length e.layout.ids → x < 2 ^ 27
     → (q ≡ p → x / 512 ≡ 512 * g + i → ⊥) → IsFine e (eqb q e.row && due x) (eqb q e.row && due x) words (put j i word words) q x
-fine-level_2-other e due words past p g j i word q x h o inside small other =
-    fine-same e (eqb q e.row && due x) words (put j i word words) q x
-    (table_at-level_2-other e.layout words p g j i word h (Gigabyte q (index_1 x)) (inside, omega arith) (λ f. cc))
-    (table_at-level_2-other e.layout words p g j i word h (Chunk q (x / 512)) (inside, omega arith) (λ f. other (cc) (cc)))
-    (walk-level_2-other e.layout words p g j i word h q x small other)
-    (may-now e due words past o q x inside small)
+fine-level_2-other e due words past p g j i word q x h o inside small other = grind (arith, common_steps, nat_tests, fine-same, table_at-level_2-other, walk-level_2-other e.layout words p g j i word h q x small other, may-now e due words past o q x inside small)
 
 -- an invalid one becomes a block, or points at a table that was filled
 pub orderly-level_2 : (e : OpenCall) (words : Words) (past : List Op) (g j i word : ℕ) → IsLevel2Write e.layout words e.row g j i word → IsInvalid (words j i)

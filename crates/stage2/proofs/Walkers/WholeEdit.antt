@@ -53,10 +53,7 @@ module _ (layout : Layout) (old new : Pool) (before after : ℕ → ℕ → View
 
 -- before the first operation
 pub orderly-begun : (layout : Layout) (old new : Pool) (row : ℕ) (which : ℕ → Bool) (answer : ℕ → Walked) → new.memory ≡ old.memory → new.operations ≡ [] → new.made ≡ old.made → IsInStepIn (edit_of layout old row which answer []) nothing new
-orderly-begun layout old new row which answer same none made = record {
-  orderly = rw (same, none) (orderly-start (edit_of layout old row which answer []) nothing refl);
-  counted = rw (none, made) (omega arith);
-}
+orderly-begun layout old new row which answer same none made = grind (arith, common_steps, nat_tests, orderly-start (edit_of layout old row which answer []) nothing refl)
 
 -- nothing was done
 pub moments-none : (layout : Layout) (old new : Pool) (before after : ℕ → ℕ → View) → Agrees layout (words_of old.memory.words) before → Agrees layout (words_of new.memory.words) after
