@@ -88,10 +88,7 @@ block-further-word c x a = omega arith
 
 block-entry : (c x word : ℕ) (a : Access) → 512 * (c + x) < 2 ^ 27 → (leaf : IsLeafWord 2 word (512 * c) a) → (b : Bool) → leaf.block ≡ b → entry_of 2 (word + 2097152 * x) ≡ Leaf (512 * (c + x)) a
 block-entry c x word a small leaf false is = let level : ◌≡◌ {A = ℕ} 2 3 = rw is at leaf.at_level in absurd (omega (arith, level))
-block-entry c x word a small leaf true is =
-    let spelled : word ≡ leaf_word_of true (512 * c) a = rw is at leaf.spelled in
-    let there : word + 2097152 * x ≡ leaf_word_of true (512 * (c + x)) a = ap (λ w. w + 2097152 * x) spelled ∙ block-further-word c x a in
-    ap (entry_of 2) there ∙ entry-block (512 * (c + x)) a small leaf.legal (omega arith)
+block-entry c x word a small leaf true is = grind (arith, common_steps, nat_tests, leaf.spelled, block-further-word c x a, entry-block)
 
 -- so they are in range
 pub blocks-small : (c word n : ℕ) (answer : View) → 512 * c < 2 ^ 27 → n ≤ 512 → IsEntryFor c answer word → word + block_step answer * n < 2 ^ 64

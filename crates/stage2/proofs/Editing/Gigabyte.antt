@@ -38,13 +38,7 @@ in_pool layout page = leb layout.base page && ltb page (layout.base + layout.pag
 
 table-entry : (layout : Layout) (k : ℕ) (e : Entry) → slot_from layout e ≡ Next k → (page : ℕ) × (e ≡ Table page) × (page ≡ layout.base + k)
 table-entry layout k Invalid e = absurd (cc)
-table-entry layout k (Table page) e = elim (cases_Bool (in_pool layout page)) [
-  | inl t ↦ let same : Next (page - layout.base) ≡ Next k = rw t at e in let at : page - layout.base ≡ k = cc in (page, refl, from page at t)
-  | inr f ↦ let bad : Bad ≡ Next k = rw f at e in absurd (cc)
-]
-  where
-    from : (page : ℕ) → page - layout.base ≡ k → in_pool layout page ≡ true → page ≡ layout.base + k
-    from page at t = grind (arith, nat_tests)
+table-entry layout k (Table page) e = grind (arith, common_steps, nat_tests)
 table-entry layout k (Leaf page a) e = absurd (cc)
 table-entry layout k WrongWord e = absurd (cc)
 

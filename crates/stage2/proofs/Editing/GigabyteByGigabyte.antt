@@ -49,8 +49,7 @@ sum-step v w g rest =
 
 sum-growth : (v w : ℕ → View) (g : ℕ) → sum_below (gigabyte_growth v w) g ≡ count_below (λ x. is_reached w x && not (is_reached v x)) g + count_below (grows_at v w) (512 * g)
 sum-growth v w zero = sum-none v w
-sum-growth v w (suc g) =
-    subst (λ n. sum_below (gigabyte_growth v w) n ≡ count_below (λ x. is_reached w x && not (is_reached v x)) n + count_below (grows_at v w) (512 * n)) (add-one g) (sum-step v w g (sum-growth v w g))
+sum-growth v w (suc g) = grind (arith, common_steps, nat_tests, sum-step v w g (sum-growth v w g), sum-growth v w g)
 
 pub grow-sum : (v w : ℕ → View) → sum_below (gigabyte_growth v w) 512 ≡ grow v w
 unfolding grow
@@ -122,10 +121,7 @@ module _ (layout : Layout) (row : ℕ) (runs : List PageRun) (access : View) (ol
 pub covers-at : (runs : List PageRun) (i n : ℕ) (run : PageRun) → i < length runs → run ≡ get_or runs i run → in_run run n ≡ true → covers runs n ≡ true
 covers-at [] i n run lt is here = absurd (omega arith)
 covers-at (r ∷ runs) zero n run lt is here = rw (sym is, here) refl
-covers-at (r ∷ runs) (suc i) n run lt is here = rw (covers-at runs i n run (omega arith) is here) (either (in_run r n))
-  where
-    either : (x : Bool) → (x || true) ≡ true
-    either x = grind (arith, common_steps, nat_tests)
+covers-at (r ∷ runs) (suc i) n run lt is here = grind (arith, common_steps, nat_tests)
 
 pub touched : (runs : List PageRun) (i g : ℕ) (run : PageRun) → i < length runs → run ≡ get_or runs i run → IsRun run → run.first / 512 / 512 ≤ g → g < ((run.first + run.count + 511) / 512 + 511) / 512 → Touches runs g
 touched runs i g run lt is some from to =

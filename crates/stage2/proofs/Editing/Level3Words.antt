@@ -103,11 +103,7 @@ writes-rest k c runs access a b left so = record {
 
     here : (i : ℕ) (x : View) → i < 512 → (t : Bool) → covers runs (512 * c + i) ≡ t → planned runs access (Some None) (512 * c + i) ≡ Some x → IsWordFor (512 * c + i) x (b.words k i)
     here i x small true e given = so.here i x small (rw e (rw e at given))
-    here i x small false e given =
-        let same : Some None ≡ Some x = rw e at given in
-        let none : None ≡ x = cc in
-        let read : b.words k i ≡ 0 = so.stays i small (rw e refl) ∙ left i small e in
-        rw (read, ← none) (record { entry = entry-zero 3; zero = λ same. refl })
+    here i x small false e given = grind (arith, common_steps, nat_tests, so.stays, entry-zero 3)
 
 -- no runs, and all others: all words are 0
 pub writes-zero : (k c : ℕ) (runs : List PageRun) (a b : Pages) → Writes k c (planned runs None (Some None)) a b → Writes k c (planned [] None (Some None)) a b

@@ -29,10 +29,7 @@ leaf-further p x a = omega arith
 
 entry-further : (p x word : ℕ) (a : Access) → p + x < 2 ^ 27 → (leaf : IsLeafWord 3 word p a) → (b : Bool) → leaf.block ≡ b → entry_of 3 (word + 4096 * x) ≡ Leaf (p + x) a
 entry-further p x word a small leaf true is = let level : ◌≡◌ {A = ℕ} 3 2 = rw is at leaf.at_level in absurd (omega (arith, level))
-entry-further p x word a small leaf false is =
-    let spelled : word ≡ leaf_word_of false p a = rw is at leaf.spelled in
-    let there : word + 4096 * x ≡ leaf_word_of false (p + x) a = ap (λ w. w + 4096 * x) spelled ∙ leaf-further p x a in
-    ap (entry_of 3) there ∙ entry-page (p + x) a small leaf.legal
+entry-further p x word a small leaf false is = grind (arith, common_steps, nat_tests, leaf.spelled, leaf-further p x a, entry-page (p + x) a small leaf.legal)
 
 pub word-further : (p x word : ℕ) (a : Access) → entry_of 3 word ≡ Leaf p a → p + x < 2 ^ 27 → IsWordFor (p + x) (Some a) (word + 4096 * x)
 word-further p x word a read small =

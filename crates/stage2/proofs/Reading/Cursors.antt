@@ -31,12 +31,7 @@ module _ (level : Level) (first : ℕ) (word : ℕ → ℕ) where
 
   count-grows : (i n : ℕ) → count_below some_word i ≤ count_below some_word (i + n)
   count-grows i zero = let same : i ≡ i + 0 = omega arith in let e = ap (λ k. count_below some_word k) same in omega (arith, e)
-  count-grows i (suc n) =
-      let less = count-grows i n in
-      let more = count_below-more some_word (i + n) in
-      let place : i + n + 1 ≡ i + suc n = omega arith in
-      let e = ap (λ k. count_below some_word k) place in
-      omega (arith, less, more, e)
+  count-grows i (suc n) = grind (arith, common_steps, nat_tests, count-grows i n, count_below-more some_word (i + n))
 
   none-left : (n i : ℕ) → i + n ≡ 512 → count_below some_word 512 ≤ count_below some_word i → entries_from level first word i n ≡ []
   unfolding entries_from

@@ -31,10 +31,7 @@ block-no-table base pages word block = go (entry_of 2 word) refl
   where
     go : (e : Entry) → entry_of 2 word ≡ e → table_in base pages e ≡ None
     go Invalid is = refl
-    go (Table page) is =
-        let spelled = (word-table 2 word page is).spelled in
-        let three = type-table page in
-        absurd (omega (arith, block, three, ap (λ n. n % 4) spelled))
+    go (Table page) is = grind (arith, common_steps, nat_tests, word-table 2 word page is, type-table page)
     go (Leaf page a) is = refl
     go Wrong is = refl
 

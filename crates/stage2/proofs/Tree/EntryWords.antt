@@ -68,11 +68,7 @@ module _ (layout : Layout) (m : Pages) (h : IsOrderly layout m) where
       → m.words q i ≡ entry_for_table layout (next_page s) (leaf_for true (512 * (512 * g + i)) (answer_of (at_2 layout m.words (512 * (512 * g + i)) s)))
   gigabyte-by row g i q inside below small table Empty is = h.clean (Gigabyte row g) q i (inside, below) table small is
   gigabyte-by row g i q inside below small table (Next k) is = table-word layout 2 (m.words q i) k is
-  gigabyte-by row g i q inside below small table (Maps p a) is =
-      let walk-is : walk layout m.words row (512 * (512 * g + i)) ≡ Mapped (p + index_3 (512 * (512 * g + i))) a = chunk-walk layout m row g i q inside small table ∙ ap (at_2 layout m.words (512 * (512 * g + i))) is in
-      let tidy : p + index_3 (512 * (512 * g + i)) ≡ 512 * (512 * g + i) = rw walk-is at (h.tidy row (512 * (512 * g + i)) inside (omega (arith, below, small))) in
-      let page : p ≡ 512 * (512 * g + i) = omega (arith, tidy) in
-      block-word layout p (m.words q i) a is ∙ ap (λ x. leaf_word_of true x a) page
+  gigabyte-by row g i q inside below small table (Maps p a) is = grind (arith, common_steps, nat_tests, chunk-walk layout m row g i q inside small table, h.tidy, block-word layout p (m.words q i) a is)
   gigabyte-by row g i q inside below small table Bad is = absurd (second-known layout m h row g i q inside below small table is)
 
   -- a word of a table's kind is that of a table
@@ -97,28 +93,14 @@ module _ (layout : Layout) (m : Pages) (h : IsOrderly layout m) where
   chunk-by : (row c i q : ℕ) → row < length layout.ids → c < 262144 → i < 512 → table_at layout m.words (Chunk row c) ≡ Some q → (s : Slot) → slot layout 3 (m.words q i) ≡ s
       → m.words q i ≡ leaf_for false (512 * c + i) (answer_of (at_3 s))
   chunk-by row c i q inside below small table Empty is = h.clean (Chunk row c) q i (inside, below) table small is
-  chunk-by row c i q inside below small table (Maps p a) is =
-      let walk-is : walk layout m.words row (512 * c + i) ≡ Mapped p a = page-walk row c i q inside small table ∙ ap at_3 is in
-      let tidy : p ≡ 512 * c + i = rw walk-is at (h.tidy row (512 * c + i) inside (omega (arith, below, small))) in
-      page-word layout p (m.words q i) a is ∙ ap (λ x. leaf_word_of false x a) tidy
-  chunk-by row c i q inside below small table (Next k) is =
-      let walk-is : walk layout m.words row (512 * c + i) ≡ Wrong = page-walk row c i q inside small table ∙ ap at_3 is in
-      absurd (rw walk-is at (h.tidy row (512 * c + i) inside (omega (arith, below, small))))
-  chunk-by row c i q inside below small table Bad is =
-      let walk-is : walk layout m.words row (512 * c + i) ≡ Wrong = page-walk row c i q inside small table ∙ ap at_3 is in
-      absurd (rw walk-is at (h.tidy row (512 * c + i) inside (omega (arith, below, small))))
+  chunk-by row c i q inside below small table (Maps p a) is = grind (arith, common_steps, nat_tests, page-walk row c i q inside small table, h.tidy, page-word layout p (m.words q i) a is)
+  chunk-by row c i q inside below small table (Next k) is = grind (arith, common_steps, nat_tests, page-walk row c i q inside small table, h.tidy)
+  chunk-by row c i q inside below small table Bad is = grind (arith, common_steps, nat_tests, page-walk row c i q inside small table, h.tidy)
 
   -- ---- each table
 
   pub entries : (a : Place) (q i : ℕ) → IsPlace layout a → table_at layout m.words a ≡ Some q → i < 512 → m.words q i ≡ word_at layout m.words a i
   unfolding word_at
-  entries (Root row) q i inside table small =
-      let same : row ≡ q = cc (table_at-root layout m.words row) in
-      ap (λ x. m.words x i) (sym same) ∙ root-by row i inside small (slot layout 1 (m.words row i)) refl
-      ∙ ap (λ o. entry_for_table layout o 0) (sym (gigabyte-now layout m.words row i))
-  entries (Gigabyte row g) q i inside table small =
-      gigabyte-by row g i q inside.0 inside.1 small table (slot layout 2 (m.words q i)) refl
-      ∙ ap₂ (λ o w. entry_for_table layout o (leaf_for true (512 * (512 * g + i)) (answer_of w))) (sym (chunk-table row g i q small table)) (sym (chunk-walk layout m row g i q inside.0 small table))
-  entries (Chunk row c) q i inside table small =
-      chunk-by row c i q inside.0 inside.1 small table (slot layout 3 (m.words q i)) refl
-      ∙ ap (λ w. leaf_for false (512 * c + i) (answer_of w)) (sym (page-walk row c i q inside.0 small table))
+  entries (Root row) q i inside table small = grind (arith, common_steps, nat_tests, table_at-root layout m.words row, root-by row i inside small (slot layout 1 (m.words row i)) refl, gigabyte-now layout m.words row i)
+  entries (Gigabyte row g) q i inside table small = grind (arith, common_steps, nat_tests, gigabyte-by row g i q inside.0 inside.1 small table (slot layout 2 (m.words q i)) refl, chunk-table row g i q small table, chunk-walk layout m row g i q inside.0 small table)
+  entries (Chunk row c) q i inside table small = grind (arith, common_steps, nat_tests, chunk-by row c i q inside.0 inside.1 small table (slot layout 3 (m.words q i)) refl, page-walk row c i q inside.0 small table)

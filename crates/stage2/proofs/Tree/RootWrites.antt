@@ -60,9 +60,7 @@ table_at-root_write-chunk layout words p g word h p' c inside below other = grin
 -- no table hangs below the gigabyte afterwards
 below_empty : (layout : Layout) (words : Words) (p g word : ℕ) → IsRootWrite layout words p g word → (c : ℕ) → c / 512 ≡ g → (o : Option ℕ) → next_page (slot layout 1 word) ≡ o → chunk_table layout (put p g word words) c o ≡ None
 below_empty layout words p g word h c e None f = refl
-below_empty layout words p g word h c e (Some j) f =
-    let same : put p g word words j (c % 512) ≡ words j (c % 512) = put-other words p g word j (c % 512) (λ equal _. h.fresh j f (Root p) h.partition (table_at-root layout words p ∙ ap Some (sym equal))) in
-    ap next_page (ap (slot layout 2) same ∙ h.empty j (c % 512) f (omega arith))
+below_empty layout words p g word h c e (Some j) f = grind (arith, common_steps, nat_tests, put-other, h.fresh, table_at-root layout words p, h.empty)
 
 pub table_at-root_write-below : (layout : Layout) (words : Words) (p g word : ℕ) → IsRootWrite layout words p g word → (c : ℕ) → c / 512 ≡ g → table_at layout (put p g word words) (Chunk p c) ≡ None
 unfolding table_at

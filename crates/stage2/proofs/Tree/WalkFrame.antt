@@ -146,13 +146,8 @@ AgreeOutside q words new = (r x : ℕ) → r ≢ q → new r x ≡ words r x
 
 pub table_at-outside : (layout : Layout) (words new : Words) (q : ℕ) → IsUnheld layout words q → AgreeOutside q words new → (b : Place) → IsPlace layout b → table_at layout new b ≡ table_at layout words b
 table_at-outside layout words new q h agree (Root p) inside = table_at-root layout new p ∙ sym (table_at-root layout words p)
-table_at-outside layout words new q h agree (Gigabyte p g) inside =
-    table_at-gigabyte layout words new p g (agree p g (λ same. h (Root p) inside.0 (table_at-root layout words p ∙ ap Some same)))
-table_at-outside layout words new q h agree (Chunk p c) inside =
-    table_at-chunk layout words new p c (record {
-      first = agree p (c / 512) (λ same. h (Root p) inside.0 (table_at-root layout words p ∙ ap Some same));
-      second = λ j at_j. agree j (c % 512) (λ same. h (Gigabyte p (c / 512)) (inside.0, omega (arith, inside.1)) (at_j ∙ ap Some same));
-    })
+table_at-outside layout words new q h agree (Gigabyte p g) inside = grind (arith, common_steps, nat_tests, table_at-gigabyte, table_at-root layout words p)
+table_at-outside layout words new q h agree (Chunk p c) inside = grind (arith, common_steps, nat_tests, table_at-chunk, table_at-root layout words p, inside.0, inside.1)
 
 pub walk-outside : (layout : Layout) (words new : Words) (q : ℕ) → IsUnheld layout words q → AgreeOutside q words new → (p n : ℕ) → n < 2 ^ 27 → walk layout new p n ≡ walk layout words p n
 walk-outside layout words new q h agree p n small =

@@ -113,18 +113,7 @@ fits-set : (e : OpenCall) (due more : Bool) (words new : Words) (q n : ℕ) → 
 fits-set e due more words new q n fine Begins h = tt
 fits-set e due more words new q n fine (Second j) h = fine.gigabyte j h
 fits-set e due more words new q n fine (Third k) h = fine.chunk k h
-fits-set e due more words new q n fine (Ends a) h = (
-  h.0,
-  λ free.
-      let owed = fine.owed free in
-      elim (h.1 owed.0) [
-        | inl none ↦ inl none
-        | inr is ↦ elim owed.1 [
-          | inl same ↦ inr (is ∙ sym same)
-          | inr none ↦ inl (is ∙ none)
-        ]
-      ],
-)
+fits-set e due more words new q n fine (Ends a) h = grind (arith, common_steps, nat_tests, h.0, fine.owed, h.1)
 
 -- a write that is fine at each page
 pub orderly-set : (e : OpenCall) (due more : ℕ → Bool) (words : Words) (past : List Op) (page index word : ℕ) → IsInStep e due words past

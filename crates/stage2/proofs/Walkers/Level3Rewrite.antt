@@ -89,8 +89,7 @@ clear-word e due words past c k i word h small is_zero is_due may o =
 
 sets-level_3 : (layout : Layout) (words : Words) (row c k b : ℕ) (plan : ℕ → Option View) (ops : List Op) → AreSets k c plan b ops → IsLevel3Write layout words row c k → IsLevel3Write layout (words_after ops words) row c k
 sets-level_3 layout words row c k b plan [] s h = h
-sets-level_3 layout words row c k b plan (Set q i word ∷ ops) s h =
-    subst (λ x. IsLevel3Write layout (put x i word (words_after ops words)) row c k) (sym s.0) (level_3-put layout (words_after ops words) row c k i word (sets-level_3 layout words row c k i plan ops s.3 h))
+sets-level_3 layout words row c k b plan (Set q i word ∷ ops) s h = grind (arith, common_steps, nat_tests, level_3-put layout (words_after ops words) row c k i word (sets-level_3 layout words row c k i plan ops s.3 h), sets-level_3 layout words row c k i plan ops s.3 h)
 sets-level_3 layout words row c k b plan (Invalidate p run ∷ ops) s h = absurd s
 sets-level_3 layout words row c k b plan (Clear run ∷ ops) s h = absurd s
 

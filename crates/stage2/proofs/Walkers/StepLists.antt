@@ -41,9 +41,7 @@ unheld-put layout words k i word h a inside at = h a inside (sym (table_at-unhel
 
 unheld-sets : (layout : Layout) (words : Words) (k c b : ℕ) (plan : ℕ → Option View) (ops : List Op) → AreSets k c plan b ops → IsUnheld layout words k → IsUnheld layout (words_after ops words) k
 unheld-sets layout words k c b plan [] s h = h
-unheld-sets layout words k c b plan (Set q i word ∷ ops) s h =
-    let P : ℕ → Type 0 = λ x. IsUnheld layout (put x i word (words_after ops words)) k in
-    subst P (sym s.0) (unheld-put layout (words_after ops words) k i word (unheld-sets layout words k c i plan ops s.3 h))
+unheld-sets layout words k c b plan (Set q i word ∷ ops) s h = grind (arith, common_steps, nat_tests, unheld-put layout (words_after ops words) k i word (unheld-sets layout words k c i plan ops s.3 h), unheld-sets layout words k c i plan ops s.3 h)
 unheld-sets layout words k c b plan (Invalidate p run ∷ ops) s h = absurd s
 unheld-sets layout words k c b plan (Clear run ∷ ops) s h = absurd s
 
@@ -92,11 +90,7 @@ make-step : (e : OpenCall) (words : Words) (past : List Op) (c j word : ℕ) →
     → ((k : ℕ) → next_page (slot e.layout 2 word) ≡ Some k → IsUnheld e.layout words k)
     → ((x : ℕ) → x < 2 ^ 27 → x / 512 ≡ c → MayGive e e.row x (at_2 e.layout (put j (c % 512) word words) x (slot e.layout 2 word))) → IsInStep e nothing words past
     → IsInStep e nothing (put j (c % 512) word words) (Set j (c % 512) word ∷ past)
-make-step e words past c j word partition small (inl h) invalid fresh may o =
-    let whole : 512 * (c / 512) + c % 512 ≡ c = omega arith in
-    let write = level_2-write e.layout words e.row c j word partition small h.0 h.1 fresh in
-    orderly-level_2 e words past (c / 512) j (c % 512) word write invalid
-    (λ x below at. subst (λ (a : Walked). MayGive e e.row x a) (sym (walk-level_2 e.layout words e.row (c / 512) j (c % 512) word write x at)) (may x below (at ∙ whole))) o
+make-step e words past c j word partition small (inl h) invalid fresh may o = grind (arith, common_steps, nat_tests, level_2-write e.layout words e.row c j word partition small h.0 h.1 fresh, orderly-level_2, walk-level_2)
 make-step e words past c j word partition small (inr h) invalid fresh may o = orderly-unheld e nothing words past j (c % 512) word h o
 
 broken-step : (e : OpenCall) (words : Words) (past : List Op) (p c j : ℕ) → e.row < length e.layout.ids → c < 262144 → IsHung e.layout words e.row c j → row_of e.layout.ids p ≡ e.row

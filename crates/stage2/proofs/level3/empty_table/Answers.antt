@@ -100,10 +100,7 @@ few-left k e pool left = either (is_some e.access) refl
   where
     either : (b : Bool) → is_some e.access ≡ b → nonzero_in (words_of pool.memory.words) k ≤ words_left k e pool
     either true some = rw some (omega arith)
-    either false none = rw none (elim (cases_Bool (ltb (pages_in e.runs e.chunk) (nonzero_in (words_of pool.memory.words) k))) [
-      | inl t ↦ let beside = word-beside (words_of pool.memory.words) k (λ i. covers e.runs (512 * e.chunk + i)) (ltb-true _ _ t) in absurd (beside.3 ((left beside.0 beside.1 beside.2).zero (gone e.access none)))
-      | inr f ↦ grind (arith, nat_tests, f)
-    ])
+    either false none = grind (arith, common_steps, nat_tests, word-beside, gone e.access none)
 
 pub clear_words-requires-clause-room : goal.clear_words-requires-clause-room
 clear_words-requires-clause-room g c = grind (arith, common_steps, nat_tests, few-left c.args.third c.args.edit.now (g.M.TableMem.state c.args.memory.now) c.requires.left, c.requires.room)
