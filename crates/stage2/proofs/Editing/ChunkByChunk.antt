@@ -68,13 +68,7 @@ sum_below-up f n (suc m) le = elim (cases_eq n (suc m)) [
 -- numbers that are all alike
 pub sum_below-each : (f : ℕ → ℕ) (i k n : ℕ) → ((x : ℕ) → i ≤ x → x < i + k → f x ≡ n) → sum_below f (i + k) ≡ sum_below f i + n * k
 sum_below-each f i zero n each = let start : i + 0 ≡ i = omega arith in rw start (omega arith)
-sum_below-each f i (suc k) n each =
-    let rest = sum_below-each f i k n (λ x from to. each x from (omega (arith, to))) in
-    let more = sum_below-more f (i + k) in
-    let here = each (i + k) (omega arith) (omega arith) in
-    let next : i + suc k ≡ i + k + 1 = omega arith in
-    let times : n * suc k ≡ n * k + n = omega arith in
-    rw next (omega (arith, rest, more, here, times))
+sum_below-each f i (suc k) n each = grind (arith, common_steps, nat_tests, sum_below-each f i k n (λ x from to. each x from (omega (arith, to))), sum_below-more f (i + k))
 
 -- ---- the pages that the edit of a chunk takes
 
@@ -138,8 +132,7 @@ module _ (layout : Layout) (row g j : ℕ) (runs : List PageRun) (access : View)
         let here : bit (grows_at before after (512 * g + i)) ≡ 1 = ap bit one in
         let up = count_below-up (λ x. grows_at before after (512 * g + x)) (i + 1) 512 (omega arith) in
         let quota : row_quota mid.quotas row ≡ row_quota old.quotas row = ap (λ q. row_quota q row) h.quotas in
-        let used = h.used in
-        omega (arith, more, here, up, quota, fits, used)
+        omega (arith, more, here, up, quota, fits, h.used)
 
     -- the pages of the next chunk are not in the runs
     pub underway-skip : ((n : ℕ) → n < 2 ^ 27 → n / 512 ≡ 512 * g + i → covers runs n ≡ false) → IsUnderway layout row g j (i + 1) after old mid
@@ -173,8 +166,7 @@ module _ (layout : Layout) (row g j : ℕ) (runs : List PageRun) (access : View)
               let now : bit (is_mixed (edited runs access (answers_in layout row (512 * g + i) j mid)) (512 * g + i)) ≡ bit (is_mixed after (512 * g + i)) = ap bit now-mixed in
               let more = count_below-more (λ x. grows_at before after (512 * g + x)) i in
               let bits = grown (is_mixed after (512 * g + i)) (is_mixed before (512 * g + i)) in
-              let used = h.used in
-              omega (arith, one, was, now, more, bits, used);
+              omega (arith, one, was, now, more, bits, h.used);
         }
       where
         grown : (now was : Bool) → bit now ≤ bit was + bit (now && not was)

@@ -53,11 +53,8 @@ module _ (layout : Layout) (row c j : ℕ) (answer : ℕ → View) (old new : Pa
       quotient : (d i : ℕ) → i < 512 → d ≡ (512 * d + i) / 512
       quotient d i small = omega arith
 
-  mixed_here : is_some (table_at layout new.words (Chunk row c)) ≡ is_mixed (answers layout new.words row) c
-  mixed_here = grind (arith, common_steps, nat_tests, mixed-same, answer-walked)
-
   mixed : (r d : ℕ) → r < length layout.ids → d < 262144 → is_some (table_at layout new.words (Chunk r d)) ≡ is_mixed (answers layout new.words r) d
-  mixed r d inside below = grind (arith, common_steps, nat_tests, is_chunk, mixed_here, mixed_other)
+  mixed r d inside below = grind (arith, common_steps, nat_tests, is_chunk, mixed-same, answer-walked, mixed_other)
 
   -- which of the words it is
   is_entry : (q i : ℕ) → ((q ≡ j) × (i ≡ c % 512)) ⊎ (q ≡ j → i ≡ c % 512 → ⊥)

@@ -31,19 +31,15 @@ module _ (layout : Layout) (view : ℕ → View) (p first number : ℕ) (access 
   before : (n : ℕ) → n < 2 ^ 27 → view_of t p n ≡ view_below view first n
   before n small = ap answer_of (h.walks n small) ∙ answer-walked n (view_below view first n)
 
-  -- the pending pages as one run, and their views
-  after : (n : ℕ) → n < 2 ^ 27 → edited (pending_runs first number access) access (view_below view first) n ≡ view_below view number n
-  after n small = grind (arith, common_steps, nat_tests, below-in, below-out)
-
   same-edit : (n : ℕ) → n < 2 ^ 27 → edited (pending_runs first number access) access (view_of t p) n ≡ view_below view number n
-  same-edit n small = grind (arith, common_steps, nat_tests, before, after)
+  same-edit n small = grind (arith, common_steps, nat_tests, before, below-in, below-out)
 
   pub can-map : (a : Access) → access ≡ Some a → IsEdge view number → need view ≤ row_quota layout.quotas (row_of layout.ids p) → CanMap p first number a t
   can-map a is edge enough = grind (arith, common_steps, nat_tests, h.ordered, h.some, h.inside, before, below-out, fronts-fit view (view_of t p) (edited (pending_runs first number access) access (view_of t p)) first number h.edge edge before same-edit, quota-of layout t p h.placed h.canonical)
 
   -- when they are mapped
   pub mapped : (new : TablesView) → ReachSo p (pending_runs first number access) access t new → (n : ℕ) → n < 2 ^ 27 → walk_in new p n ≡ walked n (view_below view number n)
-  mapped new reach n small = grind (arith, common_steps, nat_tests, after)
+  mapped new reach n small = grind (arith, common_steps, nat_tests, below-in, below-out)
 
   pub others : (new : TablesView) → ReachSo p (pending_runs first number access) access t new → KeepsOthers p t new
   others new reach = grind (arith, common_steps, nat_tests)

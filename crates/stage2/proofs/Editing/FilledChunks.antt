@@ -73,12 +73,8 @@ module _ (p j i word c : ℕ) (s : Pool) (whole : IsWhole s.memory) (inside : j 
         rw isnt (pages_of-set mid.memory j i word whole-mid inside-mid below ∙ ap (with_put j i word) break-pages ∙ with_put-twice (pages_of s.memory) j i 0 word)
   ]
 
-  -- and so it is told
-  break-made : c % 512 ≡ i → Made (broken p j c (words_of s.memory.words j i)) s mid
-  break-made index = grind (arith, common_steps, nat_tests, made-none, pages_of-set)
-
   pub replace-made : c % 512 ≡ i → Made (replaced p j c (words_of s.memory.words j i) word) s (after_make j i word mid)
-  replace-made index = grind (arith, common_steps, nat_tests, break-made, made-more, made-set, pages_of-set, whole-mid, inside-mid)
+  replace-made index = grind (arith, common_steps, nat_tests, made-none, made-more, made-set, pages_of-set, whole-mid, inside-mid)
 
 -- ---- the words of chunks that follow one another
 
@@ -99,10 +95,7 @@ blocks-small c word n (Some a) small few is =
     omega (arith, most, few)
 
 pub block-further : (c x word : ℕ) (answer : View) → 512 * (c + x) < 2 ^ 27 → IsEntryFor c answer word → IsEntryFor (c + x) answer (word + block_step answer * x)
-block-further c x word None small is =
-    let zero = is.zero refl in
-    let same : word + 0 * x ≡ 0 = omega (arith, zero) in
-    rw same record { entry = entry-zero 2; zero = λ none. refl }
+block-further c x word None small is = grind (arith, common_steps, nat_tests, is.zero refl, entry-zero 2)
 block-further c x word (Some a) small is =
     let leaf = word-leaf 2 word (512 * c) a is.entry in
     record { entry = block-entry c x word a small leaf leaf.block refl; zero = λ none. absurd (cc) }
@@ -200,9 +193,7 @@ module _ (layout : Layout) (row g j : ℕ) (runs : List PageRun) (access : View)
       none-n n lt = grind (arith, common_steps, nat_tests, replaces-beside, space)
 
       pub edited-many : (n : ℕ) → first + n ≤ end → EditedUpTo (first + n) (Filled n)
-      edited-many zero le =
-          let start : first ≡ first + 0 = omega arith in
-          subst (λ i. EditedUpTo i (Filled 0)) start (rw (replaces-none p j first word (block_step access) (512 * (512 * g + first)) s) h)
+      edited-many zero le = grind (arith, common_steps, nat_tests, replaces-none p j first word (block_step access) (512 * (512 * g + first)) s)
       edited-many (suc n) le =
           let lt : first + n < 512 = omega (arith, le, most) in
           let next = edited-next (first + n) (word + block_step access * n) lt (Filled n) (Filled (n + 1)) (edited-many n (omega (arith, le))) (filled (first + n) (omega arith) (omega (arith, le))) (none-n n (omega (arith, le))) (is-n n lt) (puts-n n lt) (made-n n lt) in

@@ -43,13 +43,7 @@ reached-below view b g reached = elim (cases_Bool (is_reached view g)) [
 count_below-both : (f g all : ℕ → Bool) (n : ℕ) → ((k : ℕ) → k < n → f k ≡ true → all k ≡ true) → ((k : ℕ) → k < n → g k ≡ true → all k ≡ true) → count_below f n + count_below (λ k. g k && not (f k)) n ≤ count_below all n
 unfolding count_below
 count_below-both f g all zero in_f in_g = omega arith
-count_below-both f g all (suc n) in_f in_g =
-    let rest = count_below-both f g all n (λ k lt. in_f k (omega (arith, lt))) (λ k lt. in_g k (omega (arith, lt))) in
-    let here = one (f n) (g n) (all n) (in_f n (omega arith)) (in_g n (omega arith)) in
-    omega (arith, rest, here)
-  where
-    one : (a b c : Bool) → (a ≡ true → c ≡ true) → (b ≡ true → c ≡ true) → cond a 1 0 + cond (b && not a) 1 0 ≤ cond c 1 0
-    one a b c x y = grind (arith, common_steps, nat_tests)
+count_below-both f g all (suc n) in_f in_g = grind (arith, common_steps, nat_tests, count_below-both f g all n (λ k lt. in_f k (omega (arith, lt))) (λ k lt. in_g k (omega (arith, lt))))
 
 -- one front after another, each up to an edge, needs no more than all
 pub fronts-fit : (view v w : ℕ → View) (b e : ℕ) → IsEdge view b → IsEdge view e → ((n : ℕ) → n < 2 ^ 27 → v n ≡ view_below view b n) → ((n : ℕ) → n < 2 ^ 27 → w n ≡ view_below view e n) → need v + grow v w ≤ need view

@@ -102,9 +102,7 @@ module _ (layout : Layout) (row : ℕ) (runs : List PageRun) (access : View) (ol
           let more = sum_below-more (gigabyte_growth before after) g in
           let up = sum_below-up (gigabyte_growth before after) (g + 1) 512 (omega (arith, lt)) in
           let quota : row_quota mid.quotas row ≡ row_quota old.quotas row = ap (λ q. row_quota q row) h.quotas in
-          let used = h.used in
-          let fits = f.fits in
-          omega (arith, need_is, all, more, up, quota, used, fits, growth);
+          omega (arith, need_is, all, more, up, quota, h.used, f.fits, growth);
     }
 
     pub past-skip : ((n : ℕ) → n / 512 / 512 ≡ g → covers runs n ≡ false) → IsPast layout row (g + 1) (edited runs access (answers layout old.words row)) old mid
@@ -126,11 +124,10 @@ covers-at (r ∷ runs) (suc i) n run lt is here = grind (arith, common_steps, na
 pub touched : (runs : List PageRun) (i g : ℕ) (run : PageRun) → i < length runs → run ≡ get_or runs i run → IsRun run → run.first / 512 / 512 ≤ g → g < ((run.first + run.count + 511) / 512 + 511) / 512 → Touches runs g
 touched runs i g run lt is some from to =
     let a = some.0 in
-    let b = some.1 in
     let inside : in_run run (max run.first (262144 * g)) ≡ true = in_part run.first run.count g a from to in
     record {
       page = max run.first (262144 * g);
-      small = omega (arith, a, b, from, to);
+      small = omega (arith, a, some.1, from, to);
       covered = covers-at runs i (max run.first (262144 * g)) run lt is inside;
       here = omega (arith, a, from, to);
     }

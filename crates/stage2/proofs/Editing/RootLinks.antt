@@ -33,11 +33,8 @@ module _ (layout : Layout) (row g word : ℕ) (old new : Pages) (h : IsRooted la
   pub same-walk : (r n : ℕ) → n < 2 ^ 27 → walk layout new.words r n ≡ walk layout old.words r n
   same-walk r n small = ap (λ w. walk layout w r n) h.words ∙ walk-root_write layout old.words row g word h.write r n small
 
-  none-below : (c : ℕ) → c < 262144 → c / 512 ≡ g → table_at layout old.words (Chunk row c) ≡ None
-  none-below c below e = grind (arith, common_steps, nat_tests, mixed-none)
-
   kept_put : (b : Place) → IsPlace layout b → b ≢ Gigabyte row g → table_at layout (put row g word old.words) b ≡ table_at layout old.words b
-  kept_put b inside other = grind (arith, common_steps, nat_tests, table_at-root, table_at-root_write-gigabyte, table_at-root_write-below, none-below, table_at-root_write-chunk)
+  kept_put b inside other = grind (arith, common_steps, nat_tests, table_at-root, table_at-root_write-gigabyte, table_at-root_write-below, mixed-none, table_at-root_write-chunk)
 
   pub kept : (b : Place) → IsPlace layout b → b ≢ Gigabyte row g → table_at layout new.words b ≡ table_at layout old.words b
   kept b inside other = ap (λ w. table_at layout w b) h.words ∙ kept_put b inside other

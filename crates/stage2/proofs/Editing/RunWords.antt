@@ -24,9 +24,6 @@ module _ (c x : ℕ) (run : PageRun) (small : x < 512) where
   run-before : x < index_from (512 * c) run.first → 512 * c + x < run.first
   run-before lt = omega arith
 
-  run-has : index_from (512 * c) run.first ≤ x → x < index_from (512 * c) (run.first + run.count) → in_run run (512 * c + x) ≡ true
-  run-has from lt = grind (arith, common_steps, nat_tests)
-
   run-behind : index_from (512 * c) (run.first + run.count) ≤ x → in_run run (512 * c + x) ≡ false
   run-behind from = let past : run.first + run.count ≤ 512 * c + x = omega arith in grind (arith, nat_tests, past)
 
@@ -63,7 +60,7 @@ module _ (k c word step : ℕ) (answer : View) (is : (x : ℕ) → x < 512 → I
     none-before x least lt = grind (arith, common_steps, nat_tests, run-before, before-rise)
 
     some-there : (x : ℕ) → first ≤ x → x < end → plan (512 * c + x) ≡ Some answer
-    some-there x least lt = grind (arith, common_steps, nat_tests, run-has)
+    some-there x least lt = grind (arith, common_steps, nat_tests)
 
     pub left-more : IsLeft plan rest end
     left-more x least small = grind (arith, common_steps, nat_tests, run-behind, ordered)
@@ -101,8 +98,7 @@ module _ (k c word step : ℕ) (answer : View) (is : (x : ℕ) → x < 512 → I
       rw (after_runs-none k (512 * c) word step s) (none-left plan (index_from (512 * c) end) a s (omega arith) left so)
   rest-written plan (run ∷ rest) end a s whole inside rises left so =
       let both = and_parts (leb end run.first) (rise (run.first + run.count) rest) rises in
-      let test = both.0 in
-      let above : end ≤ run.first = grind (arith, nat_tests, test) in
+      let above : end ≤ run.first = grind (arith, nat_tests, both.0) in
       let from : index_from (512 * c) end ≤ index_from (512 * c) run.first = omega (arith, above) in
       rw (after_runs-next k (512 * c) word step run rest s)
       (rest-written plan rest (run.first + run.count) a (after_run k (512 * c) word step run s)

@@ -64,21 +64,7 @@ after-sets : (words : List ℕ) (k first n word step : ℕ) → 512 * k + 512 �
     → words_of (words_set words k first n word step) ≡ words_after (sets_of words k first n word step) (words_of words)
 unfolding words_set sets_of
 after-sets words k first zero word step whole small = refl
-after-sets words k first (suc n) word step whole small =
-    let set = words_set words k first n word step in
-    let place = 512 * k + (first + n) in
-    let next = word + step * n in
-    let long = length-words_set words k first n word step in
-    let inside : place < length set = omega (arith, small, whole, long) in
-    let rest = after-sets words k first n word step whole (omega (arith, small)) in
-    elim (cases_eq (slice_index set place) next) [
-      | inl same ↦
-          let test : (slice_index set place == next) ≡ true = grind (arith, nat_tests, same) in
-          rw test (ap words_of (set-same set place next inside same) ∙ rest)
-      | inr differs ↦
-          let test : (slice_index set place == next) ≡ false = grind (arith, nat_tests, differs) in
-          rw test (words_of-set_at set k (first + n) next (omega (arith, small)) inside ∙ ap (put k (first + n) next) rest)
-    ]
+after-sets words k first (suc n) word step whole small = grind (arith, common_steps, nat_tests, length-words_set words k first n word step, after-sets words k first n word step whole (omega (arith, small)), set-same, words_of-set_at)
 
 -- the word that stands in the list at a place
 word-in : (words : List ℕ) (k i : ℕ) → i < 512 → words_of words k i ≡ slice_index words (512 * k + i)
@@ -109,20 +95,7 @@ sets-planned : (words : List ℕ) (k c first n word step end : ℕ) (answer : Vi
     → AreSets k c (some_pages c first end answer) (first + n) (sets_of words k first n word step)
 unfolding sets_of
 sets-planned words k c first zero word step end answer within is = tt
-sets-planned words k c first (suc n) word step end answer within is =
-    let set = words_set words k first n word step in
-    let place = 512 * k + (first + n) in
-    let next = word + step * n in
-    let rest = sets-planned words k c first n word step end answer (omega (arith, within)) (λ x lt. is x (omega (arith, lt))) in
-    elim (cases_eq (slice_index set place) next) [
-      | inl same ↦
-          let test : (slice_index set place == next) ≡ true = grind (arith, nat_tests, same) in
-          rw test (sets-wider k c (first + n) (first + suc n) (some_pages c first end answer) (sets_of words k first n word step) (omega arith) rest)
-      | inr differs ↦
-          let test : (slice_index set place == next) ≡ false = grind (arith, nat_tests, differs) in
-          let planned : some_pages c first end answer (512 * c + (first + n)) ≡ Some answer = some-in c first end answer (first + n) (omega arith) (omega (arith, within)) in
-          rw test (refl, omega arith, (answer, planned, is n (omega arith)), rest)
-    ]
+sets-planned words k c first (suc n) word step end answer within is = grind (arith, common_steps, nat_tests, sets-planned words k c first n word step end answer (omega (arith, within)) (λ x lt. is x (omega (arith, lt))), sets-wider, some-in)
 
 -- ---- the whole stretch
 

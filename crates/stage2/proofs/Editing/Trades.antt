@@ -100,11 +100,8 @@ module _ (layout : Layout) (row : ℕ) (x : Place) (old new : Pages) (h : IsTrad
   share : (q : ℕ) → Owns old.quotas x q → InShare old.quotas row q
   share q owns = elim h.of_row [ inl f ↦ subst (λ (y : Place). Owns old.quotas y q) f.1 owns | inr f ↦ subst (λ (y : Place). Owns old.quotas y q) f.1 owns ]
 
-  owned-here : Trade layout row x old new → (q : ℕ) → table_at layout new.words x ≡ Some q → Owns old.quotas x q
-  owned-here x0 q here = grind (arith, common_steps, nat_tests, own)
-
   pub trade-owned : (b : Place) (q : ℕ) → IsPlace layout b → table_at layout new.words b ≡ Some q → Owns new.quotas b q
-  trade-owned b q inside now = grind (arith, common_steps, nat_tests, owned-here)
+  trade-owned b q inside now = grind (arith, common_steps, nat_tests, own)
 
   hangs_in : Trade layout row x old new → (r q : ℕ) → InShare old.quotas r q → new.taken q ≡ true → Hangs layout new.words q
   hangs_in (Stay t) r q inside held =

@@ -12,14 +12,8 @@ use Rattle.stage2.proofs.Editing.FourChunkEdits.{answers-entry}
 use Rattle.stage2.proofs.Editing.Stretches.{word-some}
 use Rattle.std.proofs.lemmas.Grind.{common_steps}
 
-zero-word : (n : ℕ) (answer : View) (word : ℕ) → IsWordFor n answer word → (word == 0) ≡ not (is_some answer)
-zero-word n answer word is = grind (arith, common_steps, nat_tests, word-some)
-
-twice : (a b c : Bool) → a ≡ not b → b ≡ not c → a ≡ c
-twice a b c is so = grind (arith, common_steps, nat_tests)
-
 pub runs-turned : (e : ChunkEdit) (k : ℕ) (pool : Pool) (view : ℕ → View) → IsSpelled e k pool → ((n : ℕ) → n / 512 ≡ e.chunk → view n ≡ answers_at e.layout.now (words_of pool.memory.words) (Next k) n) → TurnsChunk e view → TurnsRuns k e pool
-runs-turned e k pool view spelled same so turns i small covered = grind (arith, common_steps, nat_tests, twice, zero-word)
+runs-turned e k pool view spelled same so turns i small covered = grind (arith, common_steps, nat_tests, word-some)
 
 -- by the word that was read at its site
 pub turned-read : (s : Site) (e : ChunkEdit) (pool : Pool) → IsAt s e pool → {read : Slot} → read ≡ slot_at s e pool → (k : ℕ) → read ≡ Next k → IsSpelled e k pool → TurnsChunk e (chunk_view s e pool) → TurnsRuns k e pool

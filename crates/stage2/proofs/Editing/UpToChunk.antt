@@ -133,19 +133,16 @@ module _ {e : RowEdit} {j g : ℕ} {runs : List PageRun} {first : Pool} {r0 : �
 
       here-room : 3 + operations_in_table seat h now ≤ r
       here-room =
-          let enough = can.room in
           let more = sum_below-more (cost e j g runs first) i in
           let up = sum_below-up (cost e j g runs first) (i + 1) 512 (omega (arith, lt)) in
-          let room = so.room in
           let one = here-cost in
-          omega (arith, more, up, room, one, enough)
+          omega (arith, more, up, so.room, one, can.room)
 
       pub here-can : CanEditChunk seat h now r
       here-can = record { site = here-site; turned = here-turned; row = ap (λ (l : Layout). row_of l.ids e.p) layout ∙ e.own; free = here-free; room = here-room }
 
       pub here-next : {new : Pool} {r2 : ℕ} → IsChunkEdited seat h now r new r2 → IsUpTo e j g runs first r0 (i + 1) rest new r2
       here-next {new} done =
-          let spent = done.room in
           let more = sum_below-more (cost e j g runs first) i in
           let room = so.room in
           let one = here-cost in
@@ -162,7 +159,7 @@ module _ {e : RowEdit} {j g : ℕ} {runs : List PageRun} {first : Pool} {r0 : �
                 (march-free e.layout.now e.row g j runs e.access (pages_of first.memory) e.inside below i lt (pages_of now.memory) so.underway free))));
             left = left-later (512 * g + i) (512 * g + (i + 1)) rest runs (omega arith) so.left;
             last = omega (arith, lt);
-            room = omega (arith, more, room, one, spent);
+            room = omega (arith, more, room, one, done.room);
           }
 
     -- its level 2 table
@@ -180,13 +177,7 @@ module _ {e : RowEdit} {j g : ℕ} {runs : List PageRun} {first : Pool} {r0 : �
 
       three : (k : ℕ) → i + k ≤ end → sum_below (cost e j g runs first) i + 3 * k ≤ sum_below (cost e j g runs first) (i + k)
       three zero le = let start : i + 0 ≡ i = omega arith in rw start (omega arith)
-      three (suc k) le =
-          let rest = three k (omega (arith, le)) in
-          let more = sum_below-more (cost e j g runs first) (i + k) in
-          let touched = filled-touches runs (512 * g + (i + k)) (fills (i + k) (omega arith) (omega (arith, le))) in
-          let here : 3 ≤ cost e j g runs first (i + k) = rw touched (omega arith) in
-          let next : i + suc k ≡ i + k + 1 = omega arith in
-          rw next (omega (arith, rest, more, here))
+      three (suc k) le = grind (arith, common_steps, nat_tests, three k (omega (arith, le)), sum_below-more (cost e j g runs first) (i + k), filled-touches, fills, touched)
 
       spent : sum_below (cost e j g runs first) i + 3 * (end - i) ≤ sum_below (cost e j g runs first) end
       spent = let all : i + (end - i) ≡ end = omega (arith, ahead) in let so_many = three (end - i) (omega (arith, ahead)) in subst (λ n. sum_below (cost e j g runs first) i + 3 * (end - i) ≤ sum_below (cost e j g runs first) n) all so_many

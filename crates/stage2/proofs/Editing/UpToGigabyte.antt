@@ -77,10 +77,8 @@ module _ {e : RowEdit} {runs : List PageRun} {first : Pool} {r0 : ℕ} where
         room =
             let more = sum_below-more (cost e runs first) i in
             let up = sum_below-up (cost e runs first) (i + 1) 512 (omega (arith, lt)) in
-            let room = so.room in
             let one = same-cost in
-            let enough = can.room in
-            omega (arith, more, up, room, one, enough);
+            omega (arith, more, up, so.room, one, can.room);
       }
 
       pub row-next : {new : Pool} {r2 : ℕ} → IsGigabyteEdited e i runs now r new r2 → IsRowUpTo e runs first r0 (i + 1) new r2
@@ -88,13 +86,12 @@ module _ {e : RowEdit} {runs : List PageRun} {first : Pool} {r0 : ℕ} where
           let more = sum_below-more (cost e runs first) i in
           let room = so.room in
           let one = same-cost in
-          let spent = done.room in
           record {
             past = past-edit e.layout.now e.row runs e.access (pages_of first.memory) e.inside i lt (pages_of now.memory) so.past (pages_of new.memory) done.edits;
             in_step = λ free.
                 cross-edit e.layout.now e.row runs e.access (pages_of first.memory) e.inside i lt (pages_of now.memory) so.past first now new (so.in_step free)
                 (done.in_step (cross-free e.layout.now e.row runs e.access (pages_of first.memory) e.inside i lt (pages_of now.memory) so.past free));
-            room = omega (arith, more, room, one, spent);
+            room = omega (arith, more, room, one, done.room);
           }
 
 -- those of the runs that have pages in a gigabyte edit it as all do
@@ -134,5 +131,4 @@ module _ {e : RowEdit} {runs : List PageRun} {first : Pool} {r0 g : ℕ} (can : 
 
   pub only-edited : {new : Pool} {r : ℕ} → IsGigabyteEdited e g runs first r0 new r → IsRowEdited e runs first r0 new r
   only-edited done =
-      let below = here.below in
-      row-done (row-next before here.below done) (omega (arith, below)) (λ n from small. elsewhere n (λ same. omega (arith, same, from)))
+      row-done (row-next before here.below done) (omega (arith, here.below)) (λ n from small. elsewhere n (λ same. omega (arith, same, from)))

@@ -98,10 +98,6 @@ rootless-map t p n runs a rows none fits small = elim (cases_Bool (covers runs n
   | inr f ↦ f
 ]
 
--- an edit that changes no walk
-kept-walk : (b : Bool) (a x : Walked) → (b ≡ true → a ≡ x) → x ≡ cond b a x
-kept-walk b a x same = grind (arith, common_steps, nat_tests)
-
 kept-view : (b : Bool) (a x : View) → (b ≡ true → a ≡ x) → x ≡ cond b a x
 kept-view b a x same = grind (arith, common_steps, nat_tests)
 
@@ -113,7 +109,7 @@ pub rootless-edit : (t : TablesView) (p : ℕ) (runs : List PageRun) (access : V
 rootless-edit t p runs access rows none fits n small covered = grind (arith, common_steps, nat_tests, rootless-map)
 
 pub rootless-walks : (t : TablesView) (p : ℕ) (runs : List PageRun) (access : View) → has_root t p ≡ false → StaysOut p runs access → ReachSo p runs access t t
-rootless-walks t p runs access none out q n small = grind (arith, common_steps, nat_tests, kept-walk, both, rootless)
+rootless-walks t p runs access none out q n small = grind (arith, common_steps, nat_tests, both, rootless)
 
 view-none : (n : ℕ) (a : View) → walked n a ≡ Unmapped → a ≡ None
 view-none n a e = grind (arith, common_steps, nat_tests)
@@ -133,10 +129,6 @@ rootless-moments t p runs access none out begun before starts free =
 abbrev pub view : Layout → Pool → ℕ → TablesView
 view layout pool room = record { layout = layout; pool = pool; room = room }
 
--- what holds where there is a value holds of what follows from it
-on-ok : {T E : Type 0} (result : Result T E) {A B : Type 0} → (A → B) → OnOk result A → OnOk result B
-on-ok result f a = grind (arith, common_steps, nat_tests)
-
 -- tables whose words stay canonical
 pub canonical-now : (layout : Layout) {made : Pool} (now : Pool) (room : ℕ) → now ≡ made → IsCanonical layout (pages_of made.memory) → ((q i : ℕ) → taken_of now.memory.taken q ≡ false → words_of now.memory.words q i ≡ 0) → all_lie_in now ≡ true → AreCanonical (view layout now room)
 canonical-now layout now room is canonical free within = are-canonical (view layout now room) (subst (λ (x : Pool). IsCanonical layout (pages_of x.memory)) (sym is) canonical) free within
@@ -153,7 +145,7 @@ ready-already done p runs access clears t room canonical = record { layout = ref
 pub room-made : {T E : Type 0} (result : Result T E) (p : ℕ) (runs : List PageRun) (access : View) (layout : Layout) (now before : Pool) (room had planned clears : ℕ) (old : TablesView)
     → now ≡ before → view layout before had ≡ old → edit_operations p runs access old ≤ planned
     → OnOk result (planned + clears ≤ room) → OnOk result (edit_operations p runs access (view layout now room) + clears ≤ room)
-room-made result p runs access layout now before room had planned clears old same is most made = grind (arith, common_steps, nat_tests, on-ok)
+room-made result p runs access layout now before room had planned clears old same is most made = grind (arith, common_steps, nat_tests)
 
 pub edited-rooted : (layout : Layout) (old new : Pool) (room left p row : ℕ) (runs : List PageRun) (access : View) → IsRow layout.ids p row → IsCanonical layout (pages_of old.memory)
     → EditsRow layout row (edited runs access (answers layout (pages_of old.memory).words row)) (pages_of old.memory) (pages_of new.memory)

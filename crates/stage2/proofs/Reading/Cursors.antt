@@ -78,13 +78,10 @@ counted pages words level c is small some odd = grind (arith, common_steps, nat_
 pub taken-entry : (pages : ℕ) (words : Words) (level : Level) (old c : Cursor) (e : TableEntry) (word first : ℕ) → IsCursor pages words level c → left_in words c ≡ left_in words old → c.index < 512 → word ≡ words c.table c.index → (word % 2 ≡ 0 → ⊥) → first ≡ c.first + pages_at level * c.index → e ≡ record { level = level; first = first; word = word } → left_in words old ≡ e ∷ left_in words (record c { index = c.index + 1; left = c.left - 1 })
 taken-entry pages words level old c e word first is same small at odd from so = grind (arith, common_steps, nat_tests, taken)
 
-few-pages : (level : Level) → pages_at level ≤ 262144
-few-pages level = grind (arith, common_steps, nat_tests)
-
 -- a cursor at the end of a table
 over-words : (pages : ℕ) (words : Words) (level : Level) (c : Cursor) → c.level ≡ level → c.index ≡ 512 → c.first ≡ 0 → IsCursor pages words level c
 unfolding nonzero_in
-over-words pages words level c at end first = grind (arith, common_steps, nat_tests, few-pages)
+over-words pages words level c at end first = grind (arith, common_steps, nat_tests)
 
 pub over-all : (pages : ℕ) (words : Words) (level : Level) (c : Cursor) → c.level ≡ level → c.index ≡ 512 → c.first ≡ 0 → IsCursor pages words level c × (left_in words c ≡ [])
 over-all pages words level c at end first = (over-words pages words level c at end first, at-end words c (omega (arith, end)))
@@ -101,10 +98,7 @@ steps-suc level n = grind (arith, common_steps, nat_tests)
 -- one entry more, behind the others
 pub row-more : (level : Level) (first word n : ℕ) → entry_row level first word (n + 1) ≡ entry_row level first word n ++ record { level = level; first = first + pages_at level * n; word = word + 4096 * pages_at level * n } ∷ []
 unfolding entry_row
-row-more level first word zero =
-    let f : first ≡ first + pages_at level * 0 = omega arith in
-    let w : word ≡ word + 4096 * pages_at level * 0 = omega arith in
-    ap₂ (λ (f w : ℕ). record { level = level; first = f; word = w } ∷ []) f w
+row-more level first word zero = grind (arith, common_steps, nat_tests)
 row-more level first word (suc n) =
     let span = pages_at level in
     let one : suc n + 1 ≡ suc (n + 1) = omega arith in
@@ -151,10 +145,7 @@ module _ (level : Level) (first : ℕ) where
   -- the words up to an index, and those from it on
   from-apart : (word : ℕ → ℕ) (m n i : ℕ) → entries_from level first word i (m + n) ≡ entries_from level first word i m ++ entries_from level first word (i + m) n
   unfolding entries_from
-  from-apart word zero n i =
-      let count : zero + n ≡ n = omega arith in
-      let at : i ≡ i + zero = omega arith in
-      ap₂ (λ k j. entries_from level first word j k) count at
+  from-apart word zero n i = grind (arith, common_steps, nat_tests)
   from-apart word (suc m) n i =
       let count : suc m + n ≡ suc (m + n) = omega arith in
       let at : suc i + m ≡ i + suc m = omega arith in
@@ -167,9 +158,7 @@ module _ (level : Level) (first : ℕ) where
   from-same : (word other : ℕ → ℕ) (n i : ℕ) → ((x : ℕ) → i ≤ x → x < i + n → word x ≡ other x) → entries_from level first word i n ≡ entries_from level first other i n
   unfolding entries_from
   from-same word other zero i same = refl
-  from-same word other (suc n) i same =
-      ap₂ (λ (w : ℕ) (xs : List TableEntry). entry_at level (first + pages_at level * i) w ++ xs) (same i (omega arith) (omega arith))
-      (from-same word other n (suc i) (λ x le lt. same x (omega (arith, le)) (omega (arith, lt))))
+  from-same word other (suc n) i same = grind (arith, common_steps, nat_tests, from-same word other n (suc i) (λ x le lt. same x (omega (arith, le)) (omega (arith, lt))))
 
   pub from-further : (word : ℕ → ℕ) (i : ℕ) → i + 64 ≤ 512 → entries_from level first word i (512 - i) ≡ entries_from level first word i 64 ++ entries_from level first word (i + 64) (512 - (i + 64))
   from-further word i inside = grind (arith, common_steps, nat_tests, from-apart word 64 (512 - (i + 64)) i)

@@ -36,19 +36,8 @@ use Rattle.std.proofs.lemmas.Grind.{common_steps}
 module _ {A : Type 0} (w : TableEntry → List A) (v : Listed → List A) (h : ℕ → List Listed) (level : Level) (first : ℕ) (word : ℕ → ℕ) where
   from-each : (n i : ℕ) → ((k : ℕ) → i ≤ k → k < i + n → flat_map w (entry_at level (first + pages_at level * k) (word k)) ≡ flat_map v (h k)) → flat_map v (each_below h i) ++ flat_map w (entries_from level first word i n) ≡ flat_map v (each_below h (i + n))
   unfolding entries_from each_below
-  from-each zero i same =
-      let end : i ≡ i + 0 = omega arith in
-      append-nil (flat_map v (each_below h i)) ∙ ap (λ k. flat_map v (each_below h k)) end
-  from-each (suc n) i same =
-      let here = entry_at level (first + pages_at level * i) (word i) in
-      let rest = entries_from level first word (suc i) n in
-      let end : suc i + n ≡ i + suc n = omega arith in
-      ap (λ (xs : List A). flat_map v (each_below h i) ++ xs) (flat_map-append w here rest)
-      ∙ ap (λ (xs : List A). flat_map v (each_below h i) ++ (xs ++ flat_map w rest)) (same i (omega arith) (omega arith))
-      ∙ sym (append_assoc (flat_map v (each_below h i)) (flat_map v (h i)) (flat_map w rest))
-      ∙ ap (λ (xs : List A). xs ++ flat_map w rest) (sym (flat_map-append v (each_below h i) (h i)))
-      ∙ from-each n (suc i) (λ k le lt. same k (omega (arith, le)) (omega (arith, lt)))
-      ∙ ap (λ k. flat_map v (each_below h k)) end
+  from-each zero i same = grind (arith, common_steps, nat_tests)
+  from-each (suc n) i same = grind (arith, common_steps, nat_tests, flat_map-append, flat_map-append v (each_below h i) (h i), from-each n (suc i) (λ k le lt. same k (omega (arith, le)) (omega (arith, lt))))
 
   table-each : ((k : ℕ) → k < 512 → flat_map w (entry_at level (first + pages_at level * k) (word k)) ≡ flat_map v (h k)) → flat_map w (table_entries level first word) ≡ flat_map v (each_below h 512)
   unfolding each_below
@@ -86,13 +75,10 @@ odd-at w level first word odd = grind (arith, common_steps, nat_tests)
 even-at : {A : Type 0} (w : TableEntry → List A) (level : Level) (first word : ℕ) → word % 2 ≡ 0 → flat_map w (entry_at level first word) ≡ []
 even-at w level first word even = ap (λ b. flat_map w (cond b [] (record { level = level; first = first; word = word } ∷ []))) (eq-eqb (word % 2) 0 even)
 
-block-level : (block : Bool) (level : ℕ) → level ≡ leaf_level block → eqb level 2 ≡ block
-block-level block level is = grind (arith, common_steps, nat_tests)
-
 module _ {A : Type 0} (f : TableEntry → List A) (v : Listed → List A) (agree : (e : TableEntry) → IsSound e → f e ≡ v (shown e)) where
   -- a block or a page, or a word that is 0
   leaf-step : (level : Level) (block : Bool) (w : TableEntry → List A) (n word : ℕ) (view : View) → number_of level ≡ leaf_level block → w (record { level = level; first = n; word = word }) ≡ f (record { level = level; first = n; word = word }) → word ≡ leaf_for block n view → access_of (entry_of (number_of level) word) ≡ view → flat_map w (entry_at level n word) ≡ flat_map v (leaf_entries (number_of level) n view)
-  leaf-step level block w n word view at alone is reads = grind (arith, common_steps, nat_tests, even-at, block-level, odd-at, odd-leaf-word)
+  leaf-step level block w n word view at alone is reads = grind (arith, common_steps, nat_tests, even-at, odd-at, odd-leaf-word)
 
   -- the word of a table
   table-step : (level : Level) (n word : ℕ) → (level ≡ Third → ⊥) → access_of (entry_of (number_of level) word) ≡ None → f (record { level = level; first = n; word = word }) ≡ v (table_entry (number_of level) n)
@@ -167,13 +153,7 @@ module _ {A : Type 0} (f : TableEntry → List A) (v : Listed → List A) (agree
             let alone : with_pages_of e ≡ f e = below None (same-table t.layout (entry_of 2 (words j (c % 512))) ∙ none) ∙ append-nil (f e) in
             leaf-step Second true with_pages_of (512 * c) (words j (c % 512)) (view (512 * c)) refl alone holds (block-reads c j hangs none)
             ∙ ap (λ b. flat_map v (cond b (table_entry 2 (512 * c) ∷ page_entries view c) (leaf_entries 2 (512 * c) (view (512 * c))))) (sym unmixed)
-        go (Some k) is =
-            let next = sym (table_at-chunk_in t.layout words row c j hangs) ∙ is in
-            let mixed : is_mixed view c ≡ true = sym (canonical.trees.orderly.mixed row c here small) ∙ ap (λ (o : Option ℕ). is_some o) is in
-            odd-at with_pages_of Second (512 * c) (words j (c % 512)) (odd-table t.layout 2 (words j (c % 512)) k next)
-            ∙ below (Some k) (same-table t.layout (entry_of 2 (words j (c % 512))) ∙ next)
-            ∙ ap₂ (λ (xs ys : List A). xs ++ ys) (table-step Second (512 * c) (words j (c % 512)) second-third (no-access t.layout (entry_of 2 (words j (c % 512))) k next)) (pages-listed c k small is)
-            ∙ ap (λ b. flat_map v (cond b (table_entry 2 (512 * c) ∷ page_entries view c) (leaf_entries 2 (512 * c) (view (512 * c))))) (sym mixed)
+        go (Some k) is = grind (arith, common_steps, nat_tests, table_at-chunk_in t.layout words row c j hangs, canonical.trees.orderly.mixed row c here small, odd-at, odd-table, below, same-table t.layout (entry_of 2 (words j (c % 512))), table-step, no-access, pages-listed c k small is)
 
     abbrev with_chunks_of : TableEntry → List A
     with_chunks_of e = flat_map f (with_chunks t.layout.base t.layout.pages words e)

@@ -38,10 +38,7 @@ block-no-table base pages word block = go (entry_of 2 word) refl
 row-alone : (base pages : ℕ) (words : Words) (first word n : ℕ) → word % 4 ≡ 1 → flat_map (with_pages base pages words) (entry_row Second first word n) ≡ entry_row Second first word n
 unfolding entry_row with_pages
 row-alone base pages words first word zero block = refl
-row-alone base pages words first word (suc n) block =
-    let e : TableEntry = record { level = Second; first = first; word = word } in
-    ap (λ o. e ∷ (option_map_or (λ k. table_entries Third first (words k)) o [] ++ flat_map (with_pages base pages words) (entry_row Second (first + 512) (word + 4096 * 512) n))) (block-no-table base pages word block)
-    ∙ ap (λ (xs : List TableEntry). e ∷ xs) (row-alone base pages words (first + 512) (word + 4096 * 512) n (omega (arith, block)))
+row-alone base pages words first word (suc n) block = grind (arith, common_steps, nat_tests, block-no-table base pages word block, row-alone base pages words (first + 512) (word + 4096 * 512) n (omega (arith, block)))
 
 -- ---- rows of what is left
 
@@ -71,9 +68,7 @@ shifted block page steps i a = omega arith
 
 -- pages behind a page that is mapped to itself are reached as it is, where their words are those behind its word
 pub row-alike : (level : Level) (first word page n : ℕ) (a : Access) → entry_of (number_of level) word ≡ Leaf page a → page ≡ first → first + pages_at level * (n + 1) ≤ 2 ^ 27 → (i : ℕ) → i < n + 1 → access_of (entry_of (number_of level) (word + 4096 * pages_at level * i)) ≡ Some a
-row-alike First first word page n a leaf at range i lt =
-    let w = word-leaf 1 word page a leaf in
-    absurd (first-leaf w.block w.at_level)
+row-alike First first word page n a leaf at range i lt = grind (arith, common_steps, nat_tests, word-leaf 1 word page a leaf, first-leaf)
 row-alike Second first word page n a leaf at range i lt =
     let w = word-leaf 2 word page a leaf in
     let block = second-leaf w.block w.at_level in
@@ -81,12 +76,7 @@ row-alike Second first word page n a leaf at range i lt =
     let aligned : page % 512 ≡ 0 = w.aligned (subst (λ b. IsTrue b) (sym block) refl) in
     let there : word + 4096 * 512 * i ≡ leaf_word_of true (page + 512 * i) a = ap (λ w. w + 4096 * 512 * i) spelled ∙ (let steps : 4096 * 512 * i ≡ 4096 * (512 * i) = omega arith in ap (λ k. leaf_word_of true page a + k) steps) ∙ shifted true page (512 * i) i a in
     ap (λ w. access_of (entry_of 2 w)) there ∙ ap access_of (entry-block (page + 512 * i) a (omega (arith, at, range, lt)) w.legal (omega (arith, aligned)))
-row-alike Third first word page n a leaf at range i lt =
-    let w = word-leaf 3 word page a leaf in
-    let block = third-leaf w.block w.at_level in
-    let spelled : word ≡ leaf_word_of false page a = w.spelled ∙ ap (λ b. leaf_word_of b page a) block in
-    let there : word + 4096 * 1 * i ≡ leaf_word_of false (page + i) a = ap (λ w. w + 4096 * 1 * i) spelled ∙ (let steps : 4096 * 1 * i ≡ 4096 * i = omega arith in ap (λ k. leaf_word_of false page a + k) steps) ∙ shifted false page i i a in
-    ap (λ w. access_of (entry_of 3 w)) there ∙ ap access_of (entry-page (page + i) a (omega (arith, at, range, lt)) w.legal)
+row-alike Third first word page n a leaf at range i lt = grind (arith, common_steps, nat_tests, word-leaf 3 word page a leaf, third-leaf, shifted false page i i a, entry-page)
 
 -- ---- the word of a block or page
 
@@ -107,9 +97,7 @@ unfolding leaf_word_of
 leaf-small level word page a leaf =
     let w = word-leaf (number_of level) word page a leaf in
     let small = fields-small w.block a.rights a.exec a.kind in
-    let spelled = w.spelled in
-    let range = w.in_range in
-    omega (arith, small, spelled, range)
+    omega (arith, small, w.spelled, w.in_range)
 
 pub leaf-odd : (level : Level) (word page : ℕ) (a : Access) → entry_of (number_of level) word ≡ Leaf page a → word % 2 ≡ 1
 leaf-odd level word page a leaf = grind (arith, common_steps, nat_tests, word-leaf (number_of level) word page a leaf, odd-leaf)

@@ -20,17 +20,12 @@ pub record ReadsAs (layout : Layout) (words w1 w2 w3 : Words) (p n : ℕ) : Type
   pub second : (j : ℕ) → table_at layout words (Gigabyte p (index_1 n)) ≡ Some j → w2 j (index_2 n) ≡ words j (index_2 n)
   pub third : (k : ℕ) → table_at layout words (Chunk p (n / 512)) ≡ Some k → w3 k (index_3 n) ≡ words k (index_3 n)
 
-at_2-same : (layout : Layout) (words third : Words) (p n : ℕ) (s : Slot) → next_page s ≡ table_at layout words (Chunk p (n / 512))
-    → ((k : ℕ) → table_at layout words (Chunk p (n / 512)) ≡ Some k → third k (index_3 n) ≡ words k (index_3 n))
-    → at_2 layout third n s ≡ at_2 layout words n s
-at_2-same layout words third p n s e h = grind (arith, common_steps, nat_tests)
-
 at_1-same : (layout : Layout) (words second third : Words) (p n : ℕ) (s : Slot) → slot layout 1 (words p (index_1 n)) ≡ s
     → ((j : ℕ) → table_at layout words (Gigabyte p (index_1 n)) ≡ Some j → second j (index_2 n) ≡ words j (index_2 n))
     → ((k : ℕ) → table_at layout words (Chunk p (n / 512)) ≡ Some k → third k (index_3 n) ≡ words k (index_3 n))
     → at_1 layout second third n s ≡ at_1 layout words words n s
 unfolding table_at
-at_1-same layout words second third p n s e g h = grind (arith, common_steps, nat_tests, at_2-same)
+at_1-same layout words second third p n s e g h = grind (arith, common_steps, nat_tests)
 
 -- a walk that reads the same words gives the same
 pub walk-same : (layout : Layout) (words first second third : Words) (p n : ℕ) → (p < length layout.ids → ReadsAs layout words first second third p n)
@@ -43,17 +38,13 @@ pub record HangsAs (layout : Layout) (words new : Words) (p c : ℕ) : Type 0 wh
   pub first : new p (c / 512) ≡ words p (c / 512)
   pub second : (j : ℕ) → table_at layout words (Gigabyte p (c / 512)) ≡ Some j → new j (c % 512) ≡ words j (c % 512)
 
-chunk_table-same : (layout : Layout) (words new : Words) (c : ℕ) (o : Option ℕ)
-    → ((j : ℕ) → o ≡ Some j → new j (c % 512) ≡ words j (c % 512)) → chunk_table layout new c o ≡ chunk_table layout words c o
-chunk_table-same layout words new c o h = grind (arith, common_steps, nat_tests)
-
 pub table_at-gigabyte : (layout : Layout) (words new : Words) (p g : ℕ) → new p g ≡ words p g → table_at layout new (Gigabyte p g) ≡ table_at layout words (Gigabyte p g)
 unfolding table_at
 table_at-gigabyte layout words new p g e = ap (λ w. next_page (slot layout 1 w)) e
 
 pub table_at-chunk : (layout : Layout) (words new : Words) (p c : ℕ) → HangsAs layout words new p c → table_at layout new (Chunk p c) ≡ table_at layout words (Chunk p c)
 unfolding table_at
-table_at-chunk layout words new p c h = grind (arith, common_steps, nat_tests, chunk_table-same)
+table_at-chunk layout words new p c h = grind (arith, common_steps, nat_tests)
 
 pub table_at-root : (layout : Layout) (words : Words) (p : ℕ) → table_at layout words (Root p) ≡ Some p
 unfolding table_at
@@ -104,14 +95,11 @@ walk-level_3-other layout words p c q i word h p' n small other =
 at_2-chunk : (layout : Layout) (third : Words) (n q : ℕ) (s : Slot) → next_page s ≡ Some q → at_2 layout third n s ≡ at_3 (slot layout 3 (third q (index_3 n)))
 at_2-chunk layout third n q s e = grind (arith, common_steps, nat_tests)
 
-at_1-chunk : (layout : Layout) (words : Words) (n q : ℕ) (s : Slot) → chunk_table layout words (n / 512) (next_page s) ≡ Some q → at_1 layout words words n s ≡ at_3 (slot layout 3 (words q (index_3 n)))
-at_1-chunk layout words n q s e = grind (arith, common_steps, nat_tests, at_2-chunk)
-
 -- a walk through the table of its chunk
 pub walk-chunk : (layout : Layout) (words : Words) (p n q : ℕ) → p < length layout.ids → table_at layout words (Chunk p (n / 512)) ≡ Some q
     → walk layout words p n ≡ at_3 (slot layout 3 (words q (index_3 n)))
 unfolding walk_across table_at
-walk-chunk layout words p n q inside table = grind (arith, common_steps, nat_tests, at_1-chunk)
+walk-chunk layout words p n q inside table = grind (arith, common_steps, nat_tests, at_2-chunk)
 
 pub at_1-gigabyte : (layout : Layout) (words : Words) (n j : ℕ) (s : Slot) → next_page s ≡ Some j → at_1 layout words words n s ≡ at_2 layout words n (slot layout 2 (words j (index_2 n)))
 at_1-gigabyte layout words n j s e = grind (arith, common_steps, nat_tests)

@@ -20,14 +20,11 @@ use Rattle.std.proofs.lemmas.Grind.{common_steps}
 at_chunk : (x c : ℕ) (b : Bool) → eqb x c ≡ true → (x ≡ c → b ≡ true) → (eqb x c && b) ≡ true
 at_chunk x c b e f = rw (e, f (eqb-true x c e)) refl
 
-all_of : (covered mixed : Bool) → mixed ≡ false → (covered || not mixed) ≡ true
-all_of covered mixed e = grind (arith, common_steps, nat_tests)
-
 -- a chunk that has no table, before or after
 pub stays-whole : (layout : Layout) (row c : ℕ) (runs : List PageRun) (access : View) (view : ℕ → View) (old new : Pool) → (is_mixed view c && is_mixed (edited runs access view) c) ≡ false
     → StaysInStep layout row (λ n. eqb (n / 512) c) (λ n. walked n (edited runs access view n)) old new
     → StaysInStep layout row (λ n. eqb (n / 512) c && disturbs runs view (edited runs access view) n) (λ n. walked n (edited runs access view n)) old new
-stays-whole layout row c runs access view old new one stays = grind (arith, common_steps, nat_tests, stays-wider, at_chunk, all_of)
+stays-whole layout row c runs access view old new one stays = grind (arith, common_steps, nat_tests, stays-wider, at_chunk)
 
 -- pages of a table
 pub stays-covered : (layout : Layout) (row c : ℕ) (runs : List PageRun) (access : View) (view : ℕ → View) (answer : ℕ → Walked) (old new : Pool) → ((n : ℕ) → answer n ≡ walked n access)

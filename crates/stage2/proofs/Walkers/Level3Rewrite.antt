@@ -96,12 +96,7 @@ sets-level_3 layout words row c k b plan (Clear run ∷ ops) s h = absurd s
 -- a word that is not reached yet
 sets-above : (words : Words) (k c b : ℕ) (plan : ℕ → Option View) (ops : List Op) (x : ℕ) → AreSets k c plan b ops → b ≤ x → words_after ops words k x ≡ words k x
 sets-above words k c b plan [] x s le = refl
-sets-above words k c b plan (Set q i word ∷ ops) x s le =
-    let lt = s.1 in
-    put-other (words_after ops words) q i word k x (λ _ same. apart i b x lt le same) ∙ sets-above words k c i plan ops x s.3 (omega arith)
-  where
-    apart : (i b x : ℕ) → i < b → b ≤ x → x ≡ i → ⊥
-    apart i b x lt le e = omega arith
+sets-above words k c b plan (Set q i word ∷ ops) x s le = grind (arith, common_steps, nat_tests, put-other, sets-above words k c i plan ops x s.3 (omega arith))
 sets-above words k c b plan (Invalidate p run ∷ ops) x s le = absurd s
 sets-above words k c b plan (Clear run ∷ ops) x s le = absurd s
 

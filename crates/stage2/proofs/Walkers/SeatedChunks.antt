@@ -43,16 +43,13 @@ module _ (layout : Layout) (row c j : ℕ) (m : Pages) (h : IsSite layout row c 
   pub unheld-free : IsSeated layout row (c / 512) j m → (k : ℕ) → m.taken k ≡ false → IsUnheld layout m.words k
   unheld-free s k free b inside at = let held : m.taken k ≡ true = h.orderly.taken b k inside (hangs-seen s b k inside at) in absurd (cc)
 
-  unheld-second : m.words row (c / 512) ≡ 0 → IsUnheld layout m.words j
-  unheld-second e = grind (arith, common_steps, nat_tests, cut-words, unheld-gigabyte, old)
-
   pub unheld-third : m.words row (c / 512) ≡ 0 → (k : ℕ) → entry layout row c j m h ≡ Next k → IsUnheld layout m.words k
   unheld-third e k is =
       subst (λ (w : Words). IsUnheld layout w k) (cut-words e) (unheld-chunk layout (old layout row c j m h) row (c / 512) h.orderly.forest h.partition c k h.chunk refl (third-at layout row c j m h k is))
 
   -- the level 2 table hangs, or hangs nowhere
   pub hung-seen : IsSeated layout row (c / 512) j m → IsHung layout m.words row c j
-  hung-seen x0 = grind (arith, common_steps, nat_tests, forest-seen, same-words, unheld-second)
+  hung-seen x0 = grind (arith, common_steps, nat_tests, forest-seen, same-words, cut-words, unheld-gigabyte, old)
 
   -- the table of the chunk hangs there alone, or nowhere
   pub third-alone : IsSeated layout row (c / 512) j m → (k : ℕ) → entry layout row c j m h ≡ Next k → (a : Place) → IsPlace layout a → a ≢ Chunk row c → table_at layout m.words a ≡ Some k → ⊥
@@ -105,10 +102,9 @@ unmapped-at layout words n k s e none = unmapped_3 (slot layout 3 (words k (n % 
 pub invalid-word : (layout : Layout) (row c j : ℕ) (m : Pages) (h : IsSite layout row c j m) (k i : ℕ) → entry layout row c j m h ≡ Next k → i < 512 → answers layout (old layout row c j m h) row (512 * c + i) ≡ None → IsInvalid (m.words k i)
 invalid-word layout row c j m h k i is small none =
     let n = 512 * c + i in
-    let below = h.chunk in
     let chunk : n / 512 ≡ c = omega (arith, small) in
     let index : n % 512 ≡ i = omega (arith, small) in
-    let tidy = h.orderly.tidy row n h.partition (omega (arith, small, below)) in
+    let tidy = h.orderly.tidy row n h.partition (omega (arith, small, h.chunk)) in
     let gone : walk layout (old layout row c j m h) row n ≡ Unmapped = tidy-answer n (walk layout (old layout row c j m h) row n) tidy ∙ ap (walked n) none in
     let empty : slot layout 3 (m.words k (n % 512)) ≡ Empty = unmapped-at layout m.words n k (entry layout row c j m h) is (sym (gives-entry layout row c j m h n chunk) ∙ gone) in
     empty-invalid layout 3 (m.words k i) (ap (λ x. slot layout 3 (m.words k x)) (sym index) ∙ empty)

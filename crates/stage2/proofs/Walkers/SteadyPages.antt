@@ -50,16 +50,9 @@ module _ (runs : List PageRun) (access : View) (view : ℕ → View) (free : Are
   unmixed : (c : ℕ) → (is_mixed view c && is_mixed (edited runs access view) c) ≡ false → is_mixed (edited runs access view) c ≡ is_mixed view c → is_mixed view c ≡ false
   unmixed c e same = grind (arith, common_steps, nat_tests)
 
-  none-whole : (n : ℕ) → n < 2 ^ 27 → disturbed runs view (edited runs access view) n ≡ true → covers runs n ≡ false → ((x : ℕ) → x / 512 ≡ n / 512 → view x ≡ edited runs access view x) → view n ≡ None
-  none-whole n small w f all = grind (arith, common_steps, nat_tests, both, covered-page, none-covered, mixed-same, unmixed, equal-first)
-
   pub differ-mixed : (v : ℕ → View) (c x y : ℕ) → x / 512 ≡ c → y / 512 ≡ c → v x ≢ v y → is_mixed v c ≡ true
   differ-mixed v c x y at_x at_y differ = grind (arith, common_steps, nat_tests, equal-first)
 
-  -- both answers of a chunk are mixed: it is disturbed at the pages of the runs alone
-  none-mixed : (n : ℕ) → disturbed runs view (edited runs access view) n ≡ true → covers runs n ≡ false → is_mixed view (n / 512) ≡ true → is_mixed (edited runs access view) (n / 512) ≡ true → ⊥
-  none-mixed n w f a b = grind (arith, common_steps, nat_tests, both)
-
   pub none-steady : (n : ℕ) → n < 2 ^ 27 → disturbed runs view (edited runs access view) n ≡ true → view n ≡ edited runs access view n
       → ((x : ℕ) → x / 512 ≡ n / 512 → view x ≡ edited runs access view x) ⊎ ((is_mixed view (n / 512) ≡ true) × (is_mixed (edited runs access view) (n / 512) ≡ true)) → view n ≡ None
-  none-steady n small w kept chunk = grind (arith, common_steps, nat_tests, none-covered, none-whole, both, none-mixed)
+  none-steady n small w kept chunk = grind (arith, common_steps, nat_tests, none-covered, covered-page, mixed-same, unmixed, equal-first, both)

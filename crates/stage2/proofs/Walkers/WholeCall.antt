@@ -45,9 +45,6 @@ call-edited entry old new p runs access cleared begun edits placed same free =
 
 -- ---- its end
 
-cond-walked : (b : Bool) (n : ℕ) (a x : View) → cond b (walked n a) (walked n x) ≡ walked n (cond b a x)
-cond-walked b n a x = grind (arith, common_steps, nat_tests)
-
 module _ (entry : TablesView) (before : ℕ → ℕ → View) (p : ℕ) (runs : List PageRun) (access : View)
     (root : has_root entry p ≡ true) (starts : Agrees entry.layout (words_of entry.pool.memory.words) before) where
   own : (q : ℕ) → row_of entry.layout.ids q ≡ row_of entry.layout.ids p → eqb q p ≡ true
@@ -61,7 +58,7 @@ module _ (entry : TablesView) (before : ℕ → ℕ → View) (p : ℕ) (runs : 
   told-after q n small at = ap (λ a. cond (covers runs n) access a) (told q n small at) ∙ sym (ap (λ b. cond (b && covers runs n) access (before q n)) (own q at))
 
   agrees-after : (now : TablesView) → now.layout ≡ entry.layout → ReachSo p runs access entry now → Agrees entry.layout (words_of now.pool.memory.words) (with_pages p runs access before)
-  agrees-after now placed walks q n small = grind (arith, common_steps, nat_tests, cond-walked)
+  agrees-after now placed walks q n small = grind (arith, common_steps, nat_tests)
 
   -- a steady page that is disturbed is not reached
   steady-none : AreFreeFor p runs access before → (q n : ℕ) → n < 2 ^ 27 → row_of entry.layout.ids q ≡ row_of entry.layout.ids p

@@ -20,9 +20,6 @@ pub at_each : (P Q : List Op → Type 0) → ((past : List Op) → P past → Q 
 at_each P Q f [] h = f [] h
 at_each P Q f (op ∷ past) h = (f (op ∷ past) h.0, at_each P Q f past h.1)
 
-stands-linked : (layout : Layout) (words : Words) (due : Bool) (q n : ℕ) (w : Walker) → Stands layout words due q n w → IsLinked layout words q n w
-stands-linked layout words due q n w h = grind (arith, common_steps, nat_tests)
-
 -- an edit of a row, from one pool to another
 abbrev pub edit_of : Layout → Pool → ℕ → (ℕ → Bool) → (ℕ → Walked) → List PageRun → OpenCall
 edit_of layout old row which answer cleared = record { layout = layout; entry = words_of old.memory.words; made = old.made; row = row; which = which; answer = answer; cleared = cleared }
@@ -36,20 +33,11 @@ module _ (layout : Layout) (old new : Pool) (before after : ℕ → ℕ → View
   at_row : (q n : ℕ) → (eqb (row_of layout.ids q) row && which n) ≡ true → (row_of layout.ids q ≡ row) × (which n ≡ true)
   at_row q n e = let h = both (eqb (row_of layout.ids q) row) (which n) e in (eqb-true _ _ h.0, h.1)
 
-  gives_one : (q n : ℕ) (a : Walked) → n < 2 ^ 27 → MayGive (edit_of layout old row which answer cleared) (row_of layout.ids q) n a → (a ≡ Unmapped) ⊎ (a ≡ walked n (before q n)) ⊎ (a ≡ walked n (after q n))
-  gives_one q n a small may = grind (arith, common_steps, nat_tests, at_row)
-
-  keeps_one : (q n : ℕ) (a : Walked) → n < 2 ^ 27 → IsSteady before after q n → MayGive (edit_of layout old row which answer cleared) (row_of layout.ids q) n a → a ≡ walked n (before q n)
-  keeps_one q n a small steady may = grind (arith, common_steps, nat_tests, at_row)
-
   due_nothing : (b : Bool) → (b && false) ≡ false
   due_nothing b = grind (arith, common_steps, nat_tests)
 
-  fresh_one : (q n : ℕ) (a : Walked) → MayAnswer layout (words_of old.memory.words) new.operations q n a → (a ≡ Unmapped) ⊎ (a ≡ walked n (after q n))
-  fresh_one q n a u = grind (arith, common_steps, nat_tests, due_nothing)
-
   pub moments-of : Moments layout old new before after
-  moments-of = grind (arith, common_steps, nat_tests, at_each, gives_one, keeps_one, fresh_one, stands-linked)
+  moments-of = grind (arith, common_steps, nat_tests, at_each, at_row, due_nothing)
 
 -- before the first operation
 pub orderly-begun : (layout : Layout) (old new : Pool) (row : ℕ) (which : ℕ → Bool) (answer : ℕ → Walked) → new.memory ≡ old.memory → new.operations ≡ [] → new.made ≡ old.made → IsInStepIn (edit_of layout old row which answer []) nothing new

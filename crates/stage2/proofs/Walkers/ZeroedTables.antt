@@ -38,12 +38,6 @@ weaker e due more pool h fewer = record { orderly = orderly-weaker e due more (w
 fewer-pages : (e : OpenCall) (layout : Layout) (row : ℕ) (which all : ℕ → Bool) (answer : ℕ → Walked) → ((n : ℕ) → n < 2 ^ 27 → which n ≡ true → all n ≡ true) → Allows e layout row all answer → Allows e layout row which answer
 fewer-pages e layout row which all answer within h = record { same_layout = h.same_layout; same_row = h.same_row; may = λ n small w. h.may n small (within n small w) }
 
-left_of : (all which more : Bool) → all ≡ (which || more) → which ≡ true → all ≡ true
-left_of all which more e w = grind (arith, common_steps, nat_tests)
-
-right_of : (all which more : Bool) → all ≡ (which || more) → more ≡ true → all ≡ true
-right_of all which more e w = grind (arith, common_steps, nat_tests)
-
 due_left : (due all : Bool) → (due || all) ≡ false → due ≡ false
 due_left due all f = grind (arith, common_steps, nat_tests)
 
@@ -90,7 +84,7 @@ stays-none layout row which answer a e allows o = o
 
 pub stays-more : (layout : Layout) (row : ℕ) (which more all : ℕ → Bool) (answer : ℕ → Walked) (a b c : Pool) → StaysInStep layout row which answer a b → StaysInStep layout row more answer b c → ((n : ℕ) → n < 2 ^ 27 → all n ≡ (which n || more n))
     → StaysInStep layout row all answer a c
-stays-more layout row which more all answer a b c so here is e allows o = grind (arith, common_steps, nat_tests, fewer-pages, right_of, left_of)
+stays-more layout row which more all answer a b c so here is e allows o = grind (arith, common_steps, nat_tests, fewer-pages)
 
 pub stays-as : (layout : Layout) (row : ℕ) (which all : ℕ → Bool) (answer : ℕ → Walked) (a b : Pool) → StaysInStep layout row which answer a b → ((n : ℕ) → n < 2 ^ 27 → all n ≡ which n) → StaysInStep layout row all answer a b
 stays-as layout row which all answer a b so is e allows o = so e (fewer-pages e layout row which all answer (λ n small w. is n small ∙ w) allows) o

@@ -20,24 +20,18 @@ loop-index-init g c = grind (arith, common_steps, nat_tests, c.args.chunks.end, 
 
 pub loop-index-preserved : goal.loop-index-preserved
 loop-index-preserved g c =
-    let first = c.args.chunks.first in
-    let end = c.args.chunks.end in
-    let i = c.loop-index.index in
     let pool = g.M.TableMem.state c.args.memory.now in
-    let which : ℕ → Bool = λ x. is_between first end x && not (points_at (Some c.args.second) x pool) in
-    grind (arith, common_steps, nat_tests, c.args.chunks.end, c.loop-index.index, count_below-more which i, c.loop-index.invariant.counts, c.loop-index.invariant.few, c.from-count.ensures)
+    let which : ℕ → Bool = λ x. is_between c.args.chunks.first c.args.chunks.end x && not (points_at (Some c.args.second) x pool) in
+    grind (arith, common_steps, nat_tests, c.args.chunks.end, c.loop-index.index, count_below-more which c.loop-index.index, c.loop-index.invariant.counts, c.loop-index.invariant.few, c.from-count.ensures)
 
 pub returns : goal.returns
 returns g c =
     let first = c.args.chunks.first in
     let end = c.args.chunks.end in
-    let i = c.loop-index.index in
     let pool = g.M.TableMem.state c.args.memory.now in
     let which : ℕ → Bool = λ x. is_between first end x && not (points_at (Some c.args.second) x pool) in
     let last = c.loop-index.auto.index-end c.requires.ordered in
-    let past = c.loop-index-test.false in
-    let so = c.loop-index.invariant.counts in
     let few = c.loop-index.invariant.few in
     let most = c.requires.most in
-    let tail = count_below-tail which i 512 (omega (arith, last, most)) (λ k from lt. outside pool c.args.second first end k (grind (arith, nat_tests, from, past))) in
-    record { counts = omega (arith, tail, so); few = omega (arith, few, last, most) }
+    let tail = count_below-tail which c.loop-index.index 512 (omega (arith, last, most)) (λ k from lt. outside pool c.args.second first end k (grind (arith, nat_tests, from, c.loop-index-test.false))) in
+    record { counts = omega (arith, tail, c.loop-index.invariant.counts); few = omega (arith, few, last, most) }

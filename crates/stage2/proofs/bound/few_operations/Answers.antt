@@ -22,26 +22,20 @@ nothing (Some a) e = absurd (cc)
 pub entry_at-entry-requires-clause-table : goal.entry_at-entry-requires-clause-table
 entry_at-entry-requires-clause-table g c = λ j is.
     let chunk = c.in_ok-chunk.chunk in
-    let here = c.in_ok-chunk.ensures in
-    let below = here.1 in
     let at : c.of-gigabyte.result ≡ chunk / 512 = omega (arith, c.of-gigabyte.ensures, c.first.ensures.same) in
-    second-inside c.args.edit.now.layout.now (pages_of (g.M.TableMem.state c.args.memory.now).memory) c.requires.canonical (chunk / 512) (omega (arith, below)) c.args.edit.now.row c.args.edit.now.inside j (rw (← at) (sym c.second_at-second.ensures ∙ is))
+    second-inside c.args.edit.now.layout.now (pages_of (g.M.TableMem.state c.args.memory.now).memory) c.requires.canonical (chunk / 512) (omega (arith, c.in_ok-chunk.ensures.1)) c.args.edit.now.row c.args.edit.now.inside j (rw (← at) (sym c.second_at-second.ensures ∙ is))
 
 pub entry_at-entry-requires-clause-taken : goal.entry_at-entry-requires-clause-taken
 entry_at-entry-requires-clause-taken g c = λ j is.
     let chunk = c.in_ok-chunk.chunk in
-    let here = c.in_ok-chunk.ensures in
-    let below = here.1 in
     let at : c.of-gigabyte.result ≡ chunk / 512 = omega (arith, c.of-gigabyte.ensures, c.first.ensures.same) in
-    second-held c.args.edit.now.layout.now (pages_of (g.M.TableMem.state c.args.memory.now).memory) c.requires.canonical (chunk / 512) (omega (arith, below)) c.args.edit.now.row c.args.edit.now.inside j (rw (← at) (sym c.second_at-second.ensures ∙ is))
+    second-held c.args.edit.now.layout.now (pages_of (g.M.TableMem.state c.args.memory.now).memory) c.requires.canonical (chunk / 512) (omega (arith, c.in_ok-chunk.ensures.1)) c.args.edit.now.row c.args.edit.now.inside j (rw (← at) (sym c.second_at-second.ensures ∙ is))
 
 pub entry_at-entry-requires-clause-known : goal.entry_at-entry-requires-clause-known
 entry_at-entry-requires-clause-known g c =
     let chunk = c.in_ok-chunk.chunk in
-    let here = c.in_ok-chunk.ensures in
-    let below = here.1 in
     let at : c.of-gigabyte.result ≡ chunk / 512 = omega (arith, c.of-gigabyte.ensures, c.first.ensures.same) in
-    entry-known c.args.edit.now.layout.now (pages_of (g.M.TableMem.state c.args.memory.now).memory) c.requires.canonical (chunk / 512) (chunk % 512) (omega (arith, below)) (omega arith) c.args.edit.now.row c.args.edit.now.inside c.second_at-second.result (rw (← at) (sym c.second_at-second.ensures))
+    entry-known c.args.edit.now.layout.now (pages_of (g.M.TableMem.state c.args.memory.now).memory) c.requires.canonical (chunk / 512) (chunk % 512) (omega (arith, c.in_ok-chunk.ensures.1)) (omega arith) c.args.edit.now.row c.args.edit.now.inside c.second_at-second.result (rw (← at) (sym c.second_at-second.ensures))
 
 pub overflow_sub-nonzero : goal.overflow_sub-nonzero
 overflow_sub-nonzero g c =
@@ -90,9 +84,8 @@ returns-clause-bound g c =
           let was = mixed ∙ ap (λ o. is_some o) next in
           elim w.else-is_some.branch [
             | else-is_some-via-then-is_some+else-pages-nonzero v ↦
-                let few = v.if-pages-nonzero.false in
                 let nonzero : w.nonzero-nonzero.result ≡ nonzero_in m.words w.in-Some.third = w.nonzero-nonzero.ensures ∙ ap (nonzero_in m.words) w.number.ensures in
-                let beside = entry-beside e.layout.now m c.requires.canonical e.row e.inside c.second_at-second.result chunk here.1 hangs w.in-Some.third (is-next _ _ next) (λ i. covers runs (512 * chunk + i)) (omega (arith, few, pages, nonzero)) in
+                let beside = entry-beside e.layout.now m c.requires.canonical e.row e.inside c.second_at-second.result chunk here.1 hangs w.in-Some.third (is-next _ _ next) (λ i. covers runs (512 * chunk + i)) (omega (arith, v.if-pages-nonzero.false, pages, nonzero)) in
                 let most = few-mapped runs access before chunk here.1 only _ enough was (sym w.is_some.ensures ∙ v.if-is_some.true) beside in
                 omega (arith, most, w.words-is)
             | else-is_some-via-else-is_some v ↦

@@ -19,8 +19,7 @@ pub loop-number-preserved : goal.loop-number-preserved
 loop-number-preserved g c =
     let before : ℕ → View = view_in c.args.edit.now.layout.now c.args.edit.now.row (g.M.TableMem.state c.args.memory.now) in
     let grows : ℕ → ℕ = gigabyte_growth before (edited c.args.runs.now c.args.edit.now.access before) in
-    let i = c.loop-number.number in
-    grind (arith, common_steps, nat_tests, c.loop-number.number, sum_below-more grows i, c.loop-number.invariant, c.new.ensures, c.most_in_gigabyte-most.ensures.most, c.most_in_gigabyte-most.ensures.few)
+    grind (arith, common_steps, nat_tests, c.loop-number.number, sum_below-more grows c.loop-number.number, c.loop-number.invariant, c.new.ensures, c.most_in_gigabyte-most.ensures.most, c.most_in_gigabyte-most.ensures.few)
 
 pub returns : goal.returns
 returns g c =
@@ -30,12 +29,9 @@ returns g c =
     let grows : ℕ → ℕ = gigabyte_growth before (edited runs access before) in
     let span = c.gigabyte_span-span.result in
     let i = c.loop-number.number in
-    let most = c.gigabyte_span-span.ensures.most in
-    let end = c.loop-number-test.false in
     let last : i ≤ span.end = c.loop-number.auto.number-end c.gigabyte_span-span.ensures.ordered in
-    let all : i + (512 - i) ≡ 512 = omega (arith, most, last) in
-    let tail = sum_below-tail grows (512 - i) i (λ x from to. growth-nothing runs access before x (λ n at. outside-gigabytes runs span.first span.end n c.gigabyte_span-span.ensures.within (inr (omega (arith, from, at, end))))) in
+    let all : i + (512 - i) ≡ 512 = omega (arith, c.gigabyte_span-span.ensures.most, last) in
+    let tail = sum_below-tail grows (512 - i) i (λ x from to. growth-nothing runs access before x (λ n at. outside-gigabytes runs span.first span.end n c.gigabyte_span-span.ensures.within (inr (omega (arith, from, at, c.loop-number-test.false))))) in
     let whole = ap (sum_below grows) all in
     let sum = grow-sum before (edited runs access before) in
-    let so = c.loop-number.invariant.most in
-    omega (arith, so, tail, whole, sum)
+    omega (arith, c.loop-number.invariant.most, tail, whole, sum)

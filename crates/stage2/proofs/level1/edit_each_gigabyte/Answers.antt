@@ -16,10 +16,8 @@ edit_gigabyte-requires g c =
 
 pub loop-number-init : goal.loop-number-init
 loop-number-init g c =
-    let most = c.gigabyte_span-span.ensures.most in
-    let ordered = c.gigabyte_span-span.ensures.ordered in
     record {
-      up_to = row-ahead (row-start c.requires.canonical) c.gigabyte_span-span.result.first (omega arith) (omega (arith, most, ordered))
+      up_to = row-ahead (row-start c.requires.canonical) c.gigabyte_span-span.result.first (omega arith) (omega (arith, c.gigabyte_span-span.ensures.most, c.gigabyte_span-span.ensures.ordered))
           (λ n from to. outside-gigabytes c.args.runs.now c.gigabyte_span-span.result.first c.gigabyte_span-span.result.end n c.gigabyte_span-span.ensures.within (inl to));
     }
 
@@ -40,10 +38,7 @@ loop-number-preserved g c =
 
 pub returns : goal.returns
 returns g c =
-    let most = c.gigabyte_span-span.ensures.most in
-    let end = c.loop-number-test.false in
     let last = c.loop-number.auto.number-end c.gigabyte_span-span.ensures.ordered in
-    let so = c.loop-number.invariant.up_to in
-    let within : c.loop-number.number ≤ 512 = omega (arith, last, most) in
-    let none : (n : ℕ) → c.loop-number.number ≤ n / 512 / 512 → n / 512 / 512 < 512 → covers c.args.runs.now n ≡ false = λ n from small. outside-gigabytes c.args.runs.now c.gigabyte_span-span.result.first c.gigabyte_span-span.result.end n c.gigabyte_span-span.ensures.within (inr (omega (arith, from, end))) in
-    row-done so within none
+    let within : c.loop-number.number ≤ 512 = omega (arith, last, c.gigabyte_span-span.ensures.most) in
+    let none : (n : ℕ) → c.loop-number.number ≤ n / 512 / 512 → n / 512 / 512 < 512 → covers c.args.runs.now n ≡ false = λ n from small. outside-gigabytes c.args.runs.now c.gigabyte_span-span.result.first c.gigabyte_span-span.result.end n c.gigabyte_span-span.ensures.within (inr (omega (arith, from, c.loop-number-test.false))) in
+    row-done c.loop-number.invariant.up_to within none

@@ -18,18 +18,14 @@ returns-then-end_of_last-end c =
     let at : gigabyte ≡ run.first / 512 / 512 = c.of-gigabyte.ensures ∙ ap (λ n. n / 512 / 512) c.first-2.ensures.same in
     let is = c.first-2.ensures.in_range in
     let size = is.0 in
-    let most = is.1 in
-    let end = c.if-end_of_last-end.true in
     let last : end_from 0 runs ≤ c.end_of_last.result = omega (arith, c.end_of_last.ensures.same) in
     let within = normal-within runs run c.end_of_last.result normal some first last in
     record {
-      below = omega (arith, at, size, most);
+      below = omega (arith, at, size, is.1);
       touched = touched runs 0 gigabyte run some first is (omega (arith, at)) (omega (arith, at, size));
       only = λ n covered.
           let found = any-within (λ r. in_run r n) run.first c.end_of_last.result runs covered within in
-          let low = found.2 in
-          let high = found.3 in
           let least : found.0.first ≤ n = grind (arith, nat_tests, found.1) in
           let small : n < found.0.first + found.0.count = grind (arith, nat_tests, found.1) in
-          omega (arith, at, low, high, least, small, end, c.end.ensures.same);
+          omega (arith, at, found.2, found.3, least, small, c.if-end_of_last-end.true, c.end.ensures.same);
     }

@@ -38,9 +38,8 @@ returns-clause-in_step g c = λ layout which answer forest partition is unmapped
     let new = g.M.TableMem.state c.give_page.new.memory in
     let wrote = ap (λ (x : Pages). x.words) (rw (c.root.ensures, c.index.ensures.same) at c.put_word.ensures.pages) in
     let same : cut.memory ≡ mid.memory = ap (λ (s : Pool). s.memory) c.invalidate.ensures.state in
-    let run = c.pages.ensures.same in
     let logged : IsLogged (Invalidate c.args.p (record { first = 262144 * c.args.gigabyte; count = 262144 })) mid cut = record {
-      operations = ap (λ (s : Pool). s.operations) c.invalidate.ensures.state ∙ ap (λ (r : PageRun). Invalidate c.args.p r ∷ mid.operations) run;
+      operations = ap (λ (s : Pool). s.operations) c.invalidate.ensures.state ∙ ap (λ (r : PageRun). Invalidate c.args.p r ∷ mid.operations) c.pages.ensures.same;
       made = ap (λ (s : Pool). s.made) c.invalidate.ensures.state;
     } in
     stays-after layout c.args.row which answer old cut new

@@ -107,12 +107,9 @@ returns g c =
     let quotas = emptied.words.quotas ∙ ap (λ (x : Pages). x.quotas) put_there in
     let same = ap (λ n. cond (is_some e.access) n (pages_in e.runs chunk)) (left-words layout row chunk j m site k word (pages_of y.memory) table put_there) in
     let gone = dropped s e x site table alike in
-    let before = c.replace_entry.ensures.room in
-    let within = c.empty_table.ensures.room in
-    let last = c.give_page.ensures.room in
     record {
       edits = does-drop layout row chunk j m site view e.access word k (pages_of y.memory) (pages_of z.memory) (pages_of end.memory) table c.block_word.ensures put_there emptied.words
           (pages_of-give z end k (g.met.M.TableMem.whole c.empty_table.new.memory) (subst (λ x. k < page_count x) (sym quotas) inside) given) alike;
       in_step = in-step-alike s e x site alike stays;
-      room = omega (arith, same, gone, before, within, last);
+      room = omega (arith, same, gone, c.replace_entry.ensures.room, c.empty_table.ensures.room, c.give_page.ensures.room);
     }

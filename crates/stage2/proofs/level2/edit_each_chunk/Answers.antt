@@ -40,17 +40,15 @@ set_blocks-requires-clause-room g c =
     let below = c.in-Some.ensures.in_range in
     let so = at-piece c.requires below (c.loop-piece.invariant.up_to below) c.in-Some.ensures.some in
     let most = c.plain_until-plain.ensures.most c.if-piece-plain.true in
-    let all = c.in-Some.ensures.some.most in
-    blocks-room c.requires below so c.if-piece-plain.true (omega (arith, most, all)) (λ x from to. c.in-Some.ensures.some.filled x from (omega (arith, to, most)))
+    blocks-room c.requires below so c.if-piece-plain.true (omega (arith, most, c.in-Some.ensures.some.most)) (λ x from to. c.in-Some.ensures.some.filled x from (omega (arith, to, most)))
 
 pub loop-piece-preserved-then-piece-plain : goal.loop-piece-preserved-then-piece-plain
 loop-piece-preserved-then-piece-plain g c =
     let below = c.in-Some.ensures.in_range in
     let so = at-piece c.requires below (c.loop-piece.invariant.up_to below) c.in-Some.ensures.some in
     let most = c.plain_until-plain.ensures.most c.if-piece-plain.true in
-    let all = c.in-Some.ensures.some.most in
     record {
-      up_to = λ _. blocks-next c.requires below so c.if-piece-plain.true (omega (arith, most, all)) (λ x from to. c.in-Some.ensures.some.filled x from (omega (arith, to, most)))
+      up_to = λ _. blocks-next c.requires below so c.if-piece-plain.true (omega (arith, most, c.in-Some.ensures.some.most)) (λ x from to. c.in-Some.ensures.some.filled x from (omega (arith, to, most)))
           (g.met.M.TableMem.whole c.loop-piece.memory) (λ x from to. c.plain_until-plain.ensures.plain c.args.edit.now.layout.now x from to) c.set_blocks.ensures.replaces c.set_blocks.ensures.room;
     }
 

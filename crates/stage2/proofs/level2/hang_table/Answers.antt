@@ -52,13 +52,11 @@ replace_entry-requires g c =
     let quotas = filled.quotas ∙ ap (λ (x : Pages). x.quotas) marked in
     let words = hung s e old can.site c.requires.none c.requires.mixed c.requires.before in
     let room = can.room in
-    let kept = took.room in
-    let left = c.fill_table.ensures.room in
     record {
       page_in = subst (λ x. s.second < page_count x) (sym quotas) (second-inside e.layout.now s.row e.chunk s.second m can.site);
       taken = ap (λ f. f s.second) filled.taken ∙ ap (λ (x : Pages). x.taken s.second) marked ∙ mark-kept m.taken k s.second (second-taken e.layout.now s.row e.chunk s.second m can.site);
       partition = has-row e.layout.now (g.M.TableMem.state c.fill_table.new.memory).memory s.p s.row (can.site.orderly.ids ∙ sym (filled.ids ∙ ap (λ (x : Pages). x.ids) marked)) can.row can.site.partition;
-      room = omega (arith, words, room, kept, left);
+      room = omega (arith, words, room, took.room, c.fill_table.ensures.room);
     }
 
 -- a word points at one page
@@ -113,11 +111,8 @@ returns g c =
         c.replace_entry.ensures.history in
         stays-after layout row which answer x z end (stays-after layout row which answer x y z first second) third in
     let words = hung s e x site c.requires.none c.requires.mixed c.requires.before in
-    let kept = took.room in
-    let within = filled.room in
-    let last = c.replace_entry.ensures.room in
     record {
       edits = edits;
       in_step = in-step-hung s e x site c.requires.none c.requires.mixed stays;
-      room = omega (arith, words, kept, within, last);
+      room = omega (arith, words, took.room, filled.room, c.replace_entry.ensures.room);
     }

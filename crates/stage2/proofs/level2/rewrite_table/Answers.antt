@@ -77,10 +77,9 @@ gone (Some a) b e f = let bad : true ≡ false = e ∙ ap not f in absurd (cc)
 
 pub invalidate_parts-requires : goal.invalidate_parts-requires
 invalidate_parts-requires g c =
-    let s = c.args.site.now in
     let e = c.args.edit.now in
     let can = c.requires.can in
-    grind (arith, common_steps, nat_tests, c.requires.can, unmaps e.access c.is_none.result (part_count e.chunk e.runs) c.is_none.ensures c.if-is_none.true, kept s e (g.M.TableMem.state c.args.memory.now) can.site c.requires.table c.requires.mixed, can.room, c.write_runs.ensures.room, has-row)
+    grind (arith, common_steps, nat_tests, c.requires.can, unmaps e.access c.is_none.result (part_count e.chunk e.runs) c.is_none.ensures c.if-is_none.true, kept c.args.site.now e (g.M.TableMem.state c.args.memory.now) can.site c.requires.table c.requires.mixed, can.room, c.write_runs.ensures.room, has-row)
 
 pub returns-then-is_none : goal.returns-then-is_none
 returns-then-is_none g c =
@@ -104,7 +103,6 @@ returns-then-is_none g c =
     let each = unmaps e.access c.is_none.result (part_count chunk runs) c.is_none.ensures c.if-is_none.true in
     let words = kept s e x site table c.requires.mixed in
     let room = c.write_runs.ensures.room in
-    let left = c.invalidate_parts.ensures.room in
     record {
       edits = subst (λ (memory : Memory). Redoes_in layout row chunk j (chunk_after s e x) m (pages_of memory)) (sym c.invalidate_parts.ensures.memory)
           (does-rewrite layout row chunk j m site runs e.access k (pages_of y.memory) table wrote.words c.requires.mixed);
@@ -116,5 +114,5 @@ returns-then-is_none g c =
                 clears-made layout row k chunk (planned runs e.access None) which x y wrote.made (subst (λ (a : View). PlansOnly chunk (planned runs e.access None) which a) none (plans-runs chunk runs e.access)) (level_3-seen layout row chunk j m site hung k table)
             | inr loose ↦ clears-filled layout row k chunk 512 (planned runs e.access None) which x y wrote.made (unheld-third layout row chunk j m site loose k table)
           ]) c.invalidate_parts.ensures.settles);
-      room = omega (arith, each, words, room, left);
+      room = omega (arith, each, words, room, c.invalidate_parts.ensures.room);
     }

@@ -83,10 +83,9 @@ returns-then-nonzero-edit-eq-CHUNK_PAGES-clause-writes g c =
     let old = pages_of start.memory in
     let new = pages_of end.memory in
     let nonzero = c.nonzero-nonzero.ensures ∙ ap (nonzero_in old.words) c.number.ensures in
-    let pages = e.pages in
     let left = c.if-nonzero-edit-eq-CHUNK_PAGES.true in
     let some = there e.access (sym c.is_some.ensures ∙ c.if-is_some.true) in
-    let zero = none-among old.words k (λ i. covers e.runs (512 * e.chunk + i)) (omega (arith, nonzero, pages, left)) (λ i small out. word-some (512 * e.chunk + i) e.access (old.words k i) some (c.requires.left i small out)) in
+    let zero = none-among old.words k (λ i. covers e.runs (512 * e.chunk + i)) (omega (arith, nonzero, e.pages, left)) (λ i small out. word-some (512 * e.chunk + i) e.access (old.words k i) some (c.requires.left i small out)) in
     record {
       words = writes-zero k e.chunk e.runs old new (writes-gaps k e.chunk e.runs None old new zero c.write_gaps.ensures.writes.words);
       made = filled-more k e.chunk 512 (gaps e.runs None) plan start end (all-gaps e.runs) c.write_gaps.ensures.writes.made;

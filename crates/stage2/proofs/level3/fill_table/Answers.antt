@@ -28,8 +28,7 @@ pub write_gaps-requires-clause-room : goal.write_gaps-requires-clause-room
 write_gaps-requires-clause-room g c =
     let e = c.args.edit.now in
     let words = new-unmapped e.runs e.access c.args.before.now e.chunk c.in-Some-None.is-1 (ap (λ a. is_some a) c.in-Some-None.is-0) in
-    let room = c.requires.room in
-    omega (arith, words, room)
+    omega (arith, words, c.requires.room)
 
 pub returns-in-Some-None-clause-words : goal.returns-in-Some-None-clause-words
 returns-in-Some-None-clause-words g c =
@@ -45,8 +44,7 @@ pub returns-in-Some-None-clause-room : goal.returns-in-Some-None-clause-room
 returns-in-Some-None-clause-room g c =
     let e = c.args.edit.now in
     let words = new-unmapped e.runs e.access c.args.before.now e.chunk c.in-Some-None.is-1 (ap (λ a. is_some a) c.in-Some-None.is-0) in
-    let room = c.write_gaps.ensures.room in
-    omega (arith, words, room)
+    omega (arith, words, c.write_gaps.ensures.room)
 
 -- ---- all are to be reached
 
@@ -54,18 +52,13 @@ pub turn_runs-requires-in-Some-Some-clause-room : goal.turn_runs-requires-in-Som
 turn_runs-requires-in-Some-Some-clause-room g c =
     let e = c.args.edit.now in
     let words = new-all e.runs e.access c.args.before.now e.chunk (ap (λ a. is_some a) c.in-Some-Some.is-1) (ap (λ a. is_some a) c.in-Some-Some.is-0) in
-    let room = c.requires.room in
-    let pages = e.pages in
-    let most = e.most in
-    omega (arith, words, room, pages, most)
+    omega (arith, words, c.requires.room, e.pages, e.most)
 
 pub write_gaps-requires-in-Some-Some-clause-room : goal.write_gaps-requires-in-Some-Some-clause-room
 write_gaps-requires-in-Some-Some-clause-room g c =
     let e = c.args.edit.now in
     let words = new-all e.runs e.access c.args.before.now e.chunk (ap (λ a. is_some a) c.in-Some-Some.is-1) (ap (λ a. is_some a) c.in-Some-Some.is-0) in
-    let room = c.requires.room in
-    let left = c.turn_runs-in-Some-Some.ensures.room in
-    omega (arith, words, room, left)
+    omega (arith, words, c.requires.room, c.turn_runs-in-Some-Some.ensures.room)
 
 pub returns-in-Some-Some-clause-unseen : goal.returns-in-Some-Some-clause-unseen
 returns-in-Some-Some-clause-unseen g c = λ layout row which answer loose.
@@ -84,6 +77,4 @@ pub returns-in-Some-Some-clause-room : goal.returns-in-Some-Some-clause-room
 returns-in-Some-Some-clause-room g c =
     let e = c.args.edit.now in
     let words = new-all e.runs e.access c.args.before.now e.chunk (ap (λ a. is_some a) c.in-Some-Some.is-1) (ap (λ a. is_some a) c.in-Some-Some.is-0) in
-    let first = c.turn_runs-in-Some-Some.ensures.room in
-    let second = c.write_gaps-in-Some-Some.ensures.room in
-    omega (arith, words, first, second)
+    omega (arith, words, c.turn_runs-in-Some-Some.ensures.room, c.write_gaps-in-Some-Some.ensures.room)

@@ -27,8 +27,7 @@ returns-then-is_none g c =
     let some : (i : ℕ) → i < 512 → which i ≡ true → (words k i == 0) ≡ false = λ i small covered. c.requires.turned c.if-edit.true i small covered ∙ ap (λ a. is_some a) none in
     let least = words-least words k which some in
     let most = c.is_told_mixed.ensures.no c.if-is_told_mixed.false none in
-    let pages = e.pages in
-    emptied-alike e.layout.now pool e.runs e.access (Next k) e.chunk k refl none (none-beside words k which (omega (arith, least, most, pages)) (λ i small covered. eqb-false _ _ (some i small covered)))
+    emptied-alike e.layout.now pool e.runs e.access (Next k) e.chunk k refl none (none-beside words k which (omega (arith, least, most, e.pages)) (λ i small covered. eqb-false _ _ (some i small covered)))
 
 pub returns : goal.returns
 returns g c =

@@ -15,8 +15,7 @@ returns-then-not-has-clause-none c = λ _ x from small.
     let start : c.number-start.result ≡ 512 * (512 * c.args.gigabyte + c.args.index) = c.number-start.ensures.same ∙ c.first.ensures.same ∙ ap (λ k. 512 * k) c.chunk.ensures.same in
     let chunk : c.of-chunk.result ≡ c.max.result / 512 = c.of-chunk.ensures ∙ ap (λ n. n / 512) c.new.ensures in
     let other : c.of-chunk.result / 512 ≢ c.args.gigabyte = grind (arith, nat_tests, c.has.ensures.same, c.if-not-has.true) in
-    let inside = c.if-index-ge-TABLE_WORDS.false in
-    let before : 512 * (512 * c.args.gigabyte + x) + 512 ≤ c.bounds-pages.result.first = omega (arith, start, chunk, c.max.ensures, other, inside, from, small) in
+    let before : 512 * (512 * c.args.gigabyte + x) + 512 ≤ c.bounds-pages.result.first = omega (arith, start, chunk, c.max.ensures, other, c.if-index-ge-TABLE_WORDS.false, from, small) in
     apart-before c.args.gigabyte c.args.index c.number-start.result c.bounds-pages.result.first c.bounds-pages.result.end c.args.runs.now c.runs_past-rest.result start c.runs_past-rest.ensures c.bounds-pages.ensures.within x from (inl before)
 
 pub returns-clause-some : goal.returns-clause-some

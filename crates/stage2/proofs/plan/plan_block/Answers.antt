@@ -13,8 +13,7 @@ use Rattle.std.proofs.lemmas.Grind.{common_steps}
 
 pub returns-then-is_alike_in_block : goal.returns-then-is_alike_in_block
 returns-then-is_alike_in_block c = λ before same.
-    let e = c.args.edit.now in
-    grind (arith, common_steps, nat_tests, same-unmixed before e.chunk (block_answer c.args.entry.now) same, c.is_alike_in_block.ensures before same, plain, edit-planned)
+    grind (arith, common_steps, nat_tests, same-unmixed before c.args.edit.now.chunk (block_answer c.args.entry.now) same, c.is_alike_in_block.ensures before same, plain, edit-planned)
 
 -- a table that is hung gets words for those that are reached then
 pub returns : goal.returns

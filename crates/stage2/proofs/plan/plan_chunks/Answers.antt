@@ -30,12 +30,10 @@ loop-piece-preserved-then-piece-plain g c =
     let access = c.args.edit.now.access in
     let layout = c.args.edit.now.layout.now in
     let row = c.args.edit.now.row in
-    let first = c.in-Some.piece.first in
-    let end = c.plain_from-plain.result in
     let below = c.in-Some.ensures.in_range in
     let most = c.plain_from-plain.ensures.most c.if-piece-plain.true in
     let last = c.in-Some.ensures.some.most in
-    let filled : (x : ℕ) → first ≤ x → x < end → covers_chunk (512 * gigabyte + x) runs ≡ true =
+    let filled : (x : ℕ) → c.in-Some.piece.first ≤ x → x < c.plain_from-plain.result → covers_chunk (512 * gigabyte + x) runs ≡ true =
     λ x from lt. sym (so.left.fills (512 * gigabyte + x) (omega (arith, from))) ∙ c.in-Some.ensures.some.filled x from (omega (arith, lt, most)) in
     record {
       planned = planned-filled so c.if-piece-plain.true (omega (arith, most, last))

@@ -19,13 +19,11 @@ use Rattle.stage2.proofs.plan.plan_in.Goals as goal
 
 pub entry_at-entry-requires-clause-table : goal.entry_at-entry-requires-clause-table
 entry_at-entry-requires-clause-table g c = λ j e.
-    let chunk = c.args.edit.now.chunk in
-    second-inside c.args.row.now.layout.now (pages_of (g.M.TableMem.state c.args.memory.now).memory) c.requires.canonical (chunk / 512) (omega (arith, c.requires.in_range)) c.args.row.now.row c.args.row.now.inside j (c.requires.table ∙ e)
+    second-inside c.args.row.now.layout.now (pages_of (g.M.TableMem.state c.args.memory.now).memory) c.requires.canonical (c.args.edit.now.chunk / 512) (omega (arith, c.requires.in_range)) c.args.row.now.row c.args.row.now.inside j (c.requires.table ∙ e)
 
 pub entry_at-entry-requires-clause-taken : goal.entry_at-entry-requires-clause-taken
 entry_at-entry-requires-clause-taken g c = λ j e.
-    let chunk = c.args.edit.now.chunk in
-    second-held c.args.row.now.layout.now (pages_of (g.M.TableMem.state c.args.memory.now).memory) c.requires.canonical (chunk / 512) (omega (arith, c.requires.in_range)) c.args.row.now.row c.args.row.now.inside j (c.requires.table ∙ e)
+    second-held c.args.row.now.layout.now (pages_of (g.M.TableMem.state c.args.memory.now).memory) c.requires.canonical (c.args.edit.now.chunk / 512) (omega (arith, c.requires.in_range)) c.args.row.now.row c.args.row.now.inside j (c.requires.table ∙ e)
 
 pub entry_at-entry-requires-clause-known : goal.entry_at-entry-requires-clause-known
 entry_at-entry-requires-clause-known g c =

@@ -101,11 +101,10 @@ returns g c =
     let so = c.loop-number.invariant in
     let i = c.loop-number.number in
     let most = c.gigabyte_span-span.ensures.most in
-    let end = c.loop-number-test.false in
     let last : i ≤ c.gigabyte_span-span.result.end = c.loop-number.auto.number-end c.gigabyte_span-span.ensures.ordered in
     let e : i + (512 - i) ≡ 512 = omega (arith, most, last) in
     let none : (x : ℕ) → i ≤ x → (n : ℕ) → n / 512 / 512 ≡ x → covers runs n ≡ false =
-    λ x from n at. outside-gigabytes runs c.gigabyte_span-span.result.first c.gigabyte_span-span.result.end n c.gigabyte_span-span.ensures.within (inr (omega (arith, from, at, end))) in
+    λ x from n at. outside-gigabytes runs c.gigabyte_span-span.result.first c.gigabyte_span-span.result.end n c.gigabyte_span-span.ensures.within (inr (omega (arith, from, at, c.loop-number-test.false))) in
     record {
       tables = so.tables ∙ sym (sum_below-tail f (512 - i) i (λ x from to. growth-nothing runs access v x (none x from))) ∙ ap (sum_below f) e ∙ grow-sum v (edited runs access v);
       operations =

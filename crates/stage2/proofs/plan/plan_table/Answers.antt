@@ -24,8 +24,7 @@ returns-then-not-looks g c =
     let view : ℕ → View = read_before e (Next c.args.third) pool in
     let gone = gone-words e c.args.third c.operations_gone-gone.result pool c.requires.table.spelled c.operations_gone-gone.ensures.same in
     let page = one e in
-    let lt = page.1 in
-    let either = table-either e.runs e.access view e.chunk (512 * e.chunk + page.0) c.requires.mixed (omega (arith, lt)) page.2 in
+    let either = table-either e.runs e.access view e.chunk (512 * e.chunk + page.0) c.requires.mixed (omega (arith, page.1)) page.2 in
     let most = either-most (table_operations e.runs e.access view e.chunk) c.operations_kept-kept.result c.operations_gone-gone.result c.max-most.result (rw (c.operations_kept-kept.ensures.same, gone) either) c.max-most.ensures in
     let looks = c.if-not-looks.true in
     edit-planned false c.max-most.result c.new-then-not-looks.ensures most (λ yes. absurd (cc)) (omega (arith, c.max-most.ensures, c.operations_kept-kept.ensures.most, c.operations_gone-gone.ensures.most))
@@ -37,10 +36,9 @@ returns-then-most-min-le-SURPLUS g c =
     let view : ℕ → View = read_before e (Next c.args.third) pool in
     let gone = gone-words e c.args.third c.operations_gone-gone.result pool c.requires.table.spelled c.operations_gone-gone.ensures.same in
     let page = one e in
-    let lt = page.1 in
     let t = table_operations e.runs e.access view e.chunk in
     let either : (t ≡ c.operations_kept-kept.result) ⊎ (t ≡ c.operations_gone-gone.result) =
-    rw (c.operations_kept-kept.ensures.same, gone) (table-either e.runs e.access view e.chunk (512 * e.chunk + page.0) c.requires.mixed (omega (arith, lt)) page.2) in
+    rw (c.operations_kept-kept.ensures.same, gone) (table-either e.runs e.access view e.chunk (512 * e.chunk + page.0) c.requires.mixed (omega (arith, page.1)) page.2) in
     edit-planned false c.max-most.result c.new-then-most-min-le-SURPLUS.ensures
     (either-most t c.operations_kept-kept.result c.operations_gone-gone.result c.max-most.result either c.max-most.ensures)
     (λ yes. either-near t c.operations_kept-kept.result c.operations_gone-gone.result c.max-most.result c.min.result either c.max-most.ensures c.min.ensures c.if-most-min-le-SURPLUS.true)

@@ -11,9 +11,8 @@ loop-self-preserved g c =
     let ours = c.loop-self.self in
     let theirs = c.loop-self.other in
     let so = c.loop-self.invariant in
-    let room = c.if-self-ge-AT_ONCE.true in
     let index = c.if-self-other.true in
-    let inside : ours.index + 64 ≤ 512 = omega (arith, room) in
+    let inside : ours.index + 64 ≤ 512 = omega (arith, c.if-self-ge-AT_ONCE.true) in
     record {
       is = further _ words Third ours so.is inside;
       other_is = further _ others Third theirs so.other_is (omega (arith, inside, index));

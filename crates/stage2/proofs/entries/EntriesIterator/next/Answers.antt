@@ -32,9 +32,8 @@ returns-in-Some-next-clause-steps g c =
     let words = words_of (g.W.WordSource.words own.words) in
     let e = c.in-Some-next.entry in
     let level = ap number_of c.in-Some-next.ensures.at in
-    let none = c.in_default.ensures.entries.0 in
     let below = opened-at words own.base own.pages e.first e.word (number_of e.level) 2 (λ k. table_entries Third e.first (words k)) (left_in words c.below-self-inside.result) level c.below-self-inside.ensures.entries in
-    sym c.self.view_is ∙ second-next own.base own.pages words own.root own.second own.third e c.next-2.new.self c.below-self-inside.result none c.in-Some-next.ensures.entries below
+    sym c.self.view_is ∙ second-next own.base own.pages words own.root own.second own.third e c.next-2.new.self c.below-self-inside.result c.in_default.ensures.entries.0 c.in-Some-next.ensures.entries below
 
 pub returns-in-Some-next-clause-goes : goal.returns-in-Some-next-clause-goes
 returns-in-Some-next-clause-goes g c =

@@ -15,9 +15,8 @@ map_pending-requires-clause-fits g c = λ a is.
     let view = g.V.Views.view c.args.views.now c.args.p in
     let l = c.loop-number in
     let e = c.view_from-next.ensures in
-    let behind = e.behind in
     let at = c.new-page.ensures in
-    let here = segment-alike view l.number c.new-page.result c.view_from-next.result.end c.view_from-next.result.value at e.in_range e.alike l.number (omega arith) (omega (arith, behind, at)) in
+    let here = segment-alike view l.number c.new-page.result c.view_from-next.result.end c.view_from-next.result.value at e.in_range e.alike l.number (omega arith) (omega (arith, e.behind, at)) in
     let unlike : (l.access ≡ c.view_from-next.result.value) → ⊥ = search rules in
     can-map c.args.self.now.layout (in_range view) c.args.p l.first l.number l.access l.self l.invariant.filling a is
     (edge-between c.args.self.now.layout (in_range view) c.args.p l.first l.number l.access l.self l.invariant.filling (λ same. unlike (same ∙ here))) (in-range-fits view _ c.requires.fits)
@@ -39,10 +38,9 @@ loop-number-preserved-in_ok-map_pending g c =
     let next = c.view_from-next.result.value in
     let h = l.invariant.filling in
     let s = c.view_from-next.ensures in
-    let behind = s.behind in
     let at = c.new-page.ensures in
     let alike = segment-alike view l.number c.new-page.result end next at s.in_range s.alike in
-    let behind_number : l.number < end = omega (arith, behind, at) in
+    let behind_number : l.number < end = omega (arith, s.behind, at) in
     let here = alike l.number (omega arith) behind_number in
     let unlike : (l.access ≡ next) → ⊥ = search rules in
     let edge = edge-between layout (in_range view) p l.first l.number l.access l.self h (λ same. unlike (same ∙ here)) in
