@@ -22,10 +22,10 @@ loop-run-preserved c = record {
 }
 
 pub returns : goal.returns
-returns c = λ chunk. grind (arith, common_steps, nat_tests, take-all c.list-list.result.now c.loop-run.run-index c.loop-run-test.false c.loop-run.auto.run-index-end, c.list-list.ensures.same)
+returns c = λ chunk. grind (arith, common_steps, nat_tests, take-all c.list-list.result.now c.loop-run.run-index c.loop-run-test.false c.loop-run.auto.run-index-end)
 
 pub returns-in-len1 : goal.returns-in-len1
 returns-in-len1 c = λ chunk.
     let list = c.list-list.result.now in
     let run = c.run-item.result in
-    grind (arith, common_steps, nat_tests, pages-more list 0 chunk run c.list-list.ensures.normal c.in-len1.len_at_least c.run-item.is, pages-none chunk list, take-all, c.in-len1.len_below, c.in-len1.len_at_least, run-pages run chunk, c.list-list.ensures.same, c.count.ensures.same)
+    grind (arith, common_steps, nat_tests, pages-more list 0 chunk run c.list-list.ensures.normal c.in-len1.len_at_least c.run-item.is, pages-none chunk list, take-all, run-pages run chunk)

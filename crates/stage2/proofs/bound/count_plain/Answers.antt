@@ -16,13 +16,13 @@ outside : (pool : Pool) (j first end x : ℕ) → is_between first end x ≡ fal
 outside pool j first end x out = rw out refl
 
 pub loop-index-init : goal.loop-index-init
-loop-index-init g c = grind (arith, common_steps, nat_tests, c.args.chunks.end, count_below-none, outside)
+loop-index-init g c = grind (arith, common_steps, nat_tests, count_below-none, outside)
 
 pub loop-index-preserved : goal.loop-index-preserved
 loop-index-preserved g c =
     let pool = g.M.TableMem.state c.args.memory.now in
     let which : ℕ → Bool = λ x. is_between c.args.chunks.first c.args.chunks.end x && not (points_at (Some c.args.second) x pool) in
-    grind (arith, common_steps, nat_tests, c.args.chunks.end, c.loop-index.index, count_below-more which c.loop-index.index, c.loop-index.invariant.counts, c.loop-index.invariant.few, c.from-count.ensures)
+    grind (arith, common_steps, nat_tests, count_below-more which c.loop-index.index)
 
 pub returns : goal.returns
 returns g c =

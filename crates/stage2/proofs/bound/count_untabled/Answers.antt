@@ -7,4 +7,4 @@ use Rattle.std.proofs.lemmas.Grind.{common_steps}
 
 pub returns-in-None-clause-counts : goal.returns-in-None-clause-counts
 returns-in-None-clause-counts g c =
-    grind (arith, common_steps, nat_tests, c.args.chunks.end, count_below-fewer, count_below-between c.args.chunks.first c.args.chunks.end 512 c.requires.ordered c.requires.most)
+    grind (arith, common_steps, nat_tests, count_below-fewer, count_below-between c.args.chunks.first c.args.chunks.end 512 c.requires.ordered c.requires.most)

@@ -40,7 +40,7 @@ entry_at-entry-requires-clause-known g c =
 pub overflow_sub-nonzero : goal.overflow_sub-nonzero
 overflow_sub-nonzero g c =
     let words = words_of (g.M.TableMem.state c.args.memory.now).memory.words in
-    grind (arith, common_steps, nat_tests, nonzero-most words c.in-Some.third, c.nonzero-nonzero.ensures)
+    grind (arith, common_steps, nat_tests, nonzero-most words c.in-Some.third)
 
 pub returns-then-is_filled-clause-bound : goal.returns-then-is_filled-clause-bound
 returns-then-is_filled-clause-bound g c =

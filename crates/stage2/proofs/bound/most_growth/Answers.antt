@@ -12,4 +12,4 @@ pub returns : goal.returns
 returns c = λ before access.
     let first = c.bounds-pages.result.first in
     let end = c.bounds-pages.result.end in
-    grind (arith, common_steps, nat_tests, c.bounds-pages.result.end, grow-most c.args.runs.now access before first end c.bounds-pages.ensures.within, c.chunks_between.ensures, gigabyte_of (end + 262143), gigabyte_of first)
+    grind (arith, common_steps, nat_tests, grow-most c.args.runs.now access before first end c.bounds-pages.ensures.within, gigabyte_of (end + 262143), gigabyte_of first)

@@ -5,4 +5,4 @@ use Rattle.std.proofs.lemmas.Bool.Decides.{nat_tests}
 use Rattle.std.proofs.lemmas.Grind.{common_steps}
 
 pub returns-clause-bound : goal.returns-clause-bound
-returns-clause-bound c = λ before access. grind (arith, common_steps, nat_tests, row-operations c.args.runs.now c.bounds.result.first c.bounds.result.end c.bounds.ensures.within access before c.bounds.ensures.normal, c.chunks_between.ensures)
+returns-clause-bound c = λ before access. grind (arith, common_steps, nat_tests, row-operations c.args.runs.now c.bounds.result.first c.bounds.result.end c.bounds.ensures.within access before c.bounds.ensures.normal)

@@ -7,4 +7,4 @@ use Rattle.std.proofs.lemmas.Bool.Decides.{nat_tests}
 use Rattle.std.proofs.lemmas.Grind.{common_steps}
 
 pub returns-in-Some-clause-yes : goal.returns-in-Some-clause-yes
-returns-in-Some-clause-yes c = λ _ g runs same. grind (arith, common_steps, nat_tests, c.list.ensures.same, c.in-Some.ensures.item.1, between-first, touched)
+returns-in-Some-clause-yes c = λ _ g runs same. grind (arith, common_steps, nat_tests, between-first, touched)

@@ -60,7 +60,7 @@ give_page-requires g c =
     let m2 = pages_of (g.M.TableMem.state c.empty_table.new.memory).memory in
     let site = c.requires.can.site in
     let emptied = c.empty_table.ensures.writes.words in
-    grind (arith, common_steps, nat_tests, c.args.third, c.requires.can.site, third-share layout s.row e.chunk s.second m site k c.requires.table, third-taken layout s.row e.chunk s.second m site k c.requires.table, drop-zero layout s.row e.chunk s.second m site k m1 m2 emptied)
+    grind (arith, common_steps, nat_tests, third-share layout s.row e.chunk s.second m site k c.requires.table, third-taken layout s.row e.chunk s.second m site k c.requires.table, drop-zero layout s.row e.chunk s.second m site k m1 m2 emptied)
 
 pub returns : goal.returns
 returns g c =

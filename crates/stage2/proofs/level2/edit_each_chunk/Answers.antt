@@ -33,7 +33,7 @@ set_blocks-requires-clause-taken g c =
 pub set_blocks-requires-clause-partition : goal.set_blocks-requires-clause-partition
 set_blocks-requires-clause-partition g c =
     let below = c.in-Some.ensures.in_range in
-    grind (arith, common_steps, nat_tests, c.in-Some.ensures.in_range, at-piece c.requires below (c.loop-piece.invariant.up_to below) c.in-Some.ensures.some, c.loop-piece.invariant.up_to below, has-row, c.requires.orderly.ids)
+    grind (arith, common_steps, nat_tests, at-piece c.requires below (c.loop-piece.invariant.up_to below) c.in-Some.ensures.some, has-row)
 
 pub set_blocks-requires-clause-room : goal.set_blocks-requires-clause-room
 set_blocks-requires-clause-room g c =
@@ -53,7 +53,7 @@ loop-piece-preserved-then-piece-plain g c =
     }
 
 pub new-requires : goal.new-requires
-new-requires g c = grind (arith, common_steps, nat_tests, c.in-Some.ensures.some, past-past, c.args.gigabyte)
+new-requires g c = grind (arith, common_steps, nat_tests, past-past)
 
 pub edit_one_of_many-requires : goal.edit_one_of_many-requires
 edit_one_of_many-requires g c =

@@ -30,13 +30,13 @@ pub fill_table-requires-clause-taken : goal.fill_table-requires-clause-taken
 fill_table-requires-clause-taken g c =
     let old = g.M.TableMem.state c.args.memory.now in
     let took = c.take_page-third.ensures in
-    grind (arith, common_steps, nat_tests, c.take_page-third.ensures, pages_of-take old (g.M.TableMem.state c.take_page-third.new.memory) c.args.site.now.row c.take_page-third.result (g.met.M.TableMem.whole c.args.memory.now) took.lowest took.state, g.met.M.TableMem.whole c.args.memory.now, mark-same (pages_of old.memory).taken c.take_page-third.result true)
+    grind (arith, common_steps, nat_tests, pages_of-take old (g.M.TableMem.state c.take_page-third.new.memory) c.args.site.now.row c.take_page-third.result (g.met.M.TableMem.whole c.args.memory.now) took.lowest took.state, mark-same (pages_of old.memory).taken c.take_page-third.result true)
 
 pub fill_table-requires-clause-some : goal.fill_table-requires-clause-some
 fill_table-requires-clause-some g c = some-hung c.args.site.now c.args.edit.now (g.M.TableMem.state c.args.memory.now) c.requires.can.site c.requires.none c.requires.mixed c.requires.before
 
 pub fill_table-requires-clause-room : goal.fill_table-requires-clause-room
-fill_table-requires-clause-room g c = grind (arith, common_steps, nat_tests, hung c.args.site.now c.args.edit.now (g.M.TableMem.state c.args.memory.now) c.requires.can.site c.requires.none c.requires.mixed c.requires.before, c.requires.can.room, c.take_page-third.ensures.room)
+fill_table-requires-clause-room g c = grind (arith, common_steps, nat_tests, hung c.args.site.now c.args.edit.now (g.M.TableMem.state c.args.memory.now) c.requires.can.site c.requires.none c.requires.mixed c.requires.before)
 
 pub replace_entry-requires : goal.replace_entry-requires
 replace_entry-requires g c =

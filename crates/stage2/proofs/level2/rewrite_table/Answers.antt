@@ -26,7 +26,7 @@ write_runs-requires g c =
     let e = c.args.edit.now in
     let old = g.M.TableMem.state c.args.memory.now in
     let can = c.requires.can in
-    grind (arith, common_steps, nat_tests, c.requires.can, kept s e old can.site c.requires.table c.requires.mixed, can.room, is-table s e old can.site c.requires.table can.turned)
+    grind (arith, common_steps, nat_tests, kept s e old can.site c.requires.table c.requires.mixed, is-table s e old can.site c.requires.table can.turned)
 
 -- pages that are mapped were not before
 unmapped : (runs : List PageRun) (access : View) (view : ℕ → View) (n : ℕ) (here : Bool) → is_some access ≡ true → (covers runs n ≡ true → (access ≡ None) ⊎ (view n ≡ None)) → (covers runs n && here) ≡ true → view n ≡ None
@@ -79,7 +79,7 @@ pub invalidate_parts-requires : goal.invalidate_parts-requires
 invalidate_parts-requires g c =
     let e = c.args.edit.now in
     let can = c.requires.can in
-    grind (arith, common_steps, nat_tests, c.requires.can, unmaps e.access c.is_none.result (part_count e.chunk e.runs) c.is_none.ensures c.if-is_none.true, kept c.args.site.now e (g.M.TableMem.state c.args.memory.now) can.site c.requires.table c.requires.mixed, can.room, c.write_runs.ensures.room, has-row)
+    grind (arith, common_steps, nat_tests, unmaps e.access c.is_none.result (part_count e.chunk e.runs) c.is_none.ensures c.if-is_none.true, kept c.args.site.now e (g.M.TableMem.state c.args.memory.now) can.site c.requires.table c.requires.mixed, has-row)
 
 pub returns-then-is_none : goal.returns-then-is_none
 returns-then-is_none g c =

@@ -6,4 +6,4 @@ use Rattle.std.proofs.lemmas.Bool.Decides.{nat_tests}
 use Rattle.std.proofs.lemmas.Grind.{common_steps}
 
 pub replace_words-requires-clause-in_range : goal.replace_words-requires-clause-in_range
-replace_words-requires-clause-in_range g c = grind (arith, common_steps, nat_tests, c.chunk-chunk.ensures.same, c.block_step.ensures, blocks-small, c.args.chunks.end, c.chunk-chunk.ensures.in_range, c.requires.some, c.requires.most)
+replace_words-requires-clause-in_range g c = grind (arith, common_steps, nat_tests, blocks-small)

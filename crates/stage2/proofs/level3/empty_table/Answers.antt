@@ -65,10 +65,10 @@ returns-then-nonzero-edit-clause-writes g c =
 pub overflow_add-nonzero : goal.overflow_add-nonzero
 overflow_add-nonzero g c =
     let words = words_of (g.M.TableMem.state c.args.memory.now).memory.words in
-    grind (arith, common_steps, nat_tests, c.nonzero-nonzero.ensures, nonzero-most words c.args.third, c.args.edit.now.most)
+    grind (arith, common_steps, nat_tests, nonzero-most words c.args.third)
 
 pub write_gaps-requires-clause-turned : goal.write_gaps-requires-clause-turned
-write_gaps-requires-clause-turned g c = λ i small out. grind (arith, common_steps, nat_tests, there, c.if-is_some.true, word-some, c.requires.left i small out)
+write_gaps-requires-clause-turned g c = λ i small out. grind (arith, common_steps, nat_tests, there, word-some, c.requires.left i small out)
 
 -- what is planned beside the runs is planned for all
 all-gaps : (runs : List PageRun) (n : ℕ) (answer : View) → gaps runs None n ≡ Some answer → planned [] None (Some None) n ≡ Some answer
@@ -102,10 +102,10 @@ few-left k e pool left = either (is_some e.access) refl
     either false none = grind (arith, common_steps, nat_tests, word-beside, gone e.access none)
 
 pub clear_words-requires-clause-room : goal.clear_words-requires-clause-room
-clear_words-requires-clause-room g c = grind (arith, common_steps, nat_tests, few-left c.args.third c.args.edit.now (g.M.TableMem.state c.args.memory.now) c.requires.left, c.requires.room)
+clear_words-requires-clause-room g c = grind (arith, common_steps, nat_tests, few-left c.args.third c.args.edit.now (g.M.TableMem.state c.args.memory.now) c.requires.left)
 
 pub returns-else-is_some-clause-room : goal.returns-else-is_some-clause-room
-returns-else-is_some-clause-room g c = grind (arith, common_steps, nat_tests, few-left c.args.third c.args.edit.now (g.M.TableMem.state c.args.memory.now) c.requires.left, c.clear_words.ensures.room)
+returns-else-is_some-clause-room g c = grind (arith, common_steps, nat_tests, few-left c.args.third c.args.edit.now (g.M.TableMem.state c.args.memory.now) c.requires.left)
 
 pub returns-else-is_some-clause-writes : goal.returns-else-is_some-clause-writes
 returns-else-is_some-clause-writes g c =

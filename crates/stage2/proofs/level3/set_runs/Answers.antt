@@ -7,14 +7,11 @@ use Rattle.std.proofs.lemmas.Bool.Decides.{nat_tests}
 use Rattle.std.proofs.lemmas.Grind.{common_steps}
 
 pub set_runs-requires-clause-ready : goal.set_runs-requires-clause-ready
-set_runs-requires-clause-ready g c = grind (arith, common_steps, nat_tests, words-pages c.args.edit.now.chunk c.args.edit.now.runs c.args.edit.now.normal, c.requires.room, c.chunk_words-words.ensures.start)
+set_runs-requires-clause-ready g c = grind (arith, common_steps, nat_tests, words-pages c.args.edit.now.chunk c.args.edit.now.runs c.args.edit.now.normal)
 
-pub returns-clause-writes : goal.returns-clause-writes
-returns-clause-writes g c =
+pub returns : goal.returns
+returns g c =
     let e = c.args.edit.now in
     let w = c.chunk_words-words.ensures in
     let words = c.chunk_words-words.result in
-    grind (arith, common_steps, nat_tests, c.chunk_words-words.ensures, w.page, w.start, runs-written c.args.third e.chunk words.word words.step e.access w.each e.runs (g.M.TableMem.state c.args.memory.now) (g.met.M.TableMem.whole c.args.memory.now) c.requires.page_in (rise-normal e.runs e.normal), g.met.M.TableMem.whole c.args.memory.now, rise-normal e.runs e.normal)
-
-pub returns-clause-room : goal.returns-clause-room
-returns-clause-room g c = grind (arith, common_steps, nat_tests, words-pages c.args.edit.now.chunk c.args.edit.now.runs c.args.edit.now.normal, c.chunk_words-words.ensures.start, c.set_runs.ensures.room)
+    grind (arith, common_steps, nat_tests, runs-written c.args.third e.chunk words.word words.step e.access w.each e.runs (g.M.TableMem.state c.args.memory.now) (g.met.M.TableMem.whole c.args.memory.now) c.requires.page_in (rise-normal e.runs e.normal), words-pages c.args.edit.now.chunk c.args.edit.now.runs c.args.edit.now.normal)

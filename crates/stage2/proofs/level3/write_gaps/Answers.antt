@@ -9,16 +9,11 @@ use Rattle.stage2.proofs.level3.write_gaps.Goals as goal
 use Rattle.std.proofs.lemmas.Bool.Decides.{nat_tests}
 use Rattle.std.proofs.lemmas.Grind.{common_steps}
 
-pub set_gaps-requires-clause-ready : goal.set_gaps-requires-clause-ready
-set_gaps-requires-clause-ready g c =
-    let e = c.args.edit.now in
-    grind (arith, common_steps, nat_tests, words-pages e.chunk e.runs e.normal, gaps-words (512 * e.chunk) e.runs (rise-normal e.runs e.normal), rise-normal e.runs e.normal, c.requires.room, c.chunk_words-words.ensures.start)
-
-pub set_gaps-requires-clause-turned : goal.set_gaps-requires-clause-turned
-set_gaps-requires-clause-turned g c =
+pub set_gaps-requires : goal.set_gaps-requires
+set_gaps-requires g c =
     let e = c.args.edit.now in
     let w = c.chunk_words-words.ensures in
-    grind (arith, common_steps, nat_tests, c.chunk_words-words.ensures, w.zeros, rise-normal e.runs e.normal, gaps-out, w.start, c.requires.turned)
+    grind (arith, common_steps, nat_tests, words-pages e.chunk e.runs e.normal, gaps-words (512 * e.chunk) e.runs (rise-normal e.runs e.normal), rise-normal e.runs e.normal, gaps-out)
 
 pub returns-clause-writes : goal.returns-clause-writes
 returns-clause-writes g c =
@@ -33,4 +28,4 @@ returns-clause-writes g c =
 pub returns-clause-room : goal.returns-clause-room
 returns-clause-room g c =
     let e = c.args.edit.now in
-    grind (arith, common_steps, nat_tests, words-pages e.chunk e.runs e.normal, gaps-words (512 * e.chunk) e.runs (rise-normal e.runs e.normal), rise-normal e.runs e.normal, c.chunk_words-words.ensures.start, c.set_gaps.ensures.room)
+    grind (arith, common_steps, nat_tests, words-pages e.chunk e.runs e.normal, gaps-words (512 * e.chunk) e.runs (rise-normal e.runs e.normal))

@@ -13,4 +13,4 @@ returns-clause-yes g c = λ is i lt.
     nonzero-zeros words c.args.table i none lt
 
 pub returns-clause-no : goal.returns-clause-no
-returns-clause-no g c = λ isnt. grind (arith, common_steps, nat_tests, c.nonzero.ensures, nonzero-word)
+returns-clause-no g c = λ isnt. grind (arith, common_steps, nat_tests, nonzero-word)

@@ -16,7 +16,7 @@ counted n k table words is same = is ∙ ap (nonzero_in words) same
 pub overflow_add-result : goal.overflow_add-result
 overflow_add-result g c =
     let words = words_of (g.M.TableMem.state c.args.memory.now).memory.words in
-    grind (arith, common_steps, nat_tests, counted c.nonzero-nonzero.result c.number.result c.args.third words c.nonzero-nonzero.ensures c.number.ensures, nonzero-most words c.args.third, c.args.edit.now.most)
+    grind (arith, common_steps, nat_tests, counted c.nonzero-nonzero.result c.number.result c.args.third words c.nonzero-nonzero.ensures c.number.ensures, nonzero-most words c.args.third)
 
 -- a word beside the runs is 0, and the runs are mapped
 pub returns-in-Some-clause-yes : goal.returns-in-Some-clause-yes

@@ -6,4 +6,4 @@ use Rattle.stage2.proofs.parts.chunk_span.Goals as goal
 use Rattle.std.proofs.lemmas.Grind.{common_steps}
 
 pub returns-clause-within : goal.returns-clause-within
-returns-clause-within c = λ x small touched. grind (arith, common_steps, nat_tests, c.args.gigabyte, any-within, c.chunks-chunks.ensures.first, c.chunks-chunks.ensures.end, c.min-first.ensures, c.max.ensures, c.min-end.ensures, c.max-2.ensures)
+returns-clause-within c = λ x small touched. grind (arith, common_steps, nat_tests, any-within)

@@ -14,7 +14,7 @@ pub loop-run-init : goal.loop-run-init
 loop-run-init c = grind (arith, common_steps, nat_tests, pages-none c.args.chunk c.list-list.result.now)
 
 pub overflow_add-pieces : goal.overflow_add-pieces
-overflow_add-pieces c = grind (arith, common_steps, nat_tests, pages_among-le, c.piece_of-piece.ensures.most)
+overflow_add-pieces c = grind (arith, common_steps, nat_tests, pages_among-le)
 
 pub loop-run-preserved : goal.loop-run-preserved
 loop-run-preserved c =

@@ -16,18 +16,12 @@ module _ (runs : List PageRun) (run : PageRun) (chunk : ℕ) (single : runs ≡ 
   parts : part_count chunk runs ≡ 1
   parts = ap (part_count chunk) single ∙ run-whole run chunk (rw single at some) (rw single at only)
 
-pub returns-in-len1-clause-pages : goal.returns-in-len1-clause-pages
-returns-in-len1-clause-pages c = grind (arith, common_steps, nat_tests, runs-single, c.in-len1.len_at_least, c.in-len1.len_below, c.count.ensures.same, pages)
-
-pub returns-in-len1-clause-runs : goal.returns-in-len1-clause-runs
-returns-in-len1-clause-runs c = grind (arith, common_steps, nat_tests, runs-single, c.in-len1.len_at_least, c.in-len1.len_below, parts)
-
-pub returns-in-len1-clause-most : goal.returns-in-len1-clause-most
-returns-in-len1-clause-most c =
+pub returns-in-len1 : goal.returns-in-len1
+returns-in-len1 c =
     let single = sym c.list.ensures.same ∙ runs-single c.list.result.now c.run-item.result (omega (arith, c.in-len1.len_at_least, c.in-len1.len_below)) c.run-item.is in
     let all = pages c.args.runs.now c.run-item.result c.args.chunk single c.requires.some c.requires.only in
     let most = pages_among-le (λ i. covers c.args.runs.now (512 * c.args.chunk + i)) in
-    omega (arith, c.count.ensures.same, all, most)
+    grind (arith, common_steps, nat_tests, runs-single, pages, parts, c.count.ensures.same, all, most)
 
 pub returns-clause-some : goal.returns-clause-some
-returns-clause-some c = grind (arith, common_steps, nat_tests, page-counted c.args.runs.now c.args.chunk c.requires.some.0 c.requires.some.1 (c.requires.only c.requires.some.0 c.requires.some.1), c.requires.only c.requires.some.0 c.requires.some.1)
+returns-clause-some c = grind (arith, common_steps, nat_tests, page-counted c.args.runs.now c.args.chunk c.requires.some.0 c.requires.some.1 (c.requires.only c.requires.some.0 c.requires.some.1))

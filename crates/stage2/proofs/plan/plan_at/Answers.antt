@@ -18,7 +18,7 @@ use Rattle.std.proofs.lemmas.Grind.{common_steps}
 pub plan_in-requires-clause-turned : goal.plan_in-requires-clause-turned
 plan_in-requires-clause-turned g c =
     let so = c.in-Some.ensures.some in
-    grind (arith, common_steps, nat_tests, c.in-Some.here, c.in-Some.ensures.some, c.args.edit.now.access, so.1, so.3, chunk-turns, chunk-covers c.args.chunk c.args.runs.now c.in-Some.here.runs so.2, c.requires.turned)
+    grind (arith, common_steps, nat_tests, chunk-turns, chunk-covers c.args.chunk c.args.runs.now c.in-Some.here.runs so.2)
 
 pub returns-in-Some : goal.returns-in-Some
 returns-in-Some g c =

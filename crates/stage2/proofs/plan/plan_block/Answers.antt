@@ -19,4 +19,4 @@ returns-then-is_alike_in_block c = λ before same.
 pub returns : goal.returns
 returns c = λ before same.
     let e = c.args.edit.now in
-    grind (arith, common_steps, nat_tests, same-unmixed before e.chunk (block_answer c.args.entry.now) same, c.is_alike_in_block.ensures before same, hung, c.words_of_new-words.ensures.same e.runs e.chunk e.pages, c.words_of_new-words.ensures.most, reached-as, edit-planned, c.new-2.ensures)
+    grind (arith, common_steps, nat_tests, same-unmixed before e.chunk (block_answer c.args.entry.now) same, c.is_alike_in_block.ensures before same, hung, c.words_of_new-words.ensures.same e.runs e.chunk e.pages, reached-as, edit-planned)

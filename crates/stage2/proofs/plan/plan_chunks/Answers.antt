@@ -42,11 +42,8 @@ loop-piece-preserved-then-piece-plain g c =
           refl;
     }
 
-pub plan_at-more-requires-clause-past : goal.plan_at-more-requires-clause-past
-plan_at-more-requires-clause-past g c = grind (arith, common_steps, nat_tests, c.in-Some.ensures.some, past-past, c.args.gigabyte)
-
-pub plan_at-more-requires-clause-turned : goal.plan_at-more-requires-clause-turned
-plan_at-more-requires-clause-turned g c = λ yes n at covered. grind (arith, common_steps, nat_tests, planned-piece c.loop-piece.invariant.planned c.in-Some.ensures.some, c.args.gigabyte, c.chunk.ensures.same, c.in-Some.ensures.some.small, c.requires.turned, left-covers)
+pub plan_at-more-requires : goal.plan_at-more-requires
+plan_at-more-requires g c = grind (arith, common_steps, nat_tests, past-past, planned-piece c.loop-piece.invariant.planned c.in-Some.ensures.some, left-covers)
 
 pub loop-piece-preserved : goal.loop-piece-preserved
 loop-piece-preserved g c =
@@ -57,4 +54,4 @@ loop-piece-preserved g c =
     }
 
 pub returns : goal.returns
-returns g c = grind (arith, common_steps, nat_tests, planned-end c.loop-piece.invariant.planned (c.in_default.ensures.none refl), c.in_default.ensures.none refl)
+returns g c = grind (arith, common_steps, nat_tests, planned-end c.loop-piece.invariant.planned (c.in_default.ensures.none refl))

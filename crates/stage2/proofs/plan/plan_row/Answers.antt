@@ -23,7 +23,7 @@ pub plan_gigabyte-more-requires-clause-touched : goal.plan_gigabyte-more-require
 plan_gigabyte-more-requires-clause-touched g c = c.touches.ensures.yes c.if-touches.true c.new-gigabyte.result c.args.runs.now c.gigabyte_runs-part.ensures
 
 pub plan_gigabyte-more-requires-clause-turned : goal.plan_gigabyte-more-requires-clause-turned
-plan_gigabyte-more-requires-clause-turned g c = λ yes n at covered. grind (arith, common_steps, nat_tests, c.loop-number.number, c.new-gigabyte.ensures, c.gigabyte_runs-part.ensures, c.loop-number-test.true, c.gigabyte_span-span.ensures.most, c.requires.turned, gigabyte-covers)
+plan_gigabyte-more-requires-clause-turned g c = λ yes n at covered. grind (arith, common_steps, nat_tests, gigabyte-covers)
 
 pub loop-number-init : goal.loop-number-init
 loop-number-init g c =

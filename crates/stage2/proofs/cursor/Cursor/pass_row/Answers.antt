@@ -7,7 +7,7 @@ use Rattle.std.proofs.lemmas.Bool.Decides.{nat_tests}
 use Rattle.std.proofs.lemmas.Grind.{common_steps}
 
 pub loop-self-init : goal.loop-self-init
-loop-self-init g c = grind (arith, common_steps, nat_tests, c.requires.is, row-none)
+loop-self-init g c = grind (arith, common_steps, nat_tests, row-none)
 
 pub loop-self-preserved : goal.loop-self-preserved
 loop-self-preserved g c =

@@ -63,4 +63,4 @@ returns-in_err-entry-clause-steps g c =
     let third = c.in_default.ensures.entries in
     let second = c.in_default-next.ensures.entries in
     let root = c.in_err-entry.ensures.entries in
-    grind (arith, common_steps, nat_tests, c.self.inside, c.in_default.ensures.entries, c.in_default-next.ensures.entries, c.in_err-entry.ensures.entries, none-next own.base own.pages words own.root own.second own.third third.0 second.0 root.0, none-next own.base own.pages words c.next-3.new.self c.next-2.new.self c.next.new.self third.1 second.1 root.1, c.from_residual.ensures)
+    grind (arith, common_steps, nat_tests, none-next own.base own.pages words own.root own.second own.third third.0 second.0 root.0, none-next own.base own.pages words c.next-3.new.self c.next-2.new.self c.next.new.self third.1 second.1 root.1)

@@ -24,10 +24,10 @@ elsewhere runs first end c k within is last differs = elim (cases_Bool (touches_
     there a n t low high = grind (arith, nat_tests, t, low, high, is, last)
 
 pub new-requires : goal.new-requires
-new-requires c = grind (arith, common_steps, nat_tests, between, c.bounds-pages.ensures.most)
+new-requires c = grind (arith, common_steps, nat_tests, between)
 
 pub pieces_within-requires-clause-only : goal.pieces_within-requires-clause-only
-pieces_within-requires-clause-only c = grind (arith, common_steps, nat_tests, c.bounds-pages, in-chunk, c.of-chunk.ensures, c.if-end-pages.false, c.end.ensures.same)
+pieces_within-requires-clause-only c = grind (arith, common_steps, nat_tests, in-chunk)
 
 pub returns : goal.returns
 returns c =

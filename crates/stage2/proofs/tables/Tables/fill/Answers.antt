@@ -8,7 +8,7 @@ use Rattle.std.proofs.lemmas.Bool.Decides.{nat_tests}
 use Rattle.std.proofs.lemmas.Grind.{common_steps}
 
 pub loop-number-init : goal.loop-number-init
-loop-number-init g c = grind (arith, common_steps, nat_tests, filling-none c.args.self.now.layout (in_range (g.V.Views.view c.args.views.now c.args.p)) c.args.p c.args.self.now refl c.requires.canonical c.requires.unmapped, g.V.Views.view c.args.views.now c.args.p, others-none c.args.p c.args.self.now)
+loop-number-init g c = grind (arith, common_steps, nat_tests, filling-none c.args.self.now.layout (in_range (g.V.Views.view c.args.views.now c.args.p)) c.args.p c.args.self.now refl c.requires.canonical c.requires.unmapped, others-none c.args.p c.args.self.now)
 
 pub map_pending-requires-clause-fits : goal.map_pending-requires-clause-fits
 map_pending-requires-clause-fits g c = λ a is.
@@ -54,13 +54,13 @@ loop-number-preserved-in_ok-map_pending g c =
     }
 
 pub loop-number-preserved : goal.loop-number-preserved
-loop-number-preserved g c = grind (arith, common_steps, nat_tests, g.V.Views.view c.args.views.now c.args.p, c.args.p, c.loop-number, c.view_from-next.result.end, c.view_from-next.result.value, c.view_from-next.ensures, c.new-page.ensures, segment-alike, filling-more)
+loop-number-preserved g c = grind (arith, common_steps, nat_tests, g.V.Views.view c.args.views.now c.args.p, segment-alike, filling-more)
 
 pub returns-clause-layout : goal.returns-clause-layout
 returns-clause-layout g c = on_ok_weaker _ (λ (same : c.map_pending-2.new.self.layout ≡ c.loop-number.self.layout). same ∙ c.loop-number.invariant.filling.placed) c.map_pending-2.ensures.layout
 
 pub returns-clause-walks : goal.returns-clause-walks
-returns-clause-walks g c = grind (arith, common_steps, nat_tests, g.V.Views.view c.args.views.now c.args.p, c.loop-number, on_ok_weaker, filled)
+returns-clause-walks g c = grind (arith, common_steps, nat_tests, g.V.Views.view c.args.views.now c.args.p, on_ok_weaker, filled)
 
 pub returns-clause-others : goal.returns-clause-others
 returns-clause-others g c =

@@ -17,7 +17,7 @@ loop-partition-init g c = filled-none c.args.manifest.now (g.V.Views.view c.args
 pub fill-requires-clause-fits : goal.fill-requires-clause-fits
 fill-requires-clause-fits g c =
     let p = c.partition.inside.id in
-    grind (arith, common_steps, nat_tests, c.partition.inside.id, g.V.Views.view c.args.views.now p, quota_at c.args.manifest.now.partitions p, c.requires.fits c.partitions-partition-items.ensures.valid p)
+    grind (arith, common_steps, nat_tests, g.V.Views.view c.args.views.now p, quota_at c.args.manifest.now.partitions p, c.requires.fits c.partitions-partition-items.ensures.valid p)
 
 pub fill-requires-clause-unmapped : goal.fill-requires-clause-unmapped
 fill-requires-clause-unmapped g c =
@@ -44,7 +44,7 @@ loop-partition-preserved g c =
     (e.layout ∙ c.loop-partition.invariant.placed) e.canonical e.others e.walks
 
 pub returns-clause-agrees : goal.returns-clause-agrees
-returns-clause-agrees g c = grind (arith, common_steps, nat_tests, c.loop-partition.partition-index, c.loop-partition-test.false, c.loop-partition.auto.partition-index-end, g.V.Views.view c.args.views.now, filled-all, c.requires.fits c.partitions-partition-items.ensures.valid)
+returns-clause-agrees g c = grind (arith, common_steps, nat_tests, g.V.Views.view c.args.views.now, filled-all, c.requires.fits c.partitions-partition-items.ensures.valid)
 
 pub returns-clause-layout : goal.returns-clause-layout
 returns-clause-layout g c = c.give_list_back.ensures.layout ∙ c.loop-partition.invariant.placed

@@ -21,8 +21,8 @@ pub new-requires-in-Some-clause-in_range : goal.new-requires-in-Some-clause-in_r
 new-requires-in-Some-clause-in_range g c = let can = c.requires.fits c.in-Some.access c.in-Some.is in let a = can.some in let b = can.inside in let d = c.new.ensures in omega (arith, a, b, d)
 
 pub ready_to_turn-requires-clause-turned : goal.ready_to_turn-requires-clause-turned
-ready_to_turn-requires-clause-turned g c = grind (arith, common_steps, nat_tests, c.args.end, c.new-in-Some.ensures, c.of-runs.ensures, c.requires.fits c.in-Some.access c.in-Some.is)
+ready_to_turn-requires-clause-turned g c = grind (arith, common_steps, nat_tests, c.requires.fits c.in-Some.access c.in-Some.is)
 
 -- the pages that are turned, and the edit that fits, where the list is made ready
 pub turn-requires : goal.turn-requires
-turn-requires g c = grind (arith, common_steps, nat_tests, c.requires.fits c.in-Some.access c.in-Some.is, c.in_ok-ready_to_turn.ensures, c.args.end, c.new-in-Some.ensures, c.of-runs.ensures, turned-same, fits-same)
+turn-requires g c = grind (arith, common_steps, nat_tests, c.requires.fits c.in-Some.access c.in-Some.is, turned-same, fits-same)
