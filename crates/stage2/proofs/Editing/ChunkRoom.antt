@@ -19,9 +19,6 @@ module _ (layout : Layout) (row c j : ℕ) (m : Pages) (h : IsSite layout row c 
   abbrev view : ℕ → View
   view = answers_in layout row c j m
 
-  abbrev entry : Slot
-  entry = slot layout 2 (m.words j (c % 512))
-
   -- the table is given back
   pub dropped-words : (answer : View) (k : ℕ) → slot layout 2 (m.words j (c % 512)) ≡ Next k → IsOutcome c (edited runs access (answers_in layout row c j m)) (Some answer)
       → table_operations runs access (answers_in layout row c j m) c ≡ cond (is_some answer) (nonzero_in m.words k) (pages_in runs c)

@@ -43,9 +43,6 @@ whole-kept page a b keeps whole = grind (arith, common_steps, nat_tests)
 
 -- it is broken, and another is written
 module _ (p j i word c : ℕ) (s : Pool) (whole : IsWhole s.memory) (inside : j < page_count s.memory.quotas) (below : i < 512) where
-  run : PageRun
-  run = record { first = 512 * c; count = 512 }
-
   abbrev pub mid : Pool
   mid = after_break p j i (record { first = 512 * c; count = 512 }) s
 

@@ -103,9 +103,6 @@ module _ (layout : Layout) (row c j : ℕ) (m : Pages) (h : IsSite layout row c 
   pub place-second : j ≢ row
   place-second = no_root (Gigabyte row (c / 512)) j in_gigabyte (λ e. cc) h.second
 
-  after : Pages → Words
-  after new = (linked layout row (c / 512) j new).words
-
   -- the words that the edit leaves: those of tables that hang elsewhere, but for the chunk's own
   abbrev pub LeavesOthers : Pages → Type 0
   LeavesOthers new = (b : Place) (q i : ℕ) → IsPlace layout b → b ≢ Chunk row c → table_at layout old b ≡ Some q → (q ≡ j → i ≡ c % 512 → ⊥) → new.words q i ≡ m.words q i

@@ -33,9 +33,6 @@ use Rattle.std.proofs.lemmas.Grind.{common_steps}
 
 -- ---- a table word
 
-abbrev in_pool : Layout → ℕ → Bool
-in_pool layout page = leb layout.base page && ltb page (layout.base + layout.pages)
-
 table-entry : (layout : Layout) (k : ℕ) (e : Entry) → slot_from layout e ≡ Next k → (page : ℕ) × (e ≡ Table page) × (page ≡ layout.base + k)
 table-entry layout k Invalid e = absurd (cc)
 table-entry layout k (Table page) e = grind (arith, common_steps, nat_tests)
@@ -216,9 +213,6 @@ module _ (layout : Layout) (row g k : ℕ) (m : Pages) (canonical : IsCanonical 
 -- ---- a gigabyte that gets its level 2 table
 
 module _ (layout : Layout) (row g k : ℕ) (runs : List PageRun) (access : View) (m : Pages) (canonical : IsCanonical layout m) (below : g < 512) (h : IsLink layout row g k m) (touches : Touches runs g) (maps : is_some access ≡ true) where
-  abbrev first : Pages
-  first = linked layout row g k (with_mark k true m)
-
   r : IsRooted layout row g (table_word_of (layout.base + k)) m (linked layout row g k (with_mark k true m))
   r = link-rooted layout row g k m h
 

@@ -18,9 +18,6 @@ pub touches-made : (h : ChunkEdit) → touches_chunk h.chunk h.runs ≡ true
 touches-made h = with-pages h.runs h.chunk (let pages = h.pages in let some = h.touched in omega (arith, pages, some))
 
 module _ (s : Site) (h : ChunkEdit) (layout : Layout) (c : ℕ) (access : View) (l : h.layout.now ≡ layout) (at : h.chunk ≡ c) (a : h.access ≡ access) (old new : Pool) where
-  view : ℕ → View
-  view = answers_in layout s.row c s.second (pages_of old.memory)
-
   pub site-made : IsSite layout s.row c s.second (pages_of old.memory) → IsAt s h old
   site-made so = rw (l, at) so
 

@@ -51,9 +51,6 @@ pub record IsTrade (layout : Layout) (row : ℕ) (x : Place) (old new : Pages) :
   pub trade : Trade layout row x old new
 
 module _ (layout : Layout) (row : ℕ) (x : Place) (old new : Pages) (h : IsTrade layout row x old new) where
-  o : IsOrderly layout old
-  o = h.orderly
-
   fresh_in : Trade layout row x old new → (k : ℕ) → table_at layout new.words x ≡ Some k → IsUnheld layout old.words k ⊎ (table_at layout old.words x ≡ Some k)
   fresh_in (Stay t) k here = inr (sym t.table ∙ here)
   fresh_in (Hang y t) k here = inl (λ b inside held. let same : k ≡ y = let now = t.now in cc in let taken : old.taken k ≡ true = h.orderly.taken b k inside held in let free : old.taken k ≡ false = ap old.taken same ∙ t.free in absurd (cc))

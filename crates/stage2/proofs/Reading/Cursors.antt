@@ -55,9 +55,6 @@ module _ (level : Level) (first : ℕ) (word : ℕ → ℕ) where
 
 -- ---- a cursor
 
-abbrev pub some_in : Words → Cursor → ℕ → Bool
-some_in words c i = not (eqb (words c.table i) 0)
-
 pub ended : (pages : ℕ) (words : Words) (level : Level) (c : Cursor) → IsCursor pages words level c → c.left ≡ 0 → left_in words c ≡ []
 unfolding nonzero_in
 ended pages words level c is none = grind (arith, common_steps, nat_tests, none-left)
@@ -107,9 +104,6 @@ row-more level first word (suc n) =
     ap (λ k. entry_row level first word k) one
     ∙ ap (λ (xs : List TableEntry). record { level = level; first = first; word = word } ∷ xs) (row-more level (first + span) (word + 4096 * span) n)
     ∙ ap₂ (λ (f w : ℕ). record { level = level; first = first; word = word } ∷ (entry_row level (first + span) (word + 4096 * span) n ++ record { level = level; first = f; word = w } ∷ [])) f w
-
-pub few-pages-behind : (level : Level) (first n : ℕ) → n ≤ 512 → first + 512 * pages_at level ≤ 2 ^ 27 → first + pages_at level * n ≤ 2 ^ 27
-few-pages-behind level first n few fits = grind (arith, common_steps, nat_tests)
 
 -- a word further in a row
 pub in-row : (words : Words) (level : Level) (old c new : Cursor) (e : TableEntry) (first word n : ℕ) → left_in words old ≡ entry_row level first word n ++ left_in words c → left_in words c ≡ e ∷ left_in words new → e ≡ record { level = level; first = first + pages_at level * n; word = word + 4096 * pages_at level * n } → left_in words old ≡ entry_row level first word (n + 1) ++ left_in words new

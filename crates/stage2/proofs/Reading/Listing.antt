@@ -84,9 +84,6 @@ module _ {A : Type 0} (f : TableEntry → List A) (v : Listed → List A) (agree
   table-step : (level : Level) (n word : ℕ) → (level ≡ Third → ⊥) → access_of (entry_of (number_of level) word) ≡ None → f (record { level = level; first = n; word = word }) ≡ v (table_entry (number_of level) n)
   table-step level n word upper reads = grind (arith, common_steps, nat_tests)
 
-  second-third : Second ≡ Third → ⊥
-  second-third bad = cc
-
   first-third : First ≡ Third → ⊥
   first-third bad = cc
 
@@ -175,9 +172,6 @@ module _ {A : Type 0} (f : TableEntry → List A) (v : Listed → List A) (agree
       where
         e : TableEntry
         e = record { level = First; first = 262144 * g; word = words row g }
-
-        chunks : ℕ → List TableEntry
-        chunks j = flat_map (with_pages t.layout.base t.layout.pages words) (table_entries Second (262144 * g) (words j))
 
         below : (o : Option ℕ) → table_in t.layout.base t.layout.pages (entry_of 1 (words row g)) ≡ o → with_chunks_of e ≡ f e ++ flat_map f (option_map_or (λ j. flat_map (with_pages t.layout.base t.layout.pages words) (table_entries Second (262144 * g) (words j))) o [])
         below o is = ap (λ o. f e ++ flat_map f (option_map_or (λ j. flat_map (with_pages t.layout.base t.layout.pages words) (table_entries Second (262144 * g) (words j))) o [])) is

@@ -53,14 +53,8 @@ module _ (base pages : ℕ) (words : Words) (root second third : Cursor) where
 
 -- ---- what is reached
 
-third-leaf : (block : Bool) → 3 ≡ leaf_level block → block ≡ false
-third-leaf block e = grind (arith, common_steps, nat_tests)
-
 second-leaf : (block : Bool) → 2 ≡ leaf_level block → block ≡ true
 second-leaf block e = grind (arith, common_steps, nat_tests)
-
-first-leaf : (block : Bool) → 1 ≡ leaf_level block → ⊥
-first-leaf block e = grind (arith, common_steps, nat_tests)
 
 shifted : (block : Bool) (page steps i : ℕ) (a : Access) → leaf_word_of block page a + 4096 * steps ≡ leaf_word_of block (page + steps) a
 unfolding leaf_word_of
@@ -68,7 +62,7 @@ shifted block page steps i a = omega arith
 
 -- pages behind a page that is mapped to itself are reached as it is, where their words are those behind its word
 pub row-alike : (level : Level) (first word page n : ℕ) (a : Access) → entry_of (number_of level) word ≡ Leaf page a → page ≡ first → first + pages_at level * (n + 1) ≤ 2 ^ 27 → (i : ℕ) → i < n + 1 → access_of (entry_of (number_of level) (word + 4096 * pages_at level * i)) ≡ Some a
-row-alike First first word page n a leaf at range i lt = grind (arith, common_steps, nat_tests, word-leaf 1 word page a leaf, first-leaf)
+row-alike First first word page n a leaf at range i lt = grind (arith, common_steps, nat_tests, word-leaf 1 word page a leaf)
 row-alike Second first word page n a leaf at range i lt =
     let w = word-leaf 2 word page a leaf in
     let block = second-leaf w.block w.at_level in
@@ -76,7 +70,7 @@ row-alike Second first word page n a leaf at range i lt =
     let aligned : page % 512 ≡ 0 = w.aligned (subst (λ b. IsTrue b) (sym block) refl) in
     let there : word + 4096 * 512 * i ≡ leaf_word_of true (page + 512 * i) a = ap (λ w. w + 4096 * 512 * i) spelled ∙ (let steps : 4096 * 512 * i ≡ 4096 * (512 * i) = omega arith in ap (λ k. leaf_word_of true page a + k) steps) ∙ shifted true page (512 * i) i a in
     ap (λ w. access_of (entry_of 2 w)) there ∙ ap access_of (entry-block (page + 512 * i) a (omega (arith, at, range, lt)) w.legal (omega (arith, aligned)))
-row-alike Third first word page n a leaf at range i lt = grind (arith, common_steps, nat_tests, word-leaf 3 word page a leaf, third-leaf, shifted false page i i a, entry-page)
+row-alike Third first word page n a leaf at range i lt = grind (arith, common_steps, nat_tests, word-leaf 3 word page a leaf, shifted false page i i a, entry-page)
 
 -- ---- the word of a block or page
 

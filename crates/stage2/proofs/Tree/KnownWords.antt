@@ -6,7 +6,7 @@ use Rattle.stage2.specs.Slot.{Layout, Slot, Bad, slot}
 use Rattle.stage2.specs.Walk.{at_1, at_2, walk, Gigabyte, table_at}
 use Rattle.stage2.specs.Orderly.{IsOrderly}
 use Rattle.stage2.proofs.Tree.WalkFrame.{walk-gigabyte}
-use Rattle.stage2.proofs.Walkers.InStep.{walk-inside}
+use Rattle.stage2.proofs.Tree.LinkTable.{walk-inside}
 use Rattle.std.proofs.lemmas.Bool.Decides.{nat_tests}
 use Rattle.std.proofs.lemmas.Grind.{common_steps}
 

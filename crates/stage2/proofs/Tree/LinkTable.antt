@@ -18,9 +18,6 @@ pub slot-table : (layout : Layout) (level k : ℕ) → level < 3 → k < layout.
 unfolding slot
 slot-table layout level k low inside fits = ap (slot_from layout) (entry-table level (layout.base + k) low (omega arith)) ∙ grind (arith, nat_tests)
 
-unheld : (layout : Layout) (m : Pages) (row k : ℕ) → IsFresh layout m row k → IsUnheld layout m.words k
-unheld layout m row k h a inside e = let taken : m.taken k ≡ true = h.sound.taken a k inside e in let free : m.taken k ≡ false = h.lowest.free in absurd (cc)
-
 -- ---- the level 2 table of a gigabyte
 
 pub walk-inside : (layout : Layout) (words : Words) (row n : ℕ) → row < length layout.ids → walk layout words row n ≡ at_1 layout words words n (slot layout 1 (words row (index_1 n)))
@@ -30,18 +27,4 @@ walk-inside layout words row n inside = grind (arith, nat_tests)
 pub untabled_1 : (layout : Layout) (words : Words) (n : ℕ) (s : Slot) → next_page s ≡ None → IsTidy n (at_1 layout words words n s) → at_1 layout words words n s ≡ Unmapped
 untabled_1 layout words n s e h = grind (arith, common_steps, nat_tests)
 
--- nothing is mapped in a gigabyte without a table
-untabled : (layout : Layout) (m : Pages) (row n : ℕ) → IsSound layout m → row < length layout.ids → n < 2 ^ 27 → table_at layout m.words (Gigabyte row (n / 512 / 512)) ≡ None → walk layout m.words row n ≡ Unmapped
-unfolding table_at
-untabled layout m row n sound inside small none = grind (arith, common_steps, nat_tests, walk-inside, untabled_1)
-
-in_gigabyte : (row g r c : ℕ) → ((r ≡ row) × (c / 512 ≡ g)) ⊎ (r ≡ row → c / 512 ≡ g → ⊥)
-in_gigabyte row g r c = grind (arith, common_steps, nat_tests)
-
 -- ---- the level 3 table of a chunk
-
-whole : (c : ℕ) → 512 * (c / 512) + c % 512 ≡ c
-whole c = omega arith
-
-in_chunk : (row c r n : ℕ) → ((r ≡ row) × (n / 512 ≡ c)) ⊎ (r ≡ row → n / 512 ≡ c → ⊥)
-in_chunk row c r n = grind (arith, common_steps, nat_tests)

@@ -92,14 +92,11 @@ walk-level_3-other layout words p c q i word h p' n small other =
           other e_p (omega arith));
     })
 
-at_2-chunk : (layout : Layout) (third : Words) (n q : ℕ) (s : Slot) → next_page s ≡ Some q → at_2 layout third n s ≡ at_3 (slot layout 3 (third q (index_3 n)))
-at_2-chunk layout third n q s e = grind (arith, common_steps, nat_tests)
-
 -- a walk through the table of its chunk
 pub walk-chunk : (layout : Layout) (words : Words) (p n q : ℕ) → p < length layout.ids → table_at layout words (Chunk p (n / 512)) ≡ Some q
     → walk layout words p n ≡ at_3 (slot layout 3 (words q (index_3 n)))
 unfolding walk_across table_at
-walk-chunk layout words p n q inside table = grind (arith, common_steps, nat_tests, at_2-chunk)
+walk-chunk layout words p n q inside table = grind (arith, common_steps, nat_tests)
 
 pub at_1-gigabyte : (layout : Layout) (words : Words) (n j : ℕ) (s : Slot) → next_page s ≡ Some j → at_1 layout words words n s ≡ at_2 layout words n (slot layout 2 (words j (index_2 n)))
 at_1-gigabyte layout words n j s e = grind (arith, common_steps, nat_tests)

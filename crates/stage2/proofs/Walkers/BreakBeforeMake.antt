@@ -13,7 +13,8 @@ use Rattle.stage2.specs.Walk.{index_1, index_2, index_3, at_1, at_2, at_3, walk,
 use Rattle.stage2.specs.Moments.{words_after, Since, Walker, Begins, Second, Third, Ends, from_1, from_2, UnderWay, begins, reads, IsInvalid, StandsFor, OpenCall, IsInStep}
 use Rattle.stage2.proofs.Tree.WalkFrame.{table_at-root, table_at-chunk_in, walk-gigabyte, walk-chunk}
 use Rattle.stage2.proofs.Walkers.UnderWay.{outlast}
-use Rattle.stage2.proofs.Walkers.InStep.{walk-inside, gigabyte-now}
+use Rattle.stage2.proofs.Walkers.InStep.{gigabyte-now}
+use Rattle.stage2.proofs.Tree.LinkTable.{walk-inside}
 use Rattle.std.proofs.lemmas.Bool.Decides.{nat_tests}
 use Rattle.std.proofs.lemmas.Grind.{common_steps}
 

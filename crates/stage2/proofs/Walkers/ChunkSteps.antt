@@ -21,12 +21,6 @@ use Rattle.base.proofs.Booleans.{both}
 use Rattle.std.proofs.lemmas.Grind.{common_steps}
 
 module _ (layout : Layout) (row g j : ℕ) (runs : List PageRun) (access : View) (old : Pages) (inside : row < length layout.ids) (below : g < 512) (i : ℕ) (lt : i < 512) (mid : Pages) (h : IsUnderway layout row g j i (edited runs access (answers layout (linked layout row g j old).words row)) old mid) where
-  abbrev first : ℕ → View
-  first = answers layout (linked layout row g j old).words row
-
-  abbrev now : ℕ → View
-  now = answers_in layout row (512 * g + i) j mid
-
   pub march-seated : IsSeated layout row g j old → IsSeated layout row ((512 * g + i) / 512) j mid
   march-seated s = rw (quotient layout row g j runs access old inside below i lt mid h) (seated-after layout row g j old mid s (h.root g))
 

@@ -14,6 +14,7 @@ use Rattle.stage2.specs.Walk.{index_1, index_2, index_3, at_1, at_2, at_3, walk,
 use Rattle.stage2.specs.Moments.{words_after, cleared_by, invalidates, AtEachMoment, Walker, Begins, Second, Third, Ends, from_1, from_2, goes_on, UnderWay, Stands, now, nothing, OpenCall, with_clear, MayGive, GivesOnly, BreaksFirst, AllBreakFirst, AllClearUnreached, IsInStep}
 use Rattle.stage2.proofs.Tree.WalkFrame.{table_at-chunk_in, walk-gigabyte, walk-chunk}
 use Rattle.stage2.proofs.Walkers.UnderWay.{after_op, at_start, under_way-now}
+use Rattle.stage2.proofs.Tree.LinkTable.{walk-inside}
 use Rattle.std.proofs.lemmas.Grind.{common_steps}
 
 -- a walk under way may go on from here, over these words
@@ -32,10 +33,6 @@ stands-fits e words due q n (Ends a) h = h.1
 -- a walk that gives what a walk over these words gives
 fits-now : (e : OpenCall) (words : Words) (due : Bool) (q n : ℕ) (a : Walked) → MayGive e q n (walk e.layout words q n) → walk e.layout words q n ≡ a → Fits e words due q n (Ends a)
 fits-now e words due q n a may is = let P : Walked → Type 0 = λ x. MayGive e q n x in (subst P is may, λ _. inr (sym is))
-
-pub walk-inside : (layout : Layout) (words : Words) (q n : ℕ) → q < length layout.ids → walk layout words q n ≡ at_1 layout words words n (slot layout 1 (words q (index_1 n)))
-unfolding walk_across
-walk-inside layout words q n inside = grind (arith, nat_tests)
 
 fits-from_1 : (e : OpenCall) (words : Words) (due : Bool) (q n : ℕ) → MayGive e q n (walk e.layout words q n) → (s : Slot)
     → table_at e.layout words (Gigabyte q (index_1 n)) ≡ next_page s → walk e.layout words q n ≡ at_1 e.layout words words n s → Fits e words due q n (from_1 s)

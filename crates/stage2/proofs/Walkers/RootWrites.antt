@@ -19,7 +19,8 @@ use Rattle.stage2.specs.inner.Gigabytes.{IsUnderway}
 use Rattle.stage2.specs.Moments.{IsInvalid, MayGive, IsInStep, IsLogged, nothing, StaysInStep}
 use Rattle.stage2.specs.inner.Steps.{IsSeated, disturbed_below}
 use Rattle.stage2.proofs.Tree.WalkFrame.{put-same, put-other, table_at-root}
-use Rattle.stage2.proofs.Walkers.InStep.{may-now, walk-inside, gigabyte-now}
+use Rattle.stage2.proofs.Walkers.InStep.{may-now, gigabyte-now}
+use Rattle.stage2.proofs.Tree.LinkTable.{walk-inside}
 use Rattle.stage2.proofs.Walkers.BreakBeforeMake.{invalid-empty}
 use Rattle.stage2.proofs.Walkers.TableWrites.{orderly-root, orderly-cut_gigabyte}
 use Rattle.stage2.proofs.Walkers.ZeroedTables.{counted-op, stays-wider, stays-as}

@@ -43,16 +43,9 @@ covered-page c (run ∷ runs) t = elim (cases_Bool (touches_run c run)) [
 -- ---- steady pages that are disturbed have no answer
 
 module _ (runs : List PageRun) (access : View) (view : ℕ → View) (free : AreFree (λ n. true) runs access view) where
-  -- a page of the runs that keeps its answer has none
-  none-covered : (n : ℕ) → n < 2 ^ 27 → covers runs n ≡ true → view n ≡ edited runs access view n → view n ≡ None
-  none-covered n small t kept = grind (arith, common_steps, nat_tests)
-
-  unmixed : (c : ℕ) → (is_mixed view c && is_mixed (edited runs access view) c) ≡ false → is_mixed (edited runs access view) c ≡ is_mixed view c → is_mixed view c ≡ false
-  unmixed c e same = grind (arith, common_steps, nat_tests)
-
   pub differ-mixed : (v : ℕ → View) (c x y : ℕ) → x / 512 ≡ c → y / 512 ≡ c → v x ≢ v y → is_mixed v c ≡ true
   differ-mixed v c x y at_x at_y differ = grind (arith, common_steps, nat_tests, equal-first)
 
   pub none-steady : (n : ℕ) → n < 2 ^ 27 → disturbed runs view (edited runs access view) n ≡ true → view n ≡ edited runs access view n
       → ((x : ℕ) → x / 512 ≡ n / 512 → view x ≡ edited runs access view x) ⊎ ((is_mixed view (n / 512) ≡ true) × (is_mixed (edited runs access view) (n / 512) ≡ true)) → view n ≡ None
-  none-steady n small w kept chunk = grind (arith, common_steps, nat_tests, none-covered, covered-page, mixed-same, unmixed, equal-first, both)
+  none-steady n small w kept chunk = grind (arith, common_steps, nat_tests, covered-page, mixed-same, equal-first, both)

@@ -14,7 +14,8 @@ use Rattle.stage2.specs.Walk.{index_1, index_2, index_3, at_1, at_2, at_3, walk,
 use Rattle.stage2.specs.Moments.{IsInvalid, BreaksFirst, OpenCall, MayGive, IsInStep, nothing}
 use Rattle.stage2.proofs.Tree.WalkFrame.{put-other, put-same, walk-same, other_table, table_at-gigabyte, table_at-chunk, table_at-root, IsUnheld, table_at-unheld, walk-unheld, IsLevel2Write, table_at-level_2-other, walk-level_2, walk-level_2-other, walk-gigabyte, table_at-chunk_in}
 use Rattle.stage2.proofs.Walkers.Level3Write.{slot-zero}
-use Rattle.stage2.proofs.Walkers.InStep.{IsFine, may-now, orderly-set, orderly-cut, walk-inside, gigabyte-now}
+use Rattle.stage2.proofs.Walkers.InStep.{IsFine, may-now, orderly-set, orderly-cut, gigabyte-now}
+use Rattle.stage2.proofs.Tree.LinkTable.{walk-inside}
 use Rattle.stage2.proofs.Walkers.BreakBeforeMake.{invalid-empty, none-stood}
 use Rattle.stage2.proofs.Walkers.ZeroedTables.{breaks-zero}
 use Rattle.std.proofs.lemmas.Grind.{common_steps}

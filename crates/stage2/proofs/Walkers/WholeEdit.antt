@@ -33,11 +33,8 @@ module _ (layout : Layout) (old new : Pool) (before after : ℕ → ℕ → View
   at_row : (q n : ℕ) → (eqb (row_of layout.ids q) row && which n) ≡ true → (row_of layout.ids q ≡ row) × (which n ≡ true)
   at_row q n e = let h = both (eqb (row_of layout.ids q) row) (which n) e in (eqb-true _ _ h.0, h.1)
 
-  due_nothing : (b : Bool) → (b && false) ≡ false
-  due_nothing b = grind (arith, common_steps, nat_tests)
-
   pub moments-of : Moments layout old new before after
-  moments-of = grind (arith, common_steps, nat_tests, at_each, at_row, due_nothing)
+  moments-of = grind (arith, common_steps, nat_tests, at_each, at_row)
 
 -- before the first operation
 pub orderly-begun : (layout : Layout) (old new : Pool) (row : ℕ) (which : ℕ → Bool) (answer : ℕ → Walked) → new.memory ≡ old.memory → new.operations ≡ [] → new.made ≡ old.made → IsInStepIn (edit_of layout old row which answer []) nothing new

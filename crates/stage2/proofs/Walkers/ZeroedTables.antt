@@ -24,9 +24,6 @@ breaks-zero layout entry past page index = record { breaks = λ _. refl; makes =
 pub counted-more : (a l m k : ℕ) → m % 2 ^ 64 ≡ (a + l) % 2 ^ 64 → k ≡ (m + 1) % 2 ^ 64 → k % 2 ^ 64 ≡ (a + suc l) % 2 ^ 64
 counted-more a l m k e f = omega (arith, e, f)
 
-no : (a b : Bool) → (a || b) ≡ false → (a ≡ false) × (b ≡ false)
-no a b e = grind (arith, common_steps, nat_tests)
-
 pub counted-op : (e : OpenCall) (op : Op) (old new : Pool) → IsLogged op old new → old.made % 2 ^ 64 ≡ (e.made + length old.operations) % 2 ^ 64 → new.made % 2 ^ 64 ≡ (e.made + length new.operations) % 2 ^ 64
 counted-op e op old new is counted = grind (arith, common_steps, nat_tests, counted-more)
 

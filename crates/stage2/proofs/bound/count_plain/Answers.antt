@@ -8,10 +8,6 @@ use Rattle.stage2.specs.inner.Clauses.{is_between, points_at}
 use Rattle.stage2.proofs.bound.count_plain.Goals as goal
 use Rattle.std.proofs.lemmas.Grind.{common_steps}
 
--- the chunks that are counted
-counted : Pool → ℕ → ℕ → ℕ → ℕ → Bool
-counted pool j first end x = is_between first end x && not (points_at (Some j) x pool)
-
 outside : (pool : Pool) (j first end x : ℕ) → is_between first end x ≡ false → (is_between first end x && not (points_at (Some j) x pool)) ≡ false
 outside pool j first end x out = rw out refl
 
