@@ -15,10 +15,7 @@ pub loop-index-init : goal.loop-index-init
 loop-index-init g c = grind (arith, common_steps, nat_tests, count_below-none, outside)
 
 pub loop-index-preserved : goal.loop-index-preserved
-loop-index-preserved g c =
-    let pool = g.M.TableMem.state c.args.memory.now in
-    let which : ℕ → Bool = λ x. is_between c.args.chunks.first c.args.chunks.end x && not (points_at (Some c.args.second) x pool) in
-    grind (arith, common_steps, nat_tests, count_below-more which c.loop-index.index)
+loop-index-preserved g c = grind (arith, common_steps, nat_tests, count_below-more)
 
 pub returns : goal.returns
 returns g c =

@@ -16,8 +16,7 @@ use Rattle.std.proofs.lemmas.Bool.Decides.{nat_tests}
 use Rattle.std.proofs.lemmas.Grind.{common_steps}
 
 nothing : (a : View) → is_some a ≡ false → a ≡ None
-nothing None e = refl
-nothing (Some a) e = absurd (cc)
+nothing a e = grind (arith, common_steps, nat_tests)
 
 pub entry_at-entry-requires-clause-table : goal.entry_at-entry-requires-clause-table
 entry_at-entry-requires-clause-table g c = λ j is.
@@ -38,9 +37,7 @@ entry_at-entry-requires-clause-known g c =
     entry-known c.args.edit.now.layout.now (pages_of (g.M.TableMem.state c.args.memory.now).memory) c.requires.canonical (chunk / 512) (chunk % 512) (omega (arith, c.in_ok-chunk.ensures.1)) (omega arith) c.args.edit.now.row c.args.edit.now.inside c.second_at-second.result (rw (← at) (sym c.second_at-second.ensures))
 
 pub overflow_sub-nonzero : goal.overflow_sub-nonzero
-overflow_sub-nonzero g c =
-    let words = words_of (g.M.TableMem.state c.args.memory.now).memory.words in
-    grind (arith, common_steps, nat_tests, nonzero-most words c.in-Some.third)
+overflow_sub-nonzero g c = grind (arith, common_steps, nat_tests, nonzero-most)
 
 pub returns-then-is_filled-clause-bound : goal.returns-then-is_filled-clause-bound
 returns-then-is_filled-clause-bound g c =

@@ -16,10 +16,7 @@ pub loop-number-init : goal.loop-number-init
 loop-number-init g c = grind (arith, common_steps, nat_tests, sum_below-none, growth-nothing, outside-gigabytes)
 
 pub loop-number-preserved : goal.loop-number-preserved
-loop-number-preserved g c =
-    let before : ℕ → View = view_in c.args.edit.now.layout.now c.args.edit.now.row (g.M.TableMem.state c.args.memory.now) in
-    let grows : ℕ → ℕ = gigabyte_growth before (edited c.args.runs.now c.args.edit.now.access before) in
-    grind (arith, common_steps, nat_tests, sum_below-more grows c.loop-number.number)
+loop-number-preserved g c = grind (arith, common_steps, nat_tests, sum_below-more)
 
 pub returns : goal.returns
 returns g c =

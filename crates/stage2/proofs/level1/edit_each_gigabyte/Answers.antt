@@ -5,6 +5,8 @@ use Rattle.stage2.proofs.Runs.OwnRuns.{gigabyte-covers}
 use Rattle.stage2.proofs.Runs.Spans.{outside-gigabytes}
 use Rattle.stage2.proofs.level1.edit_each_gigabyte.Goals as goal
 use Rattle.stage2.proofs.level1.edit_each_gigabyte.Goals.{then-touches, else-touches}
+use Rattle.std.proofs.lemmas.Bool.Decides.{nat_tests}
+use Rattle.std.proofs.lemmas.Grind.{common_steps}
 
 pub edit_gigabyte-requires : goal.edit_gigabyte-requires
 edit_gigabyte-requires g c =
@@ -15,11 +17,7 @@ edit_gigabyte-requires g c =
     rw here (part-can is (row-can c.loop-number.invariant.up_to (omega (arith, c.loop-number-test.true, c.gigabyte_span-span.ensures.most)) c.requires (part-touches is some)) some)
 
 pub loop-number-init : goal.loop-number-init
-loop-number-init g c =
-    record {
-      up_to = row-ahead (row-start c.requires.canonical) c.gigabyte_span-span.result.first (omega arith) (omega (arith, c.gigabyte_span-span.ensures.most, c.gigabyte_span-span.ensures.ordered))
-          (λ n from to. outside-gigabytes c.args.runs.now c.gigabyte_span-span.result.first c.gigabyte_span-span.result.end n c.gigabyte_span-span.ensures.within (inl to));
-    }
+loop-number-init g c = grind (arith, common_steps, nat_tests, row-ahead, row-start, outside-gigabytes)
 
 pub loop-number-preserved : goal.loop-number-preserved
 loop-number-preserved g c =

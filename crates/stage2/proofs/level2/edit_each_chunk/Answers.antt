@@ -31,9 +31,7 @@ set_blocks-requires-clause-taken g c =
     table-taken c.requires below so c.in-Some.ensures.some.small
 
 pub set_blocks-requires-clause-partition : goal.set_blocks-requires-clause-partition
-set_blocks-requires-clause-partition g c =
-    let below = c.in-Some.ensures.in_range in
-    grind (arith, common_steps, nat_tests, at-piece c.requires below (c.loop-piece.invariant.up_to below) c.in-Some.ensures.some, has-row)
+set_blocks-requires-clause-partition g c = grind (arith, common_steps, nat_tests, at-piece, has-row)
 
 pub set_blocks-requires-clause-room : goal.set_blocks-requires-clause-room
 set_blocks-requires-clause-room g c =

@@ -72,14 +72,10 @@ unmaps : (a : View) (b : Bool) (k : ℕ) → is_some a ≡ not b → b ≡ true 
 unmaps a b k e f = let none : is_some a ≡ false = e ∙ ap not f in rw none refl
 
 gone : (a : View) (b : Bool) → is_some a ≡ not b → b ≡ true → a ≡ None
-gone None b e f = refl
-gone (Some a) b e f = let bad : true ≡ false = e ∙ ap not f in absurd (cc)
+gone a b e f = grind (arith, common_steps, nat_tests)
 
 pub invalidate_parts-requires : goal.invalidate_parts-requires
-invalidate_parts-requires g c =
-    let e = c.args.edit.now in
-    let can = c.requires.can in
-    grind (arith, common_steps, nat_tests, unmaps e.access c.is_none.result (part_count e.chunk e.runs) c.is_none.ensures c.if-is_none.true, kept c.args.site.now e (g.M.TableMem.state c.args.memory.now) can.site c.requires.table c.requires.mixed, has-row)
+invalidate_parts-requires g c = grind (arith, common_steps, nat_tests, unmaps, kept, has-row)
 
 pub returns-then-is_none : goal.returns-then-is_none
 returns-then-is_none g c =

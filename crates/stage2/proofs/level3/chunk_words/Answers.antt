@@ -5,14 +5,13 @@ use Rattle.stage2.specs.inner.Change.{step_for}
 use Rattle.stage2.specs.inner.Chunks.{IsWordFor}
 use Rattle.stage2.proofs.Editing.Stretches.{stretch-small, stretch-words, word-some}
 use Rattle.stage2.proofs.level3.chunk_words.Goals as goal
+use Rattle.std.proofs.lemmas.Grind.{common_steps}
 
 is-valid : (n word : ℕ) (answer : View) → IsWordFor n answer word → not (word == 0) ≡ is_some answer
-is-valid n word None is = let zero = is.zero refl in grind (arith, nat_tests, zero)
-is-valid n word (Some a) is = let other = word-some n (Some a) word (λ none. cc) is in grind (arith, nat_tests, other)
+is-valid n word answer is = grind (arith, common_steps, nat_tests, word-some)
 
 steps : (n word : ℕ) (answer : View) → IsWordFor n answer word → word ≡ 0 → step_for answer ≡ 0
-steps n word None is zero = refl
-steps n word (Some a) is zero = absurd (word-some n (Some a) word (λ none. cc) is zero)
+steps n word answer is x4 = grind (arith, common_steps, nat_tests, word-some)
 
 pub returns : goal.returns
 returns c =

@@ -22,8 +22,7 @@ abbrev plan : ℕ → Option View
 plan = planned [] None (Some None)
 
 gone : (a : View) → is_some a ≡ false → a ≡ None
-gone None none = refl
-gone (Some a) none = absurd (cc)
+gone a none = grind (arith, common_steps, nat_tests)
 
 there : (a : View) → is_some a ≡ true → a ≢ None
 there a some none = let bad : false ≡ true = ap (λ x. is_some x) (sym none) ∙ some in cc
@@ -63,9 +62,7 @@ returns-then-nonzero-edit-clause-writes g c =
 -- ---- the words beside the runs, of which there are as many as words that are not 0
 
 pub overflow_add-nonzero : goal.overflow_add-nonzero
-overflow_add-nonzero g c =
-    let words = words_of (g.M.TableMem.state c.args.memory.now).memory.words in
-    grind (arith, common_steps, nat_tests, nonzero-most words c.args.third)
+overflow_add-nonzero g c = grind (arith, common_steps, nat_tests, nonzero-most)
 
 pub write_gaps-requires-clause-turned : goal.write_gaps-requires-clause-turned
 write_gaps-requires-clause-turned g c = λ i small out. grind (arith, common_steps, nat_tests, there, word-some, c.requires.left i small out)
@@ -95,11 +92,7 @@ returns-then-nonzero-edit-eq-CHUNK_PAGES-clause-writes g c =
 
 -- no more are left than go
 few-left : (k : ℕ) (e : ChunkEdit) (pool : Pool) → OthersAnswer k e.chunk e.runs e.access pool → nonzero_in (words_of pool.memory.words) k ≤ words_left k e pool
-few-left k e pool left = either (is_some e.access) refl
-  where
-    either : (b : Bool) → is_some e.access ≡ b → nonzero_in (words_of pool.memory.words) k ≤ words_left k e pool
-    either true some = rw some (omega arith)
-    either false none = grind (arith, common_steps, nat_tests, word-beside, gone e.access none)
+few-left k e pool left = grind (arith, common_steps, nat_tests, word-beside, gone)
 
 pub clear_words-requires-clause-room : goal.clear_words-requires-clause-room
 clear_words-requires-clause-room g c = grind (arith, common_steps, nat_tests, few-left c.args.third c.args.edit.now (g.M.TableMem.state c.args.memory.now) c.requires.left)

@@ -10,10 +10,7 @@ use Rattle.std.proofs.lemmas.Bool.Decides.{nat_tests}
 use Rattle.std.proofs.lemmas.Grind.{common_steps}
 
 pub set_gaps-requires : goal.set_gaps-requires
-set_gaps-requires g c =
-    let e = c.args.edit.now in
-    let w = c.chunk_words-words.ensures in
-    grind (arith, common_steps, nat_tests, words-pages e.chunk e.runs e.normal, gaps-words (512 * e.chunk) e.runs (rise-normal e.runs e.normal), rise-normal e.runs e.normal, gaps-out)
+set_gaps-requires g c = grind (arith, common_steps, nat_tests, words-pages, gaps-words, rise-normal, gaps-out)
 
 pub returns-clause-writes : goal.returns-clause-writes
 returns-clause-writes g c =
@@ -26,6 +23,4 @@ returns-clause-writes g c =
     (runs-written c.args.third e.chunk words.word words.step c.args.answer.now w.each (gaps_of (512 * e.chunk) e.runs) old (g.met.M.TableMem.whole c.args.memory.now) c.requires.page_in (gaps-rise (512 * e.chunk) e.runs)))
 
 pub returns-clause-room : goal.returns-clause-room
-returns-clause-room g c =
-    let e = c.args.edit.now in
-    grind (arith, common_steps, nat_tests, words-pages e.chunk e.runs e.normal, gaps-words (512 * e.chunk) e.runs (rise-normal e.runs e.normal))
+returns-clause-room g c = grind (arith, common_steps, nat_tests, words-pages, gaps-words, rise-normal)

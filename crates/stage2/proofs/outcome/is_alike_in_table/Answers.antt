@@ -10,10 +10,11 @@ use Rattle.stage2.proofs.Counting.Outcomes.{stray-mixed}
 use Rattle.stage2.proofs.Counting.Pieces.{none-beside, words-least}
 use Rattle.stage2.proofs.Editing.Gigabyte.{is-none}
 use Rattle.stage2.proofs.outcome.is_alike_in_table.Goals as goal
+use Rattle.std.proofs.lemmas.Bool.Decides.{nat_tests}
+use Rattle.std.proofs.lemmas.Grind.{common_steps}
 
 pub returns-then-is_told_mixed : goal.returns-then-is_told_mixed
-returns-then-is_told_mixed g c =
-    stray-mixed c.args.edit.now c.args.third (g.M.TableMem.state c.args.memory.now) c.requires.spelled (c.is_told_mixed.ensures.yes c.if-is_told_mixed.true)
+returns-then-is_told_mixed g c = grind (arith, common_steps, nat_tests, stray-mixed)
 
 -- the words of the runs' pages are not 0, and no more are; and they are not reached any more
 pub returns-then-is_none : goal.returns-then-is_none

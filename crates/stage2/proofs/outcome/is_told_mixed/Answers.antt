@@ -14,18 +14,12 @@ counted : (n k table : ℕ) (words : Words) → n ≡ nonzero_in words k → k �
 counted n k table words is same = is ∙ ap (nonzero_in words) same
 
 pub overflow_add-result : goal.overflow_add-result
-overflow_add-result g c =
-    let words = words_of (g.M.TableMem.state c.args.memory.now).memory.words in
-    grind (arith, common_steps, nat_tests, counted c.nonzero-nonzero.result c.number.result c.args.third words c.nonzero-nonzero.ensures c.number.ensures, nonzero-most words c.args.third)
+overflow_add-result g c = grind (arith, common_steps, nat_tests, counted, nonzero-most)
 
 -- a word beside the runs is 0, and the runs are mapped
 pub returns-in-Some-clause-yes : goal.returns-in-Some-clause-yes
-returns-in-Some-clause-yes g c = λ fewer.
-    let words = words_of (g.M.TableMem.state c.args.memory.now).memory.words in
-    grind (arith, common_steps, nat_tests, counted c.nonzero-nonzero.result c.number.result c.args.third words c.nonzero-nonzero.ensures c.number.ensures, zero-beside, entry-zero 3)
+returns-in-Some-clause-yes g c = grind (arith, common_steps, nat_tests, counted, zero-beside, entry-zero)
 
 -- one is not 0, and they are unmapped
 pub returns-in-None-clause-yes : goal.returns-in-None-clause-yes
-returns-in-None-clause-yes g c = λ more.
-    let words = words_of (g.M.TableMem.state c.args.memory.now).memory.words in
-    grind (arith, common_steps, nat_tests, counted c.nonzero-nonzero.result c.number.result c.args.third words c.nonzero-nonzero.ensures c.number.ensures, word-beside)
+returns-in-None-clause-yes g c = grind (arith, common_steps, nat_tests, counted, word-beside)

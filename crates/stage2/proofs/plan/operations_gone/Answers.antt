@@ -6,6 +6,4 @@ use Rattle.std.proofs.lemmas.Bool.Decides.{nat_tests}
 use Rattle.std.proofs.lemmas.Grind.{common_steps}
 
 pub returns-in-Some-clause-most : goal.returns-in-Some-clause-most
-returns-in-Some-clause-most g c =
-    let words = words_of (g.M.TableMem.state c.args.memory.now).memory.words in
-    grind (arith, common_steps, nat_tests, nonzero-most words c.args.third)
+returns-in-Some-clause-most g c = grind (arith, common_steps, nat_tests, nonzero-most)

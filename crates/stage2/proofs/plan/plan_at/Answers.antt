@@ -16,9 +16,7 @@ use Rattle.std.proofs.lemmas.Bool.Decides.{nat_tests}
 use Rattle.std.proofs.lemmas.Grind.{common_steps}
 
 pub plan_in-requires-clause-turned : goal.plan_in-requires-clause-turned
-plan_in-requires-clause-turned g c =
-    let so = c.in-Some.ensures.some in
-    grind (arith, common_steps, nat_tests, chunk-turns, chunk-covers c.args.chunk c.args.runs.now c.in-Some.here.runs so.2)
+plan_in-requires-clause-turned g c = grind (arith, common_steps, nat_tests, chunk-turns, chunk-covers)
 
 pub returns-in-Some : goal.returns-in-Some
 returns-in-Some g c =
@@ -39,17 +37,4 @@ returns-in-Some g c =
     }
 
 pub returns-in-None : goal.returns-in-None
-returns-in-None g c =
-    let runs = c.args.runs.now in
-    let access = c.args.edit.now.access in
-    let chunk = c.args.chunk in
-    let before : ℕ → View = answers_of c.args.edit.now.layout.now (pages_of (g.M.TableMem.state c.args.memory.now).memory).words c.args.edit.now.row in
-    let out : touches_chunk chunk runs ≡ false = c.new.ensures.none c.in-None.is in
-    let none = grows-nothing runs access before chunk (λ n at. untouched chunk runs n out at) in
-    let nothing : chunk_operations runs access before chunk ≡ 0 = ap (λ t. cond t (3 + table_operations runs access before chunk) 0) out in
-    let made = ap (λ (p : Plan). p.operations) c.new-in-None.ensures in
-    record {
-      tables = ap (λ (p : Plan). p.tables) c.new-in-None.ensures ∙ ap bit (sym none);
-      operations = omega (arith, nothing);
-      most = omega (arith, made);
-    }
+returns-in-None g c = grind (arith, common_steps, nat_tests, grows-nothing, untouched, bit)

@@ -10,11 +10,12 @@ use Rattle.stage2.proofs.Counting.EditPlans.{edit-planned, either-most, either-n
 use Rattle.stage2.proofs.Counting.Operations.{kept, dropped, table-either, table-words}
 use Rattle.stage2.proofs.Counting.Outcomes.{one, stray-mixed}
 use Rattle.stage2.proofs.plan.plan_table.Goals as goal
+use Rattle.std.proofs.lemmas.Bool.Decides.{nat_tests}
+use Rattle.std.proofs.lemmas.Grind.{common_steps}
 
 -- what a table loses, by the pages that are reached
 gone-words : (e : ChunkEdit) (k gone : ℕ) (pool : Pool) → IsSpelled e k pool → gone ≡ words_left k e pool → gone ≡ cond (is_some e.access) (reached_in (read_before e (Next k) pool) e.chunk) (pages_in e.runs e.chunk)
-gone-words e k gone pool spelled is =
-    is ∙ ap (λ r. cond (is_some e.access) r (pages_in e.runs e.chunk)) (table-words e.layout.now (words_of pool.memory.words) e.chunk k (λ n at none. (spelled n at).zero none))
+gone-words e k gone pool spelled is = grind (arith, common_steps, nat_tests, table-words)
 
 -- where no word is looked at
 pub returns-then-not-looks : goal.returns-then-not-looks
@@ -59,9 +60,4 @@ returns-then-is_alike_in_table g c =
 
 -- one that stays, as its count tells
 pub returns-then-is_told_mixed : goal.returns-then-is_told_mixed
-returns-then-is_told_mixed g c =
-    let e = c.args.edit.now in
-    let pool = g.M.TableMem.state c.args.memory.now in
-    let all = kept e.runs e.access (read_before e (Next c.args.third) pool) e.chunk c.requires.mixed (stray-mixed e c.args.third pool c.requires.table.spelled (c.is_told_mixed.ensures.yes c.if-is_told_mixed.true)) in
-    let same = c.operations_kept-kept.ensures.same in
-    edit-planned false c.operations_kept-kept.result c.new.ensures (omega (arith, all, same)) (λ yes. omega (arith, all, same)) (omega (arith, c.operations_kept-kept.ensures.most))
+returns-then-is_told_mixed g c = grind (arith, common_steps, nat_tests, kept, stray-mixed, edit-planned)

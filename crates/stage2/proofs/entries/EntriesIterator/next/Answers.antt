@@ -12,10 +12,7 @@ use Rattle.std.proofs.lemmas.Bool.Decides.{nat_tests}
 use Rattle.std.proofs.lemmas.Grind.{common_steps}
 
 pub returns-in-Some-clause-steps : goal.returns-in-Some-clause-steps
-returns-in-Some-clause-steps g c =
-    let own = c.self.inside in
-    let words = words_of (g.W.WordSource.words own.words) in
-    sym c.self.view_is ∙ third-next own.base own.pages words own.root own.second own.third c.in-Some.entry c.next.new.self c.in-Some.ensures.entries
+returns-in-Some-clause-steps g c = grind (arith, common_steps, nat_tests, third-next)
 
 pub returns-in-Some-clause-goes : goal.returns-in-Some-clause-goes
 returns-in-Some-clause-goes g c =
@@ -57,10 +54,4 @@ returns-clause-goes g c =
     record { on = λ _. (tt, tt, omega (arith, more)); keeps = tt; rests = λ _. tt }
 
 pub returns-in_err-entry-clause-steps : goal.returns-in_err-entry-clause-steps
-returns-in_err-entry-clause-steps g c =
-    let own = c.self.inside in
-    let words = words_of (g.W.WordSource.words own.words) in
-    let third = c.in_default.ensures.entries in
-    let second = c.in_default-next.ensures.entries in
-    let root = c.in_err-entry.ensures.entries in
-    grind (arith, common_steps, nat_tests, none-next own.base own.pages words own.root own.second own.third third.0 second.0 root.0, none-next own.base own.pages words c.next-3.new.self c.next-2.new.self c.next.new.self third.1 second.1 root.1)
+returns-in_err-entry-clause-steps g c = grind (arith, common_steps, nat_tests, none-next)

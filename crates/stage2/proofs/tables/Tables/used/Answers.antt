@@ -6,11 +6,12 @@ use Rattle.stage2.specs.Tables.{TablesView}
 use Rattle.stage2.proofs.Editing.WholeTables.{quota-found, quota-none, rootless-need}
 use Rattle.stage2.proofs.tables.Tables.used.Given.{Over}
 use Rattle.stage2.proofs.tables.Tables.used.Goals as goal
+use Rattle.std.proofs.lemmas.Bool.Decides.{nat_tests}
+use Rattle.std.proofs.lemmas.Grind.{common_steps}
 
 -- the quota is the partition's
 quota-is : (g : Over) (c : goal.After-free g) → c.in-Some.quota ≡ row_quota c.args.self.now.layout.quotas (row_of c.args.self.now.layout.ids c.args.p)
-quota-is g c = quota-found c.args.self.now.layout c.args.p c.in-Some.quota
-    (ap (λ (x : TablesView). option_map (row_quota x.layout.quotas) (position (λ id. eqb id c.args.p) x.layout.ids)) (sym c.self.view_is) ∙ sym c.quota.ensures ∙ c.in-Some.is)
+quota-is g c = grind (arith, common_steps, nat_tests, quota-found)
 
 pub overflow_sub-result : goal.overflow_sub-result
 overflow_sub-result g c = omega (arith, quota-is g c, c.free.ensures)
