@@ -34,11 +34,7 @@ pub count_below-at : (f g : ℕ → Bool) (n x : ℕ) → x < n → ((k : ℕ) �
 unfolding count_below
 count_below-at f g zero x below same = absurd (omega arith)
 count_below-at f g (suc n) x below same = elim (cases_eq n x) [
-  | inl is ↦
-      let rest = count_below-same f g n (λ k lt. same k (omega arith) (λ e. omega arith)) in
-      let here : f n ≡ f x = ap f is in
-      let there : g n ≡ g x = ap g is in
-      rw (here, there, rest) (omega arith)
+  | inl is ↦ grind (arith, common_steps, nat_tests, count_below-same)
   | inr other ↦
       let rest = count_below-at f g n x (omega arith) (λ k lt differs. same k (omega arith) differs) in
       let here : g n ≡ f n = same n (omega arith) other in

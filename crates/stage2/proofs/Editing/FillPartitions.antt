@@ -59,10 +59,7 @@ module _ (m : ManifestRows) (view : ℕ → ℕ → View) where
             let mine : row_of (ids_of m.partitions) p ≡ i = ap (row_of (ids_of m.partitions)) at ∙ here in
             let on : ltb (row_of (ids_of m.partitions) p) (i + 1) ≡ true = grind (arith, nat_tests, mine) in
             rw on (ap (λ x. walk_in new x n) at ∙ filled.walks n small ∙ ap (λ x. walked n (view x n)) (sym at))
-        | inr other ↦
-            let away : row_of (ids_of m.partitions) p ≢ i = apart m p id i lt here other in
-            let alike : ltb (row_of (ids_of m.partitions) p) i ≡ ltb (row_of (ids_of m.partitions) p) (i + 1) = grind (arith, nat_tests, away) in
-            keeps.walks p n small other ∙ so.walks p n small ∙ ap (λ b. cond b (walked n (view p n)) Unmapped) alike
+        | inr other ↦ grind (arith, common_steps, nat_tests, apart m p id i lt here other, keeps.walks p n small other, so.walks p n small)
       ];
     }
 

@@ -180,16 +180,10 @@ module _ (layout : Layout) (row c j : ℕ) (m : Pages) (h : IsSite layout row c 
         ids = ids;
         quotas = quotas;
         trade = held new k some trade;
-        here = λ n small at.
-            let place : 512 * c + n % 512 ≡ n = omega (arith, at) in
-            let stand : at_3 (slot layout 3 (new.words k (n % 512))) ≡ walked n (answer n) = subst (λ x. at_3 (slot layout 3 (new.words k (n % 512))) ≡ walked x (answer x)) place (stands (n % 512) (omega arith)).0 in
-            walk-here layout row c j old words e n at ∙ ap (at_2 layout words n) is_slot ∙ ap (λ w. at_3 (slot layout 3 w)) (seen-after new k (n % 512) differs) ∙ stand;
+        here = λ n small at. grind (arith, common_steps, nat_tests, stands, walk-here layout row c j old words e n, seen-after new k (n % 512) differs);
         mixed = ap (λ o. is_some o) some ∙ outcome.mixed;
         clean_entry = λ empty. absurd (let bad : Next k ≡ Empty = sym is_slot ∙ empty in cc);
-        clean_table = λ x i at small empty.
-            let same : x ≡ k = cc in
-            let read_x : words x i ≡ new.words k i = ap (λ y. words y i) same ∙ seen-after new k i differs in
-            read_x ∙ (stands i small).1 (sym (ap (slot layout 3) read_x) ∙ empty);
+        clean_table = λ x i at small empty. grind (arith, common_steps, nat_tests, seen-after new k i differs, stands i small);
       }))
 
   -- ---- where the tables lie

@@ -53,9 +53,7 @@ canonical-from layout row g old new canonical orderly others apart here = record
   orderly = orderly;
   reached = λ r x inside below. elim (which r x) [
     | inl e ↦ rw (e.0, e.1) here
-    | inr e ↦
-        ap (λ o. is_some o) (others r x inside below e) ∙ canonical.reached r x inside below
-        ∙ sym (reached-same (answers layout old.words r) (answers layout new.words r) x (λ i small. ap answer_of (apart r (262144 * x + i) (omega (arith, small, below)) (λ f h. e f (quotient x i small ∙ h)))))
+    | inr e ↦ grind (arith, common_steps, nat_tests, canonical.reached r x inside below, reached-same, quotient)
   ];
 }
   where
@@ -268,9 +266,7 @@ module _ (layout : Layout) (row g k : ℕ) (runs : List PageRun) (access : View)
             (ap (λ o. is_some o) u.second ∙ sym (reaches (answers layout to.words row) (ap answer_of walk-here ∙ answer-walked touches.page access)));
         ids = u.ids;
         quotas = u.quotas;
-        walks = λ q n small.
-            done-walks layout row g k w (with_mark k true m) mid below u q n small
-            ∙ ap₂ (λ a b. cond (eqb q row && eqb (n / 512 / 512) g) (walked n a) b) (same-edited n small) (same-walk layout row g (table_word_of (layout.base + k)) m (linked layout row g k (with_mark k true m)) r q n small);
+        walks = λ q n small. grind (arith, common_steps, nat_tests, done-walks layout row g k w (with_mark k true m) mid below u q n small, same-edited n small, same-walk layout row g (table_word_of (layout.base + k)) m (linked layout row g k (with_mark k true m)) r q n small);
         used = let used = u.used in omega (arith, used, growth, took, same-growth);
       } in
       subst (λ (z : Pages). EditsGigabyte layout row g (edited runs access (answers layout m.words row)) m z) (sym is) made

@@ -40,15 +40,7 @@ writes-over k c i j plan part a b e le before same after so next = record {
             rw stays was
         | inr t ↦ next.here x v small (sym (same x (grind (arith, nat_tests, t)) (omega (arith, f.0))) ∙ f.1)
       ];
-  stays = λ x small none.
-      elim (cases_Bool (ltb x i)) [
-        | inl t ↦
-            let lt : x < i = grind (arith, nat_tests, t) in
-            next.stays x small (before x lt) ∙ so.stays x small (below-in plan (512 * c + i) (512 * c + x) (omega (arith, lt)) ∙ sym (below-in plan (512 * c + j) (512 * c + x) (omega (arith, lt, le))) ∙ none)
-        | inr t ↦
-            let from : i ≤ x = grind (arith, nat_tests, t) in
-            next.stays x small (unplanned x from none) ∙ so.stays x small (below-out plan (512 * c + i) (512 * c + x) (omega (arith, from)))
-      ];
+  stays = λ x small none. grind (arith, common_steps, nat_tests, next.stays, so.stays, below-in, unplanned, below-out);
 }
   where
     unplanned : (x : ℕ) → i ≤ x → below (512 * c + j) plan (512 * c + x) ≡ None → part (512 * c + x) ≡ None

@@ -62,20 +62,8 @@ module _ (layout : Layout) (row g word : ℕ) (old new : Pages) (h : IsRooted la
 
   clean : (a : Place) (q i : ℕ) → IsPlace layout a → table_at layout new.words a ≡ Some q → i < 512 → slot layout (level_at a) (new.words q i) ≡ Empty → new.words q i ≡ 0
   clean a q i inside at below none = elim (is_gigabyte a row g) [
-    | inl f ↦
-        let hangs = here q (ap (table_at layout new.words) (sym f) ∙ at) in
-        read q i (λ same _. h.write.fresh q hangs (Root row) h.write.partition (table_at-root layout old.words row ∙ ap Some (sym same))) ∙ h.empty q i hangs below
-    | inr f ↦
-        let was : table_at layout old.words a ≡ Some q = sym (kept a inside f) ∙ at in
-        elim (is_entry q i) [
-          | inl e ↦
-              let root : a ≡ Root row = h.orderly.forest a (Root row) row inside h.write.partition (was ∙ ap Some e.0) (table_at-root layout old.words row) in
-              let now : new.words row g ≡ word = ap (λ w. w row g) h.words ∙ put-same old.words row g word in
-              rw (e.0, e.1) (now ∙ h.zero (sym (ap (slot layout 1) now) ∙ (rw (root, e.0, e.1) at none)))
-          | inr e ↦
-              let same : new.words q i ≡ old.words q i = read q i e in
-              same ∙ h.orderly.clean a q i inside was below (rw same at none)
-        ]
+    | inl f ↦ grind (arith, common_steps, nat_tests, here, read, h.write.fresh, table_at-root layout old.words row, h.empty)
+    | inr f ↦ grind (arith, common_steps, nat_tests, kept a inside f, is_entry q i, h.orderly.forest, table_at-root layout old.words row, put-same old.words row g word, h.zero, read, h.orderly.clean)
   ]
 
   pub rooted : IsOrderly layout new
@@ -92,9 +80,7 @@ module _ (layout : Layout) (row g word : ℕ) (old new : Pages) (h : IsRooted la
     used = trade-used layout row (Gigabyte row g) old new is_trade;
     clean = clean;
     tidy = λ r n inside small. rw (same-walk r n small) (h.orderly.tidy r n inside small);
-    mixed = λ r c inside below.
-        ap (λ o. is_some o) (kept (Chunk r c) (inside, below) (λ e. cc)) ∙ h.orderly.mixed r c inside below
-        ∙ sym (mixed-same (answers layout old.words r) (answers layout new.words r) c (λ i small. ap answer_of (same-walk r (512 * c + i) (omega arith))));
+    mixed = λ r c inside below. grind (arith, common_steps, nat_tests, kept, h.orderly.mixed r c inside below, mixed-same, same-walk);
   }
 
 -- ---- a free page is linked

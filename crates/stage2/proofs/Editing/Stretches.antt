@@ -82,12 +82,8 @@ sets-change words k first (suc n) word step whole small =
     let before = after-sets words k first n word step whole (omega (arith, small)) in
     let rest = sets-change words k first n word step whole (omega (arith, small)) in
     elim (cases_eq (slice_index set (512 * k + (first + n))) next) [
-      | inl same ↦
-          let test : (slice_index set (512 * k + (first + n)) == next) ≡ true = grind (arith, nat_tests, same) in
-          rw test rest
-      | inr differs ↦
-          let test : (slice_index set (512 * k + (first + n)) == next) ≡ false = grind (arith, nat_tests, differs) in
-          rw test (λ there. differs (sym (word-in set k (first + n) index) ∙ ap (λ (w : Words). w k (first + n)) before ∙ there), rest)
+      | inl same ↦ grind (arith, common_steps, nat_tests)
+      | inr differs ↦ grind (arith, common_steps, nat_tests, word-in set k (first + n) index)
     ]
 
 -- each is planned

@@ -109,14 +109,10 @@ module _ (layout : Layout) (row : ℕ) (x : Place) (old new : Pages) (h : IsTrad
       ]
   hangs_in (Hang k t) r q inside held = elim (cases_eq q k) [
     | inl same ↦ (x, h.at, t.now ∙ ap Some (sym same))
-    | inr differs ↦
-        let was = h.orderly.hangs r q inside (sym (mark-other old.taken k q true differs) ∙ sym (ap (λ f. f q) t.taken) ∙ held) in
-        (was.0, was.1, h.kept was.0 was.1 (λ f. let bad : table_at layout old.words x ≡ Some q = ap (table_at layout old.words) (sym f) ∙ was.2 in let none = t.none in absurd (cc)) ∙ was.2)
+    | inr differs ↦ grind (arith, common_steps, nat_tests, h.orderly.hangs, mark-other old.taken k q true differs, h.kept, t.none)
   ]
   hangs_in (Drop k t) r q inside held = elim (cases_eq q k) [
-    | inl same ↦
-        let free : new.taken q ≡ false = ap (λ f. f q) t.taken ∙ ap (mark k false old.taken) same ∙ mark-same old.taken k false in
-        absurd (cc)
+    | inl same ↦ grind (arith, common_steps, nat_tests, mark-same old.taken k false)
     | inr differs ↦
         let was = h.orderly.hangs r q inside (sym (mark-other old.taken k q false differs) ∙ sym (ap (λ f. f q) t.taken) ∙ held) in
         (was.0, was.1, h.kept was.0 was.1 (λ f. differs (let bad : table_at layout old.words x ≡ Some q = ap (table_at layout old.words) (sym f) ∙ was.2 in let here = t.was in cc)) ∙ was.2)
@@ -170,21 +166,14 @@ module _ (layout : Layout) (row : ℕ) (x : Place) (old new : Pages) (h : IsTrad
   used_in (Hang k t) r inside =
       let now = used_by-same (with_mark k true old) new r t.taken h.quotas in
       elim (cases_eq r row) [
-        | inl same ↦
-            let more = hung-one old.words new.words (λ y in_y differs. ap (λ z. is_some z) (h.kept y in_y differs)) (ap (λ z. is_some z) t.none) (ap (λ z. is_some z) t.now) in
-            rw same (rw same at now ∙ used_by-take old row k t.inside t.free ∙ ap (λ z. z + 1) (h.orderly.used row h.partition) ∙ sym more)
+        | inl same ↦ grind (arith, common_steps, nat_tests, hung-one, h.kept, used_by-take old row k t.inside t.free, h.orderly.used row h.partition)
         | inr differs ↦ now ∙ used_by-other old row r k true t.inside differs ∙ h.orderly.used r inside ∙ sym (hung-kept r inside (λ same. absurd (differs same)))
       ]
   used_in (Drop k t) r inside =
       let now = used_by-same (with_mark k false old) new r t.taken h.quotas in
       let owns : InShare old.quotas row k = share k (h.orderly.owned x k h.at t.was) in
       elim (cases_eq r row) [
-        | inl same ↦
-            let here : used_by new row ≡ used_by (with_mark k false old) row = rw same at now in
-            let given = used_by-give old row k owns (h.orderly.taken x k h.at t.was) in
-            let less = hung-one new.words old.words (λ y in_y differs. ap (λ z. is_some z) (sym (h.kept y in_y differs))) (ap (λ z. is_some z) t.now) (ap (λ z. is_some z) t.was) in
-            let was = h.orderly.used row h.partition in
-            rw same (omega (arith, here, given, less, was))
+        | inl same ↦ grind (arith, common_steps, nat_tests, used_by-give old row k owns (h.orderly.taken x k h.at t.was), hung-one, h.kept, h.orderly.used row h.partition)
         | inr differs ↦ now ∙ used_by-other old row r k false owns differs ∙ h.orderly.used r inside ∙ sym (hung-kept r inside (λ same. absurd (differs same)))
       ]
 

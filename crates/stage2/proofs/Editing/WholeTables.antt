@@ -207,11 +207,7 @@ free-and-need t p h =
       | inl rooted ↦
           let used : used_by m row ≡ need (view_of t p) = used-need t.layout m row h (ltb-true _ _ rooted) in
           numbers (row_quota m.quotas row) (used_by m row) (need (view_of t p)) (row_quota t.layout.quotas row) most used quota
-      | inr none ↦
-          let past : length m.quotas ≤ row = outside row (length t.layout.ids) (length m.quotas) none h.orderly.rows in
-          let zero : row_quota m.quotas row ≡ 0 = row_quota-none m.quotas row past in
-          let needs = rootless-need t p none in
-          numbers (row_quota m.quotas row) (used_by m row) (need (view_of t p)) (row_quota t.layout.quotas row) most (omega (arith, most, zero, needs)) quota
+      | inr none ↦ grind (arith, common_steps, nat_tests, outside row (length t.layout.ids) (length m.quotas) none h.orderly.rows, row_quota-none, rootless-need t p none, numbers)
     ]
   where
     numbers : (all used needs quota : ℕ) → used ≤ all → used ≡ needs → all ≡ quota → all - used + needs ≡ quota

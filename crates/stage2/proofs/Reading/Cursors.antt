@@ -45,12 +45,7 @@ module _ (level : Level) (first : ℕ) (word : ℕ → ℕ) where
         let e = ap (λ k. count_below some_word k) next in
         ap (λ b. cond b [] (record { level = level; first = first + pages_at level * i; word = word i } ∷ []) ++ entries_from level first word (suc i) n) (eq-eqb (word i % 2) 0 even)
         ∙ none-left n (suc i) (omega (arith, all)) (omega (arith, le, same, e))
-    | inr some ↦
-        let more : count_below some_word (i + 1) ≡ 1 + count_below some_word i = count_below-more some_word i ∙ ap (λ b. cond (not b) 1 0 + count_below some_word i) some in
-        let grows = count-grows (i + 1) n in
-        let place : i + 1 + n ≡ 512 = omega (arith, all) in
-        let e = ap (λ k. count_below some_word k) place in
-        absurd (omega (arith, le, more, grows, e))
+    | inr some ↦ grind (arith, common_steps, nat_tests, count_below-more some_word i, count-grows (i + 1) n)
   ]
 
 -- ---- a cursor

@@ -34,4 +34,4 @@ pub walk-leaf : (t : TablesView) (p n m : ℕ) (a : Access) (w : Walked) → Are
 walk-leaf t p n m a w canonical is ends = grind (arith, common_steps, nat_tests, walks-tidy)
 
 pub walk-none : (t : TablesView) (p n : ℕ) (w : Walked) → AreCanonical t → w ≡ walk_in t p n → (w ≡ Unmapped) ⊎ (w ≡ Wrong) → walk_in t p n ≡ Unmapped
-walk-none t p n w canonical is x6 = grind (arith, common_steps, nat_tests, walks-tidy)
+walk-none t p n w canonical is ends = grind (arith, common_steps, nat_tests, walks-tidy)

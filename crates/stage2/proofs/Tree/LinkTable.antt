@@ -1,4 +1,4 @@
--- A table without valid words, linked where none hangs: no walk changes.
+-- The word of a table, and walks that begin at a root.
 use Rattle.std.proofs.Common.{◌≡◌, ℕ, ◌+◌, ◌*◌, ◌/◌, ◌%◌, ◌^◌, ◌≤◌, ◌<◌, true, false, None, length, refl, arith, ap, sym, ◌∙◌, ◌⊎◌, inl, inr}
 use Rattle.std.proofs.lemmas.Bool.{cases_eq}
 use Rattle.std.proofs.lemmas.Bool.Decides.{nat_tests}
@@ -18,7 +18,7 @@ pub slot-table : (layout : Layout) (level k : ℕ) → level < 3 → k < layout.
 unfolding slot
 slot-table layout level k low inside fits = ap (slot_from layout) (entry-table level (layout.base + k) low (omega arith)) ∙ grind (arith, nat_tests)
 
--- ---- the level 2 table of a gigabyte
+-- ---- walks from a root
 
 pub walk-inside : (layout : Layout) (words : Words) (row n : ℕ) → row < length layout.ids → walk layout words row n ≡ at_1 layout words words n (slot layout 1 (words row (index_1 n)))
 unfolding walk_across
@@ -26,5 +26,3 @@ walk-inside layout words row n inside = grind (arith, nat_tests)
 
 pub untabled_1 : (layout : Layout) (words : Words) (n : ℕ) (s : Slot) → next_page s ≡ None → IsTidy n (at_1 layout words words n s) → at_1 layout words words n s ≡ Unmapped
 untabled_1 layout words n s e h = grind (arith, common_steps, nat_tests)
-
--- ---- the level 3 table of a chunk

@@ -75,10 +75,7 @@ walk_below layout words p g word h n e =
     let result : at_1 layout new new n (slot layout 1 (new p (n / 512 / 512))) ≡ Unmapped =
     elim h.clean [
       | inl none ↦ ap (at_1 layout new new n) (ap (slot layout 1) read ∙ none)
-      | inr some ↦
-          let here : next_page (slot layout 1 word) ≡ Some some.0 = ap next_page some.1 in
-          let same : new some.0 (n / 512 % 512) ≡ words some.0 (n / 512 % 512) = put-other words p g word some.0 (n / 512 % 512) (λ equal _. h.fresh some.0 here (Root p) h.partition (table_at-root layout words p ∙ ap Some (sym equal))) in
-          ap (at_1 layout new new n) (ap (slot layout 1) read ∙ some.1) ∙ ap (at_2 layout new n) (ap (slot layout 2) same ∙ h.empty some.0 (n / 512 % 512) here (omega arith))
+      | inr some ↦ grind (arith, common_steps, nat_tests, put-other, h.fresh, table_at-root layout words p, some.1, h.empty)
     ] in
     grind (arith, nat_tests, result)
 

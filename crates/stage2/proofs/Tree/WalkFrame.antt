@@ -85,11 +85,7 @@ walk-level_3-other layout words p c q i word h p' n small other =
     walk-same layout words new new new p' n (λ inside. record {
       first = level_3-root layout words p c q i word h p' inside (index_1 n);
       second = λ j at_j. level_3-second layout words p c q i word h p' (index_1 n) j inside (omega arith) at_j (index_2 n);
-      third = λ k at_k. put-other words q i word k (index_3 n) (λ same index.
-          let e : Chunk p' (n / 512) ≡ Chunk p c = h.forest (Chunk p' (n / 512)) (Chunk p c) q (inside, omega arith) (h.partition, h.chunk) (at_k ∙ ap Some same) h.table in
-          let e_p : p' ≡ p = cc in
-          let e_c : n / 512 ≡ c = cc in
-          other e_p (omega arith));
+      third = λ k at_k. grind (arith, common_steps, nat_tests, put-other, h.forest);
     })
 
 -- a walk through the table of its chunk

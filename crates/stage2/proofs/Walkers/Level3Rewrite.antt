@@ -45,16 +45,8 @@ make-word e words past c k i word h small invalid may o =
     let new = put k i word words in
     orderly-set e nothing nothing words past k i word o
     (λ r x inside below. elim (which_page e.row (512 * c + i) r x) [
-      | inl at ↦
-          let none : walk e.layout words r x ≡ Unmapped = rw at.0 (was-word e.layout words e.row c k i h small x at.1 ∙ ap at_3 (invalid-empty e.layout 3 (words k i) invalid)) in
-          let gives : MayGive e r x (walk e.layout new r x) = rw (at.0, here-word e.layout words e.row c k i h small word x at.1, at.1) may in
-          fine-made e words new r x (λ j f. table_at-level_3 e.layout words e.row c k i word h (Gigabyte r (index_1 x)) (inside, omega arith) ∙ f) (λ j f. table_at-level_3 e.layout words e.row c k i word h (Chunk r (x / 512)) (inside, omega arith) ∙ f) none gives
-      | inr apart ↦
-          fine-same e (eqb r e.row && false) words new r x
-          (table_at-level_3 e.layout words e.row c k i word h (Gigabyte r (index_1 x)) (inside, omega arith))
-          (table_at-level_3 e.layout words e.row c k i word h (Chunk r (x / 512)) (inside, omega arith))
-          (walk-level_3-other e.layout words e.row c k i word h r x below apart)
-          (may-now e nothing words past o r x inside below)
+      | inl at ↦ grind (arith, common_steps, nat_tests, at.0, was-word e.layout words e.row c k i h small x at.1, invalid-empty e.layout 3 (words k i) invalid, here-word e.layout words e.row c k i h small word x at.1, at.1, fine-made, table_at-level_3)
+      | inr apart ↦ grind (arith, common_steps, nat_tests, fine-same, table_at-level_3, walk-level_3-other e.layout words e.row c k i word h r x below apart, may-now e nothing words past o r x inside below)
     ])
     (breaks-invalid e words past k i word o invalid)
 
@@ -73,12 +65,7 @@ clear-word e due words past c k i word h small is_zero is_due may o =
             may = rw (gone, at.0, at.1) may;
             owed = λ free. absurd (not_free r e.row x (512 * c + i) (due x) at.0 (ap due at.1 ∙ is_due) free);
           }
-      | inr apart ↦
-          fine-same e (eqb r e.row && due x) words new r x
-          (table_at-level_3 e.layout words e.row c k i word h (Gigabyte r (index_1 x)) (inside, omega arith))
-          (table_at-level_3 e.layout words e.row c k i word h (Chunk r (x / 512)) (inside, omega arith))
-          (walk-level_3-other e.layout words e.row c k i word h r x below apart)
-          (may-now e due words past o r x inside below)
+      | inr apart ↦ grind (arith, common_steps, nat_tests, fine-same, table_at-level_3, walk-level_3-other e.layout words e.row c k i word h r x below apart, may-now e due words past o r x inside below)
     ])
     (λ a inside at. rw is_zero (breaks-zero e.layout e.entry past k i))
   where

@@ -63,10 +63,7 @@ stays-root layout row g word which answer old new forest partition invalid gives
     let told : walk e.layout (put e.row g word words) e.row x ≡ walk layout (words_of new.memory.words) row x = rw (allows.same_layout, allows.same_row) (ap (λ (w : Words). walk layout w row x) (sym wrote)) in
     elim (gives x small at) [
       | inl h ↦ subst (λ (a : Walked). MayGive e e.row x a) (sym (told ∙ h.1)) (allows.may x small h.0).1
-      | inr none ↦
-          let empty : slot e.layout 1 (words e.row (index_1 x)) ≡ Empty = ap (λ y. slot e.layout 1 (words e.row y)) at ∙ invalid-empty e.layout 1 (words e.row g) invalid_here in
-          let was : walk e.layout words e.row x ≡ Unmapped = walk-inside e.layout words e.row x inside ∙ ap (at_1 e.layout words words x) empty in
-          subst (λ (a : Walked). MayGive e e.row x a) (was ∙ sym (told ∙ none)) (may-now e nothing words old.operations o.orderly e.row x inside small)
+      | inr none ↦ grind (arith, common_steps, nat_tests, invalid-empty e.layout 1 (words e.row g) invalid_here, walk-inside e.layout words e.row x inside, may-now e nothing words old.operations o.orderly e.row x inside small)
     ] in
     let done : IsInStep e nothing (put row g word words) (Set row g word ∷ old.operations) =
     subst (λ r. IsInStep e nothing (put r g word words) (Set r g word ∷ old.operations)) allows.same_row (orderly-root e words old.operations g word forest_here inside invalid_here may o.orderly) in

@@ -22,7 +22,7 @@ use Rattle.std.proofs.lemmas.Grind.{common_steps}
 
 -- the root's words stay
 pub seated-after : (layout : Layout) (row g j : ℕ) (m new : Pages) → IsSeated layout row g j m → new.words row g ≡ m.words row g → IsSeated layout row g j new
-seated-after layout row g j m new x6 e = grind (arith, common_steps, nat_tests)
+seated-after layout row g j m new seated e = grind (arith, common_steps, nat_tests)
 
 module _ (layout : Layout) (row c j : ℕ) (m : Pages) (h : IsSite layout row c j m) where
   -- the words as they are, where the link is written, and where it is not
@@ -34,7 +34,7 @@ module _ (layout : Layout) (row c j : ℕ) (m : Pages) (h : IsSite layout row c 
 
   -- what hangs hangs with the link
   pub hangs-seen : IsSeated layout row (c / 512) j m → (b : Place) (q : ℕ) → IsPlace layout b → table_at layout m.words b ≡ Some q → table_at layout (old layout row c j m h) b ≡ Some q
-  hangs-seen x0 b q inside at = grind (arith, common_steps, nat_tests, same-words, hangs-linked, old, cut-words)
+  hangs-seen seated b q inside at = grind (arith, common_steps, nat_tests, same-words, hangs-linked, old, cut-words)
 
   pub forest-seen : IsSeated layout row (c / 512) j m → IsForest layout m.words
   forest-seen s a b q in_a in_b at_a at_b = h.orderly.forest a b q in_a in_b (hangs-seen s a q in_a at_a) (hangs-seen s b q in_b at_b)
@@ -49,7 +49,7 @@ module _ (layout : Layout) (row c j : ℕ) (m : Pages) (h : IsSite layout row c 
 
   -- the level 2 table hangs, or hangs nowhere
   pub hung-seen : IsSeated layout row (c / 512) j m → IsHung layout m.words row c j
-  hung-seen x0 = grind (arith, common_steps, nat_tests, forest-seen, same-words, cut-words, unheld-gigabyte, old)
+  hung-seen seated = grind (arith, common_steps, nat_tests, forest-seen, same-words, cut-words, unheld-gigabyte, old)
 
   -- the table of the chunk hangs there alone, or nowhere
   pub third-alone : IsSeated layout row (c / 512) j m → (k : ℕ) → entry layout row c j m h ≡ Next k → (a : Place) → IsPlace layout a → a ≢ Chunk row c → table_at layout m.words a ≡ Some k → ⊥
@@ -57,7 +57,7 @@ module _ (layout : Layout) (row c j : ℕ) (m : Pages) (h : IsSite layout row c 
 
   -- where the level 2 table hangs nowhere, nor does it
   pub third-loose : IsSeated layout row (c / 512) j m → (k : ℕ) → entry layout row c j m h ≡ Next k → IsUnheld layout m.words j → IsUnheld layout m.words k
-  third-loose x0 k is loose = grind (arith, common_steps, nat_tests, same-words, unheld-third)
+  third-loose seated k is loose = grind (arith, common_steps, nat_tests, same-words, unheld-third)
 
   pub third-hangs : m.words row (c / 512) ≡ table_word_of (layout.base + j) → (k : ℕ) → entry layout row c j m h ≡ Next k → table_at layout m.words (Chunk row c) ≡ Some k
   third-hangs e k is = ap (λ (w : Words). table_at layout w (Chunk row c)) (sym (same-words e)) ∙ third-at layout row c j m h k is

@@ -72,7 +72,7 @@ level_2-write layout words row c j word partition small forest table fresh = rec
 
 -- the word becomes 0
 pub hung-cut : (layout : Layout) (words : Words) (row c j : ℕ) → row < length layout.ids → c < 262144 → IsHung layout words row c j → IsHung layout (put j (c % 512) 0 words) row c j
-hung-cut layout words row c j partition small x7 = grind (arith, common_steps, nat_tests, level_2-zero, forest-level_2, table_at-level_2-other, unheld-put)
+hung-cut layout words row c j partition small hung = grind (arith, common_steps, nat_tests, level_2-zero, forest-level_2, table_at-level_2-other, unheld-put)
 
 cut-step : (e : OpenCall) (words : Words) (past : List Op) (p c j : ℕ) → e.row < length e.layout.ids → c < 262144 → IsHung e.layout words e.row c j → row_of e.layout.ids p ≡ e.row
     → ((x : ℕ) → x < 2 ^ 27 → x / 512 ≡ c → MayGive e e.row x Unmapped) → IsInStep e nothing words past
@@ -104,7 +104,7 @@ broken-words words p c j = grind (arith, common_steps, nat_tests, put-there)
 -- a page that hangs nowhere but at the chunk hangs nowhere once the chunk has no table
 pub unheld-word : (layout : Layout) (words : Words) (row c j word k : ℕ) → row < length layout.ids → c < 262144 → IsHung layout words row c j → next_page (slot layout 2 word) ≡ None
     → ((a : Place) → IsPlace layout a → a ≢ Chunk row c → table_at layout words a ≡ Some k → ⊥) → (IsUnheld layout words j → IsUnheld layout words k) → IsUnheld layout (put j (c % 512) word words) k
-unheld-word layout words row c j word k partition small x9 none free loose a inside at = grind (arith, common_steps, nat_tests, table_at-unheld, level_2-write, table_at-level_2, is_chunk, table_at-level_2-other)
+unheld-word layout words row c j word k partition small hung none free loose a inside at = grind (arith, common_steps, nat_tests, table_at-unheld, level_2-write, table_at-level_2, is_chunk, table_at-level_2-other)
 
 unheld-cut : (layout : Layout) (words : Words) (row c j k : ℕ) → row < length layout.ids → c < 262144 → IsHung layout words row c j → IsUnheld layout words k → IsUnheld layout (put j (c % 512) 0 words) k
 unheld-cut layout words row c j k partition small hung free = unheld-word layout words row c j 0 k partition small hung (ap next_page (slot-zero layout 2)) (λ a inside other. free a inside) (λ loose. free)

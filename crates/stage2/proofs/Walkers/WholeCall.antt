@@ -21,7 +21,7 @@ use Rattle.std.proofs.lemmas.Grind.{common_steps}
 
 -- the pages of a map are not reached, as the tables say
 pub free-views : (t : TablesView) (before : ℕ → ℕ → View) (p : ℕ) (runs : List PageRun) (access : View) → Agrees t.layout (words_of t.pool.memory.words) before → AreFreeFor p runs access before → AreFree (λ n. true) runs access (view_of t p)
-free-views t before p runs access starts free n small x9 here = grind (arith, common_steps, nat_tests, answer-walked)
+free-views t before p runs access starts free n small all here = grind (arith, common_steps, nat_tests, answer-walked)
 
 -- ---- its steps
 

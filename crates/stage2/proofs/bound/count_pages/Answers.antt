@@ -13,12 +13,7 @@ loop-run-init c = record { pages = λ chunk. let none = pages-none chunk c.list-
 
 pub loop-run-preserved : goal.loop-run-preserved
 loop-run-preserved c = record {
-  pages = λ chunk.
-      let more = pages-more c.list-list.result.now c.loop-run.run-index chunk c.run-item-in-loop-run.result c.list-list.ensures.normal c.loop-run-test.true c.run-item-in-loop-run.is in
-      let so = c.loop-run.invariant.pages chunk in
-      let one = run-pages c.run-item-in-loop-run.result chunk in
-      let most = pages_among-le (λ i. covers (take (c.loop-run.run-index + 1) c.list-list.result.now) (512 * chunk + i)) in
-      omega (arith, more, so, one, most, c.saturating_add-pages.ensures);
+  pages = λ chunk. grind (arith, common_steps, nat_tests, pages-more c.list-list.result.now c.loop-run.run-index chunk c.run-item-in-loop-run.result c.list-list.ensures.normal c.loop-run-test.true c.run-item-in-loop-run.is, run-pages c.run-item-in-loop-run.result chunk, pages_among-le);
 }
 
 pub returns : goal.returns

@@ -4,6 +4,8 @@ use Rattle.pool.specs.Pool.{pages_of}
 use Rattle.stage2.proofs.Counting.Growth.{second-inside}
 use Rattle.stage2.proofs.Counting.Untabled.{growth-untabled}
 use Rattle.stage2.proofs.bound.most_in_gigabyte.Goals as goal
+use Rattle.std.proofs.lemmas.Bool.Decides.{nat_tests}
+use Rattle.std.proofs.lemmas.Grind.{common_steps}
 
 pub count_untabled-chunks-requires-clause-page_in : goal.count_untabled-chunks-requires-clause-page_in
 count_untabled-chunks-requires-clause-page_in g c = λ j e.
@@ -18,15 +20,8 @@ returns g c =
     c.args.runs.now c.args.edit.now.access c.chunk_span.result.first c.chunk_span.result.end c.chunk_span.ensures.within c.count_untabled-chunks.result c.count_untabled-chunks.ensures.counts in
     let few = c.count_untabled-chunks.ensures.few in
     elim (cases_Bool c.is_none.result) [
-      | inl t ↦
-          let one : c.from.result ≡ 1 = rw t at c.from.ensures in
-          let bit = at_most_one (is_none c.second_at-second.result) in
-          record { most = omega (arith, most, one, bit); few = omega (arith, few, one) }
-      | inr f ↦
-          let zero : c.from.result ≡ 0 = rw f at c.from.ensures in
-          let some : is_some c.second_at-second.result ≡ true = rw f at c.is_none.ensures in
-          let none = no_one c.second_at-second.result some in
-          record { most = omega (arith, most, zero, none); few = omega (arith, few, zero) }
+      | inl t ↦ grind (arith, common_steps, nat_tests, at_most_one (is_none c.second_at-second.result))
+      | inr f ↦ grind (arith, common_steps, nat_tests, no_one)
     ]
   where
     at_most_one : (b : Bool) → cond b 1 0 ≤ 1

@@ -6,6 +6,7 @@ use Rattle.stage2.specs.Parts.{end_from}
 use Rattle.stage2.proofs.Runs.Normal.{any-within, normal-within}
 use Rattle.stage2.proofs.Editing.GigabyteByGigabyte.{touched}
 use Rattle.stage2.proofs.level1.only_gigabyte.Goals as goal
+use Rattle.std.proofs.lemmas.Grind.{common_steps}
 
 pub returns-then-end_of_last-end : goal.returns-then-end_of_last-end
 returns-then-end_of_last-end c =
@@ -23,9 +24,5 @@ returns-then-end_of_last-end c =
     record {
       below = omega (arith, at, size, is.1);
       touched = touched runs 0 gigabyte run some first is (omega (arith, at)) (omega (arith, at, size));
-      only = λ n covered.
-          let found = any-within (λ r. in_run r n) run.first c.end_of_last.result runs covered within in
-          let least : found.0.first ≤ n = grind (arith, nat_tests, found.1) in
-          let small : n < found.0.first + found.0.count = grind (arith, nat_tests, found.1) in
-          omega (arith, at, found.2, found.3, least, small, c.if-end_of_last-end.true, c.end.ensures.same);
+      only = λ n covered. grind (arith, common_steps, nat_tests, any-within);
     }

@@ -43,9 +43,7 @@ empty_table-requires g c =
     record {
       page_in = subst (λ (x : Pages). k < page_count x.quotas) (sym put) (third-inside layout s.row e.chunk s.second m can.site k c.requires.table);
       taken = ap (λ (x : Pages). x.taken k) put ∙ third-taken layout s.row e.chunk s.second m can.site k c.requires.table;
-      left = λ i small out.
-          subst (IsWordFor (512 * e.chunk + i) e.access) (sym (left-kept layout s.row e.chunk s.second m can.site k c.block_word.result m1 c.requires.table put i))
-          (others s e old can.site c.requires.table c.requires.alike i small out);
+      left = λ i small out. grind (arith, common_steps, nat_tests, left-kept layout s.row e.chunk s.second m can.site k c.block_word.result m1 c.requires.table put i, others s e old can.site c.requires.table c.requires.alike i small out);
       room = omega (arith, same, gone, room, left);
     }
 

@@ -11,7 +11,7 @@ is-valid : (n word : ℕ) (answer : View) → IsWordFor n answer word → not (w
 is-valid n word answer is = grind (arith, common_steps, nat_tests, word-some)
 
 steps : (n word : ℕ) (answer : View) → IsWordFor n answer word → word ≡ 0 → step_for answer ≡ 0
-steps n word answer is x4 = grind (arith, common_steps, nat_tests, word-some)
+steps n word answer is same = grind (arith, common_steps, nat_tests, word-some)
 
 pub returns : goal.returns
 returns c =

@@ -107,10 +107,6 @@ returns g c =
     λ x from n at. outside-gigabytes runs c.gigabyte_span-span.result.first c.gigabyte_span-span.result.end n c.gigabyte_span-span.ensures.within (inr (omega (arith, from, at, c.loop-number-test.false))) in
     record {
       tables = so.tables ∙ sym (sum_below-tail f (512 - i) i (λ x from to. growth-nothing runs access v x (none x from))) ∙ ap (sum_below f) e ∙ grow-sum v (edited runs access v);
-      operations =
-          let made : sum_below h i ≤ c.loop-number.plan.operations = so.operations in
-          let tail = sum_below-tail h (512 - i) i (λ x from to. operations-nothing runs access v x (none x from)) in
-          let whole : sum_below h (i + (512 - i)) ≡ sum_below h 512 = ap (sum_below h) e in
-          omega (arith, made, tail, whole);
+      operations = grind (arith, common_steps, nat_tests, sum_below-tail, operations-nothing);
       most = let few = so.most in omega (arith, few, last, most);
     }
