@@ -1,5 +1,5 @@
 -- An edit of one chunk: the level 2 word of the chunk, its level 3 table, and pages that hang nowhere.
-use Rattle.std.proofs.Common.{◌≡◌, ◌≢◌, ℕ, ◌/◌, ◌%◌, ◌^◌, ◌<◌, Some, length, arith, ap, sym, ◌∙◌, ap₂}
+use Rattle.std.proofs.Common.{◌≡◌, ◌≢◌, ℕ, ◌/◌, ◌%◌, ◌^◌, ◌<◌, Some, length, arith, ap, ◌∙◌}
 use Rattle.pool.specs.Pool.{Words}
 use Rattle.stage2.specs.Slot.{Layout, slot}
 use Rattle.stage2.specs.Walk.{index_1, index_3, at_2, walk, walk_across, Place, Root, Gigabyte, Chunk, next_page, table_at, IsPlace, IsForest}

@@ -1,11 +1,10 @@
 -- The tables of one partition, filled upward.
-use Rattle.std.proofs.Common.{◌≡◌, ℕ, ◌+◌, ◌-◌, ◌^◌, ◌<◌, ◌≤◌, Bool, true, false, cond, eqb, List, get_or, Some, None, is_some, refl, sym, ap, subst, ◌∙◌, ◌⊎◌, arith, inl, inr, eq-eqb}
-use Rattle.std.proofs.lemmas.Bool.{cases_lt, ltb-true}
+use Rattle.std.proofs.Common.{◌≡◌, ℕ, ◌^◌, ◌<◌, ◌≤◌, List, Some, None, refl, ap, ◌∙◌, arith}
 use Rattle.std.proofs.lemmas.Bool.Decides.{nat_tests}
 use Rattle.base.specs.Access.{Access, View}
 use Rattle.base.specs.Manifest.{row_of}
-use Rattle.base.specs.Need.{need, grow}
-use Rattle.base.specs.Pages.{PageRun, covers}
+use Rattle.base.specs.Need.{need}
+use Rattle.base.specs.Pages.{PageRun}
 use Rattle.pool.specs.Pool.{row_quota}
 use Rattle.stage2.specs.Edits.{edited}
 use Rattle.stage2.specs.inner.Filling.{IsEdge, view_below, in_range, pending_runs, CanMap, IsFilling, KeepsOthers, IsFilled}

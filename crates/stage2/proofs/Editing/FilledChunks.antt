@@ -1,5 +1,5 @@
 -- Chunks that follow one another, each of which a run has whole and none of which has a table: their level 2 words are replaced.
-use Rattle.std.proofs.Common.{◌≡◌, ℕ, zero, suc, ◌+◌, ◌*◌, ◌%◌, ◌^◌, ◌<◌, ◌≤◌, ◌==◌, Bool, true, false, List, [], ◌∷◌, length, Some, None, refl, sym, ap, subst, ◌∙◌, arith, inl, inr}
+use Rattle.std.proofs.Common.{◌≡◌, ℕ, zero, suc, ◌+◌, ◌*◌, ◌%◌, ◌^◌, ◌<◌, ◌≤◌, ◌==◌, Bool, true, false, List, length, Some, None, refl, sym, ap, subst, ◌∙◌, arith, inl, inr}
 use Rattle.std.proofs.lemmas.Bool.{cases_Bool, eqb-true}
 use Rattle.base.specs.Access.{Access, View}
 use Rattle.base.specs.Manifest.{page_count, row_of}
@@ -8,8 +8,7 @@ use Rattle.words.specs.declared.word.Entry.{Entry}
 use Rattle.words.specs.declared.word.Entry.TheVariants.{Invalid, Table, Leaf, Wrong}
 use Rattle.words.specs.Words.{leaf_word_of, entry_of, IsLeafWord}
 use Rattle.words.proofs.RoundTrip.{entry-block, entry-zero, word-leaf, word-table, type-table}
-use Rattle.pool.specs.Pool.{Pages, Pool, IsWhole, words_of, pages_of, put, with_put, after_set, after_break, after_make, after_replaces}
-use Rattle.pool.specs.declared.operation.Op.TheVariants.{Set}
+use Rattle.pool.specs.Pool.{Pages, Pool, IsWhole, words_of, pages_of, put, with_put, after_break, after_make, after_replaces}
 use Rattle.pool.proofs.Words.{pages_of-set}
 use Rattle.pool.proofs.Replaced.{Keeps, keeps-break, keeps-replaces, replaces-none, replaces-more, replaces-beside}
 use Rattle.stage2.specs.Slot.{Layout, slot, slot_from}
@@ -19,7 +18,7 @@ use Rattle.stage2.specs.Edits.{edited}
 use Rattle.stage2.specs.inner.Chunks.{answers_in, covers_chunk, IsEntryFor}
 use Rattle.stage2.specs.inner.Clauses.{Puts}
 use Rattle.stage2.specs.inner.Gigabytes.{IsUnderway}
-use Rattle.stage2.specs.inner.History.{Made, broken, replaced}
+use Rattle.stage2.specs.inner.History.{Made, replaced}
 use Rattle.stage2.specs.Moments.{StaysInStep}
 use Rattle.stage2.specs.Orderly.{answers, linked}
 use Rattle.stage2.specs.inner.Steps.{IsSeated, disturbed_below}

@@ -1,5 +1,5 @@
 -- The four edits of a chunk.
-use Rattle.std.proofs.Common.{◌≡◌, ◌≢◌, ℕ, ◌+◌, ◌*◌, ◌/◌, ◌%◌, ◌<◌, ◌==◌, Bool, true, false, not, cond, List, [], is_some, Option, Some, None, refl, arith, ap, sym, subst, ◌∙◌, ◌⊎◌, inl, inr}
+use Rattle.std.proofs.Common.{◌≡◌, ◌≢◌, ℕ, ◌+◌, ◌*◌, ◌/◌, ◌%◌, ◌<◌, ◌==◌, Bool, true, false, not, List, [], is_some, Option, Some, None, refl, arith, ap, sym, subst, ◌∙◌, ◌⊎◌, inl, inr}
 use Rattle.base.specs.Pages.{PageRun, covers}
 use Rattle.base.specs.Access.{View}
 use Rattle.base.specs.Manifest.{page_count}
@@ -7,9 +7,9 @@ use Rattle.words.specs.Words.{entry_of, table_word_of}
 use Rattle.pool.specs.Pool.{Words, Pages, nonzero_in, InShare, put, mark, with_put, with_mark, IsLowestFree}
 use Rattle.pool.proofs.Shares.{share_inside}
 use Rattle.stage2.specs.declared.walked.Walked.{Walked}
-use Rattle.stage2.specs.declared.walked.Walked.TheVariants.{None as Unmapped, Leaf as Mapped, Wrong}
-use Rattle.stage2.specs.Slot.{Layout, Slot, Empty, Next, Maps, Bad, slot, slot_from}
-use Rattle.stage2.specs.Walk.{index_3, at_2, at_3, walk, walked, Place, Root, Gigabyte, Chunk, next_page, table_at, IsPlace}
+use Rattle.stage2.specs.declared.walked.Walked.TheVariants.{None as Unmapped}
+use Rattle.stage2.specs.Slot.{Layout, Slot, Empty, Next, Bad, slot, slot_from}
+use Rattle.stage2.specs.Walk.{at_2, at_3, walk, walked, Place, Root, Gigabyte, Chunk, next_page, table_at, IsPlace}
 use Rattle.stage2.specs.Sound.{IsTidy}
 use Rattle.stage2.specs.inner.Change.{entry_for}
 use Rattle.stage2.specs.Orderly.{answer_of, answers, linked}

@@ -12,8 +12,6 @@ use Rattle.stage2.specs.inner.Chunks.{planned, Writes, IsWordFor}
 use Rattle.stage2.specs.inner.Clauses.{gaps, WritesPlan}
 use Rattle.stage2.specs.inner.History.{Filled}
 use Rattle.stage2.proofs.Walkers.Histories.{filled-more}
-use Rattle.std.proofs.lemmas.Bool.Decides.{nat_tests}
-use Rattle.std.proofs.lemmas.Grind.{common_steps}
 
 -- in a table that is all 0, the words beside runs of which no page is to be reached
 pub writes-gaps : (k c : ℕ) (runs : List PageRun) (other : View) (a b : Pages) → ((i : ℕ) → i < 512 → covers runs (512 * c + i) ≡ true → a.words k i ≡ 0) → Writes k c (gaps runs other) a b → Writes k c (planned runs None (Some other)) a b

@@ -1,10 +1,10 @@
 -- The edit of a gigabyte, from its chunks and its link.
-use Rattle.std.proofs.Common.{◌≡◌, ◌≢◌, ℕ, ◌+◌, ◌-◌, ◌*◌, ◌/◌, ◌%◌, ◌^◌, ◌<◌, ◌≤◌, Bool, true, false, not, ◌&&◌, cond, eqb, leb, ltb, is_some, List, Some, None, length, refl, arith, ap, ap₂, sym, subst, ◌∙◌, ◌⊎◌, inl, inr}
+use Rattle.std.proofs.Common.{◌≡◌, ◌≢◌, ℕ, ◌+◌, ◌-◌, ◌*◌, ◌/◌, ◌%◌, ◌^◌, ◌<◌, ◌≤◌, Bool, true, false, not, ◌&&◌, cond, eqb, ltb, is_some, List, Some, None, length, refl, arith, ap, ap₂, sym, subst, ◌∙◌, ◌⊎◌, inl, inr}
 use Rattle.std.proofs.lemmas.Bool.{cases_eq, cases_Bool}
 use Rattle.std.proofs.lemmas.Bool.Decides.{nat_tests}
 use Rattle.base.specs.Pages.{PageRun, covers}
 use Rattle.base.specs.Access.{View}
-use Rattle.words.specs.Words.{table_word_of, entry_of}
+use Rattle.words.specs.Words.{table_word_of}
 use Rattle.words.specs.declared.word.Entry.{Entry}
 use Rattle.words.specs.declared.word.Entry.TheVariants.{Invalid, Table, Leaf, Wrong as WrongWord}
 use Rattle.words.proofs.RoundTrip.{word-table}
@@ -12,7 +12,7 @@ use Rattle.pool.specs.Pool.{Pages, with_put, with_mark, used_by, row_quota}
 use Rattle.base.specs.Counts.{count_below}
 use Rattle.pool.proofs.Count.{count_below-same}
 use Rattle.pool.proofs.Shares.{used_by-take, used_by-give}
-use Rattle.stage2.specs.declared.walked.Walked.TheVariants.{None as Unmapped, Wrong}
+use Rattle.stage2.specs.declared.walked.Walked.TheVariants.{Wrong}
 use Rattle.stage2.specs.Slot.{Layout, Slot, Empty, Next, Maps, Bad, slot, slot_from}
 use Rattle.stage2.specs.Walk.{at_2, walk, walked, Root, Gigabyte, Chunk, next_page, table_at}
 use Rattle.stage2.specs.Sound.{IsTidy}

@@ -1,16 +1,14 @@
 -- One gigabyte after another, and what a row needs.
-use Rattle.std.proofs.Common.{◌≡◌, ◌≢◌, ℕ, zero, suc, ◌+◌, ◌*◌, ◌/◌, ◌^◌, ◌<◌, ◌≤◌, max, Bool, true, false, not, ◌&&◌, ◌||◌, cond, eqb, ltb, leb, is_some, List, [], ◌∷◌, get_or, length, refl, arith, ap, ap₂, sym, subst, ◌∙◌, inl, inr, add-one}
-use Rattle.std.proofs.lemmas.Bool.{cases_eq}
+use Rattle.std.proofs.Common.{◌≡◌, ℕ, zero, suc, ◌+◌, ◌*◌, ◌/◌, ◌^◌, ◌<◌, ◌≤◌, max, Bool, true, false, not, ◌&&◌, cond, ltb, leb, List, [], ◌∷◌, get_or, length, refl, arith, ap, ap₂, sym}
 use Rattle.std.proofs.lemmas.Bool.Decides.{nat_tests}
 use Rattle.base.specs.Pages.{PageRun, IsRun, in_run, covers}
 use Rattle.base.specs.Access.{View}
 use Rattle.pool.specs.Pool.{Pages, used_by, row_quota}
 use Rattle.base.specs.Counts.{count_below}
 use Rattle.pool.proofs.Count.{count_below-same, count_below-more}
-use Rattle.stage2.specs.declared.walked.Walked.{Walked}
 use Rattle.stage2.specs.Slot.{Layout}
-use Rattle.stage2.specs.Walk.{walk, walked, Gigabyte, Chunk, table_at}
-use Rattle.base.specs.Need.{is_mixed, is_reached, need, grow}
+use Rattle.stage2.specs.Walk.{walk}
+use Rattle.base.specs.Need.{is_reached, need, grow}
 use Rattle.stage2.specs.Orderly.{IsCanonical, answers, answer_of}
 use Rattle.stage2.specs.Edits.{edited}
 use Rattle.stage2.specs.Room.{gigabyte_operations, sum_below}

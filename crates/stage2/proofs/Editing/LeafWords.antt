@@ -1,10 +1,8 @@
 -- How large the words of blocks and pages are.
-use Rattle.std.proofs.Common.{◌≡◌, ℕ, ◌^◌, ◌<◌, Bool, true, false, arith}
+use Rattle.std.proofs.Common.{ℕ, ◌^◌, ◌<◌, Bool, arith}
 use Rattle.base.specs.Access.{Access}
 use Rattle.base.specs.declared.access.Rights.{Rights}
-use Rattle.base.specs.declared.access.Rights.TheVariants.{Ro, Rw}
 use Rattle.base.specs.declared.access.MemoryKind.{MemoryKind}
-use Rattle.base.specs.declared.access.MemoryKind.TheVariants.{Normal, Device}
 use Rattle.words.specs.Words.{leaf_fields, leaf_word_of, IsLeafWord}
 use Rattle.std.proofs.lemmas.Bool.Decides.{nat_tests}
 use Rattle.std.proofs.lemmas.Grind.{common_steps}

@@ -15,8 +15,6 @@ use Rattle.stage2.proofs.Editing.FourChunkEdits.{outcome-read, others-before, th
 use Rattle.stage2.proofs.Editing.Spelled.{spelled-words}
 use Rattle.stage2.proofs.Editing.TurnedRuns.{turned-read}
 use Rattle.stage2.proofs.Walkers.Disturbed.{stays-whole, unmixed-after, unmixed-before}
-use Rattle.std.proofs.lemmas.Bool.Decides.{nat_tests}
-use Rattle.std.proofs.lemmas.Grind.{common_steps}
 
 module _ (s : Site) (e : ChunkEdit) (pool : Pool) (at : IsAt s e pool) where
   -- by the word that was read

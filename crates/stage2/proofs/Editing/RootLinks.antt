@@ -1,15 +1,13 @@
 -- A level 2 table without valid words is linked in a root, or its link is taken away: all walks stay, and the tables are orderly.
-use Rattle.std.proofs.Common.{◌≡◌, ◌≢◌, ℕ, ◌+◌, ◌*◌, ◌/◌, ◌^◌, ◌<◌, true, false, is_some, Option, Some, None, length, refl, arith, ap, ap₂, sym, ◌∙◌, ◌⊎◌, inl, inr}
-use Rattle.std.proofs.lemmas.Bool.{cases_eq}
+use Rattle.std.proofs.Common.{◌≡◌, ◌≢◌, ℕ, ◌+◌, ◌/◌, ◌^◌, ◌<◌, true, false, Some, None, length, refl, arith, ap, sym, ◌∙◌, ◌⊎◌, inl, inr}
 use Rattle.base.specs.Manifest.{page_count}
 use Rattle.words.specs.Words.{table_word_of}
 use Rattle.pool.specs.Pool.{Pages, InShare, put, with_put, with_mark}
 use Rattle.pool.proofs.Shares.{share_inside}
 use Rattle.stage2.specs.declared.walked.Walked.TheVariants.{None as Unmapped}
 use Rattle.stage2.specs.Slot.{Layout, Empty, Next, slot}
-use Rattle.stage2.specs.Walk.{index_1, index_2, at_2, walk, Place, Root, Gigabyte, Chunk, next_page, table_at, IsPlace}
-use Rattle.base.specs.Need.{is_mixed}
-use Rattle.stage2.specs.Orderly.{IsOrderly, answers, answer_of, level_at, linked}
+use Rattle.stage2.specs.Walk.{index_2, at_2, walk, Place, Gigabyte, next_page, table_at, IsPlace}
+use Rattle.stage2.specs.Orderly.{IsOrderly, level_at, linked}
 use Rattle.stage2.proofs.Tree.WalkFrame.{put-other, put-same, walk-gigabyte, table_at-root, IsUnheld}
 use Rattle.stage2.proofs.Tree.RootWrites.{IsRootWrite, is_gigabyte, table_at-root_write, table_at-root_write-gigabyte, table_at-root_write-chunk, table_at-root_write-below, walk-root_write}
 use Rattle.stage2.proofs.Walkers.Level3Write.{slot-zero}

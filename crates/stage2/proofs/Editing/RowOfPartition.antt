@@ -1,14 +1,14 @@
 -- The edit of a row is one of its partition.
-use Rattle.std.proofs.Common.{◌≡◌, ℕ, ◌+◌, ◌-◌, ◌*◌, ◌^◌, ◌<◌, ◌≤◌, Bool, true, false, ◌&&◌, cond, eqb, List, length, is_some, refl, sym, ap, ◌∙◌, arith, inl, inr}
-use Rattle.std.proofs.lemmas.Bool.{cases_Bool, eqb-true}
+use Rattle.std.proofs.Common.{◌≡◌, ℕ, ◌+◌, ◌-◌, ◌^◌, ◌<◌, ◌≤◌, true, false, ◌&&◌, cond, eqb, List, length, ap, ◌∙◌, arith, inl, inr}
+use Rattle.std.proofs.lemmas.Bool.{cases_Bool}
 use Rattle.base.specs.Pages.{PageRun, covers}
 use Rattle.base.specs.Access.{View}
-use Rattle.base.specs.Manifest.{row_of, page_count}
+use Rattle.base.specs.Manifest.{page_count}
 use Rattle.pool.specs.Pool.{Pages, InShare, used_by, share_start, row_quota}
 use Rattle.pool.proofs.Count.{count_below-none, count_below-some}
 use Rattle.stage2.specs.Slot.{Layout}
-use Rattle.stage2.specs.Walk.{walk, walked, translation, Gigabyte, Chunk, table_at}
-use Rattle.stage2.specs.Orderly.{IsOrderly, IsCanonical, answers, answer_of}
+use Rattle.stage2.specs.Walk.{walked, translation}
+use Rattle.stage2.specs.Orderly.{IsOrderly, IsCanonical, answers}
 use Rattle.stage2.specs.Edits.{edited}
 use Rattle.stage2.specs.inner.Gigabytes.{EditsRow}
 use Rattle.stage2.proofs.Tree.Rows.{IsRow, same_row}

@@ -1,10 +1,10 @@
 -- The words for the pages of runs in a table, written at once.
-use Rattle.std.proofs.Common.{◌≡◌, ℕ, ◌+◌, ◌-◌, ◌*◌, ◌<◌, ◌≤◌, leb, true, false, List, [], ◌∷◌, Option, Some, None, refl, subst, ◌∙◌, arith}
+use Rattle.std.proofs.Common.{◌≡◌, ℕ, ◌+◌, ◌-◌, ◌*◌, ◌<◌, ◌≤◌, leb, true, false, List, [], ◌∷◌, Option, Some, None, refl, subst, arith}
 use Rattle.std.proofs.lemmas.Bool.{and_parts}
 use Rattle.std.proofs.lemmas.Bool.Decides.{nat_tests}
 use Rattle.base.specs.Access.{View}
 use Rattle.base.specs.Manifest.{page_count}
-use Rattle.base.specs.Pages.{PageRun, in_run, covers, rise}
+use Rattle.base.specs.Pages.{PageRun, in_run, rise}
 use Rattle.pool.specs.Pool.{Pool, IsWhole, pages_of, index_from, after_run, after_runs}
 use Rattle.pool.proofs.Stretches.{length-words_set}
 use Rattle.pool.proofs.Gaps.{before-rise}

@@ -1,15 +1,12 @@
 -- Each word of a level 3 table is the one for its page's answer.
-use Rattle.std.proofs.Common.{◌≡◌, ℕ, ◌/◌, ◌%◌, refl, sym, ap, subst, ◌∙◌, arith}
+use Rattle.std.proofs.Common.{◌≡◌, ℕ, ◌/◌, ◌%◌, arith}
 use Rattle.pool.specs.Pool.{Pages}
-use Rattle.words.specs.declared.word.Entry.{Entry}
-use Rattle.words.specs.declared.word.Entry.TheVariants.{Invalid, Table, Leaf, Wrong}
-use Rattle.words.specs.Words.{entry_of}
 use Rattle.words.proofs.RoundTrip.{word-table}
 use Rattle.stage2.specs.inner.Chunks.{answers_at, IsSite, IsWordFor}
-use Rattle.stage2.specs.Orderly.{answer_of, linked}
-use Rattle.stage2.specs.Slot.{Layout, Slot, Empty, Next, slot, slot_from}
+use Rattle.stage2.specs.Orderly.{answer_of}
+use Rattle.stage2.specs.Slot.{Layout, Empty, Next, slot}
 use Rattle.stage2.specs.Sound.{IsTidy}
-use Rattle.stage2.specs.Walk.{at_2, at_3, walk}
+use Rattle.stage2.specs.Walk.{at_3}
 use Rattle.stage2.proofs.Editing.FourChunkEdits.{walk-entry, at_2-seen, table-entry, clean-words}
 use Rattle.std.proofs.lemmas.Bool.Decides.{nat_tests}
 use Rattle.std.proofs.lemmas.Grind.{common_steps}

@@ -4,9 +4,9 @@ use Rattle.base.specs.Manifest.{row_of, page_count}
 use Rattle.base.specs.Pages.{PageRun}
 use Rattle.pool.specs.Pool.{Pages, Pool, pages_of}
 use Rattle.pool.proofs.Shares.{share_inside}
-use Rattle.stage2.specs.Edits.{edited, Turns, disturbed}
-use Rattle.stage2.specs.Orderly.{IsOrderly, answers, linked}
-use Rattle.stage2.specs.Walk.{walked, Gigabyte, table_at}
+use Rattle.stage2.specs.Edits.{edited, disturbed}
+use Rattle.stage2.specs.Orderly.{answers, linked}
+use Rattle.stage2.specs.Walk.{walked, Gigabyte}
 use Rattle.stage2.specs.declared.site.RowEdit.{RowEdit}
 use Rattle.stage2.specs.declared.walked.Walked.{Walked}
 use Rattle.stage2.specs.inner.Clauses.{second_at, row_view, row_after, IsEmpty, HasWord, CanUnlink, Unlinks, UnlinksInStep, CanEditChunks, AreChunksEdited, CanEditGigabyte, IsGigabyteEdited, GigabyteInStep, operations_in_chunks, operations_in_gigabyte}

@@ -1,11 +1,11 @@
 -- Where pages are turned, so are their words.
-use Rattle.std.proofs.Common.{◌≡◌, ℕ, ◌+◌, ◌*◌, ◌/◌, ◌%◌, ◌==◌, Bool, true, false, not, is_some, None, Some, refl, sym, ap, subst, ◌∙◌, arith, eq-eqb}
+use Rattle.std.proofs.Common.{◌≡◌, ℕ, ◌/◌, sym, ap, ◌∙◌, arith}
 use Rattle.std.proofs.lemmas.Bool.Decides.{nat_tests}
 use Rattle.base.specs.Access.{View}
 use Rattle.pool.specs.Pool.{Pool, pages_of, words_of}
 use Rattle.stage2.specs.declared.site.ChunkEdit.{ChunkEdit}
 use Rattle.stage2.specs.declared.site.Site.{Site}
-use Rattle.stage2.specs.inner.Chunks.{IsWordFor, answers_at}
+use Rattle.stage2.specs.inner.Chunks.{answers_at}
 use Rattle.stage2.specs.inner.Clauses.{IsAt, IsSpelled, TurnsRuns, TurnsChunk, slot_at, chunk_view}
 use Rattle.stage2.specs.Slot.{Slot, Next}
 use Rattle.stage2.proofs.Editing.FourChunkEdits.{answers-entry}

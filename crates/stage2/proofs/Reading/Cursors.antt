@@ -1,14 +1,12 @@
 -- A table that is read word by word.
-use Rattle.std.proofs.Common.{◌≡◌, ℕ, zero, suc, ◌+◌, ◌-◌, ◌*◌, ◌%◌, ◌<◌, ◌≤◌, Bool, true, not, cond, eqb, [], ◌∷◌, ◌++◌, refl, sym, ap, ap₂, ◌∙◌, append_assoc, arith, inl, inr, eq-eqb, List, ◌^◌}
+use Rattle.std.proofs.Common.{◌≡◌, ℕ, zero, suc, ◌+◌, ◌-◌, ◌*◌, ◌%◌, ◌<◌, ◌≤◌, Bool, not, cond, eqb, [], ◌∷◌, ◌++◌, refl, sym, ap, ap₂, ◌∙◌, append_assoc, arith, inl, inr, eq-eqb, List}
 use Rattle.std.proofs.lemmas.Bool.{cases_Bool, eqb-true}
 use Rattle.base.specs.Counts.{count_below}
 use Rattle.pool.specs.Pool.{Words, nonzero_in}
 use Rattle.pool.proofs.Count.{count_below-more}
 use Rattle.stage2.specs.declared.cursor.Cursor.{Cursor}
 use Rattle.stage2.specs.declared.table_page.Level.{Level}
-use Rattle.stage2.specs.declared.table_page.Level.TheVariants.{First, Second, Third}
 use Rattle.stage2.specs.Reading.{TableEntry, pages_at, entry_at, entries_from, entry_row, left_in, IsCursor, PassTheSame, next_first}
-use borrow.Author.Tests.{ne_eqb}
 use Rattle.std.proofs.lemmas.Bool.Decides.{nat_tests}
 use Rattle.std.proofs.lemmas.Grind.{common_steps}
 

@@ -1,15 +1,13 @@
 -- The entries of canonical tables are those that the views need.
-use Rattle.std.proofs.Common.{◌≡◌, ℕ, zero, suc, ◌+◌, ◌-◌, ◌*◌, ◌/◌, ◌%◌, ◌<◌, ◌≤◌, ◌&&◌, Bool, true, false, cond, eqb, leb, ltb, List, [], ◌∷◌, ◌++◌, Option, Some, None, is_some, length, position, refl, sym, ap, ap₂, ◌∙◌, append-nil, append_assoc, map, map-id, inl, inr, arith, eq-eqb}
+use Rattle.std.proofs.Common.{◌≡◌, ℕ, zero, suc, ◌+◌, ◌*◌, ◌/◌, ◌%◌, ◌<◌, ◌≤◌, Bool, true, false, cond, List, [], ◌∷◌, ◌++◌, Option, Some, None, is_some, length, refl, sym, ap, ap₂, ◌∙◌, append-nil, map, map-id, arith, eq-eqb}
 use Rattle.std.specs.List.{flat_map}
 use Rattle.std.specs.Option.{option_map_or}
-use Rattle.std.proofs.lemmas.Bool.{cases_Bool, ltb-true}
 use Rattle.std.proofs.lemmas.List.Concat.{flat_map-append}
-use Rattle.base.specs.Access.{Access, View}
+use Rattle.base.specs.Access.{View}
 use Rattle.base.specs.Manifest.{row_of}
 use Rattle.base.specs.Need.{is_mixed, is_reached}
 use Rattle.words.specs.declared.word.Entry.{Entry}
-use Rattle.words.specs.declared.word.Entry.TheVariants.{Invalid, Table, Leaf, Wrong}
-use Rattle.words.specs.Words.{entry_of, leaf_word_of, leaf_level}
+use Rattle.words.specs.Words.{entry_of, leaf_level}
 use Rattle.words.proofs.RoundTrip.{entry-invalid}
 use Rattle.pool.specs.Pool.{Words, words_of}
 use Rattle.stage2.specs.Entries.{leaf_for, entry_for_table, word_at}
@@ -27,7 +25,6 @@ use Rattle.stage2.proofs.Reading.Rows.{odd-leaf-word}
 use Rattle.stage2.proofs.Counting.Needs.{reached-none}
 use Rattle.stage2.proofs.Tree.Rows.{no-row}
 use Rattle.stage2.proofs.Tree.WalkFrame.{table_at-chunk_in, walk-chunk, walk-gigabyte}
-use borrow.Author.Tests.{ne_eqb}
 use Rattle.std.proofs.lemmas.Bool.Decides.{nat_tests}
 use Rattle.std.proofs.lemmas.Grind.{common_steps}
 

@@ -1,13 +1,12 @@
 -- Entries that are passed on the way to the next pages that are reached.
-use Rattle.std.proofs.Common.{◌≡◌, ℕ, suc, ◌+◌, ◌*◌, true, not, ◌&&◌, List, [], ◌∷◌, ◌++◌, Some, None, is_some, refl, sym, ap, ◌∙◌, append_assoc, arith}
+use Rattle.std.proofs.Common.{◌≡◌, ℕ, ◌+◌, ◌*◌, true, not, ◌&&◌, List, [], ◌∷◌, ◌++◌, None, is_some, sym, ap, ◌∙◌, append_assoc, arith}
 use Rattle.std.proofs.lemmas.List.Folds.{list_all-append}
 use Rattle.base.specs.Access.{Access, View}
-use Rattle.base.specs.Pages.{PageRun}
 use Rattle.words.specs.declared.word.Entry.{Entry}
-use Rattle.words.specs.declared.word.Entry.TheVariants.{Invalid, Table, Leaf, Wrong}
+use Rattle.words.specs.declared.word.Entry.TheVariants.{Leaf}
 use Rattle.words.specs.Words.{entry_of}
 use Rattle.stage2.specs.Level.{number_of}
-use Rattle.stage2.specs.Reading.{TableEntry, AlikePages, pages_at, access_of, access_by, reach_nothing, entry_row, StandInRow, AreNext, ArePassed}
+use Rattle.stage2.specs.Reading.{TableEntry, AlikePages, pages_at, access_by, reach_nothing, entry_row, StandInRow, AreNext, ArePassed}
 use Rattle.std.proofs.lemmas.Bool.Decides.{nat_tests}
 use Rattle.std.proofs.lemmas.Grind.{common_steps}
 

@@ -1,13 +1,9 @@
 -- Entries in a row: what they reach, and that no table hangs at them.
-use Rattle.std.proofs.Common.{◌≡◌, not, eqb, ap₂, inl, inr, ℕ, zero, suc, ◌+◌, ◌*◌, ◌%◌, ◌^◌, ◌<◌, ◌≤◌, IsTrue, Bool, true, false, List, [], ◌∷◌, ◌++◌, Some, None, refl, sym, ap, subst, ◌∙◌, append_assoc, arith, lit<}
+use Rattle.std.proofs.Common.{◌≡◌, not, eqb, ℕ, zero, suc, ◌+◌, ◌*◌, ◌%◌, ◌^◌, ◌<◌, ◌≤◌, IsTrue, Bool, true, false, List, [], ◌++◌, Some, None, refl, sym, ap, subst, ◌∙◌, arith}
 use Rattle.std.specs.List.{flat_map}
-use Rattle.std.specs.Option.{option_map_or}
 use Rattle.std.proofs.lemmas.List.Concat.{flat_map-append}
-use Rattle.std.proofs.lemmas.Bool.{cases_Bool, eqb-true}
 use Rattle.base.specs.declared.access.Rights.{Rights}
-use Rattle.base.specs.declared.access.Rights.TheVariants.{Ro, Rw}
 use Rattle.base.specs.declared.access.MemoryKind.{MemoryKind}
-use Rattle.base.specs.declared.access.MemoryKind.TheVariants.{Normal, Device}
 use Rattle.base.specs.Access.{Access}
 use Rattle.words.specs.declared.word.Entry.{Entry}
 use Rattle.words.specs.declared.word.Entry.TheVariants.{Invalid, Table, Leaf, Wrong}
@@ -18,7 +14,7 @@ use Rattle.stage2.specs.Level.{number_of}
 use Rattle.stage2.specs.declared.cursor.Cursor.{Cursor}
 use Rattle.stage2.specs.declared.table_page.Level.{Level}
 use Rattle.stage2.specs.declared.table_page.Level.TheVariants.{First, Second, Third}
-use Rattle.stage2.specs.Reading.{TableEntry, pages_at, access_of, table_in, table_entries, entry_row, with_pages, with_chunks, left_in, left_of, StandBehind, StandInRow}
+use Rattle.stage2.specs.Reading.{TableEntry, pages_at, access_of, table_in, entry_row, with_pages, left_in, left_of, StandBehind, StandInRow}
 use Rattle.stage2.proofs.Reading.Cursors.{pages-suc}
 use Rattle.std.proofs.lemmas.Bool.Decides.{nat_tests}
 use Rattle.std.proofs.lemmas.Grind.{common_steps}

@@ -1,10 +1,10 @@
 -- Views that are alike on all pages have the same entries, and need as many tables.
-use Rattle.std.proofs.Common.{◌≡◌, ℕ, zero, suc, ◌+◌, ◌*◌, ◌^◌, ◌<◌, List, ◌++◌, refl, ap, ap₂, arith}
+use Rattle.std.proofs.Common.{◌≡◌, ℕ, zero, suc, ◌^◌, ◌<◌, List, ◌++◌, refl, ap₂, arith}
 use Rattle.base.specs.Access.{View}
-use Rattle.base.specs.Need.{is_mixed, is_reached, need}
+use Rattle.base.specs.Need.{need}
 use Rattle.pool.proofs.Count.{count_below-same}
 use Rattle.stage2.proofs.Counting.Needs.{mixed-same, reached-same}
-use Rattle.stage2.specs.Listing.{each_below, leaf_entries, page_entries, chunk_entries, gigabyte_entries, entries}
+use Rattle.stage2.specs.Listing.{each_below, page_entries, chunk_entries, gigabyte_entries, entries}
 use Rattle.std.proofs.lemmas.Bool.Decides.{nat_tests}
 use Rattle.std.proofs.lemmas.Grind.{common_steps}
 

@@ -7,8 +7,6 @@ use Rattle.pool.specs.Pool.{Words}
 use Rattle.stage2.specs.declared.cursor.Cursor.{Cursor}
 use Rattle.stage2.specs.declared.table_page.Level.TheVariants.{First, Second, Third}
 use Rattle.stage2.specs.Reading.{TableEntry, table_entries, table_in, with_pages, with_chunks, tree_entries, left_in, left_of}
-use Rattle.std.proofs.lemmas.Bool.Decides.{nat_tests}
-use Rattle.std.proofs.lemmas.Grind.{common_steps}
 
 through : (f : TableEntry → List TableEntry) (below : ℕ → List TableEntry) (table : Option ℕ) → option_map_or (λ j. flat_map f (below j)) table [] ≡ flat_map f (option_map_or below table [])
 through f below None = refl

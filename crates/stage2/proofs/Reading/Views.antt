@@ -1,12 +1,9 @@
 -- What the words of canonical tables say of the views.
-use Rattle.std.proofs.Common.{◌≡◌, ◌⊎◌, List, ◌≤◌, ℕ, ◌/◌, ◌^◌, ltb, arith, Some, length, refl, sym, ap, ◌∙◌, inl, inr}
-use Rattle.std.proofs.lemmas.Bool.{cases_Bool, cases_lt, ltb-true}
+use Rattle.std.proofs.Common.{◌≡◌, ◌⊎◌, List, ◌≤◌, ℕ, ◌/◌, arith, Some, ap}
 use Rattle.base.specs.Access.{Access}
 use Rattle.words.specs.Words.{entry_of}
 use Rattle.stage2.specs.Slot.{Layout, slot, slot_from}
-use Rattle.base.specs.Manifest.{row_of}
 use Rattle.pool.specs.Pool.{words_of}
-use Rattle.stage2.specs.Orderly.{answer_of}
 use Rattle.stage2.specs.Tables.{TablesView, walk_in, view_of, AreCanonical}
 use Rattle.stage2.specs.Walk.{walk_across, walked, at_1}
 use Rattle.stage2.specs.declared.walked.Walked.{Walked}

@@ -1,11 +1,11 @@
 -- Tables of words that are all 0: nothing hangs but the roots, and nothing is mapped.
-use Rattle.std.proofs.Common.{◌≡◌, ℕ, ◌+◌, ◌/◌, ◌^◌, ◌<◌, ◌≤◌, true, Some, None, length, refl, sym, ap, subst, ◌∙◌, arith}
+use Rattle.std.proofs.Common.{◌≡◌, ℕ, ◌+◌, ◌/◌, ◌^◌, ◌<◌, ◌≤◌, true, Some, None, length, ap, ◌∙◌, arith}
 use Rattle.std.proofs.lemmas.Bool.Decides.{nat_tests}
 use Rattle.base.specs.Manifest.{page_count}
 use Rattle.pool.specs.Pool.{Pages}
 use Rattle.stage2.specs.declared.walked.Walked.TheVariants.{None as Unmapped}
 use Rattle.stage2.specs.Slot.{Layout, slot}
-use Rattle.stage2.specs.Walk.{at_1, walk, walk_across, Place, Root, Gigabyte, Chunk, next_page, chunk_table, table_at, IsPlace}
+use Rattle.stage2.specs.Walk.{walk, walk_across, Place, Root, Gigabyte, Chunk, next_page, chunk_table, table_at}
 use Rattle.stage2.specs.Sound.{IsSound}
 use Rattle.stage2.proofs.Walkers.Level3Write.{slot-zero}
 use Rattle.std.proofs.lemmas.Grind.{common_steps}

@@ -1,15 +1,13 @@
 -- The words of tables that hang are those of their entries.
-use Rattle.std.proofs.Common.{◌≡◌, ℕ, ◌+◌, ◌*◌, ◌/◌, ◌%◌, ◌^◌, ◌<◌, IsTrue, Bool, true, false, is_some, Some, length, refl, arith, ap, ap₂, subst, sym, ◌∙◌, ◌-◌, ◌&&◌, leb, ltb, inl, inr}
-use Rattle.std.proofs.lemmas.Bool.{cases_Bool}
+use Rattle.std.proofs.Common.{◌≡◌, ℕ, ◌+◌, ◌*◌, ◌/◌, ◌%◌, ◌^◌, ◌<◌, Bool, true, false, is_some, Some, length, refl, arith, ap, ◌∙◌}
 use Rattle.base.specs.Access.{Access}
 use Rattle.words.specs.declared.word.Entry.{Entry}
-use Rattle.words.specs.declared.word.Entry.TheVariants.{Invalid, Table, Leaf, Wrong as WrongWord}
+use Rattle.words.specs.declared.word.Entry.TheVariants.{Leaf}
 use Rattle.words.specs.Words.{entry_of, leaf_word_of, leaf_level}
 use Rattle.words.proofs.RoundTrip.{word-leaf, type-leaf}
 use Rattle.pool.specs.Pool.{Pages}
-use Rattle.stage2.specs.declared.walked.Walked.TheVariants.{Leaf as Mapped, Wrong}
 use Rattle.stage2.specs.Slot.{Layout, Slot, Empty, Next, Maps, Bad, slot, slot_from}
-use Rattle.stage2.specs.Walk.{index_3, at_2, at_3, walk, Place, Root, Gigabyte, Chunk, next_page, table_at, IsPlace}
+use Rattle.stage2.specs.Walk.{at_2, at_3, walk, Place, Root, Gigabyte, Chunk, next_page, table_at, IsPlace}
 use Rattle.stage2.specs.Orderly.{IsOrderly, answer_of}
 use Rattle.stage2.specs.Entries.{leaf_for, entry_for_table, word_at}
 use Rattle.stage2.proofs.Tree.WalkFrame.{table_at-root, table_at-chunk_in, walk-chunk}

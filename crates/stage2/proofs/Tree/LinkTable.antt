@@ -1,16 +1,13 @@
 -- The word of a table, and walks that begin at a root.
-use Rattle.std.proofs.Common.{◌≡◌, ℕ, ◌+◌, ◌*◌, ◌/◌, ◌%◌, ◌^◌, ◌≤◌, ◌<◌, true, false, None, length, refl, arith, ap, sym, ◌∙◌, ◌⊎◌, inl, inr}
-use Rattle.std.proofs.lemmas.Bool.{cases_eq}
+use Rattle.std.proofs.Common.{◌≡◌, ℕ, ◌+◌, ◌^◌, ◌≤◌, ◌<◌, None, length, arith, ap, ◌∙◌}
 use Rattle.std.proofs.lemmas.Bool.Decides.{nat_tests}
 use Rattle.words.specs.Words.{table_word_of}
 use Rattle.words.proofs.RoundTrip.{entry-table}
-use Rattle.pool.specs.Pool.{Pages, Words}
+use Rattle.pool.specs.Pool.{Words}
 use Rattle.stage2.specs.declared.walked.Walked.TheVariants.{None as Unmapped}
-use Rattle.stage2.specs.Slot.{Layout, Slot, Empty, Next, Maps, Bad, slot, slot_from}
-use Rattle.stage2.specs.Walk.{index_1, at_1, walk, walk_across, Gigabyte, next_page, table_at}
-use Rattle.stage2.specs.Sound.{IsSound, IsTidy}
-use Rattle.stage2.specs.inner.Change.{IsFresh}
-use Rattle.stage2.proofs.Tree.WalkFrame.{IsUnheld}
+use Rattle.stage2.specs.Slot.{Layout, Slot, Next, slot, slot_from}
+use Rattle.stage2.specs.Walk.{index_1, at_1, walk, walk_across, next_page}
+use Rattle.stage2.specs.Sound.{IsTidy}
 use Rattle.std.proofs.lemmas.Grind.{common_steps}
 
 -- a word that points at a page of the pool

@@ -15,8 +15,6 @@ use Rattle.stage2.proofs.Tree.WalkFrame.{table_at-root, table_at-chunk_in, walk-
 use Rattle.stage2.proofs.Walkers.UnderWay.{outlast}
 use Rattle.stage2.proofs.Walkers.InStep.{gigabyte-now}
 use Rattle.stage2.proofs.Tree.LinkTable.{walk-inside}
-use Rattle.std.proofs.lemmas.Bool.Decides.{nat_tests}
-use Rattle.std.proofs.lemmas.Grind.{common_steps}
 
 -- ---- invalid words
 

@@ -10,7 +10,7 @@ use Rattle.stage2.specs.declared.walked.Walked.{Walked}
 use Rattle.stage2.specs.declared.walked.Walked.TheVariants.{None as Unmapped, Leaf as Mapped}
 use Rattle.stage2.specs.Slot.{Layout, slot}
 use Rattle.stage2.specs.Walk.{walk, walked, Agrees, Place, Root, Gigabyte, Chunk, next_page, table_at, IsPlace, IsForest}
-use Rattle.stage2.specs.Moments.{words_after, invalidates, Since, Walker, Begins, Second, Third, Ends, UnderWay, begins, now, earlier, IsValid, AllBreakFirst, Moments}
+use Rattle.stage2.specs.Moments.{words_after, invalidates, Since, Walker, Begins, Second, Third, Ends, UnderWay, begins, now, earlier, IsValid, Moments}
 use Rattle.stage2.proofs.Tree.WalkFrame.{put-same, put-other, other_table, table_at-root, table_at-gigabyte, table_at-chunk, IsUnheld}
 use Rattle.stage2.proofs.Walkers.Level3Write.{slot-zero}
 use Rattle.stage2.proofs.Walkers.InStep.{gigabyte-now}

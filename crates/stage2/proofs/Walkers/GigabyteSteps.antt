@@ -1,5 +1,5 @@
 -- The edits of the gigabytes of a row, one after another, as walks under way see them.
-use Rattle.std.proofs.Common.{◌^◌, lt-ltb, is_some, ◌≡◌, ℕ, ◌+◌, ◌*◌, ◌/◌, ◌<◌, Bool, true, false, ◌&&◌, ◌||◌, eqb, ltb, List, length, refl, arith, ap, ◌∙◌, inl, inr}
+use Rattle.std.proofs.Common.{◌^◌, ◌≡◌, ℕ, ◌+◌, ◌*◌, ◌/◌, ◌<◌, Bool, true, ◌&&◌, ◌||◌, eqb, ltb, List, length, arith, ap, inr}
 use Rattle.std.proofs.lemmas.Bool.{eqb-true}
 use Rattle.std.proofs.lemmas.Bool.Decides.{nat_tests}
 use Rattle.base.specs.Pages.{PageRun}

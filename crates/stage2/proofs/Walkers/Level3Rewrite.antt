@@ -1,6 +1,5 @@
 -- Words of a level 3 table that hangs are written, and what walks under way see of it.
 use Rattle.std.proofs.Common.{◌≡◌, ℕ, ◌+◌, ◌*◌, ◌/◌, ◌%◌, ◌<◌, ◌≤◌, Bool, true, false, ◌&&◌, ◌||◌, eqb, List, [], ◌∷◌, ◌++◌, Option, Some, None, refl, arith, ap, sym, subst, ◌∙◌, inl, inr}
-use Rattle.std.proofs.lemmas.Bool.{cases_Bool}
 use Rattle.std.proofs.lemmas.Bool.Decides.{nat_tests}
 use Rattle.base.specs.Pages.{PageRun, covers}
 use Rattle.base.specs.Access.{View}
@@ -42,7 +41,6 @@ level_3-put layout words row c k i word h = grind (arith, common_steps, nat_test
 make-word : (e : OpenCall) (words : Words) (past : List Op) (c k i word : ℕ) → IsLevel3Write e.layout words e.row c k → i < 512 → IsInvalid (words k i) → MayGive e e.row (512 * c + i) (at_3 (slot e.layout 3 word)) → IsInStep e nothing words past
     → IsInStep e nothing (put k i word words) (Set k i word ∷ past)
 make-word e words past c k i word h small invalid may o =
-    let new = put k i word words in
     orderly-set e nothing nothing words past k i word o
     (λ r x inside below. elim (which_page e.row (512 * c + i) r x) [
       | inl at ↦ grind (arith, common_steps, nat_tests, at.0, was-word e.layout words e.row c k i h small x at.1, invalid-empty e.layout 3 (words k i) invalid, here-word e.layout words e.row c k i h small word x at.1, at.1, fine-made, table_at-level_3)
@@ -95,7 +93,6 @@ sets-made : (e : OpenCall) (words : Words) (past : List Op) (k c b : ℕ) (plan 
     → ((i : ℕ) → i < 512 → which (512 * c + i) ≡ true → IsInvalid (words k i) × MayGive e e.row (512 * c + i) (walked (512 * c + i) access)) → IsInStep e nothing words past → IsInStep e nothing (words_after ops words) (ops ++ past)
 sets-made e words past k c b plan which access [] s le only h each o = o
 sets-made e words past k c b plan which access (Set q i word ∷ ops) s le only h each o =
-    let lt = s.1 in
     let small : i < 512 = omega arith in
     let is = only i s.2.0 small s.2.1 in
     let one = each i small is.1 in
@@ -112,7 +109,6 @@ sets-cleared : (e : OpenCall) (due : ℕ → Bool) (words : Words) (past : List 
     → ((i : ℕ) → i < 512 → which (512 * c + i) ≡ true → (due (512 * c + i) ≡ true) × MayGive e e.row (512 * c + i) Unmapped) → IsInStep e due words past → IsInStep e due (words_after ops words) (ops ++ past)
 sets-cleared e due words past k c b plan which [] s le only h each o = o
 sets-cleared e due words past k c b plan which (Set q i word ∷ ops) s le only h each o =
-    let lt = s.1 in
     let small : i < 512 = omega arith in
     let is = only i s.2.0 small s.2.1 in
     let one = each i small is.1 in
@@ -128,14 +124,12 @@ sets-cleared e due words past k c b plan which (Clear run ∷ ops) s le only h e
 pub stays-made : (layout : Layout) (row k c : ℕ) (plan : ℕ → Option View) (which : ℕ → Bool) (access : View) (old new : Pool) → Filled k c 512 plan old new → PlansOnly c plan which access → IsLevel3Write layout (words_of old.memory.words) row c k
     → ((i : ℕ) → i < 512 → which (512 * c + i) ≡ true → IsInvalid (words_of old.memory.words k i)) → StaysInStep layout row which (λ n. walked n access) old new
 stays-made layout row k c plan which access old new f only h each e allows o =
-    let below = h.chunk in
     let here : IsLevel3Write e.layout (words_of old.memory.words) e.row c k = rw (allows.same_layout, allows.same_row) h in
     made-in-step e nothing nothing f.ops old new f.made o
     (sets-made e (words_of old.memory.words) old.operations k c 512 plan which access f.ops f.sets (omega arith) only here (λ i small w. (each i small w, (allows.may (512 * c + i) (omega arith) w).1)) o.orderly)
 
 pub clears-made : (layout : Layout) (row k c : ℕ) (plan : ℕ → Option View) (which : ℕ → Bool) (old new : Pool) → Filled k c 512 plan old new → PlansOnly c plan which None → IsLevel3Write layout (words_of old.memory.words) row c k → LeavesDue layout row which old new
 clears-made layout row k c plan which old new f only h e due allows o =
-    let below = h.chunk in
     let here : IsLevel3Write e.layout (words_of old.memory.words) e.row c k = rw (allows.same_layout, allows.same_row) h in
     let more : ℕ → Bool = λ n. due n || which n in
     let weak = orderly-weaker e due more (words_of old.memory.words) old.operations o.orderly (λ n small f. left (due n) (which n) f) in

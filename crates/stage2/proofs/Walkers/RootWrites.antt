@@ -1,6 +1,5 @@
 -- The word of a root is written, or set to 0, as walks under way see it.
-use Rattle.std.proofs.Common.{◌≡◌, ◌≢◌, ℕ, ◌+◌, ◌*◌, ◌/◌, ◌^◌, ◌<◌, Bool, true, false, ◌&&◌, eqb, cond, List, ◌∷◌, Some, None, length, refl, arith, ap, sym, subst, ◌∙◌, ◌⊎◌, inl, inr}
-use Rattle.std.proofs.lemmas.Bool.{cases_Bool}
+use Rattle.std.proofs.Common.{◌≡◌, ◌≢◌, ℕ, ◌+◌, ◌*◌, ◌/◌, ◌^◌, ◌<◌, Bool, true, ◌&&◌, eqb, cond, List, ◌∷◌, Some, None, length, arith, ap, sym, subst, ◌∙◌, ◌⊎◌, inl, inr}
 use Rattle.std.proofs.lemmas.Bool.Decides.{nat_tests}
 use Rattle.base.specs.Pages.{PageRun, covers}
 use Rattle.base.specs.Access.{View}
@@ -9,12 +8,12 @@ use Rattle.words.specs.Words.{table_word_of}
 use Rattle.pool.specs.Pool.{Pool, Pages, Words, words_of, put, with_mark}
 use Rattle.pool.specs.declared.operation.Op.TheVariants.{Set, Invalidate}
 use Rattle.stage2.specs.declared.walked.Walked.{Walked}
-use Rattle.stage2.specs.declared.walked.Walked.TheVariants.{None as Unmapped, Wrong}
-use Rattle.stage2.specs.Slot.{Layout, Slot, Empty, Next, Maps, Bad, slot}
+use Rattle.stage2.specs.declared.walked.Walked.TheVariants.{None as Unmapped}
+use Rattle.stage2.specs.Slot.{Layout, Slot, Empty, slot}
 use Rattle.stage2.specs.Walk.{index_1, at_1, walk, walked, Root, Gigabyte, next_page, table_at, IsForest}
 use Rattle.base.specs.Need.{is_mixed}
 use Rattle.stage2.specs.Orderly.{IsOrderly, IsCanonical, answers, linked}
-use Rattle.stage2.specs.Edits.{edited, touches_chunk, AreFree, disturbed}
+use Rattle.stage2.specs.Edits.{edited, AreFree, disturbed}
 use Rattle.stage2.specs.inner.Gigabytes.{IsUnderway}
 use Rattle.stage2.specs.Moments.{IsInvalid, MayGive, IsInStep, IsLogged, nothing, StaysInStep}
 use Rattle.stage2.specs.inner.Steps.{IsSeated, disturbed_below}

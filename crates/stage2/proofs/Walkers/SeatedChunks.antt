@@ -1,5 +1,5 @@
 -- A chunk whose gigabyte's table hangs, or hangs only once the root's word is written: what hangs in the words as they are.
-use Rattle.std.proofs.Common.{◌≡◌, ◌≢◌, ℕ, ◌+◌, ◌*◌, ◌/◌, ◌%◌, ◌^◌, ◌<◌, true, false, ◌&&◌, eqb, cond, Some, None, length, refl, arith, ap, sym, subst, ◌∙◌, inl, inr}
+use Rattle.std.proofs.Common.{◌≡◌, ◌≢◌, ℕ, ◌+◌, ◌*◌, ◌/◌, ◌%◌, ◌^◌, ◌<◌, true, false, Some, None, length, refl, arith, ap, sym, subst, ◌∙◌, inl, inr}
 use Rattle.base.specs.Access.{View}
 use Rattle.words.specs.Words.{table_word_of}
 use Rattle.pool.specs.Pool.{Words, Pages, put}
@@ -9,7 +9,7 @@ use Rattle.stage2.specs.Moments.{IsInvalid}
 use Rattle.stage2.proofs.Walkers.BreakBeforeMake.{empty-invalid}
 use Rattle.stage2.proofs.Walkers.TableWrites.{unmapped_3}
 use Rattle.stage2.specs.Walk.{at_2, walk, walked, Place, Gigabyte, Chunk, next_page, table_at, IsPlace, IsForest}
-use Rattle.stage2.specs.Orderly.{answers, linked}
+use Rattle.stage2.specs.Orderly.{answers}
 use Rattle.stage2.specs.inner.Chunks.{Redoes_in, IsSite, IsEntryFor, IsOutcome}
 use Rattle.stage2.specs.inner.Steps.{IsSeated}
 use Rattle.std.proofs.lemmas.Bool.Decides.{nat_tests}

@@ -1,5 +1,5 @@
 -- What walkers see of a whole call: from its entry on, over an edit, and at its end.
-use Rattle.std.proofs.Common.{◌≡◌, ℕ, ◌/◌, ◌^◌, ◌<◌, Bool, true, false, ◌&&◌, eqb, cond, List, [], None, refl, arith, ap, sym, subst, ◌∙◌, ◌⊎◌, inl, inr, eq-eqb}
+use Rattle.std.proofs.Common.{◌≡◌, ℕ, ◌/◌, ◌^◌, ◌<◌, true, ◌&&◌, eqb, cond, List, [], None, refl, arith, ap, sym, subst, ◌∙◌, ◌⊎◌, inl, inr, eq-eqb}
 use Rattle.std.proofs.lemmas.Bool.{ltb-true}
 use Rattle.base.specs.Pages.{PageRun, covers}
 use Rattle.base.specs.Access.{View}
@@ -7,7 +7,7 @@ use Rattle.base.specs.Manifest.{row_of}
 use Rattle.base.specs.Need.{is_mixed}
 use Rattle.pool.specs.Pool.{Words, words_of, all_lie_in}
 use Rattle.stage2.specs.Slot.{Layout}
-use Rattle.stage2.specs.Walk.{walk, walked, translation, Agrees}
+use Rattle.stage2.specs.Walk.{walk, walked, Agrees}
 use Rattle.stage2.specs.Orderly.{answers, answer_of}
 use Rattle.stage2.specs.Edits.{edited, AreFree, disturbed, with_pages}
 use Rattle.stage2.specs.Moments.{IsSteady, StaysInStep, Moments}

@@ -1,16 +1,16 @@
 -- What walkers see of a whole edit.
-use Rattle.std.proofs.Common.{◌≡◌, ℕ, ◌^◌, ◌<◌, Bool, true, false, ◌&&◌, eqb, List, [], ◌∷◌, refl, arith, ap, sym, ◌∙◌, ◌⊎◌, inl, inr}
+use Rattle.std.proofs.Common.{◌≡◌, ℕ, ◌^◌, ◌<◌, Bool, true, ◌&&◌, eqb, List, [], ◌∷◌, refl, arith}
 use Rattle.std.proofs.lemmas.Bool.{eqb-true}
 use Rattle.base.specs.Access.{View}
 use Rattle.base.specs.Pages.{PageRun}
 use Rattle.base.specs.Manifest.{row_of}
-use Rattle.pool.specs.Pool.{Pool, Words, words_of, all_lie_in}
+use Rattle.pool.specs.Pool.{Pool, words_of, all_lie_in}
 use Rattle.pool.specs.declared.operation.Op.{Op}
 use Rattle.stage2.specs.declared.walked.Walked.{Walked}
 use Rattle.stage2.specs.declared.walked.Walked.TheVariants.{None as Unmapped}
 use Rattle.stage2.specs.Slot.{Layout}
 use Rattle.stage2.specs.Walk.{walked, Agrees}
-use Rattle.stage2.specs.Moments.{AtEachMoment, Walker, Begins, Second, Third, Ends, IsLinked, Stands, OpenCall, MayGive, GivesOnly, IsInStepIn, nothing, MayAnswer, GivesOldOrNew, KeepsAnswers, IsSteady, Moments}
+use Rattle.stage2.specs.Moments.{AtEachMoment, OpenCall, IsInStepIn, nothing, IsSteady, Moments}
 use Rattle.stage2.proofs.Walkers.InStep.{orderly-start}
 use Rattle.base.proofs.Booleans.{both}
 use Rattle.std.proofs.lemmas.Bool.Decides.{nat_tests}

@@ -1,6 +1,4 @@
-use Rattle.std.proofs.Common.{◌≡◌, ◌+◌, ◌*◌, take, List, ap, ◌∙◌, arith}
-use Rattle.base.specs.Pages.{PageRun, covers}
-use Rattle.stage2.specs.Room.{pages_in}
+use Rattle.std.proofs.Common.{arith}
 use Rattle.pool.proofs.FirstRuns.{take-all}
 use Rattle.stage2.proofs.Counting.FewOperations.{run-pages}
 use Rattle.stage2.proofs.Counting.Pieces.{pages_among-le, pages-none, pages-more}

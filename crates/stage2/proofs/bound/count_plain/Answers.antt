@@ -1,7 +1,5 @@
-use Rattle.std.proofs.Common.{◌≡◌, ℕ, ◌+◌, ◌≤◌, ◌&&◌, ◌==◌, ◌%◌, not, Bool, true, false, cond, Some, refl, sym, ap, ◌∙◌, arith, inl, inr}
-use Rattle.std.proofs.lemmas.Bool.{cases_Bool}
+use Rattle.std.proofs.Common.{◌≡◌, ℕ, ◌&&◌, not, Bool, false, Some, refl, arith}
 use Rattle.std.proofs.lemmas.Bool.Decides.{nat_tests}
-use Rattle.base.specs.Counts.{count_below}
 use Rattle.pool.specs.Pool.{Pool}
 use Rattle.pool.proofs.Count.{count_below-none, count_below-tail, count_below-more}
 use Rattle.stage2.specs.inner.Clauses.{is_between, points_at}

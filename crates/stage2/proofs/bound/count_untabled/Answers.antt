@@ -1,5 +1,4 @@
-use Rattle.std.proofs.Common.{◌≡◌, ◌&&◌, not, Bool, true, false, refl, arith}
-use Rattle.stage2.specs.inner.Clauses.{is_between, points_at}
+use Rattle.std.proofs.Common.{arith}
 use Rattle.stage2.proofs.Counting.Pieces.{count_below-between, count_below-fewer}
 use Rattle.stage2.proofs.bound.count_untabled.Goals as goal
 use Rattle.std.proofs.lemmas.Bool.Decides.{nat_tests}

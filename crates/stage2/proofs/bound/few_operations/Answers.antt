@@ -1,7 +1,7 @@
-use Rattle.std.proofs.Common.{◌≡◌, ℕ, ◌+◌, ◌*◌, ◌/◌, ◌%◌, ◌≤◌, false, is_some, length, None, Some, refl, sym, ap, ◌∙◌, arith}
+use Rattle.std.proofs.Common.{◌≡◌, ℕ, ◌+◌, ◌*◌, ◌/◌, ◌%◌, ◌≤◌, false, is_some, length, None, sym, ap, ◌∙◌, arith}
 use Rattle.base.specs.Access.{View}
 use Rattle.base.specs.Pages.{covers}
-use Rattle.pool.specs.Pool.{pages_of, words_of, nonzero_in}
+use Rattle.pool.specs.Pool.{pages_of, nonzero_in}
 use Rattle.stage2.specs.inner.Chunks.{answers_of, second_of, block_answer}
 use Rattle.stage2.specs.Walk.{next_page}
 use Rattle.stage2.specs.Room.{pages_in}

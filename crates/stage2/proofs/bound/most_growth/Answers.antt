@@ -1,4 +1,4 @@
-use Rattle.std.proofs.Common.{ℕ, ◌≡◌, ◌+◌, ◌-◌, ◌/◌, arith}
+use Rattle.std.proofs.Common.{ℕ, ◌≡◌, ◌+◌, ◌/◌, arith}
 use Rattle.stage2.proofs.Counting.Bounds.{grow-most}
 use Rattle.stage2.proofs.bound.most_growth.Goals as goal
 use Rattle.std.proofs.lemmas.Bool.Decides.{nat_tests}

@@ -18,7 +18,6 @@ returns g c =
     let pool = g.M.TableMem.state c.args.memory.now in
     let most = growth-untabled c.args.edit.now.layout.now pool c.requires.canonical c.args.edit.now.row c.args.edit.now.inside c.args.gigabyte c.chunk_span.ensures.in_range c.second_at-second.result (sym c.second_at-second.ensures)
     c.args.runs.now c.args.edit.now.access c.chunk_span.result.first c.chunk_span.result.end c.chunk_span.ensures.within c.count_untabled-chunks.result c.count_untabled-chunks.ensures.counts in
-    let few = c.count_untabled-chunks.ensures.few in
     elim (cases_Bool c.is_none.result) [
       | inl t ↦ grind (arith, common_steps, nat_tests, at_most_one (is_none c.second_at-second.result))
       | inr f ↦ grind (arith, common_steps, nat_tests, no_one)

@@ -1,4 +1,4 @@
-use Rattle.std.proofs.Common.{◌≡◌, ℕ, ◌+◌, ◌-◌, ◌≤◌, inl, inr, ap, arith}
+use Rattle.std.proofs.Common.{◌≡◌, ℕ, ◌+◌, ◌-◌, ◌≤◌, inr, ap, arith}
 use Rattle.base.specs.Access.{View}
 use Rattle.stage2.specs.Edits.{edited}
 use Rattle.stage2.specs.Room.{sum_below}

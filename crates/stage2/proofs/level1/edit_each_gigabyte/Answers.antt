@@ -1,4 +1,4 @@
-use Rattle.std.proofs.Common.{◌≡◌, ℕ, ◌+◌, ◌/◌, ◌<◌, ◌≤◌, false, sym, ◌∙◌, inl, inr, arith}
+use Rattle.std.proofs.Common.{◌≡◌, ℕ, ◌+◌, ◌/◌, ◌<◌, ◌≤◌, false, sym, ◌∙◌, inr, arith}
 use Rattle.base.specs.Pages.{covers}
 use Rattle.stage2.proofs.Editing.UpToGigabyte.{row-start, row-ahead, row-done, row-can, row-next, part-touches, part-can, part-done}
 use Rattle.stage2.proofs.Runs.OwnRuns.{gigabyte-covers}

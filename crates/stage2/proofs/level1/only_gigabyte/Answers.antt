@@ -1,7 +1,6 @@
-use Rattle.std.proofs.Common.{◌≡◌, ◌+◌, ◌/◌, ◌<◌, ◌≤◌, ap, sym, ◌∙◌, arith}
+use Rattle.std.proofs.Common.{◌≡◌, ◌/◌, ◌≤◌, ap, sym, ◌∙◌, arith}
 use Rattle.std.proofs.lemmas.Bool.{ltb-true}
 use Rattle.std.proofs.lemmas.Bool.Decides.{nat_tests}
-use Rattle.base.specs.Pages.{in_run}
 use Rattle.stage2.specs.Parts.{end_from}
 use Rattle.stage2.proofs.Runs.Normal.{any-within, normal-within}
 use Rattle.stage2.proofs.Editing.GigabyteByGigabyte.{touched}

@@ -1,5 +1,4 @@
-use Rattle.std.proofs.Common.{◌≡◌, ◌+◌, ◌*◌, ◌<◌, length, get_or, sym, arith}
-use Rattle.std.proofs.lemmas.Bool.{ltb-true}
+use Rattle.std.proofs.Common.{arith}
 use Rattle.stage2.proofs.Runs.Between.{between-first}
 use Rattle.stage2.proofs.Editing.GigabyteByGigabyte.{touched}
 use Rattle.stage2.proofs.level1.touches.Goals as goal

@@ -9,9 +9,6 @@ use Rattle.pool.specs.Pool.{Pages, Pool, InShare, pages_of, words_of, with_mark,
 use Rattle.pool.proofs.Shares.{share_inside, root-outside}
 use Rattle.stage2.proofs.Tree.WalkFrame.{put-other}
 use Rattle.stage2.proofs.Tree.TakenPages.{pages_of-give}
-use Rattle.std.proofs.Common.{length}
-use Rattle.base.specs.Manifest.{row_of}
-use Rattle.pool.specs.Pool.{row_in}
 use Rattle.stage2.proofs.level1.unlink.Goals as goal
 
 pub give_page-requires-clause-empty : goal.give_page-requires-clause-empty

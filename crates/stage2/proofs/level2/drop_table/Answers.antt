@@ -1,8 +1,8 @@
-use Rattle.std.proofs.Common.{◌≡◌, ℕ, ◌/◌, ◌%◌, ◌<◌, Bool, cond, eqb, [], is_some, Some, None, arith, sym, ap, subst, ◌∙◌, ◌*◌, ◌+◌}
+use Rattle.std.proofs.Common.{◌≡◌, ℕ, ◌/◌, ◌%◌, ◌<◌, Bool, cond, eqb, [], is_some, Some, None, arith, sym, ap, subst, ◌∙◌}
 use Rattle.base.specs.Manifest.{page_count}
-use Rattle.pool.specs.Pool.{Pages, Pool, Words, pages_of, words_of, put, InShare}
+use Rattle.pool.specs.Pool.{Pages, Pool, Words, pages_of, words_of, put}
 use Rattle.stage2.specs.declared.walked.Walked.{Walked}
-use Rattle.stage2.specs.inner.Chunks.{planned, IsWordFor}
+use Rattle.stage2.specs.inner.Chunks.{planned}
 use Rattle.stage2.specs.inner.Clauses.{StaysAtChunk, IsSeatedAt, chunk_after}
 use Rattle.stage2.specs.Moments.{StaysInStep}
 use Rattle.stage2.specs.Room.{pages_in}
@@ -14,7 +14,6 @@ use Rattle.stage2.proofs.Walkers.SeatedChunks.{hung-seen, gives-block, block-no-
 use Rattle.stage2.proofs.Editing.FourChunkEdits.{second-inside, second-taken, third-inside, third-taken, third-share, left-kept, left-words, drop-zero, does-drop}
 use Rattle.stage2.proofs.Editing.OneChunk.{in-step-alike, others, dropped}
 use Rattle.stage2.proofs.Tree.TakenPages.{pages_of-give}
-use Rattle.stage2.proofs.Tree.Rows.{has-row}
 use Rattle.stage2.proofs.level2.drop_table.Goals as goal
 use Rattle.std.proofs.lemmas.Bool.Decides.{nat_tests}
 use Rattle.std.proofs.lemmas.Grind.{common_steps}
@@ -86,21 +85,21 @@ returns g c =
     let emptied = c.empty_table.ensures.writes in
     let given = c.give_page.ensures.state in
     let stays : IsSeatedAt s e x → StaysAtChunk layout row chunk view x end = λ seated.
-        let none = block-no-table layout chunk word e.access c.block_word.ensures in
-        let hung = hung-seen layout row chunk j m site seated in
-        let first : StaysInStep layout row which answer x y =
-        stays-replaced layout row s.p chunk j word answer x y site.partition site.chunk hung can.row
-        (λ q next. absurd (cc))
-        (λ n small at. gives-block layout (put j (chunk % 512) word (words_of x.memory.words)) chunk word view e.access c.block_word.ensures alike n at)
-        c.replace_entry.ensures.history in
-        let loose : IsUnheld layout (put j (chunk % 512) word (words_of x.memory.words)) k =
-        unheld-word layout (words_of x.memory.words) row chunk j word k site.partition site.chunk hung none (third-alone layout row chunk j m site seated k table) (third-loose layout row chunk j m site seated k table) in
-        let wrote : words_of y.memory.words ≡ put j (chunk % 512) word (words_of x.memory.words) = ap (λ (s : Pages). s.words) put_there in
-        let second : StaysInStep layout row which answer y z =
-        stays-filled layout row k chunk 512 (planned [] None (Some None)) which answer y z emptied.made (subst (λ (w : Words). IsUnheld layout w k) (sym wrote) loose) in
-        let third : StaysInStep layout row which answer z end =
-        stays-taken layout row which answer z end (ap (λ (s : Pool). words_of s.memory.words) given) (ap (λ (s : Pool). s.operations) given) (ap (λ (s : Pool). s.made) given) in
-        stays-after layout row which answer x z end (stays-after layout row which answer x y z first second) third in
+    let none = block-no-table layout chunk word e.access c.block_word.ensures in
+    let hung = hung-seen layout row chunk j m site seated in
+    let first : StaysInStep layout row which answer x y =
+    stays-replaced layout row s.p chunk j word answer x y site.partition site.chunk hung can.row
+    (λ q next. absurd (cc))
+    (λ n small at. gives-block layout (put j (chunk % 512) word (words_of x.memory.words)) chunk word view e.access c.block_word.ensures alike n at)
+    c.replace_entry.ensures.history in
+    let loose : IsUnheld layout (put j (chunk % 512) word (words_of x.memory.words)) k =
+    unheld-word layout (words_of x.memory.words) row chunk j word k site.partition site.chunk hung none (third-alone layout row chunk j m site seated k table) (third-loose layout row chunk j m site seated k table) in
+    let wrote : words_of y.memory.words ≡ put j (chunk % 512) word (words_of x.memory.words) = ap (λ (s : Pages). s.words) put_there in
+    let second : StaysInStep layout row which answer y z =
+    stays-filled layout row k chunk 512 (planned [] None (Some None)) which answer y z emptied.made (subst (λ (w : Words). IsUnheld layout w k) (sym wrote) loose) in
+    let third : StaysInStep layout row which answer z end =
+    stays-taken layout row which answer z end (ap (λ (s : Pool). words_of s.memory.words) given) (ap (λ (s : Pool). s.operations) given) (ap (λ (s : Pool). s.made) given) in
+    stays-after layout row which answer x z end (stays-after layout row which answer x y z first second) third in
     let inside = third-inside layout row chunk j m site k table in
     let quotas = emptied.words.quotas ∙ ap (λ (x : Pages). x.quotas) put_there in
     let same = ap (λ n. cond (is_some e.access) n (pages_in e.runs chunk)) (left-words layout row chunk j m site k word (pages_of y.memory) table put_there) in

@@ -1,4 +1,4 @@
-use Rattle.std.proofs.Common.{◌≡◌, ◌+◌, ◌*◌, false, refl, sym, ap, subst, ◌∙◌, arith}
+use Rattle.std.proofs.Common.{◌≡◌, false, refl, ap, subst, ◌∙◌, arith}
 use Rattle.stage2.specs.Edits.{touches_chunk}
 use Rattle.stage2.specs.Parts.{chunk_runs}
 use Rattle.stage2.proofs.Editing.UpToChunk.{at-start, at-piece, at-untouched, at-end, own-here, here-can, here-next, table-inside, table-taken, blocks-room, blocks-next}

@@ -1,4 +1,4 @@
-use Rattle.std.proofs.Common.{◌≡◌, ℕ, ◌+◌, ◌/◌, ◌%◌, ◌<◌, Bool, eqb, true, false, Some, arith, sym, ap, subst, ◌∙◌}
+use Rattle.std.proofs.Common.{◌≡◌, ℕ, ◌+◌, ◌/◌, ◌%◌, ◌<◌, Bool, eqb, true, Some, arith, sym, ap, subst, ◌∙◌}
 use Rattle.base.specs.Access.{View}
 use Rattle.base.specs.Manifest.{page_count}
 use Rattle.words.specs.Words.{table_word_of}
@@ -91,25 +91,25 @@ returns g c =
     let edits = does-hang layout row chunk j m site e.runs e.access c.args.before.now k (pages_of y.memory) (pages_of z.memory) (pages_of end.memory) c.requires.none took.lowest c.requires.before marked filled.words
     (subst (λ x. pages_of end.memory ≡ with_put j (chunk % 512) x (pages_of z.memory)) is_word put_there) c.requires.mixed in
     let stays : IsSeatedAt s e x → StaysAtChunk layout row chunk view x end = λ seated.
-        let same : words_of y.memory.words ≡ words_of x.memory.words = ap (λ (s : Pool). words_of s.memory.words) took.state in
-        let first : StaysInStep layout row which answer x y = stays-taken layout row which answer x y same (ap (λ (s : Pool). s.operations) took.state) (ap (λ (s : Pool). s.made) took.state) in
-        let loose : IsUnheld layout (words_of y.memory.words) k = subst (λ (w : Words). IsUnheld layout w k) (sym same) (unheld-free layout row chunk j m site seated k took.lowest.free) in
-        let second : StaysInStep layout row which answer y z = filled.unseen layout row which answer loose in
-        let hung_y : IsHung layout (words_of y.memory.words) row chunk j = subst (λ (w : Words). IsHung layout w row chunk j) (sym same) (hung-seen layout row chunk j m site seated) in
-        let hung_z : IsHung layout (words_of z.memory.words) row chunk j = hung-outside layout (words_of y.memory.words) (words_of z.memory.words) row chunk j k site.partition site.chunk loose filled.words.others hung_y in
-        let loose_z : IsUnheld layout (words_of z.memory.words) k = unheld-outside layout (words_of y.memory.words) (words_of z.memory.words) k loose filled.words.others in
-        let inside : k < page_count m.quotas = share_inside m.quotas row k took.lowest.inside in
-        let is_slot : slot layout 2 word ≡ Next k = ap (slot layout 2) is_word ∙ slot-table layout 2 k (omega arith) (rw site.orderly.pages inside) site.orderly.fits in
-        let wrote : words_of end.memory.words ≡ put j (chunk % 512) word (words_of z.memory.words) = ap (λ (s : Pages). s.words) put_there in
-        let third : StaysInStep layout row which answer z end =
-        stays-replaced layout row s.p chunk j word answer z end site.partition site.chunk hung_z can.row
-        (λ q next. subst (λ t. IsUnheld layout (words_of z.memory.words) t) (same-page k q (sym (ap next_page is_slot) ∙ next)) loose_z)
-        (λ n small at.
-        let read : words_of end.memory.words j (chunk % 512) ≡ word = ap (λ (w : Words). w j (chunk % 512)) wrote ∙ put-same (words_of z.memory.words) j (chunk % 512) word in
-        ap (λ (w : Words). at_2 layout w n (slot layout 2 word)) (sym wrote) ∙ ap (λ w. at_2 layout (words_of end.memory.words) n (slot layout 2 w)) (sym read)
-        ∙ gives-after layout row chunk j view m (pages_of end.memory) site edits n small at)
-        c.replace_entry.ensures.history in
-        stays-after layout row which answer x z end (stays-after layout row which answer x y z first second) third in
+    let same : words_of y.memory.words ≡ words_of x.memory.words = ap (λ (s : Pool). words_of s.memory.words) took.state in
+    let first : StaysInStep layout row which answer x y = stays-taken layout row which answer x y same (ap (λ (s : Pool). s.operations) took.state) (ap (λ (s : Pool). s.made) took.state) in
+    let loose : IsUnheld layout (words_of y.memory.words) k = subst (λ (w : Words). IsUnheld layout w k) (sym same) (unheld-free layout row chunk j m site seated k took.lowest.free) in
+    let second : StaysInStep layout row which answer y z = filled.unseen layout row which answer loose in
+    let hung_y : IsHung layout (words_of y.memory.words) row chunk j = subst (λ (w : Words). IsHung layout w row chunk j) (sym same) (hung-seen layout row chunk j m site seated) in
+    let hung_z : IsHung layout (words_of z.memory.words) row chunk j = hung-outside layout (words_of y.memory.words) (words_of z.memory.words) row chunk j k site.partition site.chunk loose filled.words.others hung_y in
+    let loose_z : IsUnheld layout (words_of z.memory.words) k = unheld-outside layout (words_of y.memory.words) (words_of z.memory.words) k loose filled.words.others in
+    let inside : k < page_count m.quotas = share_inside m.quotas row k took.lowest.inside in
+    let is_slot : slot layout 2 word ≡ Next k = ap (slot layout 2) is_word ∙ slot-table layout 2 k (omega arith) (rw site.orderly.pages inside) site.orderly.fits in
+    let wrote : words_of end.memory.words ≡ put j (chunk % 512) word (words_of z.memory.words) = ap (λ (s : Pages). s.words) put_there in
+    let third : StaysInStep layout row which answer z end =
+    stays-replaced layout row s.p chunk j word answer z end site.partition site.chunk hung_z can.row
+    (λ q next. subst (λ t. IsUnheld layout (words_of z.memory.words) t) (same-page k q (sym (ap next_page is_slot) ∙ next)) loose_z)
+    (λ n small at.
+    let read : words_of end.memory.words j (chunk % 512) ≡ word = ap (λ (w : Words). w j (chunk % 512)) wrote ∙ put-same (words_of z.memory.words) j (chunk % 512) word in
+    ap (λ (w : Words). at_2 layout w n (slot layout 2 word)) (sym wrote) ∙ ap (λ w. at_2 layout (words_of end.memory.words) n (slot layout 2 w)) (sym read)
+    ∙ gives-after layout row chunk j view m (pages_of end.memory) site edits n small at)
+    c.replace_entry.ensures.history in
+    stays-after layout row which answer x z end (stays-after layout row which answer x y z first second) third in
     let words = hung s e x site c.requires.none c.requires.mixed c.requires.before in
     record {
       edits = edits;

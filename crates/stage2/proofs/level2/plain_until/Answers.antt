@@ -1,6 +1,4 @@
-use Rattle.std.proofs.Common.{◌∙◌, ap, arith}
-use Rattle.stage2.specs.Slot.{slot}
-use Rattle.stage2.specs.Walk.{next_page}
+use Rattle.std.proofs.Common.{arith}
 use Rattle.stage2.proofs.Walkers.Level3Write.{slot-zero}
 use Rattle.stage2.proofs.level2.plain_until.Goals as goal
 use Rattle.std.proofs.lemmas.Bool.Decides.{nat_tests}

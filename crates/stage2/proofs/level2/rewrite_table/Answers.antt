@@ -1,4 +1,4 @@
-use Rattle.std.proofs.Common.{◌≡◌, ℕ, ◌+◌, ◌*◌, ◌/◌, Bool, true, false, ◌&&◌, eqb, is_some, List, None, arith, cond, not, refl, sym, ◌∙◌, Some, ap, subst, ◌⊎◌, inl, inr}
+use Rattle.std.proofs.Common.{◌≡◌, ℕ, ◌+◌, ◌*◌, ◌/◌, Bool, true, false, ◌&&◌, eqb, is_some, List, None, arith, cond, not, refl, sym, ◌∙◌, ap, subst, ◌⊎◌, inl, inr}
 use Rattle.base.specs.Pages.{PageRun, covers}
 use Rattle.base.specs.Access.{View}
 use Rattle.base.proofs.Booleans.{both}

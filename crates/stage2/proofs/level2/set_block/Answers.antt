@@ -6,7 +6,6 @@ use Rattle.stage2.proofs.Editing.OneChunk.{in-step-alike}
 use Rattle.stage2.proofs.Walkers.StepLists.{stays-replaced}
 use Rattle.stage2.proofs.Walkers.SeatedChunks.{hung-seen, gives-block, block-no-table}
 use Rattle.stage2.proofs.Editing.FourChunkEdits.{second-inside, second-taken, does-set}
-use Rattle.stage2.proofs.Tree.Rows.{has-row}
 use Rattle.stage2.proofs.level2.set_block.Goals as goal
 
 pub replace_entry-requires-clause-page_in : goal.replace_entry-requires-clause-page_in

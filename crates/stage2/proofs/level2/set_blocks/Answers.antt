@@ -1,5 +1,4 @@
-use Rattle.std.proofs.Common.{◌-◌, subst, refl, arith}
-use Rattle.stage2.specs.inner.Chunks.{IsEntryFor}
+use Rattle.std.proofs.Common.{arith}
 use Rattle.stage2.proofs.Editing.FilledChunks.{blocks-small}
 use Rattle.stage2.proofs.level2.set_blocks.Goals as goal
 use Rattle.std.proofs.lemmas.Bool.Decides.{nat_tests}

@@ -1,10 +1,8 @@
-use Rattle.std.proofs.Common.{◌≡◌, ℕ, ◌+◌, ◌*◌, ◌≤◌, ◌==◌, true, false, [], Bool, List, Option, Some, None, arith, refl, subst, ltb, not, ◌≢◌, is_some, sym, ◌∙◌, ap, inl, inr}
-use Rattle.std.proofs.lemmas.Bool.{cases_Bool, ltb-true}
+use Rattle.std.proofs.Common.{◌≡◌, ℕ, ◌+◌, ◌*◌, ◌≤◌, ◌==◌, true, false, [], List, Option, Some, None, arith, refl, subst, not, ◌≢◌, is_some, sym, ◌∙◌, ap}
 use Rattle.std.proofs.lemmas.Bool.Decides.{nat_tests}
 use Rattle.base.specs.Access.{View}
 use Rattle.base.specs.Pages.{PageRun, covers}
 use Rattle.pool.specs.Pool.{Pool, pages_of, words_of, nonzero_in}
-use Rattle.stage2.specs.Room.{pages_in}
 use Rattle.stage2.specs.declared.site.ChunkEdit.{ChunkEdit}
 use Rattle.stage2.specs.inner.Chunks.{planned}
 use Rattle.stage2.specs.inner.Clauses.{WritesPlan, OthersAnswer, words_left, some_pages, gaps}

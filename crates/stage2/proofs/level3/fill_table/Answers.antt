@@ -1,4 +1,4 @@
-use Rattle.std.proofs.Common.{◌==◌, ◌||◌, None, is_some, sym, ap, ◌∙◌, arith}
+use Rattle.std.proofs.Common.{None, is_some, ap, arith}
 use Rattle.pool.specs.Pool.{pages_of, words_of}
 use Rattle.stage2.specs.inner.Chunks.{planned}
 use Rattle.stage2.specs.inner.Clauses.{gaps}

@@ -1,6 +1,5 @@
-use Rattle.std.proofs.Common.{◌==◌, sym, ap, ◌∙◌, arith}
+use Rattle.std.proofs.Common.{arith}
 use Rattle.pool.proofs.Gaps.{rise-normal}
-use Rattle.stage2.specs.inner.Clauses.{word_in}
 use Rattle.stage2.proofs.Editing.RunWords.{runs-written}
 use Rattle.stage2.proofs.Counting.Pieces.{words-pages}
 use Rattle.stage2.proofs.level3.turn_runs.Goals as goal

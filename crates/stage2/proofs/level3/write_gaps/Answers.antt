@@ -1,7 +1,6 @@
-use Rattle.std.proofs.Common.{◌+◌, ◌*◌, ◌==◌, sym, ap, ◌∙◌, arith}
+use Rattle.std.proofs.Common.{◌*◌, arith}
 use Rattle.pool.specs.Pool.{gaps_of}
 use Rattle.pool.proofs.Gaps.{rise-normal, gaps-rise, gaps-words, gaps-out}
-use Rattle.stage2.specs.inner.Clauses.{word_in}
 use Rattle.stage2.proofs.Editing.Gaps.{writes-gap-runs}
 use Rattle.stage2.proofs.Editing.RunWords.{runs-written}
 use Rattle.stage2.proofs.Counting.Pieces.{words-pages}

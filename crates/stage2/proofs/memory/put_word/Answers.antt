@@ -1,4 +1,4 @@
-use Rattle.std.proofs.Common.{◌≡◌, ap, refl}
+use Rattle.std.proofs.Common.{◌≡◌, ap}
 use Rattle.pool.specs.Pool.{Pages, pages_of, with_put}
 use Rattle.stage2.proofs.Walkers.Histories.{made-set}
 use Rattle.pool.proofs.Words.{pages_of-set}

@@ -1,10 +1,6 @@
-use Rattle.std.proofs.Common.{◌≡◌, ℕ, ◌+◌, ◌*◌, sym, ap, ◌∙◌, arith}
-use Rattle.std.proofs.lemmas.Bool.{ltb-true, ltb-false}
-use Rattle.base.specs.Pages.{covers}
+use Rattle.std.proofs.Common.{◌≡◌, ℕ, ap, ◌∙◌, arith}
 use Rattle.words.proofs.RoundTrip.{entry-zero}
-use Rattle.words.specs.Words.{entry_of}
-use Rattle.pool.specs.Pool.{Words, words_of, nonzero_in}
-use Rattle.stage2.specs.inner.Change.{entry_for}
+use Rattle.pool.specs.Pool.{Words, nonzero_in}
 use Rattle.stage2.proofs.Counting.Pieces.{nonzero-most, zero-beside, word-beside}
 use Rattle.stage2.proofs.outcome.is_told_mixed.Goals as goal
 use Rattle.std.proofs.lemmas.Bool.Decides.{nat_tests}

@@ -1,5 +1,4 @@
-use Rattle.std.proofs.Common.{◌≡◌, sym, ◌∙◌, arith}
-use Rattle.std.proofs.lemmas.Bool.{ltb-true}
+use Rattle.std.proofs.Common.{arith}
 use Rattle.stage2.proofs.Runs.Normal.{normal-within, normal-first, normal-few}
 use Rattle.stage2.proofs.parts.bounds.Goals as goal
 use Rattle.std.proofs.lemmas.Bool.Decides.{nat_tests}

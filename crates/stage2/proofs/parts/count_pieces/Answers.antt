@@ -1,9 +1,7 @@
-use Rattle.std.proofs.Common.{◌≡◌, ◌+◌, ◌*◌, [], ◌∷◌, take, List, refl, sym, ap, ◌∙◌, arith}
+use Rattle.std.proofs.Common.{◌≡◌, [], ◌∷◌, arith}
 use Rattle.std.specs.Option.{option_map_or}
-use Rattle.base.specs.Pages.{PageRun, covers}
+use Rattle.base.specs.Pages.{PageRun}
 use Rattle.stage2.specs.Parts.{part_in, part_count}
-use Rattle.stage2.specs.Room.{pages_in}
-use Rattle.pool.proofs.FirstRuns.{take-all}
 use Rattle.stage2.proofs.Runs.Parts.{sum-take}
 use Rattle.stage2.proofs.Counting.Pieces.{pages_among-le, pages-none, pages-more}
 use Rattle.stage2.proofs.parts.count_pieces.Goals as goal

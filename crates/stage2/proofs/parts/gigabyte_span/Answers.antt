@@ -1,6 +1,5 @@
-use Rattle.std.proofs.Common.{◌+◌, ◌<◌, ◌≤◌, arith}
+use Rattle.std.proofs.Common.{arith}
 use Rattle.std.proofs.lemmas.Bool.Decides.{nat_tests}
-use Rattle.base.specs.Pages.{in_run}
 use Rattle.stage2.proofs.Runs.Normal.{any-within}
 use Rattle.stage2.proofs.parts.gigabyte_span.Goals as goal
 use Rattle.std.proofs.lemmas.Grind.{common_steps}

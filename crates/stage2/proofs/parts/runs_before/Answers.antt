@@ -1,5 +1,3 @@
-use Rattle.std.proofs.Common.{ap, ◌∙◌}
-use Rattle.stage2.specs.Parts.{runs_before}
 use Rattle.stage2.proofs.Runs.Normal.{normal-take}
 use Rattle.stage2.proofs.parts.runs_before.Goals as goal
 

@@ -1,5 +1,4 @@
-use Rattle.std.proofs.Common.{◌≡◌, ap, ◌∙◌, arith}
-use Rattle.pool.specs.Pool.{words_of, nonzero_in}
+use Rattle.std.proofs.Common.{arith}
 use Rattle.stage2.proofs.Counting.Pieces.{nonzero-most}
 use Rattle.stage2.proofs.plan.operations_gone.Goals as goal
 use Rattle.std.proofs.lemmas.Bool.Decides.{nat_tests}

@@ -1,16 +1,13 @@
 use Rattle.base.specs.Need.{is_mixed}
-use Rattle.std.proofs.Common.{◌≡◌, ℕ, ◌+◌, false, not, ◌&&◌, cond, refl, sym, ap, ◌∙◌, arith}
+use Rattle.std.proofs.Common.{ℕ, not, ◌&&◌, refl, ap, ◌∙◌, arith}
 use Rattle.base.specs.Access.{View}
 use Rattle.pool.specs.Pool.{pages_of}
-use Rattle.stage2.specs.Edits.{touches_chunk}
 use Rattle.stage2.specs.inner.Chunks.{answers_of}
 use Rattle.stage2.specs.inner.Clauses.{IsChunkPlanned}
-use Rattle.stage2.specs.Room.{table_operations, chunk_operations}
 use Rattle.stage2.proofs.Editing.ChunkByChunk.{bit, untouched}
 use Rattle.stage2.proofs.Counting.Growth.{grows-nothing}
 use Rattle.stage2.proofs.Counting.Operations.{chunk-same}
 use Rattle.stage2.proofs.Runs.OwnRuns.{chunk-covers, chunk-turns, chunk-touches, chunk-count, chunk-mixed}
-use Rattle.stage2.specs.declared.plan.Plan.{Plan}
 use Rattle.stage2.proofs.plan.plan_at.Goals as goal
 use Rattle.std.proofs.lemmas.Bool.Decides.{nat_tests}
 use Rattle.std.proofs.lemmas.Grind.{common_steps}

@@ -1,9 +1,5 @@
-use Rattle.std.proofs.Common.{◌≡◌, ◌+◌, ◌*◌, true, false, cond, sym, ap, subst, ◌∙◌, arith}
-use Rattle.base.specs.Need.{is_mixed}
-use Rattle.base.specs.Pages.{covers}
-use Rattle.stage2.specs.Edits.{edited}
-use Rattle.stage2.specs.inner.Chunks.{block_answer, IsOutcome}
-use Rattle.stage2.specs.inner.Clauses.{tells}
+use Rattle.std.proofs.Common.{arith}
+use Rattle.stage2.specs.inner.Chunks.{block_answer}
 use Rattle.stage2.proofs.Counting.EditPlans.{edit-planned}
 use Rattle.stage2.proofs.Counting.Needs.{same-unmixed}
 use Rattle.stage2.proofs.Counting.Operations.{hung, plain, reached-as}

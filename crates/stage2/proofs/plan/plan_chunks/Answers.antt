@@ -1,5 +1,4 @@
-use Rattle.std.proofs.Common.{◌/◌, ◌≡◌, ℕ, ◌+◌, ◌*◌, ◌<◌, ◌≤◌, true, refl, sym, ap, subst, ◌∙◌, arith, eq-eqb}
-use Rattle.std.proofs.lemmas.Bool.{eqb-true}
+use Rattle.std.proofs.Common.{◌≡◌, ℕ, ◌+◌, ◌*◌, ◌<◌, ◌≤◌, true, refl, sym, subst, ◌∙◌, arith}
 use Rattle.pool.specs.Pool.{pages_of}
 use Rattle.stage2.specs.inner.Chunks.{covers_chunk}
 use Rattle.stage2.proofs.Counting.Growth.{filled-grows, filled-operations, second-inside}

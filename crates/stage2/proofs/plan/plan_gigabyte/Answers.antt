@@ -6,7 +6,7 @@ use Rattle.stage2.specs.Edits.{edited}
 use Rattle.stage2.specs.inner.Chunks.{answers_of}
 use Rattle.stage2.specs.inner.Gigabytes.{grows_at, gigabyte_growth}
 use Rattle.stage2.proofs.Editing.Gigabyte.{touched-below, is-none}
-use Rattle.stage2.proofs.Counting.Growth.{growth-tabled, growth-mapped, growth-unmapped}
+use Rattle.stage2.proofs.Counting.Growth.{growth-mapped, growth-unmapped}
 use Rattle.stage2.specs.declared.plan.Plan.{Plan}
 use Rattle.stage2.proofs.plan.plan_gigabyte.Goals as goal
 

@@ -1,6 +1,6 @@
-use Rattle.std.proofs.Common.{◌≡◌, ◌⊎◌, ℕ, ◌+◌, ◌*◌, false, cond, is_some, ap, ◌∙◌, subst, arith}
+use Rattle.std.proofs.Common.{◌≡◌, ◌⊎◌, ℕ, ◌+◌, ◌*◌, false, cond, is_some, subst, arith}
 use Rattle.base.specs.Access.{View}
-use Rattle.pool.specs.Pool.{Pool, words_of}
+use Rattle.pool.specs.Pool.{Pool}
 use Rattle.stage2.specs.declared.site.ChunkEdit.{ChunkEdit}
 use Rattle.stage2.specs.inner.Chunks.{IsOutcome}
 use Rattle.stage2.specs.inner.Clauses.{IsSpelled, read_before, read_after, tells, words_left}
@@ -27,7 +27,6 @@ returns-then-not-looks g c =
     let page = one e in
     let either = table-either e.runs e.access view e.chunk (512 * e.chunk + page.0) c.requires.mixed (omega (arith, page.1)) page.2 in
     let most = either-most (table_operations e.runs e.access view e.chunk) c.operations_kept-kept.result c.operations_gone-gone.result c.max-most.result (rw (c.operations_kept-kept.ensures.same, gone) either) c.max-most.ensures in
-    let looks = c.if-not-looks.true in
     edit-planned false c.max-most.result c.new-then-not-looks.ensures most (λ yes. absurd (cc)) (omega (arith, c.max-most.ensures, c.operations_kept-kept.ensures.most, c.operations_gone-gone.ensures.most))
 
 pub returns-then-most-min-le-SURPLUS : goal.returns-then-most-min-le-SURPLUS

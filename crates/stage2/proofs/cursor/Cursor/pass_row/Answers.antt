@@ -1,4 +1,4 @@
-use Rattle.std.proofs.Common.{◌≡◌, ◌+◌, ◌*◌, ◌%◌, refl, ap, ◌∙◌, arith}
+use Rattle.std.proofs.Common.{◌≡◌, ◌+◌, ◌*◌, ◌%◌, ap, ◌∙◌, arith}
 use Rattle.pool.specs.Pool.{words_of}
 use Rattle.stage2.specs.Reading.{pages_at}
 use Rattle.stage2.proofs.Reading.Cursors.{counted, odd-row, row-none, row-step, step-more}

@@ -1,10 +1,8 @@
-use Rattle.std.proofs.Common.{None, refl, ◌≡◌, ◌≢◌, ℕ, ◌+◌, ◌*◌, ◌/◌, ◌≤◌, true, false, leb, ltb, ◌&&◌, List, ap, sym, ◌∙◌, arith, inl, inr}
-use Rattle.std.proofs.lemmas.Bool.{cases_Bool}
+use Rattle.std.proofs.Common.{◌≡◌, ◌≢◌, ℕ, ◌+◌, ◌*◌, ◌/◌, ◌≤◌, true, false, List, arith}
 use Rattle.std.proofs.lemmas.Bool.Decides.{nat_tests}
-use Rattle.base.specs.Pages.{PageRun, are_normal}
-use Rattle.stage2.specs.Edits.{touches_run, touches_chunk}
-use Rattle.stage2.specs.Parts.{lie_within, part_count}
-use Rattle.stage2.specs.Room.{pages_in}
+use Rattle.base.specs.Pages.{PageRun}
+use Rattle.stage2.specs.Edits.{touches_chunk}
+use Rattle.stage2.specs.Parts.{lie_within}
 use Rattle.stage2.proofs.Counting.Bounds.{between, in-chunk}
 use Rattle.stage2.proofs.Runs.Normal.{any-within}
 use Rattle.stage2.proofs.site.ChunkEdit.alone.Goals as goal

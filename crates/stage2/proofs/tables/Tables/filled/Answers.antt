@@ -1,10 +1,6 @@
-use Rattle.std.proofs.Common.{◌≡◌, ◌<◌, ◌≤◌, List, length, get_or, sym, ap, subst, ◌∙◌, arith}
-use Rattle.base.specs.Manifest.{PartitionRow, row_of}
-use Rattle.base.specs.Need.{need}
+use Rattle.std.proofs.Common.{◌≡◌, ◌<◌, List, length, get_or, ap, subst, ◌∙◌, arith}
+use Rattle.base.specs.Manifest.{PartitionRow}
 use Rattle.manifest.proofs.Facts.{facts}
-use Rattle.pool.specs.Pool.{Pool, row_quota}
-use Rattle.stage2.specs.Slot.{Layout}
-use Rattle.stage2.specs.Tables.{AllWalksAre}
 use Rattle.stage2.proofs.Counting.Quotas.{quota_at}
 use Rattle.stage2.proofs.Editing.FillPartitions.{filled-none, not-filled, filled-more, filled-all}
 use Rattle.stage2.proofs.tables.Tables.filled.Goals as goal

@@ -1,7 +1,4 @@
-use Rattle.std.proofs.Common.{◌≡◌, ℕ, ◌-◌, List, [], ◌∷◌, Some, sym, ap, subst, ◌∙◌, arith}
-use Rattle.base.specs.Pages.{PageRun}
-use Rattle.pool.specs.Pool.{Pool}
-use Rattle.stage2.specs.Tables.{Fits, AreTurnedFor}
+use Rattle.std.proofs.Common.{arith}
 use Rattle.stage2.proofs.Editing.FillUpward.{fits-same}
 use Rattle.stage2.proofs.Editing.WholeTables.{turned-same}
 use Rattle.stage2.proofs.tables.Tables.map_pending.Goals as goal

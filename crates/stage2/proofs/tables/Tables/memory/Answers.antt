@@ -1,5 +1,3 @@
-use Rattle.std.proofs.Common.{subst}
-use Rattle.stage2.specs.Tables.{TablesView, AreCanonical}
 use Rattle.stage2.proofs.Editing.WholeTables.{canonical-inside}
 use Rattle.stage2.proofs.tables.Tables.memory.Goals as goal
 

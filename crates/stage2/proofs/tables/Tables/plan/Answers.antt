@@ -1,9 +1,9 @@
-use Rattle.std.proofs.Common.{sym, ap, subst, ◌∙◌, arith}
+use Rattle.std.proofs.Common.{sym, ap, subst, ◌∙◌}
 use Rattle.base.specs.Need.{grow}
 use Rattle.stage2.specs.Edits.{edited}
 use Rattle.stage2.specs.Sound.{TablesView}
-use Rattle.stage2.specs.Tables.{view_of, edit_operations, AreTurnedFor}
-use Rattle.stage2.proofs.Editing.WholeTables.{view, turned-found, grow-found, room-found}
+use Rattle.stage2.specs.Tables.{view_of, AreTurnedFor}
+use Rattle.stage2.proofs.Editing.WholeTables.{view, turned-found, grow-found}
 use Rattle.stage2.proofs.tables.Tables.plan.Goals as goal
 
 pub plan_row-requires-clause-turned : goal.plan_row-requires-clause-turned
