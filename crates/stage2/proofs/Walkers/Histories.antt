@@ -73,5 +73,3 @@ sets-more k c b plan more (Clear r ∷ ops) all s = absurd s
 
 pub filled-more : (k c b : ℕ) (plan more : ℕ → Option View) (a e : Pool) → ((n : ℕ) (answer : View) → plan n ≡ Some answer → more n ≡ Some answer) → Filled k c b plan a e → Filled k c b more a e
 filled-more k c b plan more a e all h = record { ops = h.ops; made = h.made; sets = sets-more k c b plan more h.ops all h.sets; changes = h.changes }
-
--- ---- break before make

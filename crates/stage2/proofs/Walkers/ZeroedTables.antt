@@ -17,8 +17,6 @@ use Rattle.std.proofs.lemmas.Grind.{common_steps}
 pub breaks-zero : (layout : Layout) (entry : Words) (past : List Op) (page index : ℕ) → BreaksFirst layout entry past page index 0
 breaks-zero layout entry past page index = record { breaks = λ _. refl; makes = λ valid row n moment stood. absurd (valid refl) }
 
--- ---- one word
-
 -- ---- counting
 
 pub counted-more : (a l m k : ℕ) → m % 2 ^ 64 ≡ (a + l) % 2 ^ 64 → k ≡ (m + 1) % 2 ^ 64 → k % 2 ^ 64 ≡ (a + suc l) % 2 ^ 64

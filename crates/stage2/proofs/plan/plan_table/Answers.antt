@@ -55,8 +55,6 @@ returns-then-is_alike_in_table g c =
     let all = dropped e.runs e.access view e.chunk e.access c.requires.mixed outcome in
     edit-planned false c.operations_gone-gone.result c.new-then-is_alike_in_table.ensures (omega (arith, all, gone)) (λ yes. omega (arith, all, gone)) (omega (arith, c.operations_gone-gone.ensures.most))
 
--- one that stays
-
 -- one that stays, as its count tells
 pub returns-then-is_told_mixed : goal.returns-then-is_told_mixed
 returns-then-is_told_mixed g c = grind (arith, common_steps, nat_tests, kept, stray-mixed, edit-planned)
