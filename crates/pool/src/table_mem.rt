@@ -166,7 +166,8 @@ pub trait TableMem {
 
     /// Whether there is room for this many operations.
     fn has_room(&self, operations: usize) -> bool
-        ensures { result ≡ true → operations ≤ room self.now };
+        ensures yes { result ≡ true → operations ≤ room self.now }
+        ensures no { result ≡ false → room self.now < operations };
 
     /// Makes room for this many operations.
     fn ready(&mut self, operations: usize) -> Result<(), OutOfMemory>

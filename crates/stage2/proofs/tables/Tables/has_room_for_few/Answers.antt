@@ -10,4 +10,4 @@ returns-in-Some g c = λ has.
     let most = room-found t c.args.p c.args.runs.now c.args.access.now c.row.result c.row.ensures.row in
     let same = ap (λ (t : TablesView). edit_operations c.args.p c.args.runs.now c.args.access.now t) c.self.view_is in
     let room = ap (λ (t : TablesView). t.room) c.self.view_is in
-    omega (arith, most, same, room, c.in-Some.ensures.bound, c.has_room-in-Some.ensures has)
+    omega (arith, most, same, room, c.in-Some.ensures.bound, c.has_room-in-Some.ensures.yes has)

@@ -8,7 +8,7 @@ returns-then-has_room g c =
     let m = c.self.inside.memory in
     let most = room-most c.args.self.now c.args.p c.args.runs.now c.args.aim.access c.most_operations.result (c.most_operations.ensures.bound (view_of c.args.self.now c.args.p) c.args.aim.access) in
     let room : g.M.TableMem.room m ≡ c.args.self.now.room = ap (λ (t : TablesView). t.room) c.self.view_is in
-    let has = c.has_room.ensures c.if-has_room.true in
+    let has = c.has_room.ensures.yes c.if-has_room.true in
     ready-already _ c.args.p c.args.runs.now c.args.aim.access c.args.clears c.args.self.now (omega (arith, most, room, has))
     (canonical-inside _ _ _ c.args.self.now c.self.view_is c.self.invariant (g.met.M.TableMem.free_is_zero m) (g.met.M.TableMem.operations_lie_within m))
 
