@@ -299,11 +299,7 @@ fn transaction(
 }
 
 /// A copy of the ranges of a send, in as much memory as they need.
-fn ranges_of(
-    alloc: Global,
-    desc: &SendDesc<'_>,
-    spare: &mut Spare,
-) -> Result<Vec<Run>, OutOfMemory>
+fn ranges_of(alloc: Global, desc: &SendDesc<'_>, spare: &mut Spare) -> Result<Vec<Run>, OutOfMemory>
     ensures same { IfOk result (λ ranges. ranges.items ≡ desc.now.ranges) }
     ensures few { IfOk result (λ ranges. length ranges.items ≤ 512) }
 {
