@@ -283,7 +283,7 @@ impl<M: TableMem + Drop> Spm<M> {
             commit(
                 &mut self.state,
                 &mut self.tables,
-                &mut self.spare,
+                &mut self.spare.runs,
                 p,
                 change,
             )
