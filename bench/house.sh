@@ -18,3 +18,22 @@ echo "|---|---|---|---|"
 for crate in pool stage2 marks; do
     echo "| $crate | $(lines $crate src rt) | $(lines $crate specs antt) | $(lines $crate proofs antt) |"
 done
+
+# By subject: names of files of src, and of files and folders of proofs, without their endings.
+subject() {
+    code=$(cd "$top" && git ls-files "crates/$2/src" | grep -E "/($3)\.rt$" | xargs -r cat | grep -c '[^ ]' || true)
+    proof=$(cd "$top" && git ls-files "crates/$2/proofs" | grep -v /tests/ | grep -E "/proofs/($4)(/|\.antt$)" | xargs -r cat | grep -c '[^ ]' || true)
+    echo "| $1 | $code | $proof |"
+}
+
+echo
+echo "| What it is for | Code | Proof |"
+echo "|---|---|---|"
+subject "raw memory" pool 'cells|raw_pool' 'cells|CellMemory|CellSharing|WalkNames'
+subject "the store: words, counts, shares and the list of operations" pool 'block|identifiers|image|lib|list_pool|log|looks|operation|places|replace|runs|stretch|table_mem|table_pool|word_range|word_store' 'block|identifiers|image|list_pool|looks|places|replace|runs|stretch|table_pool|Alone|Applying|Contents|Count|FirstRuns|Gaps|Held|Kept|Lib|Nonzero|Recorded|Replaced|Rows|RunWords|Shares|Stretches|Turned|Within|Words|Written|Wrote'
+subject "the edit, level by level, and boot" stage2 'fill|layout|level[123]|lib|memory|outcome|place|site|table_page|tables|views' 'Editing|Lib|layout|level[123]|memory|outcome|site|tables'
+subject "tables as trees" stage2 'none' 'Tree'
+subject "what walkers see on the way" stage2 'moments' 'Walkers|moments'
+subject "tables and operations that an edit needs: plan and bounds" stage2 'bound|plan' 'Counting|bound|plan'
+subject "runs by chunks and gigabytes" stage2 'parts' 'Runs|parts'
+subject "the reader" stage2 'alike|cursor|entries|read|reader|source|table_entry|walked' 'Reading|alike|cursor|entries|reader|source'
