@@ -201,8 +201,8 @@ impl Ledger {
         }
     }
 
-    /// Takes the transaction of a handle out.
-    fn take(&mut self, handle: Handle) -> Option<Live>
+    /// Ends the transaction of a handle, if there is one, and hands it out. This takes no memory.
+    pub fn close(&mut self, handle: Handle) -> Option<Live>
         ensures value { result ≡ spec.found self.old.live handle }
         ensures manifest { self.new.manifest ≡ self.old.manifest }
         ensures donations { self.new.donations ≡ self.old.donations }
@@ -210,15 +210,6 @@ impl Ledger {
     {
         let place = place_of(&self.live, handle)?;
         Some(take_at(&mut self.live, &mut self.shared, place))
-    }
-
-    /// Ends the transaction of a handle. This takes no memory.
-    pub fn close(&mut self, handle: Handle)
-        ensures manifest { self.new.manifest ≡ self.old.manifest }
-        ensures donations { self.new.donations ≡ self.old.donations }
-        ensures live { self.new.live ≡ changes.without handle self.old.live }
-    {
-        let _ = self.take(handle);
     }
 
     /// Takes back what a receiver has retrieved of the transaction of a handle. This takes no memory.

@@ -23,8 +23,8 @@ use crate::spare::Spare;
 use crate::state::State;
 use wire::Request;
 
-/// Tests what a partition asks for, and says what it changes. It changes nothing itself. The runs of an edit and a
-/// response may stand in spare memory.
+/// Tests what a partition asks for, and says what it changes. It changes nothing itself. The runs of an edit, the terms of a
+/// transaction and a response may stand in spare memory.
 pub(crate) fn check(
     state: &State,
     call: &LentCall<'_>,
@@ -44,7 +44,7 @@ pub(crate) fn check(
         Request::RxtxMap { tx, rx, pages } => buffers::map(state, call, tx, rx, pages),
         Request::RxtxUnmap(word) => buffers::unmap(state, call, word),
         Request::IdGet => Ok(id_get::id_get(call)),
-        Request::Send(kind, transfer) => send::send(state, call, kind, transfer, &mut spare.runs),
+        Request::Send(kind, transfer) => send::send(state, call, kind, transfer, spare),
         Request::Retrieve(transfer) => retrieve::retrieve(state, call, transfer, spare),
         Request::Relinquish => relinquish::relinquish(state, call, &mut spare.runs),
         Request::Reclaim { handle, flags } => {

@@ -12,8 +12,9 @@ ghost use Rattle.spm.specs.Machine.{AreEditedBy, AreTurnedIn, ShowsEdit, fits_in
 
 use crate::calls::{buffers, reclaim, relinquish, retrieve, send, version};
 use crate::change::{Change, Edit, Update};
+use crate::spare::Spare;
 use crate::state::State;
-use base::{OutOfMemory, PartitionId, Run, Runs};
+use base::{OutOfMemory, PartitionId, Runs};
 use pool::TableMem;
 use stage2::Tables;
 use wire::Reply;
@@ -39,7 +40,7 @@ pub(crate) fn fits<M: TableMem + Drop>(
 pub(crate) fn commit<M: TableMem + Drop>(
     state: &mut State,
     tables: &mut Tables<M>,
-    spare: &mut Vec<Run>,
+    spare: &mut Spare,
     p: PartitionId,
     change: Change,
 ) -> Result<Reply, OutOfMemory>
@@ -69,11 +70,11 @@ pub(crate) fn commit<M: TableMem + Drop>(
         Some(edit) => {
             let clears = clear_count(&edit);
             tables.ready_to_turn(edit.who, &Runs::of(&edit.runs), edit.to, clears)?;
-            apply(state, p, update)?;
+            apply(state, spare, p, update)?;
             edit_tables(tables, &edit);
-            *spare = edit.runs;
+            spare.runs = edit.runs;
         }
-        None => apply(state, p, update)?,
+        None => apply(state, spare, p, update)?,
     }
     Ok(answer.into_reply())
 }
@@ -147,7 +148,12 @@ fn clear_runs<M: TableMem + Drop>(tables: &mut Tables<M>, edit: &Edit)
 
 /// Changes the state. Opening and retrieving a transaction take memory.
 #[inline(always)]
-fn apply(state: &mut State, p: PartitionId, update: Update) -> Result<(), OutOfMemory>
+fn apply(
+    state: &mut State,
+    spare: &mut Spare,
+    p: PartitionId,
+    update: Update,
+) -> Result<(), OutOfMemory>
     requires { CanUpdate state.old p update }
     ensures ok { OnOk result (state.new ≡ updated state.old p update) }
     ensures err { OnErr result (state.new ≡ state.old) }
@@ -160,7 +166,7 @@ fn apply(state: &mut State, p: PartitionId, update: Update) -> Result<(), OutOfM
         Update::UnmapBuffers => buffers::unregister(state, p),
         Update::ReleaseRx => buffers::take_rx_back(state, p),
         Update::Open(transaction) => send::open(state, transaction)?,
-        Update::Close(handle) => reclaim::close(state, handle),
+        Update::Close(handle) => reclaim::close(state, spare, handle),
         Update::Retrieve(handle, access) => retrieve::complete(state, p, handle, access)?,
         Update::Relinquish(handle) => relinquish::give_up(state, p, handle),
     }

@@ -283,7 +283,7 @@ impl<M: TableMem + Drop> Spm<M> {
             commit(
                 &mut self.state,
                 &mut self.tables,
-                &mut self.spare.runs,
+                &mut self.spare,
                 p,
                 change,
             )

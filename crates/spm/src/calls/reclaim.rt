@@ -13,6 +13,7 @@ ghost use Rattle.spm.specs.Granted.{IsGranted, IsStopped, AreSameEdits, AreOrder
 use crate::call::LentCall;
 use crate::calls::clearing::may_clear_returned;
 use crate::change::{Answer, Change, Edit, Reach, Stop, Update};
+use crate::spare::Spare;
 use crate::state::State;
 use base::{Handle, Kind, OutOfMemory, PartitionId, Run, Status};
 use descr::{are_clear_flags, orders_clear};
@@ -122,10 +123,12 @@ fn returned_by(
     }
 }
 
-/// Ends the transaction of a handle. This takes no memory.
+/// Ends the transaction of a handle, and keeps the place of its terms and ranges. This takes no memory.
 #[tactic(auto, unfolding(rules::specs::Calls::Reclaim::ended))]
-pub(crate) fn close(state: &mut State, handle: Handle)
+pub(crate) fn close(state: &mut State, spare: &mut Spare, handle: Handle)
     ensures { state.new ≡ rules.ended state.old handle }
 {
-    state.ledger.close(handle);
+    if let Some(ended) = state.ledger.close(handle) {
+        spare.keep(ended);
+    }
 }

@@ -16,6 +16,7 @@ use crate::calls::clearing::may_clear_sent;
 use crate::calls::transfer::{are_lengths, names_tx};
 use crate::change::{Answer, Change, Edit, Reach, Stop, Update};
 use crate::partitions::PartitionState;
+use crate::spare::Spare;
 use crate::state::State;
 use arrayvec::ArrayVec;
 use base::limits::{MOST_LIVE, MOST_RECEIVERS};
@@ -43,7 +44,7 @@ pub(crate) fn send(
     call: &LentCall<'_>,
     kind: Kind,
     transfer: Transfer,
-    spare: &mut Vec<Run>,
+    spare: &mut Spare,
 ) -> Result<Change, Stop>
     requires { IsReached state.now }
     ensures granted { IfOk result (λ change. IsGranted state.now call.now.caller
@@ -244,7 +245,7 @@ fn change(
     call: &LentCall<'_>,
     kind: Kind,
     checked: &Checked<'_>,
-    spare: &mut Vec<Run>,
+    spare: &mut Spare,
 ) -> Result<Change, OutOfMemory>
     requires reached { IsReached state.now }
     requires checked { (transfer : Transfer) × IsChecked state.now call.now kind transfer
@@ -254,9 +255,14 @@ fn change(
         → IsGranted state.now call.now.caller (rules.send_rule state.now call.now kind transfer) true change) }
 {
     let p = call.partition();
-    let transaction = transaction(state, p, kind, checked)?;
+    let transaction = transaction(state, p, kind, checked, spare)?;
     let handle = transaction.handle;
-    let edit = sender_edit(state.alloc, spare, &transaction, checked.desc.clears)?;
+    let edit = sender_edit(
+        state.alloc,
+        &mut spare.runs,
+        &transaction,
+        checked.desc.clears,
+    )?;
     Ok(Change {
         edit,
         update: Update::Open(transaction),
@@ -270,6 +276,7 @@ fn transaction(
     p: PartitionId,
     kind: Kind,
     checked: &Checked<'_>,
+    spare: &mut Spare,
 ) -> Result<Live, OutOfMemory>
     requires counted { checked.now.sends ≡ spec.sends_of state.now.partitions p }
     requires room { checked.now.sends < 2 ^ 32 - 1 }
@@ -281,22 +288,22 @@ fn transaction(
         kind,
         sender: p,
         tag: checked.desc.tag,
-        ranges: ranges_of(state.alloc, &checked.desc)?,
+        ranges: ranges_of(state.alloc, &checked.desc, spare)?,
         receivers: receivers_of(kind, checked.home, &checked.desc.receivers),
         home: checked.home,
     };
     Ok(Live {
         handle: Handle::new(p, checked.sends + 1),
-        terms: Box::new(state.alloc, terms)?,
+        terms: spare.place(state.alloc, terms)?,
     })
 }
 
 /// A copy of the ranges of a send, in as much memory as they need.
-fn ranges_of(alloc: Global, desc: &SendDesc<'_>) -> Result<Vec<Run>, OutOfMemory>
+fn ranges_of(alloc: Global, desc: &SendDesc<'_>, spare: &mut Spare) -> Result<Vec<Run>, OutOfMemory>
     ensures same { IfOk result (λ ranges. ranges.items ≡ desc.now.ranges) }
     ensures few { IfOk result (λ ranges. length ranges.items ≤ 512) }
 {
-    let mut ranges = Vec::with_capacity(alloc, desc.ranges().count())?;
+    let mut ranges = spare.ranges(alloc, desc.ranges().count())?;
     for run in desc.ranges() {
         ranges.push_reserved(run);
     }

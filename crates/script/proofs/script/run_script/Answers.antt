@@ -1,4 +1,4 @@
-use Rattle.std.proofs.Common.{rules, ◌≢◌, Err}
+use Rattle.std.proofs.Common.{rules, ◌≡◌, ◌≢◌, Err}
 use Rattle.script.specs.declared.fault.RunFault.TheVariants.{Write}
 use Rattle.script.proofs.Outcomes.{finished, unfinished, unread, told, ended_in_memory, ended_in_write}
 use Rattle.script.proofs.script.run_script.Goals as goal
@@ -18,6 +18,16 @@ returns-in_err-finish-clause-left g c =
       c.in_ok-script.ensures.whole,
       ended_in_write _ _ _ _ _ (search (rules, c.from_residual-in_err-finish.ensures, c.in_err-finish.ensures, c.in_err-finish.ensures.failed)) (unfinished _ _ _ _ _ _ _ write waits c.in_err-finish.ensures.beginning),
     )
+
+pub returns-in_err-finish-clause-reader : goal.returns-in_err-finish-clause-reader
+returns-in_err-finish-clause-reader g c =
+    let write : c.from_residual-in_err-finish.result ≡ Err Write = search (rules, c.from_residual-in_err-finish.ensures, c.in_err-finish.ensures, c.in_err-finish.ensures.failed) in
+    rw write c.in_ok-script.ensures.failed
+
+pub returns-in_err-finish-clause-writer : goal.returns-in_err-finish-clause-writer
+returns-in_err-finish-clause-writer g c =
+    let write : c.from_residual-in_err-finish.result ≡ Err Write = search (rules, c.from_residual-in_err-finish.ensures, c.in_err-finish.ensures, c.in_err-finish.ensures.failed) in
+    rw write c.in_err-finish.ensures.failed.1
 
 pub returns-clause-left : goal.returns-clause-left
 returns-clause-left g c =

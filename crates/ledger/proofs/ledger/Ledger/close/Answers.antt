@@ -6,7 +6,7 @@ use Rattle.ledger.specs.Changes.{without}
 use Rattle.ledger.proofs.Places.{IsPlace-in, HasNone-in}
 use Rattle.ledger.proofs.Kept.{found_at, at_place_pages, IsKept-close}
 use Rattle.ledger.proofs.Transactions.{ascending}
-use Rattle.ledger.proofs.ledger.Ledger.take.Goals as goal
+use Rattle.ledger.proofs.ledger.Ledger.close.Goals as goal
 
 pub place_of-requires : goal.place_of-requires
 place_of-requires c = subst AreAscending (sym c.deref.ensures.value) (ascending c.self.inside.live.items c.self.invariant.separate)
