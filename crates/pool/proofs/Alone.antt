@@ -1,9 +1,7 @@
 -- A page alone, whose word stands at an index.
-use Rattle.std.proofs.lemmas.Bool.Decides.{nat_tests}
+use Rattle.pool.proofs.Names.{nat_tests, Pool, words_of, after_set, after_sets, words_set, index_from, words_in, runs_set, TableWords}
 use Rattle.std.proofs.Common.{◌≡◌, ◌≢◌, ℕ, ◌+◌, ◌*◌, ◌<◌, ◌≤◌, ◌⊎◌, arith, [], ◌∷◌, length, slice_index, refl, sym, ap, ◌∙◌, inl, inr}
-use Rattle.pool.specs.Pool.{Pool, words_of, after_set, after_sets, words_set, index_from, words_in}
-use Rattle.pool.specs.Writing.{page_alone, runs_set}
-use Rattle.pool.specs.declared.runs.TableWords.{TableWords}
+use Rattle.pool.specs.Writing.{page_alone}
 use Rattle.pool.proofs.Nonzero.{word-read}
 use Rattle.pool.proofs.RunWords.{after_run-outside, page-alone, sets-none}
 use Rattle.pool.proofs.Stretches.{words_set-none, sets-more, sets-pass}

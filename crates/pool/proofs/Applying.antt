@@ -1,8 +1,7 @@
 -- One operation more on a copy of the words.
 use Rattle.std.proofs.Common.{◌≡◌, ℕ, ◌+◌, ◌*◌, length, slice_set, subst, sym}
-use Rattle.pool.specs.declared.operation.Op.{Op}
-use Rattle.pool.specs.declared.operation.Op.TheVariants.{Set}
-use Rattle.pool.specs.Pool.{ImageWords, IsInImage, applied, words_of}
+use Rattle.pool.proofs.Names.{Op, Set, words_of}
+use Rattle.pool.specs.Pool.{ImageWords, IsInImage, applied}
 use Rattle.pool.proofs.Words.{words_of-set}
 
 pub applied-set : (op : Op) (copy image : ImageWords) (page index word : ℕ) → op ≡ Set page index word → copy ≡ image → length copy.words ≡ 512 * copy.pages → IsInImage op image

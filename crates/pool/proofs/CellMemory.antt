@@ -28,11 +28,9 @@ use denote.Struct.Struct.{Shape, Struct, within}
 use denote.Struct.Owning.{shape}
 use denote.Struct.Tuple.{Tuple, tuple_type}
 use borrow.Table.OneValue.{part_in, part_out}
-use Rattle.std.specs.Prelude.{Option}
-use Rattle.std.specs.Mem.{type_size}
+use Rattle.pool.proofs.Names.{Option, type_size, slot, slots, slot_lent, slots_lent}
 use Rattle.core.proofs.mem.Param.{el_x}
 use Rattle.core.proofs.ptr.Rows.{times_below, one_below}
-use Rattle.pool.specs.CellOwnership.{slot, slots, slot_lent, slots_lent}
 use denote.Struct.Declared as Declared
 use Rattle.pool.specs.contracts.cells.Cells as C-type
 use Rattle.pool.specs.contracts.cells.Base as B-type

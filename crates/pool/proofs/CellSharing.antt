@@ -1,7 +1,7 @@
 -- A `&` to the places gives a `&` to what fills each.
 use Prim.Native.Nat.{ℕ, ◌+◌}
-use Rattle.std.specs.Prelude.{List, [], ◌∷◌, Option, Some, None}
-use Rattle.std.specs.Mem.{type_size}
+use Rattle.pool.proofs.Names.{Option, type_size, slot, slots, slot_lent, slots_lent, cells_own, cells_lent}
+use Rattle.std.specs.Prelude.{List, [], ◌∷◌, Some, None}
 use seplogic.Ra.Ura.{Ura}
 use base.Fml.{Lft, Incl, ftrue, ffalse}
 use types.Logic.{Logic}
@@ -12,7 +12,7 @@ use denote.Sharing.{ShrLaws, said}
 use denote.SharingLaws.{beside_shr_laws, nothing_shr_laws, said_shr_laws}
 use denote.Shares.{Shares-less}
 use denote.Struct.Lending.{Lends, Lends-both, Lends-nothing, Lends-said, Lends-false}
-use Rattle.pool.specs.CellOwnership.{slot, slots, slot_lent, slots_lent, fit, cells_own, cells_lent}
+use Rattle.pool.specs.CellOwnership.{fit}
 
 module _ (R : RattleType) (L : RowLaws R) where
   slot_lent_laws : (b o : ℕ) (c : Option R.Denot) → ShrLaws (slot_lent R b o c)

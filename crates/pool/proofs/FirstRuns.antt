@@ -1,10 +1,8 @@
 -- The pages of the first of some runs.
-use Rattle.std.proofs.lemmas.Bool.Decides.{nat_tests}
-use Rattle.std.proofs.lemmas.Grind.{common_steps}
+use Rattle.pool.proofs.Names.{nat_tests, common_steps, PageRun, in_run, covers}
 use Rattle.std.proofs.Common.{◌≡◌, ℕ, zero, suc, ◌+◌, ◌<◌, ◌≤◌, true, false, ◌||◌, List, [], ◌∷◌, ◌++◌, take, length, get_or, refl, sym, ap, ◌∙◌, arith}
 use Rattle.std.proofs.lemmas.List.{take_more}
 use Rattle.std.proofs.Math.Seq.{take-length}
-use Rattle.base.specs.Pages.{PageRun, in_run, covers}
 
 covers-push : (runs : List PageRun) (run : PageRun) (n : ℕ) → covers (runs ++ run ∷ []) n ≡ (covers runs n || in_run run n)
 covers-push [] run n = elim (in_run run n) as (λ b. (b || false) ≡ (false || b)) [ true ↦ refl | false ↦ refl ]

@@ -1,12 +1,8 @@
 -- How many words of a page are not 0, after a write.
 use Rattle.std.proofs.Common.{◌≡◌, ◌≢◌, ℕ, ◌+◌, ◌*◌, ◌<◌, ◌≤◌, ◌==◌, not, arith, Bool, true, false, cond, List, length, replicate, slice_index, slice_set, refl, sym, ap, ◌∙◌, ◌⊎◌, inl, inr}
 use Rattle.std.proofs.lemmas.Bool.{cases_eq, cases_Bool}
-use Rattle.std.proofs.lemmas.Bool.Decides.{nat_tests}
-use Rattle.std.proofs.lemmas.Grind.{common_steps}
+use Rattle.pool.proofs.Names.{nat_tests, common_steps, count_below, page_count, Words, words_of, put, nonzero_in, CountsNonzero}
 use Rattle.std.proofs.lemmas.List.{length-set, length-replicate, get_or-set_same, get_or-set_other}
-use Rattle.base.specs.Counts.{count_below}
-use Rattle.base.specs.Manifest.{page_count}
-use Rattle.pool.specs.Pool.{Words, words_of, put, nonzero_in, CountsNonzero}
 use Rattle.pool.proofs.Count.{count_below-same, count_below-one, count_below-some, count_below-none, count_below-le, count_below-witness}
 use Rattle.pool.proofs.Words.{put-same, put-other_index, words_of-set_at, words_of-zeros}
 

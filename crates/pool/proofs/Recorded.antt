@@ -1,14 +1,9 @@
 -- The words of a range, put and recorded one by one.
 use Rattle.std.proofs.Common.{◌≡◌, ◌≢◌, ℕ, ◌+◌, ◌-◌, ◌*◌, ◌<◌, ◌≤◌, ◌++◌, ◌∷◌, [], Bool, List, length, reverse, slice_index, slice_set, Vec, sym, ap, ◌∙◌, refl, arith}
 use Rattle.std.proofs.lemmas.List.{reverse-append}
-use Rattle.pool.specs.Pool.{words_set}
+use Rattle.pool.proofs.Names.{words_set, held, IsPageFilled, AreMarked, Grows, Puts, RecordsAll, Op, Set, WordRange}
 use Rattle.std.specs.declared.alloc.Global.{Global}
-use Rattle.pool.specs.Cells.{held, IsPageFilled, AreMarked}
-use Rattle.pool.specs.Writing.{Grows, Puts, RecordsAll}
 use Rattle.pool.specs.declared.cells.Cells.{Cells}
-use Rattle.pool.specs.declared.operation.Op.{Op}
-use Rattle.pool.specs.declared.operation.Op.TheVariants.{Set}
-use Rattle.pool.specs.declared.word_range.WordRange.{WordRange}
 use Rattle.pool.proofs.Stretches.{words_set-none, words_set-next, sets_of-none, sets_of-write, differ-next}
 
 -- at first none is

@@ -1,7 +1,7 @@
 -- The row of a partition among the rows of a manifest.
 use Rattle.std.proofs.Common.{◌≡◌, ℕ, suc, ◌+◌, true, false, not, cond, eqb, ltb, List, [], ◌∷◌, length, position, Some, None, refl, ap, ap₂}
 use Rattle.std.specs.List.{position_or_len}
-use Rattle.base.specs.Manifest.{PartitionRow, ids_of}
+use Rattle.pool.proofs.Names.{PartitionRow, ids_of}
 
 -- it is the row among their identifiers
 pub position_ids : (rows : List PartitionRow) (p : ℕ) → position (λ id. eqb id p) (ids_of rows) ≡ position (λ row. eqb row.id p) rows

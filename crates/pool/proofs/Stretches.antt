@@ -1,14 +1,9 @@
 -- Words of a page that follow one another, and the operations that write them.
-use Rattle.std.proofs.lemmas.Grind.{common_steps}
+use Rattle.pool.proofs.Names.{common_steps, nat_tests, Pool, Words, words_of, nonzero_in, words_set, sets_of, counted, after_set, after_sets, Op, Set, AllDiffer}
 use Rattle.std.proofs.Common.{◌≡◌, ◌≢◌, ℕ, zero, suc, ◌+◌, ◌-◌, ◌*◌, ◌%◌, ◌^◌, ◌<◌, ◌≤◌, ◌==◌, arith, cond, List, [], ◌∷◌, ◌++◌, length, reverse, slice_index, slice_set, refl, sym, ap, ◌∙◌, ◌⊎◌, inl, inr, add-one, Vec, Global, vec_len}
 use Rattle.std.proofs.lemmas.Bool.{cases_eq}
-use Rattle.std.proofs.lemmas.Bool.Decides.{nat_tests}
 use Rattle.std.proofs.lemmas.List.{length-append, append_assoc}
-use Rattle.pool.specs.Pool.{Pool, Words, words_of, nonzero_in, words_set, sets_of, counted, after_set, after_sets}
-use Rattle.pool.specs.declared.operation.Op.{Op}
-use Rattle.pool.specs.declared.operation.Op.TheVariants.{Set}
 use Rattle.pool.proofs.Words.{words_of-set_at, put-same, put-other_index, put-other_page}
-use Rattle.pool.specs.Shown.{AllDiffer}
 use Rattle.pool.proofs.Nonzero.{word-read, nonzero-put}
 
 -- their number stays

@@ -1,13 +1,8 @@
 -- Words that are turned: none is there, and the old ones are 0 exactly where the new ones are not.
-use Rattle.std.proofs.lemmas.Grind.{common_steps}
+use Rattle.pool.proofs.Names.{common_steps, nat_tests, PageRun, words_of, words_set, nonzero_in, AllDiffer, WordRange}
 use Rattle.std.proofs.Common.{◌≡◌, ◌≢◌, ℕ, ◌+◌, ◌*◌, ◌<◌, ◌≤◌, ◌==◌, not, arith, List, [], ◌∷◌, length, drop, get_or, sym, ap, ◌∙◌}
-use Rattle.std.proofs.lemmas.Bool.Decides.{nat_tests}
 use Rattle.std.proofs.lemmas.List.{at_drop_more, at_drop_all}
-use Rattle.base.specs.Pages.{PageRun}
-use Rattle.pool.specs.Pool.{words_of, words_set, nonzero_in}
-use Rattle.pool.specs.Shown.{AllDiffer}
 use Rattle.pool.specs.Writing.{Turns}
-use Rattle.pool.specs.declared.word_range.WordRange.{WordRange}
 use Rattle.pool.proofs.Nonzero.{nonzero-zeros}
 use Rattle.pool.proofs.Stretches.{nonzero-filled, nonzero-cleared}
 

@@ -1,14 +1,7 @@
 -- Where the operations of a list lie that calls make.
-use Rattle.std.proofs.lemmas.Grind.{common_steps}
+use Rattle.pool.proofs.Names.{common_steps, list_all, nat_tests, row_of, page_count, PageRun, Pool, lies_in, sets_of, index_from, after_run, after_runs, after_replaces, Op, Set}
 use Rattle.std.proofs.Common.{◌≡◌, ℕ, zero, suc, ◌+◌, ◌-◌, ◌*◌, ◌^◌, ◌<◌, ◌≤◌, true, List, [], ◌∷◌, ◌++◌, length, refl, arith}
-use Rattle.std.specs.List.{list_all}
-use Rattle.std.proofs.lemmas.Bool.Decides.{nat_tests}
 use Rattle.std.proofs.lemmas.List.Folds.{list_all-append}
-use Rattle.base.specs.Manifest.{row_of, page_count}
-use Rattle.base.specs.Pages.{PageRun}
-use Rattle.pool.specs.Pool.{Pool, lies_in, sets_of, index_from, after_run, after_runs, after_replaces}
-use Rattle.pool.specs.declared.operation.Op.{Op}
-use Rattle.pool.specs.declared.operation.Op.TheVariants.{Set}
 use Rattle.pool.proofs.RunWords.{run-within}
 
 pub set-within : (ids quotas : List ℕ) (page index word : ℕ) → page < page_count quotas → index < 512 → lies_in ids quotas (Set page index word) ≡ true

@@ -1,10 +1,8 @@
 -- Words and marks after a write, in the lists and in the functions that show them.
 use Rattle.std.proofs.Common.{◌≡◌, ◌≢◌, ℕ, ◌+◌, ◌*◌, ◌<◌, List, Bool, true, length, replicate, slice_set, arith, ap}
 use mathlib.Core.Path.{fun_ext}
-use Rattle.std.proofs.lemmas.Grind.{common_steps}
-use Rattle.std.proofs.lemmas.Bool.Decides.{nat_tests}
-use Rattle.base.specs.Manifest.{ManifestRows, quotas_of, page_count}
-use Rattle.pool.specs.Pool.{Memory, Words, IsWhole, words_of, taken_of, pages_of, put, mark, with_word, with_taken, with_put, with_mark, new_memory}
+use Rattle.pool.proofs.Names.{common_steps, nat_tests, ManifestRows, quotas_of, page_count, Memory, Words, words_of, taken_of, pages_of, put, mark, with_mark, new_memory}
+use Rattle.pool.specs.Pool.{IsWhole, with_word, with_taken, with_put}
 
 -- ---- words
 

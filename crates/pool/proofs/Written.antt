@@ -1,16 +1,7 @@
 -- What a table memory is, once words of one of its pages are written.
-use Rattle.std.proofs.lemmas.Bool.Decides.{nat_tests}
+use Rattle.pool.proofs.Names.{nat_tests, list_all, page_count, PageRun, Pool, words_of, taken_of, lies_in, CountsFree, CountsNonzero, NoneFreeBelow, IsShown, Wrote, log_of, runs_set, Log, TableWords, TablePool}
 use Rattle.std.proofs.Common.{◌≡◌, ◌≢◌, ℕ, ◌+◌, ◌*◌, ◌%◌, ◌^◌, ◌<◌, ◌≤◌, Bool, true, false, List, length, reverse, slice_set, true≢false, refl, sym, ap, ◌∙◌, arith}
-use Rattle.std.specs.List.{list_all}
 use Rattle.std.proofs.lemmas.List.{length-reverse}
-use Rattle.base.specs.Manifest.{page_count}
-use Rattle.base.specs.Pages.{PageRun}
-use Rattle.pool.specs.Pool.{Pool, words_of, taken_of, lies_in, CountsFree, CountsNonzero, NoneFreeBelow}
-use Rattle.pool.specs.Shown.{IsShown}
-use Rattle.pool.specs.Writing.{Wrote, log_of, runs_set}
-use Rattle.pool.specs.declared.log.Log.{Log}
-use Rattle.pool.specs.declared.runs.TableWords.{TableWords}
-use Rattle.pool.specs.declared.table_pool.TablePool.{TablePool}
 use Rattle.pool.specs.declared.word_store.WordStore.{Ghosts}
 use Rattle.pool.proofs.Kept.{memory_in}
 use Rattle.pool.proofs.Nonzero.{counts_nonzero-page}

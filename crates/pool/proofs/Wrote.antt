@@ -1,15 +1,8 @@
 -- What is written of a page, step by step.
-use Rattle.std.proofs.lemmas.Grind.{common_steps}
+use Rattle.pool.proofs.Names.{common_steps, nat_tests, PageRun, covers, Pool, words_of, nonzero_in, counted, after_set, after_run, after_invalidate, index_from, words_in, gap, IsShown, Grows, Wrote, TurnRuns, with_range, range_set, runs_set, indexes_set, Log, Set, TableWords, WordRange}
 use Rattle.std.proofs.Common.{◌≡◌, ℕ, ◌+◌, ◌-◌, ◌*◌, ◌<◌, ◌≤◌, Bool, true, arith, List, [], ◌∷◌, ◌++◌, length, reverse, slice_set, vec_len, vec_capacity, refl, sym, subst, ap, ◌∙◌, inr}
-use Rattle.std.proofs.lemmas.Bool.Decides.{nat_tests}
-use Rattle.base.specs.Pages.{PageRun, covers}
-use Rattle.pool.specs.Pool.{Pool, words_of, nonzero_in, counted, after_set, after_run, after_invalidate, index_from, words_in, gap}
-use Rattle.pool.specs.Shown.{IsShown}
-use Rattle.pool.specs.Writing.{Grows, MayWrite, MayWriteRuns, Wrote, Records, TurnRuns, CanWriteRuns, CanWriteIndexes, with_range, writes_of, range_set, runs_set, indexes_set}
-use Rattle.pool.specs.declared.log.Log.{Log}
-use Rattle.pool.specs.declared.operation.Op.TheVariants.{Set, Invalidate}
-use Rattle.pool.specs.declared.runs.TableWords.{TableWords}
-use Rattle.pool.specs.declared.word_range.WordRange.{WordRange}
+use Rattle.pool.specs.Writing.{MayWrite, MayWriteRuns, Records, CanWriteRuns, CanWriteIndexes, writes_of}
+use Rattle.pool.specs.declared.operation.Op.TheVariants.{Invalidate}
 use Rattle.pool.proofs.Stretches.{words_set-beside, vec_len-made, length-words_set}
 use Rattle.pool.proofs.RunWords.{words-in_range, after_runs-none, after_runs-next, after_runs-append, words_in-append}
 use Rattle.pool.proofs.Gaps.{gap-one, gap-words}

@@ -1,9 +1,6 @@
-use Rattle.std.proofs.lemmas.Bool.Decides.{nat_tests}
-use Rattle.std.proofs.lemmas.Grind.{common_steps}
+use Rattle.pool.proofs.Names.{nat_tests, common_steps, covers, index_from, gap, gaps_from}
 use Rattle.std.proofs.Common.{◌≡◌, ◌+◌, ◌++◌, drop, max, sym, ap, ap₂, ◌∙◌, arith, refl, inl, inr}
 use Rattle.std.proofs.lemmas.Bool.{cases_Bool}
-use Rattle.base.specs.Pages.{covers}
-use Rattle.pool.specs.Pool.{index_from, gap, gaps_from}
 use Rattle.pool.proofs.Gaps.{gaps-left, gaps-done, covers-append, gap-at, gap-has, or-right}
 use Rattle.pool.proofs.looks.are_gaps_there.Goals as goal
 

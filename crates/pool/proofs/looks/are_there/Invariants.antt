@@ -1,5 +1,6 @@
 use Rattle.std.proofs.Common.{◌≡◌, ◌+◌, ◌-◌, ◌*◌, true, false}
-use Rattle.pool.specs.Writing.{AreThere, IsMissing}
+use Rattle.pool.proofs.Names.{AreThere}
+use Rattle.pool.specs.Writing.{IsMissing}
 use Rattle.pool.proofs.looks.are_there.Given as goal
 
 -- the words before this one are there, or one of them is not

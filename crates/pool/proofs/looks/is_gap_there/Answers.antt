@@ -1,7 +1,5 @@
 use Rattle.std.proofs.Common.{◌≡◌, ◌+◌, ◌-◌, ◌*◌, subst, ◌∙◌, arith}
-use Rattle.pool.specs.Pool.{words_of}
-use Rattle.pool.specs.Writing.{AreThere}
-use Rattle.pool.specs.declared.word_range.WordRange.{WordRange}
+use Rattle.pool.proofs.Names.{words_of, AreThere, WordRange}
 use Rattle.pool.proofs.looks.is_gap_there.Goals as goal
 
 pub returns-clause-yes : goal.returns-clause-yes

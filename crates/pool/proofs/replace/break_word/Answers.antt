@@ -1,7 +1,5 @@
-use Rattle.std.proofs.lemmas.Bool.Decides.{nat_tests}
-use Rattle.std.proofs.lemmas.Grind.{common_steps}
+use Rattle.pool.proofs.Names.{nat_tests, common_steps, Words, words_of}
 use Rattle.std.proofs.Common.{ap, ◌∙◌, arith}
-use Rattle.pool.specs.Pool.{Words, words_of}
 use Rattle.pool.proofs.Nonzero.{read-test, word-read}
 use Rattle.pool.proofs.Replaced.{break-none, break-some}
 use Rattle.pool.proofs.Words.{words_of-set_at, put-same}

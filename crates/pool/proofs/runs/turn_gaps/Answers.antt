@@ -1,8 +1,6 @@
-use Rattle.std.proofs.lemmas.Bool.Decides.{nat_tests}
-use Rattle.std.proofs.lemmas.Grind.{common_steps}
+use Rattle.pool.proofs.Names.{nat_tests, common_steps, index_from, gap, gaps_from}
 use Rattle.std.proofs.Common.{◌≡◌, ◌+◌, ◌≤◌, ◌++◌, [], drop, max, refl, sym, ap, ap₂, ◌∙◌, arith}
 use Rattle.std.proofs.lemmas.List.{append-nil}
-use Rattle.pool.specs.Pool.{index_from, gap, gaps_from}
 use Rattle.pool.proofs.Gaps.{gaps-left, gaps-done, gaps-behind}
 use Rattle.pool.proofs.Wrote.{left-can, left-less, left-none, can-gap, wrote-gap, wrote-beside, turned-rest}
 use Rattle.pool.proofs.runs.turn_gaps.Goals as goal

@@ -1,6 +1,5 @@
 use Rattle.std.proofs.Common.{◌≡◌, drop, ◌≤◌}
-use Rattle.pool.specs.Pool.{gaps_from, gaps_of}
-use Rattle.pool.specs.Writing.{TurnRuns}
+use Rattle.pool.proofs.Names.{gaps_from, gaps_of, TurnRuns}
 use Rattle.pool.proofs.Wrote.{Left}
 use Rattle.pool.proofs.runs.turn_gaps.Given as goal
 

@@ -1,6 +1,5 @@
 use Rattle.std.proofs.Common.{◌≡◌, ◌==◌, drop, not, true}
-use Rattle.base.specs.Pages.{rise}
-use Rattle.pool.specs.Writing.{TurnRuns}
+use Rattle.pool.proofs.Names.{rise, TurnRuns}
 use Rattle.pool.proofs.Wrote.{Left}
 use Rattle.pool.proofs.runs.write_each.Given as goal
 

@@ -1,7 +1,5 @@
 use Rattle.std.proofs.Common.{List, sym, subst}
-use Rattle.base.specs.Pages.{PageRun}
-use Rattle.pool.specs.Pool.{words_in}
-use Rattle.pool.specs.Writing.{Wrote, log_of, runs_set}
+use Rattle.pool.proofs.Names.{PageRun, words_in, Wrote, log_of, runs_set}
 use Rattle.pool.proofs.RunWords.{runs-single}
 use Rattle.pool.proofs.Wrote.{wrote-run}
 use Rattle.pool.proofs.runs.write_runs.Goals as goal

@@ -1,8 +1,5 @@
-use Rattle.std.proofs.lemmas.Bool.Decides.{nat_tests}
-use Rattle.std.proofs.lemmas.Grind.{common_steps}
+use Rattle.pool.proofs.Names.{nat_tests, common_steps, words_set, range_set}
 use Rattle.std.proofs.Common.{◌≡◌, ◌+◌, ◌-◌, ◌*◌, ◌<◌, length, slice_index, refl, sym, ap, ◌∙◌, arith}
-use Rattle.pool.specs.Pool.{words_set}
-use Rattle.pool.specs.Writing.{range_set}
 use Rattle.pool.proofs.Nonzero.{read-test}
 use Rattle.pool.proofs.RunWords.{sets-none}
 use Rattle.pool.proofs.Stretches.{sets_of-write, length-sets_of-part, sets-more, sets-pass}

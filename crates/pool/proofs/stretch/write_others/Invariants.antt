@@ -1,5 +1,5 @@
 use Rattle.std.proofs.Common.{◌≡◌, ◌+◌, ◌-◌, ◌*◌}
-use Rattle.pool.specs.Writing.{Wrote, range_set}
+use Rattle.pool.proofs.Names.{Wrote, range_set}
 use Rattle.pool.proofs.stretch.write_others.Given as goal
 
 -- the words before this index are written

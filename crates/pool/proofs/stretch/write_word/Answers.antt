@@ -1,7 +1,5 @@
-use Rattle.std.proofs.lemmas.Bool.Decides.{nat_tests}
-use Rattle.std.proofs.lemmas.Grind.{common_steps}
+use Rattle.pool.proofs.Names.{nat_tests, common_steps, log_of}
 use Rattle.std.proofs.Common.{arith}
-use Rattle.pool.specs.Writing.{log_of}
 use Rattle.pool.proofs.Nonzero.{nonzero-le, recount-some, recount}
 use Rattle.pool.proofs.Wrote.{wrote-set}
 use Rattle.pool.proofs.stretch.write_word.Goals as goal

@@ -1,5 +1,4 @@
-use Rattle.std.proofs.lemmas.Bool.Decides.{nat_tests}
-use Rattle.std.proofs.lemmas.Grind.{common_steps}
+use Rattle.pool.proofs.Names.{nat_tests, common_steps}
 use Rattle.std.proofs.Common.{◌<◌, refl, arith, length, true}
 use Rattle.std.proofs.lemmas.List.{get_or_read, length-set}
 use Rattle.pool.proofs.Held.{length-zeros, held-zeros, marked-fill}

@@ -2,8 +2,7 @@
 use Rattle.pool.proofs.WalkNames.{◌≡◌, refl, ◌∙◌, ◌+◌, ◌*◌, List, [], ◌∷◌, ◌++◌, full_share, Fn, named, inst_fn, Val, vptr, never, id⊢, ftrue, fat, flft, WpFn, fact, tables, ‵, ◌⊛◌, at_ret, ◌$◌, ◌∵◌, !, qed, move, keep, drop, use1, split, join, rewrite, fsplit, fjoin, feq_i, feq_l, suffices, frame, done, whole, sub, stop, fld, of_opd, addr, first, blocks, exec, returns, enter, alloc_all, pass_all, free_all, look_at, get, get_in, through, sets, sets_last, env, yes, no, owns, layout, Ptr, in_a_block, ShrRef, RefOf, plain, nothing, says, Stays, stay_dropped, walk_of, ends_at, Goes-dropped, after, word, word-Good, length, get_or, flt_l, prop, regoal, proved_at, bin, size_lit, take_at, give_at, usize, None, El, R, args, ◌⊑◌, raw, heard}
 use denote.Opens.{hide, unhide}
 use Rattle.pool.proofs.CellMemory.{place_fits, Cr, Bs, sz, Place, word_had, filled_within, slot_seen}
-use Rattle.pool.specs.Cells.{IsFilled}
-use Rattle.pool.specs.CellOwnership.{slot_lent, cells_lent}
+use Rattle.pool.proofs.Names.{IsFilled, slot_lent, cells_lent}
 use Rattle.pool.specs.contracts.cells.Cells.get.Key.{name as #self}
 use Rattle.pool.specs.contracts.cells.Cells.get as F
 use Rattle.pool.proofs.cells.Cells.get.Statement as stated

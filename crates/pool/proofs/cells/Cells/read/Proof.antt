@@ -1,8 +1,7 @@
 -- `read` moves a value out, and its place is empty.
 use Rattle.pool.proofs.WalkNames.{◌≡◌, refl, sym, subst, ◌∙◌, ◌+◌, ◌*◌, ◌<◌, ◌^◌, List, [], ◌∷◌, ◌++◌, full_share, Fn, named, inst_fn, Val, vptr, never, id⊢, ftrue, fat, froom, flft, WpFn, fact, tables, ‵, ◌⊛◌, some, given, pick, learn, at_ret, ◌$◌, ◌∵◌, !, qed, move, keep, use1, use2, split, join, rewrite, fsplit, fsplit3, fjoin, fjoin3, feq_i, feq_l, suffices, frame, done, whole, sub, look, stop, fld, load, of_opd, first, blocks, exec, returns, enter, alloc_all, pass_all, free_all, look_at, get, get_in, through, sets, sets_last, env, yes, no, owns, layout, Ptr, in_a_block, MutRef, plain, nothing, opens, closes, Stays, stay_dropped, stay_ref, walk_of, ends_at, Goes-dropped, Goes-ref, after, Good, word, word-Good, length, set, get_or, length-set, flt_l, flt_i, bin, size_lit, take_at, give_at, usize, None, El, R, args, elτ, as_raw, ◌⊑◌, raw, prop, regoal, drop, heard, proved_at}
 use Rattle.pool.proofs.CellMemory.{place_fits, Cr, Bs, sz, Place, word_had, says_both, value_out, filled_within, Besides, slot_out, slot_in}
-use Rattle.pool.specs.Cells.{IsFilled}
-use Rattle.pool.specs.CellOwnership.{slot, slots, cells_own}
+use Rattle.pool.proofs.Names.{IsFilled, slot, slots, cells_own}
 use Rattle.pool.specs.contracts.cells.Cells.read.Key.{name as #self}
 use Rattle.pool.specs.contracts.cells.Cells.read as F
 use Rattle.pool.proofs.cells.Cells.read.Statement as stated

@@ -1,7 +1,7 @@
 -- `write` fills an empty place.
 use Rattle.pool.proofs.WalkNames.{◌≡◌, refl, sym, subst, ◌∙◌, ◌+◌, ◌*◌, ◌<◌, ◌^◌, List, [], ◌∷◌, ◌++◌, full_share, Fn, named, inst_fn, Val, vptr, vunit, never, id⊢, ftrue, fat, flft, WpFn, fact, tables, ‵, ◌⊛◌, at_ret, ◌$◌, ◌∵◌, !, qed, move, keep, use1, use2, split, join, rewrite, fsplit, fsplit3, fjoin, fjoin3, feq_i, feq_l, suffices, frame, done, whole, sub, init, stop, fld, unit_lit, of_opd, assigns_last, first, blocks, exec, returns, enter, alloc_all, pass_all, free_all, look_at, get, get_in, through, sets, env, yes, no, owns, layout, Ptr, in_a_block, MutRef, plain, nothing, opens, closes, says, Stays, stay_dropped, stay_ref, walk_of, ends_at, Goes-dropped, Goes-ref, after, word, word-Good, length, set, get_or, length-set, flt_l, flt_i, bin, size_lit, take_at, give_at, usize, Some, None, El, R, args, elτ, as_written, ◌⊑◌, raw, prop, regoal, drop, heard, proved_at}
 use Rattle.pool.proofs.CellMemory.{place_fits, Cr, Bs, sz, Place, word_had, value_in, tells, Besides, slot_out, slot_in}
-use Rattle.pool.specs.CellOwnership.{slot, slots, cells_own}
+use Rattle.pool.proofs.Names.{slot, slots, cells_own}
 use Rattle.pool.specs.contracts.cells.Cells.write.Key.{name as #self}
 use Rattle.pool.specs.contracts.cells.Cells.write as F
 use Rattle.pool.proofs.cells.Cells.write.Statement as stated

@@ -1,8 +1,7 @@
 use Rattle.std.proofs.Common.{ap, sym, subst, ◌∙◌, arith}
 use Rattle.std.proofs.lemmas.List.{length-map}
-use Rattle.base.specs.Manifest.{PartitionRow, ids_of}
+use Rattle.pool.proofs.Names.{PartitionRow, ids_of, StandOnce}
 use Rattle.manifest.proofs.Facts.{facts, row_of-id}
-use Rattle.pool.specs.Pool.{StandOnce}
 use Rattle.pool.proofs.identifiers.Identifiers.of.Goals as goal
 
 pub invariant_of-result : goal.invariant_of-result

@@ -1,9 +1,7 @@
 use Rattle.std.proofs.Common.{◌≡◌, true, ltb, length, get_or, refl, sym, ap, subst, ◌∙◌, arith}
 use Rattle.std.proofs.lemmas.Bool.{eqb-true}
-use Rattle.std.proofs.lemmas.Bool.Decides.{nat_tests}
+use Rattle.pool.proofs.Names.{nat_tests, row_of, StandOnce}
 use Rattle.std.proofs.lemmas.List.{get_or_read}
-use Rattle.base.specs.Manifest.{row_of}
-use Rattle.pool.specs.Pool.{StandOnce}
 use Rattle.pool.proofs.identifiers.Identifiers.row.Goals as goal
 
 pub returns-then-eq : goal.returns-then-eq

@@ -1,7 +1,5 @@
 use Rattle.std.proofs.Common.{arith}
-use Rattle.std.proofs.lemmas.Grind.{common_steps}
-use Rattle.std.proofs.lemmas.Bool.Decides.{nat_tests}
-use Rattle.pool.specs.Pool.{words_of}
+use Rattle.pool.proofs.Names.{common_steps, nat_tests, words_of}
 use Rattle.pool.proofs.image.Image.word.Goals as goal
 
 pub returns : goal.returns

@@ -1,5 +1,4 @@
-use Rattle.std.proofs.lemmas.Bool.Decides.{nat_tests}
-use Rattle.std.proofs.lemmas.Grind.{common_steps}
+use Rattle.pool.proofs.Names.{nat_tests, common_steps}
 use Rattle.std.proofs.Common.{◌≡◌, ◌+◌, ◌-◌, ◌*◌, slice_set, sym, ap, ◌∙◌, arith}
 use Rattle.pool.proofs.Stretches.{length-words_set, words_set-none, words_set-next}
 use Rattle.pool.proofs.list_pool.VecU64WordStore.set_words.Goals as goal

@@ -1,4 +1,4 @@
-use Rattle.pool.specs.Pool.{gaps_of}
+use Rattle.pool.proofs.Names.{gaps_of}
 use Rattle.pool.proofs.Written.{runs-stay, runs-state}
 use Rattle.pool.proofs.table_pool.TablePoolTableMem.set_gaps.Goals as goal
 

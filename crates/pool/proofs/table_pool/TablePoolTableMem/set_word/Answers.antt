@@ -1,7 +1,5 @@
-use Rattle.std.proofs.lemmas.Bool.Decides.{nat_tests}
-use Rattle.std.proofs.lemmas.Grind.{common_steps}
+use Rattle.pool.proofs.Names.{nat_tests, common_steps, Set}
 use Rattle.std.proofs.Common.{[], ◌∷◌, arith}
-use Rattle.pool.specs.declared.operation.Op.TheVariants.{Set}
 use Rattle.pool.proofs.Nonzero.{read-test}
 use Rattle.pool.proofs.Replaced.{keeps-set}
 use Rattle.pool.proofs.Stretches.{vec_len-made}

@@ -1,10 +1,8 @@
 use Rattle.std.proofs.Common.{◌≡◌, ℕ, ◌-◌, ◌<◌, ◌∙◌, arith, length, slice_index, get_or, ap, true}
 use Rattle.std.proofs.lemmas.List.{get_or_read}
 use Rattle.std.proofs.Math.ListN.{length-set}
-use Rattle.pool.specs.Pool.{HasFree, IsLowestFree}
-use Rattle.pool.specs.declared.table_pool.TablePool.{TablePool}
+use Rattle.pool.proofs.Names.{HasFree, IsLowestFree, TablePool, IsFirstUnmarked}
 use Rattle.pool.specs.declared.word_store.WordStore.{Ghosts}
-use Rattle.marks.specs.Marks.{IsFirstUnmarked}
 use Rattle.pool.proofs.Shares.{share_inside}
 use Rattle.pool.proofs.Kept.{memory_in, pages_in, free_zero-mark, roots-mark, standing-mark, some-unmarked, found-lowest, row-within, counts-take, below-take}
 use Rattle.pool.proofs.table_pool.TablePoolTableMem.take_page.Goals as goal
