@@ -1,14 +1,7 @@
 -- An edit takes no more tables than there are chunks and gigabytes from the first that its runs touch to the last.
-use Rattle.std.proofs.lemmas.Grind.{common_steps}
+use Rattle.stage2.proofs.Names.{common_steps, nat_tests, View, count_below, is_mixed, is_reached, grow, PageRun, in_run, covers, edited, lie_within}
 use Rattle.std.proofs.Common.{◌*◌, None, ◌≡◌, ℕ, zero, suc, ◌+◌, ◌-◌, ◌/◌, ◌<◌, ◌≤◌, ◌&&◌, not, Bool, true, false, List, sym, ◌∙◌, ◌⊎◌, true≢false, arith, inl, inr}
 use Rattle.std.proofs.lemmas.Bool.{cases_Bool, cases_lt}
-use Rattle.std.proofs.lemmas.Bool.Decides.{nat_tests}
-use Rattle.base.specs.Access.{View}
-use Rattle.base.specs.Counts.{count_below}
-use Rattle.base.specs.Need.{is_mixed, is_reached, grow}
-use Rattle.base.specs.Pages.{PageRun, in_run, covers}
-use Rattle.stage2.specs.Edits.{edited}
-use Rattle.stage2.specs.Parts.{lie_within}
 use Rattle.stage2.proofs.Counting.Growth.{reaches-nothing, grows-nothing}
 use Rattle.stage2.proofs.Runs.Normal.{any-within}
 

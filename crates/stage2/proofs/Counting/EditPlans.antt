@@ -1,10 +1,7 @@
 -- What the plan of one chunk's edit says.
 use Rattle.std.proofs.Common.{◌≡◌, ℕ, ◌+◌, ◌-◌, ◌≤◌, ◌⊎◌, Bool, true, max, min, refl, arith, inl, inr}
-use Rattle.base.specs.Access.{View}
-use Rattle.stage2.specs.declared.plan.Plan.{Plan}
-use Rattle.stage2.specs.declared.site.ChunkEdit.{ChunkEdit}
+use Rattle.stage2.proofs.Names.{View, Plan, ChunkEdit, table_operations}
 use Rattle.stage2.specs.inner.Clauses.{IsEditPlanned}
-use Rattle.stage2.specs.Room.{table_operations}
 use Rattle.stage2.proofs.Editing.ChunkByChunk.{bit}
 
 -- three operations on the chunk's own word, and so many on others, of which there are few more than are made

@@ -1,21 +1,8 @@
 -- An edit whose pages lie in one chunk, and which writes no words of level 3 but theirs.
-use Rattle.std.proofs.lemmas.Grind.{common_steps}
+use Rattle.stage2.proofs.Names.{common_steps, View, is_mixed, is_alike, nat_tests, PageRun, in_run, covers, Pages, nonzero_in, edited, answers_at, answers_of, second_of, entry_in, block_answer, covers_chunk, IsWordFor, is_between, IsCanonical, answer_of, part_in, part_count, pages_among, pages_in, reached_in, table_operations, chunk_operations, gigabyte_operations, row_operations, Layout, Slot, Next, Bad, next_page, entry_of}
 use Rattle.std.proofs.Common.{ltb, max, min, ◌≡◌, ◌≢◌, ℕ, ◌+◌, ◌-◌, ◌*◌, ◌/◌, ◌%◌, ◌<◌, ◌≤◌, Bool, true, false, cond, is_some, List, [], ◌∷◌, length, Option, Some, None, refl, sym, ap, ap₂, subst, ◌∙◌, arith, inl, inr}
 use Rattle.std.proofs.lemmas.Bool.{cases_Bool, cases_lt}
-use Rattle.base.specs.Access.{View}
-use Rattle.base.specs.Need.{is_mixed, is_alike}
-use Rattle.std.proofs.lemmas.Bool.Decides.{nat_tests}
-use Rattle.base.specs.Pages.{PageRun, in_run, covers}
-use Rattle.pool.specs.Pool.{Pages, nonzero_in}
 use Rattle.pool.proofs.Count.{count_below-some}
-use Rattle.stage2.specs.Edits.{edited}
-use Rattle.stage2.specs.inner.Chunks.{answers_at, answers_of, second_of, entry_in, block_answer, covers_chunk, IsWordFor}
-use Rattle.stage2.specs.inner.Clauses.{is_between}
-use Rattle.stage2.specs.Orderly.{IsCanonical, answer_of}
-use Rattle.stage2.specs.Parts.{part_in, part_count}
-use Rattle.stage2.specs.Room.{pages_among, pages_in, reached_in, table_operations, chunk_operations, gigabyte_operations, row_operations}
-use Rattle.stage2.specs.Slot.{Layout, Slot, Next, Bad}
-use Rattle.stage2.specs.Walk.{next_page}
 use Rattle.stage2.proofs.Counting.Bounds.{count-within}
 use Rattle.stage2.proofs.Counting.Growth.{entry-view, view-mixed, view-spelled, filled-operations}
 use Rattle.stage2.proofs.Counting.Needs.{mixed-same, mixed-none, unlike-mixed}
@@ -26,7 +13,6 @@ use Rattle.stage2.proofs.Runs.Spans.{sum_below-alone}
 use Rattle.stage2.proofs.Tree.KnownWords.{second-known}
 use Rattle.stage2.proofs.Walkers.Level3Write.{at_3-word}
 use Rattle.words.proofs.RoundTrip.{entry-zero}
-use Rattle.words.specs.Words.{entry_of}
 
 -- ---- how many pages and pieces runs have in a chunk
 

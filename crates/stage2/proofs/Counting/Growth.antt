@@ -1,23 +1,9 @@
 -- What an edit takes, read from the words.
-use Rattle.std.proofs.lemmas.Bool.Decides.{nat_tests}
-use Rattle.std.proofs.lemmas.Grind.{common_steps}
+use Rattle.stage2.proofs.Names.{nat_tests, common_steps, PageRun, covers, View, page_count, Pages, count_below, Layout, Next, slot, at_2, next_page, Gigabyte, Chunk, table_at, is_mixed, is_reached, IsCanonical, IsOrderly, answers, answer_of, linked, edited, answers_at, answers_of, second_of, entry_in, covers_chunk, IsSite, IsWordFor, grows_at, gigabyte_growth, Touches, chunk_operations}
 use Rattle.std.proofs.Common.{◌≡◌, ℕ, ◌+◌, ◌-◌, ◌*◌, ◌/◌, ◌%◌, ◌<◌, Bool, true, false, not, ◌&&◌, cond, is_some, List, Option, Some, None, length, refl, arith, ap, ap₂, sym, subst, ◌∙◌}
-use Rattle.base.specs.Pages.{PageRun, covers}
-use Rattle.base.specs.Access.{View}
-use Rattle.base.specs.Manifest.{page_count}
-use Rattle.pool.specs.Pool.{Pages}
 use Rattle.pool.proofs.Shares.{share_inside}
-use Rattle.base.specs.Counts.{count_below}
 use Rattle.pool.proofs.Count.{count_below-none}
-use Rattle.stage2.specs.Slot.{Layout, Next, slot}
-use Rattle.stage2.specs.Walk.{at_2, next_page, Gigabyte, Chunk, table_at}
-use Rattle.base.specs.Need.{is_mixed, is_reached}
-use Rattle.stage2.specs.Orderly.{IsCanonical, IsOrderly, answers, answer_of, linked}
-use Rattle.stage2.specs.Edits.{edited}
-use Rattle.stage2.specs.inner.Chunks.{answers_at, answers_of, second_of, entry_in, covers_chunk, IsSite, IsWordFor}
-use Rattle.stage2.specs.inner.Gigabytes.{grows_at, gigabyte_growth, Touches}
 use Rattle.stage2.proofs.Tree.WalkFrame.{walk-gigabyte}
-use Rattle.stage2.specs.Room.{chunk_operations}
 use Rattle.stage2.proofs.Counting.Operations.{plain}
 use Rattle.stage2.proofs.Counting.Needs.{filled-touches, outcome-filled, mixed-same, mixed-none, reached-same, reached-none, reached-some}
 use Rattle.stage2.proofs.Editing.FourChunkEdits.{third-taken}

@@ -1,8 +1,6 @@
 -- New views need no more tables than the old ones and what they grow by.
 use Rattle.std.proofs.Common.{ℕ, zero, suc, ◌+◌, ◌≤◌, Bool, true, false, not, ◌&&◌, cond, arith}
-use Rattle.base.specs.Access.{View}
-use Rattle.base.specs.Counts.{count_below}
-use Rattle.base.specs.Need.{is_mixed, is_reached, need, grow}
+use Rattle.stage2.proofs.Names.{View, count_below, is_mixed, is_reached, need, grow}
 
 count-most : (f g : ℕ → Bool) (n : ℕ) → count_below g n ≤ count_below f n + count_below (λ k. g k && not (f k)) n
 unfolding count_below

@@ -1,14 +1,9 @@
 -- What a chunk and a gigabyte need depends on their pages alone.
 use Rattle.std.proofs.Common.{◌≡◌, ℕ, zero, suc, ◌+◌, ◌*◌, ◌/◌, ◌%◌, ◌<◌, Bool, true, false, not, ◌&&◌, ◌||◌, cond, leb, ltb, List, [], ◌∷◌, Some, None, is_some, refl, ap, ap₂, sym, ◌∙◌, arith, inl, inr}
 use Rattle.std.proofs.lemmas.Bool.{cases_Bool}
-use Rattle.std.proofs.lemmas.Bool.Decides.{nat_tests}
-use Rattle.base.specs.Access.{View, Access}
-use Rattle.base.specs.Need.{is_alike, is_mixed, is_reached}
+use Rattle.stage2.proofs.Names.{nat_tests, View, Access, is_alike, is_mixed, is_reached, PageRun, in_run, covers, edited, touches_run, touches_chunk, covers_chunk, IsOutcome}
 use Rattle.base.specs.Counts.{any_below}
-use Rattle.base.specs.Pages.{PageRun, in_run, covers}
 use Rattle.manifest.proofs.Tables.{alike-same, alike-refl, any_below-some, any_below-none, any_below-no}
-use Rattle.stage2.specs.Edits.{edited, touches_run, touches_chunk}
-use Rattle.stage2.specs.inner.Chunks.{covers_chunk, IsOutcome}
 
 pub any_below-same : (f g : ℕ → Bool) (n : ℕ) → ((k : ℕ) → k < n → g k ≡ f k) → any_below g n ≡ any_below f n
 unfolding any_below

@@ -1,26 +1,12 @@
 -- How many operations an edit makes: views that agree on a chunk make as many, and what each row of the edit order makes.
-use Rattle.std.proofs.lemmas.Grind.{common_steps}
+use Rattle.stage2.proofs.Names.{common_steps, nat_tests, View, is_mixed, PageRun, covers, Words, Pool, words_of, nonzero_in, edited, touches_chunk, answers_at, block_answer, IsOutcome, IsWordFor, OthersAnswer, sum_below, pages_among, pages_in, reached_in, table_operations, chunk_operations, chunks_operations, gigabyte_operations, part_count, answer_of, Layout, Slot, Empty, Next, Maps, Bad, next_page, walked, entry_of}
 use Rattle.std.proofs.Common.{◌≡◌, ℕ, zero, suc, ◌+◌, ◌*◌, ◌/◌, ◌%◌, ◌<◌, ◌==◌, min, Bool, true, false, not, cond, is_some, List, Some, None, refl, sym, ap, ap₂, subst, ◌∙◌, arith, inl, inr, ◌⊎◌}
 use Rattle.std.proofs.lemmas.Bool.{cases_Bool}
-use Rattle.std.proofs.lemmas.Bool.Decides.{nat_tests}
-use Rattle.base.specs.Access.{View}
-use Rattle.base.specs.Need.{is_mixed}
-use Rattle.base.specs.Pages.{PageRun, covers}
-use Rattle.pool.specs.Pool.{Words, Pool, words_of, nonzero_in}
 use Rattle.pool.proofs.Count.{count_below-same}
-use Rattle.stage2.specs.Edits.{edited, touches_chunk}
-use Rattle.stage2.specs.inner.Chunks.{answers_at, block_answer, IsOutcome, IsWordFor}
-use Rattle.stage2.specs.inner.Clauses.{OthersAnswer}
-use Rattle.stage2.specs.Room.{sum_below, pages_among, pages_in, reached_in, table_operations, chunk_operations, chunks_operations, gigabyte_operations}
-use Rattle.stage2.specs.Parts.{part_count}
-use Rattle.stage2.specs.Orderly.{answer_of}
-use Rattle.stage2.specs.Slot.{Layout, Slot, Empty, Next, Maps, Bad}
-use Rattle.stage2.specs.Walk.{next_page, walked}
 use Rattle.stage2.proofs.Counting.Needs.{mixed-same, outcome-others, equal-first}
 use Rattle.stage2.proofs.Counting.Pieces.{pages_among-same, pages_among-none, pages_among-all, pages_among-not}
 use Rattle.stage2.proofs.Walkers.Level3Write.{at_3-word}
 use Rattle.words.proofs.RoundTrip.{entry-zero}
-use Rattle.words.specs.Words.{entry_of}
 
 -- ---- views that agree on a chunk
 

@@ -1,20 +1,11 @@
 -- What the pages of a chunk answer after an edit, told by the number of the runs' pages and by words.
 use Rattle.std.proofs.Common.{◌≡◌, ℕ, ◌+◌, ◌*◌, ◌/◌, ◌%◌, ◌<◌, Bool, true, false, not, cond, List, Some, None, refl, sym, ap, ap₂, subst, ◌∙◌, arith, inl, inr}
 use Rattle.std.proofs.lemmas.Bool.{cases_Bool}
-use Rattle.base.specs.Access.{View}
-use Rattle.base.specs.Need.{is_alike}
-use Rattle.base.specs.Pages.{PageRun, covers}
+use Rattle.stage2.proofs.Names.{View, is_alike, PageRun, covers, Pool, words_of, leaf_level, leaf_word_of, ChunkEdit, edited, answers_at, IsOutcome, IsWordFor, IsSpelled, read_after, tells, pages_among, Next}
 use Rattle.manifest.proofs.Tables.{alike-same, alike-refl}
-use Rattle.pool.specs.Pool.{Pool, words_of}
 use Rattle.pool.proofs.Count.{count_below-some, count_below-witness}
-use Rattle.words.specs.Words.{leaf_level, leaf_word_of}
 use Rattle.words.proofs.RoundTrip.{word-leaf}
-use Rattle.stage2.specs.declared.site.ChunkEdit.{ChunkEdit}
-use Rattle.stage2.specs.Edits.{edited}
-use Rattle.stage2.specs.inner.Chunks.{answers_at, IsOutcome, IsWordFor}
-use Rattle.stage2.specs.inner.Clauses.{IsSpelled, IsStray, read_after, tells}
-use Rattle.stage2.specs.Room.{pages_among}
-use Rattle.stage2.specs.Slot.{Next}
+use Rattle.stage2.specs.inner.Clauses.{IsStray}
 use Rattle.stage2.proofs.Counting.Needs.{outcome-others, unlike-mixed}
 use Rattle.stage2.proofs.Counting.Pieces.{page-among, pages_among-not}
 

@@ -1,17 +1,10 @@
 -- How many pages of a chunk runs have, and what that tells of the words of its level 3 table.
-use Rattle.std.proofs.lemmas.Grind.{common_steps}
+use Rattle.stage2.proofs.Names.{common_steps, nat_tests, count_below, PageRun, in_run, covers, are_normal, rise_above, Words, nonzero_in, index_from, words_in, is_between, pages_among, pages_in, end_from, part_in}
 use Rattle.std.proofs.Common.{◌≡◌, ◌≢◌, ℕ, zero, suc, ◌+◌, ◌-◌, ◌*◌, ◌/◌, ◌<◌, ◌≤◌, ◌==◌, cond, Bool, true, false, not, ◌&&◌, ◌||◌, eqb, leb, ltb, min, List, [], ◌∷◌, Some, None, take, drop, length, get_or, refl, sym, ap, ◌∙◌, arith, inl, inr}
 use Rattle.std.proofs.lemmas.Bool.{cases_Bool, and_parts, eqb-true}
 use Rattle.std.proofs.lemmas.List.{at_drop_all}
-use Rattle.std.proofs.lemmas.Bool.Decides.{nat_tests}
-use Rattle.base.specs.Counts.{count_below}
-use Rattle.base.specs.Pages.{PageRun, in_run, covers, are_normal, rise_above}
-use Rattle.pool.specs.Pool.{Words, nonzero_in, index_from, words_in}
 use Rattle.pool.proofs.Count.{count_below-same, count_below-some, count_below-none, count_below-tail, count_below-more, count_below-le, count_below-all, count_below-witness}
 use Rattle.pool.proofs.RunWords.{words_in-left}
-use Rattle.stage2.specs.inner.Clauses.{is_between}
-use Rattle.stage2.specs.Room.{pages_among, pages_in}
-use Rattle.stage2.specs.Parts.{end_from, part_in}
 use Rattle.pool.proofs.FirstRuns.{covers-take, take-all}
 use Rattle.stage2.proofs.Runs.Parts.{part-some, part-none}
 use Rattle.stage2.proofs.Runs.Normal.{end_of, from-rise, normal-next, normal-take}

@@ -1,13 +1,9 @@
 -- Quotas of partitions, and views that need no tables.
-use Rattle.std.proofs.lemmas.Bool.Decides.{nat_tests}
-use Rattle.std.proofs.lemmas.Grind.{common_steps}
+use Rattle.stage2.proofs.Names.{nat_tests, common_steps, option_map_or, View, PartitionRow, ManifestRows, ids_of, row_of, is_mixed, is_reached, need, quota_of}
 use Rattle.std.proofs.Common.{◌≡◌, ℕ, suc, ◌+◌, ◌*◌, ◌/◌, ◌%◌, ◌^◌, ◌<◌, ◌≤◌, true, false, not, cond, eqb, List, [], ◌∷◌, Some, None, IsTrue, length, get_or, find, refl, sym, ap, subst, ◌∙◌, arith, inl, inr}
-use Rattle.std.specs.Option.{option_map_or}
 use Rattle.std.proofs.lemmas.Bool.{cases_Bool, cases_lt}
-use Rattle.base.specs.Access.{View}
-use Rattle.base.specs.Manifest.{PartitionRow, ManifestRows, ids_of, quotas_of, row_of, grant}
-use Rattle.base.specs.Need.{is_mixed, is_reached, need}
-use Rattle.manifest.specs.Valid.{is_valid, quota_of}
+use Rattle.base.specs.Manifest.{quotas_of, grant}
+use Rattle.manifest.specs.Valid.{is_valid}
 use Rattle.manifest.proofs.Facts.{facts, fits_of, stranger}
 use Rattle.pool.proofs.Count.{count_below-none, count_below-some}
 use Rattle.stage2.proofs.Counting.Needs.{mixed-none, reached-none}

@@ -1,19 +1,8 @@
 -- An edit takes a level 3 table in chunks alone that have none, and a level 2 table in gigabytes that have none.
 use Rattle.std.proofs.Common.{◌≡◌, ℕ, ◌+◌, ◌*◌, ◌<◌, ◌≤◌, ◌&&◌, Bool, true, false, not, cond, is_some, is_none, List, Option, Some, None, length, refl, sym, ap, ◌∙◌, true≢false, arith, inl, inr}
 use Rattle.std.proofs.lemmas.Bool.{cases_Bool, eqb-true}
-use Rattle.std.proofs.lemmas.Bool.Decides.{nat_tests}
-use Rattle.base.specs.Access.{View}
-use Rattle.base.specs.Counts.{count_below}
-use Rattle.base.specs.Need.{is_mixed, is_reached}
-use Rattle.base.specs.Pages.{PageRun}
-use Rattle.pool.specs.Pool.{Pool, pages_of}
-use Rattle.stage2.specs.Edits.{edited, touches_chunk}
-use Rattle.stage2.specs.Orderly.{IsCanonical}
-use Rattle.stage2.specs.Slot.{Layout}
-use Rattle.stage2.specs.Walk.{next_page}
-use Rattle.stage2.specs.inner.Chunks.{answers_at, second_of, entry_in}
-use Rattle.stage2.specs.inner.Clauses.{is_between, points_at, view_in, second_in}
-use Rattle.stage2.specs.inner.Gigabytes.{grows_at, gigabyte_growth}
+use Rattle.stage2.proofs.Names.{nat_tests, View, count_below, is_mixed, is_reached, PageRun, Pool, pages_of, edited, touches_chunk, IsCanonical, Layout, next_page, answers_at, second_of, entry_in, is_between, points_at, view_in, grows_at, gigabyte_growth}
+use Rattle.stage2.specs.inner.Clauses.{second_in}
 use Rattle.stage2.proofs.Counting.Growth.{grows-nothing, reached-second, view-mixed, entry-view}
 use Rattle.stage2.proofs.Counting.Needs.{mixed-same}
 use Rattle.stage2.proofs.Counting.Pieces.{count_below-fewer}

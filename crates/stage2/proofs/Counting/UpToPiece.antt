@@ -1,15 +1,7 @@
 -- What an edit needs for the chunks of a gigabyte before one, and which runs are left for the others: one piece after another.
 use Rattle.std.proofs.Common.{◌≡◌, ℕ, ◌+◌, ◌-◌, ◌*◌, ◌<◌, ◌≤◌, Bool, false, cond, List, sym, ap, ◌∙◌, arith}
-use Rattle.base.specs.Access.{View}
-use Rattle.base.specs.Counts.{count_below}
-use Rattle.base.specs.Pages.{PageRun}
+use Rattle.stage2.proofs.Names.{View, count_below, PageRun, edited, touches_chunk, sum_below, table_operations, chunk_operations, Piece, Plan, grows_at, IsNextPiece}
 use Rattle.pool.proofs.Count.{count_below-none, count_below-tail, count_below-more}
-use Rattle.stage2.specs.Edits.{edited, touches_chunk}
-use Rattle.stage2.specs.Room.{sum_below, table_operations, chunk_operations}
-use Rattle.stage2.specs.declared.parts.Piece.{Piece}
-use Rattle.stage2.specs.declared.plan.Plan.{Plan}
-use Rattle.stage2.specs.inner.Gigabytes.{grows_at}
-use Rattle.stage2.specs.inner.Pieces.{IsNextPiece}
 use Rattle.stage2.proofs.Counting.Growth.{grows-nothing}
 use Rattle.stage2.proofs.Editing.ChunkByChunk.{bit, bit-most, sum_below-more, sum_below-each, untouched}
 use Rattle.stage2.proofs.Runs.Between.{AreLeft, left-all, left-later, left-past}

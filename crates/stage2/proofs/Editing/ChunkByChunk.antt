@@ -1,25 +1,11 @@
 -- One chunk of a gigabyte after another.
 use Rattle.std.proofs.Common.{◌≡◌, ◌≢◌, ℕ, zero, suc, ◌+◌, ◌*◌, ◌/◌, ◌^◌, ◌<◌, ◌≤◌, Bool, true, false, not, ◌&&◌, ◌||◌, cond, eqb, ltb, is_some, List, [], ◌∷◌, Some, length, refl, arith, ap, sym, subst, ◌∙◌, inl, inr, add-one}
 use Rattle.std.proofs.lemmas.Bool.{cases_eq}
-use Rattle.std.proofs.lemmas.Bool.Decides.{nat_tests}
-use Rattle.base.specs.Pages.{PageRun, in_run, covers}
-use Rattle.base.specs.Access.{View}
-use Rattle.pool.specs.Pool.{Pages, used_by, row_quota}
-use Rattle.base.specs.Counts.{count_below}
+use Rattle.stage2.proofs.Names.{nat_tests, PageRun, in_run, covers, View, Pages, used_by, row_quota, count_below, Walked, Layout, walk, walked, Gigabyte, Chunk, table_at, is_mixed, IsOrderly, answers, answer_of, linked, edited, touches_run, touches_chunk, answers_in, Redoes, Redoes_in, IsSite, IsGrowing, sum_below, grows_at, IsUnderway, common_steps}
 use Rattle.pool.proofs.Count.{count_below-same, count_below-more}
-use Rattle.stage2.specs.declared.walked.Walked.{Walked}
-use Rattle.stage2.specs.Slot.{Layout}
-use Rattle.stage2.specs.Walk.{walk, walked, Gigabyte, Chunk, table_at}
-use Rattle.base.specs.Need.{is_mixed}
-use Rattle.stage2.specs.Orderly.{IsOrderly, answers, answer_of, linked}
-use Rattle.stage2.specs.Edits.{edited, touches_run, touches_chunk}
-use Rattle.stage2.specs.inner.Chunks.{answers_in, Redoes, Redoes_in, IsSite, IsGrowing}
-use Rattle.stage2.specs.Room.{sum_below}
-use Rattle.stage2.specs.inner.Gigabytes.{grows_at, IsUnderway}
 use Rattle.stage2.proofs.Counting.Needs.{mixed-same}
 use Rattle.stage2.proofs.Editing.FourChunkEdits.{tidy-answer}
 use Rattle.stage2.proofs.Editing.ChunkKeeps.{answer-walked}
-use Rattle.std.proofs.lemmas.Grind.{common_steps}
 
 -- ---- counts
 

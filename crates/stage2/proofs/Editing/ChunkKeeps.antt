@@ -1,19 +1,10 @@
 -- An edit of a chunk, whichever of its kinds, keeps the tables orderly.
 use Rattle.std.proofs.Common.{◌≡◌, ◌≢◌, ℕ, ◌+◌, ◌*◌, ◌/◌, ◌%◌, ◌^◌, ◌<◌, is_some, Some, length, refl, arith, ap, ap₂, sym, ◌∙◌, ◌⊎◌, inl, inr}
-use Rattle.std.proofs.lemmas.Bool.Decides.{nat_tests}
-use Rattle.base.specs.Access.{View}
-use Rattle.pool.specs.Pool.{Pages}
-use Rattle.stage2.specs.Slot.{Layout, slot, Empty}
-use Rattle.stage2.specs.Walk.{walk, walked, Place, Gigabyte, Chunk, table_at, IsPlace}
-use Rattle.stage2.specs.Sound.{IsTidy}
-use Rattle.base.specs.Need.{is_mixed}
-use Rattle.stage2.specs.Orderly.{IsOrderly, answers, answer_of, level_at}
-use Rattle.stage2.specs.inner.Chunks.{Redoes}
+use Rattle.stage2.proofs.Names.{nat_tests, View, Pages, Layout, slot, Empty, walk, walked, Place, Gigabyte, Chunk, table_at, IsPlace, IsTidy, is_mixed, IsOrderly, answers, answer_of, level_at, Redoes, common_steps}
 use Rattle.stage2.proofs.Tree.RootWrites.{is_chunk}
 use Rattle.stage2.proofs.Editing.ChunkEdit.{IsChunkEdit, table-other, walk-apart}
 use Rattle.stage2.proofs.Counting.Needs.{mixed-same}
 use Rattle.stage2.proofs.Editing.Trades.{Trade, IsTrade, trade-forest, trade-taken, trade-owned, trade-hangs, trade-used}
-use Rattle.std.proofs.lemmas.Grind.{common_steps}
 
 pub in_chunk : (row c r n : ℕ) → ((r ≡ row) × (n / 512 ≡ c)) ⊎ (r ≡ row → n / 512 ≡ c → ⊥)
 in_chunk row c r n = grind (arith, common_steps, nat_tests)

@@ -1,19 +1,9 @@
 -- How many operations each of the four edits of a chunk makes, by the words that are there.
 use Rattle.std.proofs.Common.{◌≡◌, ℕ, ◌+◌, ◌*◌, ◌/◌, ◌%◌, true, ◌||◌, cond, List, is_some, Some, None, arith, ap, ◌∙◌}
-use Rattle.base.specs.Access.{View}
-use Rattle.base.specs.Pages.{PageRun, covers}
-use Rattle.pool.specs.Pool.{Pages, nonzero_in}
-use Rattle.stage2.specs.Edits.{edited}
-use Rattle.stage2.specs.inner.Chunks.{answers_in, IsOutcome, IsSite}
-use Rattle.stage2.specs.Parts.{part_count}
-use Rattle.stage2.specs.Room.{pages_in, reached_in, table_operations}
-use Rattle.stage2.specs.Slot.{Layout, Slot, Next, slot}
-use Rattle.stage2.specs.Walk.{next_page}
+use Rattle.stage2.proofs.Names.{View, PageRun, covers, Pages, nonzero_in, edited, answers_in, IsOutcome, IsSite, part_count, pages_in, reached_in, table_operations, Layout, Slot, Next, slot, next_page, nat_tests, common_steps}
 use Rattle.stage2.proofs.Counting.Needs.{mixed-none}
 use Rattle.stage2.proofs.Counting.Operations.{kept, hung, dropped, reached-as}
 use Rattle.stage2.proofs.Editing.FourChunkEdits.{entry-mixed, third-words}
-use Rattle.std.proofs.lemmas.Bool.Decides.{nat_tests}
-use Rattle.std.proofs.lemmas.Grind.{common_steps}
 
 module _ (layout : Layout) (row c j : ℕ) (m : Pages) (h : IsSite layout row c j m) (runs : List PageRun) (access : View) where
   abbrev view : ℕ → View

@@ -1,21 +1,12 @@
 -- The tables of all partitions, filled one after another.
 use Rattle.std.proofs.Common.{◌≡◌, ◌≢◌, ℕ, ◌+◌, ◌^◌, ◌<◌, ◌≤◌, true, false, ltb, List, length, get_or, zero, suc, [], ◌∷◌, refl, sym, ap, subst, ◌∙◌, arith, inl, inr}
 use Rattle.std.proofs.lemmas.Bool.{cases_lt, cases_eq}
-use Rattle.std.proofs.lemmas.Bool.Decides.{nat_tests}
+use Rattle.stage2.proofs.Names.{nat_tests, View, PartitionRow, ManifestRows, ids_of, row_of, need, quota_of, KeepsOthers, IsFilled, AreFilled, layout_of, walk_in, AreCanonical, walked, common_steps, Unmapped}
 use Rattle.std.proofs.lemmas.List.{length-map}
-use Rattle.base.specs.Access.{View}
-use Rattle.base.specs.Manifest.{PartitionRow, ManifestRows, ids_of, row_of}
-use Rattle.base.specs.Need.{need}
-use Rattle.manifest.specs.Valid.{quota_of}
 use Rattle.manifest.proofs.Facts.{Facts, row_of-id}
 use Rattle.pool.proofs.Shares.{row_of-injective}
-use Rattle.stage2.specs.inner.Filling.{KeepsOthers, IsFilled, AreFilled}
-use Rattle.stage2.specs.Slot.{layout_of}
-use Rattle.stage2.specs.Tables.{TablesView, walk_in, AreCanonical}
-use Rattle.stage2.specs.Walk.{walked}
-use Rattle.stage2.specs.declared.walked.Walked.TheVariants.{None as Unmapped}
+use Rattle.stage2.specs.Tables.{TablesView}
 use Rattle.stage2.proofs.Counting.Quotas.{no_quota, none-needed}
-use Rattle.std.proofs.lemmas.Grind.{common_steps}
 
 id-at : (rows : List PartitionRow) (i : ℕ) (row : PartitionRow) → i < length rows → row ≡ get_or rows i row → get_or (ids_of rows) i 0 ≡ row.id
 id-at [] i row lt is = absurd (omega arith)

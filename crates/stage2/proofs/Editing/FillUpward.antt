@@ -1,22 +1,11 @@
 -- The tables of one partition, filled upward.
 use Rattle.std.proofs.Common.{◌≡◌, ℕ, ◌^◌, ◌<◌, ◌≤◌, List, Some, None, refl, ap, ◌∙◌, arith}
-use Rattle.std.proofs.lemmas.Bool.Decides.{nat_tests}
-use Rattle.base.specs.Access.{Access, View}
-use Rattle.base.specs.Manifest.{row_of}
-use Rattle.base.specs.Need.{need}
-use Rattle.base.specs.Pages.{PageRun}
-use Rattle.pool.specs.Pool.{row_quota}
-use Rattle.stage2.specs.Edits.{edited}
-use Rattle.stage2.specs.inner.Filling.{IsEdge, view_below, in_range, pending_runs, CanMap, IsFilling, KeepsOthers, IsFilled}
-use Rattle.stage2.specs.Orderly.{answer_of}
-use Rattle.stage2.specs.Slot.{Layout}
-use Rattle.stage2.specs.Tables.{TablesView, walk_in, view_of, AreCanonical, Fits, quota_in, ReachSo}
-use Rattle.stage2.specs.Walk.{walked}
-use Rattle.stage2.specs.declared.walked.Walked.TheVariants.{None as Unmapped}
+use Rattle.stage2.proofs.Names.{nat_tests, Access, View, row_of, need, PageRun, row_quota, edited, IsEdge, view_below, in_range, IsFilling, KeepsOthers, IsFilled, answer_of, Layout, walk_in, view_of, AreCanonical, ReachSo, walked, common_steps, Unmapped}
+use Rattle.stage2.specs.inner.Filling.{pending_runs, CanMap}
+use Rattle.stage2.specs.Tables.{TablesView, Fits, quota_in}
 use Rattle.stage2.proofs.Editing.Fronts.{below-in, below-out, fronts-fit}
 use Rattle.stage2.proofs.Editing.ChunkKeeps.{answer-walked}
 use Rattle.stage2.proofs.Reading.SameViews.{need-same}
-use Rattle.std.proofs.lemmas.Grind.{common_steps}
 
 -- the quota that the tables know
 quota-of : (layout : Layout) (t : TablesView) (p : ℕ) → t.layout ≡ layout → AreCanonical t → quota_in t p ≡ row_quota layout.quotas (row_of layout.ids p)

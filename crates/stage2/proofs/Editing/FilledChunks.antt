@@ -1,27 +1,11 @@
 -- Chunks that follow one another, each of which a run has whole and none of which has a table: their level 2 words are replaced.
 use Rattle.std.proofs.Common.{◌≡◌, ℕ, zero, suc, ◌+◌, ◌*◌, ◌%◌, ◌^◌, ◌<◌, ◌≤◌, ◌==◌, Bool, true, false, List, length, Some, None, refl, sym, ap, subst, ◌∙◌, arith, inl, inr}
 use Rattle.std.proofs.lemmas.Bool.{cases_Bool, eqb-true}
-use Rattle.base.specs.Access.{Access, View}
-use Rattle.base.specs.Manifest.{page_count, row_of}
-use Rattle.base.specs.Pages.{PageRun}
-use Rattle.words.specs.declared.word.Entry.{Entry}
-use Rattle.words.specs.declared.word.Entry.TheVariants.{Invalid, Table, Leaf, Wrong}
-use Rattle.words.specs.Words.{leaf_word_of, entry_of, IsLeafWord}
+use Rattle.stage2.proofs.Names.{Access, View, page_count, row_of, PageRun, Entry, Invalid, Table, Leaf, leaf_word_of, entry_of, IsLeafWord, Pages, Pool, IsWhole, words_of, pages_of, put, with_put, after_break, after_make, after_replaces, Layout, slot, slot_from, walked, next_page, block_step, edited, answers_in, covers_chunk, IsEntryFor, Puts, IsUnderway, Made, replaced, StaysInStep, answers, linked, IsSeated, disturbed_below, nat_tests, common_steps}
+use Rattle.words.specs.declared.word.Entry.TheVariants.{Wrong}
 use Rattle.words.proofs.RoundTrip.{entry-block, entry-zero, word-leaf, word-table, type-table}
-use Rattle.pool.specs.Pool.{Pages, Pool, IsWhole, words_of, pages_of, put, with_put, after_break, after_make, after_replaces}
 use Rattle.pool.proofs.Words.{pages_of-set}
 use Rattle.pool.proofs.Replaced.{Keeps, keeps-break, keeps-replaces, replaces-none, replaces-more, replaces-beside}
-use Rattle.stage2.specs.Slot.{Layout, slot, slot_from}
-use Rattle.stage2.specs.Walk.{walked, next_page}
-use Rattle.stage2.specs.inner.Change.{block_step}
-use Rattle.stage2.specs.Edits.{edited}
-use Rattle.stage2.specs.inner.Chunks.{answers_in, covers_chunk, IsEntryFor}
-use Rattle.stage2.specs.inner.Clauses.{Puts}
-use Rattle.stage2.specs.inner.Gigabytes.{IsUnderway}
-use Rattle.stage2.specs.inner.History.{Made, replaced}
-use Rattle.stage2.specs.Moments.{StaysInStep}
-use Rattle.stage2.specs.Orderly.{answers, linked}
-use Rattle.stage2.specs.inner.Steps.{IsSeated, disturbed_below}
 use Rattle.stage2.proofs.Counting.Needs.{filled-touches, outcome-filled}
 use Rattle.stage2.proofs.Editing.LeafWords.{word-small}
 use Rattle.stage2.proofs.Editing.ChunkByChunk.{site, underway-edit}
@@ -32,8 +16,6 @@ use Rattle.stage2.proofs.Walkers.Disturbed.{stays-whole, unmixed-after}
 use Rattle.stage2.proofs.Walkers.Histories.{made-none, made-set, made-more}
 use Rattle.stage2.proofs.Walkers.SeatedChunks.{hung-seen, gives-block, block-no-table}
 use Rattle.stage2.proofs.Walkers.StepLists.{stays-replaced}
-use Rattle.std.proofs.lemmas.Bool.Decides.{nat_tests}
-use Rattle.std.proofs.lemmas.Grind.{common_steps}
 
 -- ---- one word
 

@@ -1,34 +1,17 @@
 -- The four edits of a chunk.
 use Rattle.std.proofs.Common.{◌≡◌, ◌≢◌, ℕ, ◌+◌, ◌*◌, ◌/◌, ◌%◌, ◌<◌, ◌==◌, Bool, true, false, not, List, [], is_some, Option, Some, None, refl, arith, ap, sym, subst, ◌∙◌, ◌⊎◌, inl, inr}
-use Rattle.base.specs.Pages.{PageRun, covers}
-use Rattle.base.specs.Access.{View}
-use Rattle.base.specs.Manifest.{page_count}
-use Rattle.words.specs.Words.{entry_of, table_word_of}
-use Rattle.pool.specs.Pool.{Words, Pages, nonzero_in, InShare, put, mark, with_put, with_mark, IsLowestFree}
+use Rattle.stage2.proofs.Names.{PageRun, covers, View, page_count, entry_of, table_word_of, Words, Pages, nonzero_in, InShare, put, mark, with_put, with_mark, IsLowestFree, Walked, Layout, Slot, Empty, Next, Bad, slot, slot_from, at_2, at_3, walk, walked, Place, Root, Gigabyte, Chunk, next_page, table_at, IsPlace, IsTidy, entry_for, answer_of, answers, linked, edited, Redoes, Redoes_in, IsWordFor, planned, Writes, answers_at, IsOutcome, IsEntryFor, IsSite, IsGrowing, block_answer, is_mixed, reached_in, nat_tests, common_steps, Unmapped}
 use Rattle.pool.proofs.Shares.{share_inside}
-use Rattle.stage2.specs.declared.walked.Walked.{Walked}
-use Rattle.stage2.specs.declared.walked.Walked.TheVariants.{None as Unmapped}
-use Rattle.stage2.specs.Slot.{Layout, Slot, Empty, Next, Bad, slot, slot_from}
-use Rattle.stage2.specs.Walk.{at_2, at_3, walk, walked, Place, Root, Gigabyte, Chunk, next_page, table_at, IsPlace}
-use Rattle.stage2.specs.Sound.{IsTidy}
-use Rattle.stage2.specs.inner.Change.{entry_for}
-use Rattle.stage2.specs.Orderly.{answer_of, answers, linked}
-use Rattle.stage2.specs.Edits.{edited}
-use Rattle.stage2.specs.inner.Chunks.{Redoes, Redoes_in, IsWordFor, planned, Writes, answers_at, IsOutcome, IsEntryFor, IsSite, IsGrowing, block_answer}
 use Rattle.stage2.proofs.Tree.WalkFrame.{put-other, put-same, walk-chunk, walk-gigabyte, table_at-root, table_at-chunk_in}
 use Rattle.stage2.proofs.Walkers.Level3Write.{at_3-word}
 use Rattle.stage2.proofs.Tree.KnownWords.{second-known}
 use Rattle.stage2.proofs.Tree.LinkTable.{slot-table}
-use Rattle.base.specs.Need.{is_mixed}
 use Rattle.pool.proofs.Count.{count_below-same}
-use Rattle.stage2.specs.Room.{reached_in}
 use Rattle.stage2.proofs.Counting.Needs.{mixed-same}
 use Rattle.stage2.proofs.Counting.Operations.{table-words, reached-as, plain-answer}
 use Rattle.stage2.proofs.Editing.ChunkEdit.{IsChunkEdit, table-here, walk-here}
 use Rattle.stage2.proofs.Editing.Trades.{Trade, Stay, Hang, Drop}
 use Rattle.stage2.proofs.Editing.ChunkKeeps.{redone}
-use Rattle.std.proofs.lemmas.Bool.Decides.{nat_tests}
-use Rattle.std.proofs.lemmas.Grind.{common_steps}
 
 -- ---- words for an answer
 

@@ -1,14 +1,9 @@
 -- What a front of a view needs: the pages below an edge of it.
 use Rattle.std.proofs.Common.{◌≡◌, ℕ, zero, suc, ◌+◌, ◌-◌, ◌*◌, ◌^◌, ◌<◌, ◌≤◌, Bool, true, false, not, ◌&&◌, cond, ltb, None, refl, sym, ◌∙◌, arith, inl, inr}
 use Rattle.std.proofs.lemmas.Bool.{cases_Bool}
-use Rattle.std.proofs.lemmas.Bool.Decides.{nat_tests}
-use Rattle.base.specs.Access.{View}
-use Rattle.base.specs.Counts.{count_below}
-use Rattle.base.specs.Need.{is_mixed, is_reached, need, grow}
-use Rattle.stage2.specs.inner.Filling.{IsEdge, view_below}
+use Rattle.stage2.proofs.Names.{nat_tests, View, count_below, is_mixed, is_reached, need, grow, IsEdge, view_below, common_steps}
 use Rattle.stage2.proofs.Editing.Gigabyte.{not-reached}
 use Rattle.stage2.proofs.Counting.Needs.{mixed-same, reached-same, mixed-none, reached-none, equal-first}
-use Rattle.std.proofs.lemmas.Grind.{common_steps}
 
 pub below-in : (view : ℕ → View) (b n : ℕ) → n < b → view_below view b n ≡ view n
 below-in view b n lt = let t : ltb n b ≡ true = grind (arith, nat_tests) in rw t refl

@@ -1,16 +1,9 @@
 -- The pages beside runs, run by run.
 use Rattle.std.proofs.Common.{◌≡◌, ℕ, ◌+◌, ◌*◌, ◌<◌, Bool, true, false, cond, List, Some, None, refl, sym, ap, ◌∙◌, ◌⊎◌, inl, inr}
-use Rattle.base.specs.Access.{View}
+use Rattle.stage2.proofs.Names.{View, PageRun, covers, rise, Pages, Pool, pages_of, gaps_of, entry_of, entry_for, planned, Writes, IsWordFor, gaps, WritesPlan, Filled}
 use Rattle.std.proofs.lemmas.Bool.{cases_Bool}
-use Rattle.base.specs.Pages.{PageRun, covers, rise}
-use Rattle.pool.specs.Pool.{Pages, Pool, pages_of, gaps_of}
 use Rattle.pool.proofs.Gaps.{gaps-out, gaps-in}
 use Rattle.words.proofs.RoundTrip.{entry-zero}
-use Rattle.words.specs.Words.{entry_of}
-use Rattle.stage2.specs.inner.Change.{entry_for}
-use Rattle.stage2.specs.inner.Chunks.{planned, Writes, IsWordFor}
-use Rattle.stage2.specs.inner.Clauses.{gaps, WritesPlan}
-use Rattle.stage2.specs.inner.History.{Filled}
 use Rattle.stage2.proofs.Walkers.Histories.{filled-more}
 
 -- in a table that is all 0, the words beside runs of which no page is to be reached

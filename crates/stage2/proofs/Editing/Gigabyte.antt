@@ -1,27 +1,14 @@
 -- The edit of a gigabyte, from its chunks and its link.
 use Rattle.std.proofs.Common.{◌≡◌, ◌≢◌, ℕ, ◌+◌, ◌-◌, ◌*◌, ◌/◌, ◌%◌, ◌^◌, ◌<◌, ◌≤◌, Bool, true, false, not, ◌&&◌, cond, eqb, ltb, is_some, List, Some, None, length, refl, arith, ap, ap₂, sym, subst, ◌∙◌, ◌⊎◌, inl, inr}
 use Rattle.std.proofs.lemmas.Bool.{cases_eq, cases_Bool}
-use Rattle.std.proofs.lemmas.Bool.Decides.{nat_tests}
-use Rattle.base.specs.Pages.{PageRun, covers}
-use Rattle.base.specs.Access.{View}
-use Rattle.words.specs.Words.{table_word_of}
-use Rattle.words.specs.declared.word.Entry.{Entry}
-use Rattle.words.specs.declared.word.Entry.TheVariants.{Invalid, Table, Leaf, Wrong as WrongWord}
+use Rattle.stage2.proofs.Names.{nat_tests, PageRun, covers, View, table_word_of, Entry, Invalid, Table, Leaf, Pages, with_put, with_mark, used_by, row_quota, count_below, Layout, Slot, Empty, Next, Maps, Bad, slot, slot_from, at_2, walk, walked, Root, Gigabyte, Chunk, next_page, table_at, IsTidy, is_mixed, is_reached, IsOrderly, IsCanonical, answers, answer_of, linked, edited, chunks_operations, grows_at, gigabyte_growth, IsUnderway, EditsGigabyte, Touches, FitsGigabyte, common_steps}
+use Rattle.words.specs.declared.word.Entry.TheVariants.{Wrong as WrongWord}
 use Rattle.words.proofs.RoundTrip.{word-table}
-use Rattle.pool.specs.Pool.{Pages, with_put, with_mark, used_by, row_quota}
-use Rattle.base.specs.Counts.{count_below}
 use Rattle.pool.proofs.Count.{count_below-same}
 use Rattle.pool.proofs.Shares.{used_by-take, used_by-give}
 use Rattle.stage2.specs.declared.walked.Walked.TheVariants.{Wrong}
-use Rattle.stage2.specs.Slot.{Layout, Slot, Empty, Next, Maps, Bad, slot, slot_from}
-use Rattle.stage2.specs.Walk.{at_2, walk, walked, Root, Gigabyte, Chunk, next_page, table_at}
-use Rattle.stage2.specs.Sound.{IsTidy}
-use Rattle.base.specs.Need.{is_mixed, is_reached}
-use Rattle.stage2.specs.Orderly.{IsOrderly, IsCanonical, answers, answer_of, linked}
-use Rattle.stage2.specs.Edits.{edited}
-use Rattle.stage2.specs.Room.{chunks_operations}
 use Rattle.stage2.proofs.Counting.Operations.{chunks-same}
-use Rattle.stage2.specs.inner.Gigabytes.{grows_at, gigabyte_growth, IsUnderway, EditsGigabyte, Touches, Fits, FitsGigabyte}
+use Rattle.stage2.specs.inner.Gigabytes.{Fits}
 use Rattle.stage2.proofs.Tree.WalkFrame.{put-other, walk-gigabyte, table_at-root, table_at-chunk_in}
 use Rattle.stage2.proofs.Counting.Needs.{mixed-same, reached-same, reached-some, reached-none, mixed-none}
 use Rattle.manifest.proofs.Tables.{any_below-none}
@@ -29,7 +16,6 @@ use Rattle.stage2.proofs.Tree.PutTwice.{with_put-twice, with_put-there}
 use Rattle.stage2.proofs.Editing.RootLinks.{IsLink, IsUnlink, IsRooted, rooted, same-walk, kept, link-rooted, unlink-rooted, unlink-table, unlink-unmapped, untabled}
 use Rattle.stage2.proofs.Editing.ChunkKeeps.{answer-walked}
 use Rattle.stage2.proofs.Editing.FourChunkEdits.{is-next}
-use Rattle.std.proofs.lemmas.Grind.{common_steps}
 
 -- ---- a table word
 

@@ -1,23 +1,12 @@
 -- One gigabyte after another, and what a row needs.
 use Rattle.std.proofs.Common.{◌≡◌, ℕ, zero, suc, ◌+◌, ◌*◌, ◌/◌, ◌^◌, ◌<◌, ◌≤◌, max, Bool, true, false, not, ◌&&◌, cond, ltb, leb, List, [], ◌∷◌, get_or, length, refl, arith, ap, ap₂, sym}
-use Rattle.std.proofs.lemmas.Bool.Decides.{nat_tests}
-use Rattle.base.specs.Pages.{PageRun, IsRun, in_run, covers}
-use Rattle.base.specs.Access.{View}
-use Rattle.pool.specs.Pool.{Pages, used_by, row_quota}
-use Rattle.base.specs.Counts.{count_below}
+use Rattle.stage2.proofs.Names.{nat_tests, PageRun, in_run, covers, View, Pages, used_by, row_quota, count_below, Layout, walk, is_reached, need, grow, IsCanonical, answers, answer_of, edited, gigabyte_operations, sum_below, grows_at, gigabyte_growth, EditsGigabyte, FitsGigabyte, IsPast, EditsRow, FitsRow, Touches, common_steps}
+use Rattle.base.specs.Pages.{IsRun}
 use Rattle.pool.proofs.Count.{count_below-same, count_below-more}
-use Rattle.stage2.specs.Slot.{Layout}
-use Rattle.stage2.specs.Walk.{walk}
-use Rattle.base.specs.Need.{is_reached, need, grow}
-use Rattle.stage2.specs.Orderly.{IsCanonical, answers, answer_of}
-use Rattle.stage2.specs.Edits.{edited}
-use Rattle.stage2.specs.Room.{gigabyte_operations, sum_below}
 use Rattle.stage2.proofs.Counting.Operations.{gigabyte-same}
-use Rattle.stage2.specs.inner.Gigabytes.{grows_at, gigabyte_growth, EditsGigabyte, FitsGigabyte, IsPast, EditsRow, FitsRow, Touches}
 use Rattle.stage2.proofs.Counting.Needs.{mixed-same, reached-same}
 use Rattle.stage2.proofs.Editing.ChunkByChunk.{sum_below-more, sum_below-up}
 use Rattle.stage2.proofs.Editing.FourChunkEdits.{tidy-answer}
-use Rattle.std.proofs.lemmas.Grind.{common_steps}
 
 -- ---- used is need
 

@@ -1,11 +1,6 @@
 -- How large the words of blocks and pages are.
 use Rattle.std.proofs.Common.{ℕ, ◌^◌, ◌<◌, Bool, arith}
-use Rattle.base.specs.Access.{Access}
-use Rattle.base.specs.declared.access.Rights.{Rights}
-use Rattle.base.specs.declared.access.MemoryKind.{MemoryKind}
-use Rattle.words.specs.Words.{leaf_fields, leaf_word_of, IsLeafWord}
-use Rattle.std.proofs.lemmas.Bool.Decides.{nat_tests}
-use Rattle.std.proofs.lemmas.Grind.{common_steps}
+use Rattle.stage2.proofs.Names.{Access, Rights, MemoryKind, leaf_fields, leaf_word_of, IsLeafWord, nat_tests, common_steps}
 
 fields-small : (block : Bool) (r : Rights) (x : Bool) (k : MemoryKind) → leaf_fields block (record { rights = r; exec = x; kind = k }) < 2 ^ 55
 unfolding leaf_fields

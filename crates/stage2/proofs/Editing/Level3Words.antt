@@ -1,13 +1,8 @@
 -- The words of one level 3 table, one after another.
 use Rattle.std.proofs.Common.{◌≡◌, ℕ, ◌+◌, ◌*◌, ◌<◌, ◌≤◌, Bool, true, false, ltb, List, [], Option, Some, None, refl, arith, sym, ◌∙◌, inl, inr}
 use Rattle.std.proofs.lemmas.Bool.{cases_Bool}
-use Rattle.std.proofs.lemmas.Bool.Decides.{nat_tests}
-use Rattle.base.specs.Access.{View}
+use Rattle.stage2.proofs.Names.{nat_tests, View, Pages, PageRun, covers, planned, Writes, IsWordFor, below, common_steps}
 use Rattle.words.proofs.RoundTrip.{entry-zero}
-use Rattle.pool.specs.Pool.{Pages}
-use Rattle.base.specs.Pages.{PageRun, covers}
-use Rattle.stage2.specs.inner.Chunks.{planned, Writes, IsWordFor, below}
-use Rattle.std.proofs.lemmas.Grind.{common_steps}
 
 before-at : (plan : ℕ → Option View) (m n : ℕ) (x : View) → below m plan n ≡ Some x → (n < m) × (plan n ≡ Some x)
 before-at plan m n x e = grind (arith, common_steps, nat_tests)

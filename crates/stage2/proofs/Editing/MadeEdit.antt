@@ -1,17 +1,7 @@
 -- The edit of a chunk that is made of that of its row: what its clauses say of the row's layout and access.
 use Rattle.std.proofs.Common.{◌≡◌, ℕ, ◌/◌, ◌&&◌, eqb, true, refl, arith}
-use Rattle.base.specs.Access.{View}
-use Rattle.pool.specs.Pool.{Pool, pages_of}
-use Rattle.stage2.specs.declared.site.ChunkEdit.{ChunkEdit}
-use Rattle.stage2.specs.declared.site.Site.{Site}
-use Rattle.stage2.specs.Edits.{edited, touches_chunk, AreFree, Turns, disturbs}
-use Rattle.stage2.specs.inner.Chunks.{answers_in, IsGrowing, IsSite, Redoes_in}
-use Rattle.stage2.specs.inner.Clauses.{IsAt, TurnsChunk, chunk_view, GrowsChunk, EditsChunk, ChunkInStep, operations_in_table}
-use Rattle.stage2.specs.Moments.{StaysInStep}
-use Rattle.stage2.specs.Room.{table_operations}
-use Rattle.stage2.specs.Slot.{Layout}
-use Rattle.stage2.specs.inner.Steps.{IsSeated}
-use Rattle.stage2.specs.Walk.{walked}
+use Rattle.stage2.proofs.Names.{View, Pool, pages_of, ChunkEdit, Site, edited, touches_chunk, AreFree, Turns, disturbs, answers_in, IsGrowing, IsSite, Redoes_in, IsAt, TurnsChunk, chunk_view, GrowsChunk, ChunkInStep, operations_in_table, StaysInStep, table_operations, Layout, IsSeated, walked}
+use Rattle.stage2.specs.inner.Clauses.{EditsChunk}
 use Rattle.stage2.proofs.Runs.ChunkCounts.{with-pages}
 
 pub touches-made : (h : ChunkEdit) → touches_chunk h.chunk h.runs ≡ true

@@ -1,15 +1,7 @@
 -- The edit of one chunk at its site: what its word and its outcome tell of it.
 use Rattle.std.proofs.Common.{◌≡◌, ℕ, ◌+◌, ◌||◌, Bool, true, false, is_some, Some, None, refl, sym, ap, ◌∙◌, ◌*◌, ◌/◌, arith, ◌%◌}
-use Rattle.base.specs.Access.{View}
-use Rattle.pool.specs.Pool.{Pool, pages_of}
-use Rattle.stage2.specs.declared.site.ChunkEdit.{ChunkEdit}
-use Rattle.stage2.specs.declared.site.Site.{Site}
-use Rattle.stage2.specs.Edits.{edited}
-use Rattle.stage2.specs.inner.Chunks.{block_answer, IsOutcome}
-use Rattle.stage2.specs.inner.Clauses.{IsAt, IsSpelled, IsTableOf, TurnsChunk, IsSeatedAt, StaysAtChunk, AnswersAll, OthersAnswer, BecomesAlike, BecomesMixed, GrowsChunk, ChunkInStep, slot_at, read_after, chunk_view, chunk_after, words_left, operations_in_table, operations_kept, tells}
-use Rattle.stage2.specs.Room.{reached_in}
-use Rattle.stage2.specs.Slot.{Slot, Next}
-use Rattle.stage2.specs.Walk.{next_page}
+use Rattle.stage2.proofs.Names.{View, Pool, pages_of, ChunkEdit, Site, edited, block_answer, IsOutcome, IsAt, IsSpelled, TurnsChunk, IsSeatedAt, StaysAtChunk, OthersAnswer, GrowsChunk, ChunkInStep, slot_at, read_after, chunk_view, chunk_after, words_left, operations_in_table, tells, reached_in, Slot, Next, next_page}
+use Rattle.stage2.specs.inner.Clauses.{IsTableOf, AnswersAll, BecomesAlike, BecomesMixed, operations_kept}
 use Rattle.stage2.proofs.Editing.ChunkRoom.{dropped-words, kept-words, hung-words, hung-some}
 use Rattle.stage2.proofs.Editing.FourChunkEdits.{outcome-read, others-before, third-inside, third-taken, growing, before-block}
 use Rattle.stage2.proofs.Editing.Spelled.{spelled-words}

@@ -1,14 +1,8 @@
 -- The words of a level 3 table as they are planned: one page's, by its chunk and index.
 use Rattle.std.proofs.Common.{◌≡◌, ℕ, ◌+◌, ◌*◌, ◌<◌, ◌≤◌, true, false, ◌&&◌, leb, ltb, Option, Some, None, refl, sym, ◌∙◌, arith}
-use Rattle.std.proofs.lemmas.Bool.Decides.{nat_tests}
-use Rattle.base.specs.Access.{View}
-use Rattle.pool.specs.Pool.{Pool, Pages}
-use Rattle.stage2.specs.inner.Chunks.{Writes, below}
-use Rattle.stage2.specs.inner.Clauses.{some_pages}
-use Rattle.stage2.specs.inner.History.{Filled}
+use Rattle.stage2.proofs.Names.{nat_tests, View, Pool, Pages, Writes, below, some_pages, Filled, common_steps}
 use Rattle.stage2.proofs.Walkers.Histories.{filled-over}
 use Rattle.stage2.proofs.Editing.Level3Words.{writes-over}
-use Rattle.std.proofs.lemmas.Grind.{common_steps}
 
 -- what is planned for some pages
 module _ (c i j : ℕ) (answer : View) (x : ℕ) where

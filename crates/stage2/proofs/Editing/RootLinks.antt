@@ -1,21 +1,13 @@
 -- A level 2 table without valid words is linked in a root, or its link is taken away: all walks stay, and the tables are orderly.
 use Rattle.std.proofs.Common.{◌≡◌, ◌≢◌, ℕ, ◌+◌, ◌/◌, ◌^◌, ◌<◌, true, false, Some, None, length, refl, arith, ap, sym, ◌∙◌, ◌⊎◌, inl, inr}
-use Rattle.base.specs.Manifest.{page_count}
-use Rattle.words.specs.Words.{table_word_of}
-use Rattle.pool.specs.Pool.{Pages, InShare, put, with_put, with_mark}
+use Rattle.stage2.proofs.Names.{page_count, table_word_of, Pages, InShare, put, with_put, with_mark, Layout, Empty, Next, slot, index_2, at_2, walk, Place, Gigabyte, next_page, table_at, IsPlace, IsOrderly, level_at, linked, nat_tests, common_steps, Unmapped}
 use Rattle.pool.proofs.Shares.{share_inside}
-use Rattle.stage2.specs.declared.walked.Walked.TheVariants.{None as Unmapped}
-use Rattle.stage2.specs.Slot.{Layout, Empty, Next, slot}
-use Rattle.stage2.specs.Walk.{index_2, at_2, walk, Place, Gigabyte, next_page, table_at, IsPlace}
-use Rattle.stage2.specs.Orderly.{IsOrderly, level_at, linked}
 use Rattle.stage2.proofs.Tree.WalkFrame.{put-other, put-same, walk-gigabyte, table_at-root, IsUnheld}
 use Rattle.stage2.proofs.Tree.RootWrites.{IsRootWrite, is_gigabyte, table_at-root_write, table_at-root_write-gigabyte, table_at-root_write-chunk, table_at-root_write-below, walk-root_write}
 use Rattle.stage2.proofs.Walkers.Level3Write.{slot-zero}
 use Rattle.stage2.proofs.Tree.LinkTable.{slot-table, walk-inside, untabled_1}
 use Rattle.stage2.proofs.Counting.Needs.{mixed-same, mixed-none}
 use Rattle.stage2.proofs.Editing.Trades.{Trade, Hang, Drop, IsTrade, trade-forest, trade-taken, trade-owned, trade-hangs, trade-used}
-use Rattle.std.proofs.lemmas.Bool.Decides.{nat_tests}
-use Rattle.std.proofs.lemmas.Grind.{common_steps}
 
 pub record IsRooted (layout : Layout) (row g word : ℕ) (old new : Pages) : Type 0 where
   pub orderly : IsOrderly layout old

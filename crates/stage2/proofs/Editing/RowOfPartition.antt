@@ -1,22 +1,12 @@
 -- The edit of a row is one of its partition.
 use Rattle.std.proofs.Common.{◌≡◌, ℕ, ◌+◌, ◌-◌, ◌^◌, ◌<◌, ◌≤◌, true, false, ◌&&◌, cond, eqb, List, length, ap, ◌∙◌, arith, inl, inr}
 use Rattle.std.proofs.lemmas.Bool.{cases_Bool}
-use Rattle.base.specs.Pages.{PageRun, covers}
-use Rattle.base.specs.Access.{View}
-use Rattle.base.specs.Manifest.{page_count}
-use Rattle.pool.specs.Pool.{Pages, InShare, used_by, share_start, row_quota}
+use Rattle.stage2.proofs.Names.{PageRun, covers, View, page_count, Pages, InShare, used_by, share_start, row_quota, Layout, walked, translation, IsOrderly, IsCanonical, answers, edited, EditsRow, nat_tests, common_steps}
 use Rattle.pool.proofs.Count.{count_below-none, count_below-some}
-use Rattle.stage2.specs.Slot.{Layout}
-use Rattle.stage2.specs.Walk.{walked, translation}
-use Rattle.stage2.specs.Orderly.{IsOrderly, IsCanonical, answers}
-use Rattle.stage2.specs.Edits.{edited}
-use Rattle.stage2.specs.inner.Gigabytes.{EditsRow}
 use Rattle.stage2.proofs.Tree.Rows.{IsRow, same_row}
 use Rattle.stage2.proofs.Editing.FourChunkEdits.{tidy-answer}
 use Rattle.stage2.proofs.Counting.Needs.{mixed-none, reached-none}
 use Rattle.stage2.proofs.Tree.EmptyTables.{no_gigabyte, no_chunk, unmapped, sound_zero}
-use Rattle.std.proofs.lemmas.Bool.Decides.{nat_tests}
-use Rattle.std.proofs.lemmas.Grind.{common_steps}
 
 pub edited-walks : (layout : Layout) (p row : ℕ) (runs : List PageRun) (access : View) (old new : Pages) → IsRow layout.ids p row → IsOrderly layout old → EditsRow layout row (edited runs access (answers layout old.words row)) old new
     → (q n : ℕ) → n < 2 ^ 27 → translation layout new.words q n ≡ cond (eqb q p && covers runs n) (walked n access) (translation layout old.words q n)

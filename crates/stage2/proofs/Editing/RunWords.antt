@@ -1,22 +1,15 @@
 -- The words for the pages of runs in a table, written at once.
 use Rattle.std.proofs.Common.{◌≡◌, ℕ, ◌+◌, ◌-◌, ◌*◌, ◌<◌, ◌≤◌, leb, true, false, List, [], ◌∷◌, Option, Some, None, refl, subst, arith}
 use Rattle.std.proofs.lemmas.Bool.{and_parts}
-use Rattle.std.proofs.lemmas.Bool.Decides.{nat_tests}
-use Rattle.base.specs.Access.{View}
-use Rattle.base.specs.Manifest.{page_count}
-use Rattle.base.specs.Pages.{PageRun, in_run, rise}
-use Rattle.pool.specs.Pool.{Pool, IsWhole, pages_of, index_from, after_run, after_runs}
+use Rattle.stage2.proofs.Names.{nat_tests, View, page_count, PageRun, in_run, rise, Pool, IsWhole, pages_of, index_from, planned, below, Writes, IsWordFor, WritesPlan, some_pages, Filled, common_steps}
+use Rattle.pool.specs.Pool.{after_run, after_runs}
 use Rattle.pool.proofs.Stretches.{length-words_set}
 use Rattle.pool.proofs.Gaps.{before-rise}
 use Rattle.pool.proofs.RunWords.{after_runs-none, after_runs-next}
-use Rattle.stage2.specs.inner.Chunks.{planned, below, Writes, IsWordFor}
-use Rattle.stage2.specs.inner.Clauses.{WritesPlan, some_pages}
-use Rattle.stage2.specs.inner.History.{Filled}
 use Rattle.stage2.proofs.Editing.Level3Words.{writes-none, writes-pass, writes-all}
 use Rattle.stage2.proofs.Editing.PlannedWords.{writes-join, filled-join}
 use Rattle.stage2.proofs.Editing.Stretches.{writes-stretch}
 use Rattle.stage2.proofs.Walkers.Histories.{filled-none, filled-wider}
-use Rattle.std.proofs.lemmas.Grind.{common_steps}
 
 -- ---- where a run lies in a chunk
 

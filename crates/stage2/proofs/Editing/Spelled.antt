@@ -1,15 +1,8 @@
 -- Each word of a level 3 table is the one for its page's answer.
 use Rattle.std.proofs.Common.{◌≡◌, ℕ, ◌/◌, ◌%◌, arith}
-use Rattle.pool.specs.Pool.{Pages}
+use Rattle.stage2.proofs.Names.{Pages, answers_at, IsSite, IsWordFor, answer_of, Layout, Empty, Next, slot, IsTidy, at_3, nat_tests, common_steps}
 use Rattle.words.proofs.RoundTrip.{word-table}
-use Rattle.stage2.specs.inner.Chunks.{answers_at, IsSite, IsWordFor}
-use Rattle.stage2.specs.Orderly.{answer_of}
-use Rattle.stage2.specs.Slot.{Layout, Empty, Next, slot}
-use Rattle.stage2.specs.Sound.{IsTidy}
-use Rattle.stage2.specs.Walk.{at_3}
 use Rattle.stage2.proofs.Editing.FourChunkEdits.{walk-entry, at_2-seen, table-entry, clean-words}
-use Rattle.std.proofs.lemmas.Bool.Decides.{nat_tests}
-use Rattle.std.proofs.lemmas.Grind.{common_steps}
 
 word-spelled : (layout : Layout) (n w : ℕ) → IsTidy n (at_3 (slot layout 3 w)) → (slot layout 3 w ≡ Empty → w ≡ 0) → IsWordFor n (answer_of (at_3 (slot layout 3 w))) w
 unfolding slot

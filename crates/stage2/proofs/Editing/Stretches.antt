@@ -1,24 +1,14 @@
 -- Words of a table that follow one another and are written at once.
 use Rattle.std.proofs.Common.{◌≡◌, ◌≢◌, ℕ, zero, suc, ◌+◌, ◌-◌, ◌*◌, ◌^◌, ◌<◌, ◌≤◌, Bool, true, false, List, length, slice_index, Some, None, refl, sym, ap, subst, ◌∙◌, arith, inl, inr}
 use Rattle.std.proofs.lemmas.Bool.{cases_eq, cases_lt}
-use Rattle.std.proofs.lemmas.Bool.Decides.{nat_tests}
-use Rattle.base.specs.Access.{Access, View}
-use Rattle.base.specs.Manifest.{page_count}
-use Rattle.words.specs.declared.word.Entry.TheVariants.{Leaf}
-use Rattle.words.specs.Words.{leaf_word_of, entry_of, IsLeafWord}
+use Rattle.stage2.proofs.Names.{nat_tests, Access, View, page_count, Leaf, leaf_word_of, entry_of, IsLeafWord, pages_of, Pool, IsWhole, words_of, entry_for, step_for, IsWordFor, Writes, some_pages, WritesPlan, AreSets, AllChange, Filled, words_after, common_steps}
 use Rattle.words.proofs.RoundTrip.{entry-zero, entry-page, word-leaf}
-use Rattle.pool.specs.Pool.{pages_of, Pool, IsWhole, words_of, words_set, sets_of, after_sets}
+use Rattle.pool.specs.Pool.{words_set, sets_of, after_sets}
 use Rattle.pool.proofs.Words.{words_of-set_at}
 use Rattle.pool.proofs.Stretches.{length-words_set, set-same, words_set-other, words_set-beside, words_set-at}
-use Rattle.stage2.specs.inner.Change.{entry_for, step_for}
-use Rattle.stage2.specs.inner.Chunks.{IsWordFor, Writes}
-use Rattle.stage2.specs.inner.Clauses.{some_pages, WritesPlan}
-use Rattle.stage2.specs.inner.History.{AreSets, AllChange, Filled}
 use Rattle.stage2.proofs.Editing.LeafWords.{word-small}
-use Rattle.stage2.specs.Moments.{words_after}
 use Rattle.stage2.proofs.Editing.PlannedWords.{some-in, some-before, some-after}
 use Rattle.stage2.proofs.Walkers.Histories.{sets-wider}
-use Rattle.std.proofs.lemmas.Grind.{common_steps}
 
 -- ---- the words of pages that follow one another
 

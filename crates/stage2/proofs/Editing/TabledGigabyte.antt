@@ -1,22 +1,12 @@
 -- The edit of a gigabyte that has its level 2 table, from that of its chunks.
 use Rattle.std.proofs.Common.{◌≡◌, ℕ, ◌+◌, ◌/◌, ◌<◌, ◌≤◌, Bool, ◌&&◌, eqb, Some, List, sym, ap, subst, ◌∙◌, arith}
-use Rattle.base.specs.Manifest.{row_of, page_count}
-use Rattle.base.specs.Pages.{PageRun}
-use Rattle.pool.specs.Pool.{Pages, Pool, pages_of}
+use Rattle.stage2.proofs.Names.{row_of, page_count, PageRun, Pages, Pool, pages_of, edited, disturbed, answers, linked, walked, Gigabyte, RowEdit, Walked, second_at, row_view, row_after, CanEditChunks, AreChunksEdited, CanEditGigabyte, IsGigabyteEdited, GigabyteInStep, operations_in_chunks, operations_in_gigabyte, IsUnderway, nat_tests, common_steps}
 use Rattle.pool.proofs.Shares.{share_inside}
-use Rattle.stage2.specs.Edits.{edited, disturbed}
-use Rattle.stage2.specs.Orderly.{answers, linked}
-use Rattle.stage2.specs.Walk.{walked, Gigabyte}
-use Rattle.stage2.specs.declared.site.RowEdit.{RowEdit}
-use Rattle.stage2.specs.declared.walked.Walked.{Walked}
-use Rattle.stage2.specs.inner.Clauses.{second_at, row_view, row_after, IsEmpty, HasWord, CanUnlink, Unlinks, UnlinksInStep, CanEditChunks, AreChunksEdited, CanEditGigabyte, IsGigabyteEdited, GigabyteInStep, operations_in_chunks, operations_in_gigabyte}
-use Rattle.stage2.specs.inner.Gigabytes.{IsUnderway}
+use Rattle.stage2.specs.inner.Clauses.{IsEmpty, HasWord, CanUnlink, Unlinks, UnlinksInStep}
 use Rattle.stage2.proofs.Editing.Gigabyte.{touched-below, linked-same, tabled-chunks, finish-kept, finish-zero, fits-tabled}
 use Rattle.stage2.proofs.Runs.ChunkCounts.{touched-operations}
 use Rattle.stage2.proofs.Walkers.RootWrites.{stays-tabled, zero-unmapped, seated-linked}
 use Rattle.stage2.proofs.Walkers.ZeroedTables.{stays-after}
-use Rattle.std.proofs.lemmas.Bool.Decides.{nat_tests}
-use Rattle.std.proofs.lemmas.Grind.{common_steps}
 
 module _ {e : RowEdit} {j g : ℕ} {runs : List PageRun} {first : Pool} {r0 : ℕ} (can : CanEditGigabyte e g runs first r0) (table : second_at e.layout.now e.row g first ≡ Some j) where
   below : g < 512

@@ -1,19 +1,14 @@
 -- A table is hung at one place, or given back there, or stays: the tables of all other places stay.
 use Rattle.std.proofs.Common.{◌≡◌, ◌≢◌, ℕ, ◌+◌, ◌<◌, Bool, true, false, is_some, Some, None, length, arith, ap, ap₂, sym, subst, ◌∙◌, ◌⊎◌, inl, inr}
 use Rattle.std.proofs.lemmas.Bool.{cases_eq}
-use Rattle.pool.specs.Pool.{Words, Pages, InShare, mark, with_mark, used_by}
-use Rattle.base.specs.Counts.{count_below}
+use Rattle.stage2.proofs.Names.{Words, Pages, InShare, mark, with_mark, used_by, count_below, Layout, Place, Gigabyte, Chunk, table_at, IsPlace, IsForest, IsOrderly, nat_tests, common_steps}
 use Rattle.pool.proofs.Words.{mark-same, mark-other, mark-kept}
 use Rattle.pool.proofs.Count.{count_below-same, count_below-one}
 use Rattle.pool.proofs.Shares.{used_by-take, used_by-give, used_by-other}
-use Rattle.stage2.specs.Slot.{Layout}
-use Rattle.stage2.specs.Walk.{Place, Gigabyte, Chunk, table_at, IsPlace, IsForest}
 use Rattle.stage2.specs.Sound.{Owns}
-use Rattle.stage2.specs.Orderly.{IsOrderly, Hangs, hung}
+use Rattle.stage2.specs.Orderly.{Hangs, hung}
 use Rattle.stage2.proofs.Tree.WalkFrame.{IsUnheld}
 use Rattle.stage2.proofs.Editing.OneAfterAnother.{used_by-same}
-use Rattle.std.proofs.lemmas.Bool.Decides.{nat_tests}
-use Rattle.std.proofs.lemmas.Grind.{common_steps}
 
 -- the place's table stays, or there is none before and after
 pub record Stays (layout : Layout) (x : Place) (old new : Pages) : Type 0 where

@@ -1,16 +1,9 @@
 -- Where pages are turned, so are their words.
 use Rattle.std.proofs.Common.{◌≡◌, ℕ, ◌/◌, sym, ap, ◌∙◌, arith}
-use Rattle.std.proofs.lemmas.Bool.Decides.{nat_tests}
-use Rattle.base.specs.Access.{View}
-use Rattle.pool.specs.Pool.{Pool, pages_of, words_of}
-use Rattle.stage2.specs.declared.site.ChunkEdit.{ChunkEdit}
-use Rattle.stage2.specs.declared.site.Site.{Site}
-use Rattle.stage2.specs.inner.Chunks.{answers_at}
-use Rattle.stage2.specs.inner.Clauses.{IsAt, IsSpelled, TurnsRuns, TurnsChunk, slot_at, chunk_view}
-use Rattle.stage2.specs.Slot.{Slot, Next}
+use Rattle.stage2.proofs.Names.{nat_tests, View, Pool, pages_of, words_of, ChunkEdit, Site, answers_at, IsAt, IsSpelled, TurnsChunk, slot_at, chunk_view, Slot, Next, common_steps}
+use Rattle.stage2.specs.inner.Clauses.{TurnsRuns}
 use Rattle.stage2.proofs.Editing.FourChunkEdits.{answers-entry}
 use Rattle.stage2.proofs.Editing.Stretches.{word-some}
-use Rattle.std.proofs.lemmas.Grind.{common_steps}
 
 pub runs-turned : (e : ChunkEdit) (k : ℕ) (pool : Pool) (view : ℕ → View) → IsSpelled e k pool → ((n : ℕ) → n / 512 ≡ e.chunk → view n ≡ answers_at e.layout.now (words_of pool.memory.words) (Next k) n) → TurnsChunk e view → TurnsRuns k e pool
 runs-turned e k pool view spelled same so turns i small covered = grind (arith, common_steps, nat_tests, word-some)

@@ -1,28 +1,15 @@
 -- The edit of a gigabyte that gets its level 2 table, from that of its chunks.
 use Rattle.std.proofs.Common.{◌≡◌, ℕ, ◌+◌, ◌/◌, ◌%◌, ◌<◌, Bool, true, false, ◌&&◌, eqb, cond, is_some, None, Some, List, sym, ap, subst, ◌∙◌, arith}
 use Rattle.std.proofs.lemmas.Bool.{eqb-true}
-use Rattle.std.proofs.lemmas.Bool.Decides.{nat_tests}
-use Rattle.base.specs.Access.{View}
-use Rattle.base.specs.Pages.{PageRun}
-use Rattle.pool.specs.Pool.{Pages, Pool, IsWhole, pages_of, words_of, taken_of, with_mark, after_take, IsLowestFree}
-use Rattle.pool.specs.declared.operation.Op.TheVariants.{Set}
-use Rattle.words.specs.Words.{table_word_of}
-use Rattle.stage2.specs.Edits.{AreFree, Turns, edited, disturbed}
-use Rattle.stage2.specs.Moments.{StaysInStep, IsLogged}
-use Rattle.stage2.specs.Orderly.{IsOrderly, answers, answer_of, linked}
-use Rattle.stage2.specs.Walk.{walk, walked, Gigabyte, table_at}
-use Rattle.stage2.specs.declared.site.RowEdit.{RowEdit}
-use Rattle.stage2.specs.declared.walked.Walked.{Walked}
-use Rattle.stage2.specs.inner.Clauses.{second_at, row_view, HasFree, Puts, CanEditChunks, AreChunksEdited, CanEditGigabyte, IsGigabyteEdited, EditsInGigabyte, GigabyteInStep, operations_in_chunks, operations_in_gigabyte}
-use Rattle.stage2.specs.inner.Gigabytes.{Fits, IsUnderway}
-use Rattle.stage2.specs.inner.Steps.{IsSeated, disturbed_below}
+use Rattle.stage2.proofs.Names.{nat_tests, View, PageRun, Pages, Pool, IsWhole, pages_of, words_of, taken_of, with_mark, after_take, IsLowestFree, Set, table_word_of, AreFree, Turns, edited, disturbed, StaysInStep, IsLogged, IsOrderly, answers, answer_of, linked, walk, walked, Gigabyte, table_at, RowEdit, Walked, second_at, row_view, HasFree, Puts, CanEditChunks, AreChunksEdited, CanEditGigabyte, IsGigabyteEdited, GigabyteInStep, operations_in_chunks, operations_in_gigabyte, IsUnderway, IsSeated, disturbed_below, common_steps}
+use Rattle.stage2.specs.inner.Clauses.{EditsInGigabyte}
+use Rattle.stage2.specs.inner.Gigabytes.{Fits}
 use Rattle.stage2.proofs.Editing.Gigabyte.{touched-below, link-has-free, link-fits, same-answers, link-chunks, finish-link}
 use Rattle.stage2.proofs.Editing.RootLinks.{IsLink, untabled, link-table, link-rooted, rooted}
 use Rattle.stage2.proofs.Runs.ChunkCounts.{touched-operations}
 use Rattle.stage2.proofs.Tree.TakenPages.{pages_of-take}
 use Rattle.stage2.proofs.Walkers.RootWrites.{stays-linked, stays-root, root-zero, forest-unlinked, gives-new}
 use Rattle.stage2.proofs.Walkers.ZeroedTables.{stays-after, stays-taken}
-use Rattle.std.proofs.lemmas.Grind.{common_steps}
 
 module _ {e : RowEdit} {g : ℕ} {runs : List PageRun} {first : Pool} {r0 : ℕ} (can : CanEditGigabyte e g runs first r0) (none : second_at e.layout.now e.row g first ≡ None) (maps : is_some e.access ≡ true) where
   below : g < 512

@@ -1,25 +1,7 @@
 -- The chunks of a gigabyte before one are edited, and these runs are left for the others: one piece after another.
 use Rattle.std.proofs.Common.{◌≡◌, ◌≢◌, ℕ, zero, suc, ◌+◌, ◌-◌, ◌*◌, ◌/◌, ◌%◌, ◌<◌, ◌≤◌, eqb, true, false, cond, None, List, sym, ap, subst, ◌∙◌, arith}
-use Rattle.base.specs.Access.{View}
-use Rattle.base.specs.Manifest.{page_count, row_of}
-use Rattle.base.specs.Pages.{PageRun, covers}
-use Rattle.pool.specs.Pool.{Pool, IsWhole, pages_of, words_of, taken_of, after_replaces}
-use Rattle.stage2.specs.Edits.{edited, touches_chunk, AreFree}
-use Rattle.stage2.specs.Moments.{StaysInStep}
-use Rattle.stage2.specs.Parts.{chunk_runs}
-use Rattle.stage2.specs.Room.{sum_below, table_operations, chunk_operations}
-use Rattle.stage2.specs.Slot.{Layout, slot}
-use Rattle.stage2.specs.Walk.{walked, next_page}
-use Rattle.stage2.specs.declared.parts.Piece.{Piece}
-use Rattle.stage2.specs.declared.site.ChunkEdit.{ChunkEdit}
-use Rattle.stage2.specs.declared.site.RowEdit.{RowEdit}
-use Rattle.stage2.specs.declared.site.Site.{Site}
-use Rattle.stage2.specs.inner.Change.{block_step}
-use Rattle.stage2.specs.inner.Chunks.{answers_in, covers_chunk}
-use Rattle.stage2.specs.inner.Clauses.{IsAt, TurnsChunk, chunk_view, GrowsChunk, HasFree, CanEditChunk, IsChunkEdited, CanEditChunks, AreChunksEdited, ReplacesBlocks, linked_view, operations_in_table}
-use Rattle.stage2.specs.inner.Gigabytes.{IsUnderway}
-use Rattle.stage2.specs.inner.Pieces.{IsNextPiece}
-use Rattle.stage2.specs.inner.Steps.{IsSeated, disturbed_below}
+use Rattle.stage2.proofs.Names.{View, page_count, row_of, PageRun, covers, Pool, IsWhole, pages_of, words_of, taken_of, after_replaces, edited, touches_chunk, AreFree, StaysInStep, chunk_runs, sum_below, table_operations, chunk_operations, Layout, slot, walked, next_page, Piece, ChunkEdit, RowEdit, Site, block_step, answers_in, covers_chunk, IsAt, TurnsChunk, chunk_view, GrowsChunk, HasFree, CanEditChunks, AreChunksEdited, operations_in_table, IsUnderway, IsNextPiece, IsSeated, disturbed_below, nat_tests, common_steps}
+use Rattle.stage2.specs.inner.Clauses.{CanEditChunk, IsChunkEdited, ReplacesBlocks, linked_view}
 use Rattle.stage2.proofs.Counting.Needs.{filled-touches}
 use Rattle.stage2.proofs.Counting.Operations.{chunk-same}
 use Rattle.stage2.proofs.Editing.ChunkByChunk.{underway-start, underway-edit, still-answers, has-free, sum_below-more, sum_below-up, site}
@@ -33,8 +15,6 @@ use Rattle.stage2.proofs.Runs.OwnRuns.{AreOwn, own-chunk, own-all, chunk-growing
 use Rattle.stage2.proofs.Runs.Spans.{underway-gap, stays-gap}
 use Rattle.stage2.proofs.Walkers.ChunkSteps.{march-edit, march-seated, march-free, march-turns}
 use Rattle.stage2.proofs.Walkers.ZeroedTables.{stays-none}
-use Rattle.std.proofs.lemmas.Bool.Decides.{nat_tests}
-use Rattle.std.proofs.lemmas.Grind.{common_steps}
 
 -- the answers after the edit
 abbrev pub after : RowEdit → ℕ → ℕ → List PageRun → Pool → ℕ → View

@@ -1,24 +1,14 @@
 -- The gigabytes of a row before one are edited: one after another.
 use Rattle.std.proofs.Common.{◌≡◌, ◌≢◌, ℕ, ◌+◌, ◌-◌, ◌/◌, ◌<◌, ◌≤◌, true, false, List, subst, sym, ◌∙◌, arith}
-use Rattle.base.specs.Pages.{PageRun, covers}
-use Rattle.pool.specs.Pool.{Pool, pages_of}
-use Rattle.stage2.specs.Edits.{AreFree}
-use Rattle.stage2.specs.Moments.{StaysInStep}
-use Rattle.stage2.specs.Orderly.{IsCanonical}
-use Rattle.stage2.specs.Parts.{gigabyte_runs}
-use Rattle.stage2.specs.Room.{sum_below, gigabyte_operations}
-use Rattle.stage2.specs.Walk.{walked}
-use Rattle.stage2.specs.declared.site.RowEdit.{RowEdit}
-use Rattle.stage2.specs.inner.Clauses.{row_view, row_after, CanEditGigabyte, IsGigabyteEdited, operations_in_gigabyte, CanEditRow, IsRowEdited}
-use Rattle.stage2.specs.inner.Gigabytes.{IsPast, Touches, LieInGigabyte}
+use Rattle.stage2.proofs.Names.{PageRun, covers, Pool, pages_of, AreFree, StaysInStep, IsCanonical, gigabyte_runs, sum_below, gigabyte_operations, walked, RowEdit, row_view, row_after, CanEditGigabyte, IsGigabyteEdited, operations_in_gigabyte, IsPast, Touches, nat_tests, common_steps}
+use Rattle.stage2.specs.inner.Clauses.{CanEditRow, IsRowEdited}
+use Rattle.stage2.specs.inner.Gigabytes.{LieInGigabyte}
 use Rattle.stage2.proofs.Editing.ChunkByChunk.{sum_below-more, sum_below-up}
 use Rattle.stage2.proofs.Editing.GigabyteByGigabyte.{past-none, past-fits, past-operations, past-edit, past-all}
 use Rattle.stage2.proofs.Runs.OwnRuns.{gigabyte-covers, gigabyte-operations, gigabyte-fits, gigabyte-edits, gigabyte-free, gigabyte-turns, gigabyte-stays}
 use Rattle.stage2.proofs.Runs.Spans.{past-gap, cross-gap}
 use Rattle.stage2.proofs.Walkers.GigabyteSteps.{disturbed_before, cross-edit, cross-free, cross-turns, cross-all}
 use Rattle.stage2.proofs.Walkers.ZeroedTables.{stays-none}
-use Rattle.std.proofs.lemmas.Bool.Decides.{nat_tests}
-use Rattle.std.proofs.lemmas.Grind.{common_steps}
 
 -- the operations of a gigabyte at most
 abbrev pub cost : RowEdit → List PageRun → Pool → ℕ → ℕ

@@ -1,27 +1,13 @@
 -- What clauses say of the tables: canonical tables, and an edit of a partition that has a root or has none.
 use Rattle.std.proofs.Common.{◌≡◌, ℕ, ◌+◌, ◌-◌, ◌*◌, ◌/◌, ◌%◌, ◌^◌, ◌<◌, ◌≤◌, Bool, true, false, not, ◌&&◌, cond, eqb, ltb, List, length, position, Option, Some, None, is_some, Result, Ok, refl, sym, ap, subst, ◌∙◌, arith, inl, inr}
-use Rattle.std.specs.Option.{option_map}
+use Rattle.stage2.proofs.Names.{option_map, nat_tests, Access, View, row_of, is_reached, need, grow, PageRun, in_run, covers, Clear, Pool, pages_of, words_of, taken_of, used_by, row_quota, free_of, all_lie_in, edited, AreFree, Turns, disturbed, answers_of, EditsRow, FitsRow, StaysInStep, IsCanonical, answers, answer_of, row_operations, Layout, walk_in, view_of, has_root, AreCanonical, AreTurnedFor, edit_operations, AreEdited, ReachSo, ShowsMoments, EditsInStep, ClearsInStep, walk, walk_across, walked, common_steps, Unmapped}
 use Rattle.std.specs.Result.{OnOk}
 use Rattle.std.proofs.lemmas.Bool.{cases_Bool, ltb-true, eqb-true}
-use Rattle.std.proofs.lemmas.Bool.Decides.{nat_tests}
-use Rattle.base.specs.Access.{Access, View}
-use Rattle.base.specs.Manifest.{row_of}
-use Rattle.base.specs.Need.{is_reached, need, grow}
-use Rattle.base.specs.Pages.{PageRun, in_run, covers}
-use Rattle.pool.specs.declared.operation.Op.TheVariants.{Clear}
-use Rattle.pool.specs.Pool.{Pool, pages_of, words_of, taken_of, used_by, row_quota, free_of, after_clear, all_lie_in}
+use Rattle.pool.specs.Pool.{after_clear}
 use Rattle.pool.proofs.Count.{count_below-same, count_below-none, count_below-some}
 use Rattle.pool.proofs.Shares.{row_quota-none, used_by-le}
-use Rattle.stage2.specs.declared.walked.Walked.TheVariants.{None as Unmapped}
-use Rattle.stage2.specs.Edits.{edited, AreFree, Turns, disturbed, with_pages}
-use Rattle.stage2.specs.inner.Chunks.{answers_of}
-use Rattle.stage2.specs.inner.Gigabytes.{EditsRow, FitsRow}
-use Rattle.stage2.specs.Moments.{StaysInStep}
-use Rattle.stage2.specs.Orderly.{IsCanonical, answers, answer_of}
-use Rattle.stage2.specs.Room.{row_operations}
-use Rattle.stage2.specs.Slot.{Layout}
-use Rattle.stage2.specs.Tables.{TablesView, walk_in, view_of, has_root, AreCanonical, AreTurnedFor, Fits, edit_operations, IsMadeReady, AreEdited, ReachSo, ShowsMoments, EditsInStep, ClearsInStep}
-use Rattle.stage2.specs.Walk.{walk, walk_across, walked}
+use Rattle.stage2.specs.Edits.{with_pages}
+use Rattle.stage2.specs.Tables.{TablesView, Fits, IsMadeReady}
 use Rattle.stage2.proofs.Walkers.WholeCall.{moments-edited, clears-nothing}
 use Rattle.stage2.proofs.Walkers.ZeroedTables.{counted-op, stays-none}
 use Rattle.stage2.proofs.Editing.RowOfPartition.{edited-walks}
@@ -32,7 +18,6 @@ use Rattle.stage2.proofs.Editing.GigabyteByGigabyte.{used-need}
 use Rattle.stage2.proofs.Tree.Rows.{IsRow, row-found, no-row}
 use Rattle.stage2.proofs.Walkers.WholeEdit.{moments-none}
 use Rattle.base.proofs.Booleans.{both}
-use Rattle.std.proofs.lemmas.Grind.{common_steps}
 
 pub are-canonical : (t : TablesView) → IsCanonical t.layout (pages_of t.pool.memory) → ((q i : ℕ) → taken_of t.pool.memory.taken q ≡ false → words_of t.pool.memory.words q i ≡ 0) → all_lie_in t.pool ≡ true → AreCanonical t
 are-canonical t trees free listed = record {

@@ -1,14 +1,8 @@
 -- A table that is read word by word.
 use Rattle.std.proofs.Common.{◌≡◌, ℕ, zero, suc, ◌+◌, ◌-◌, ◌*◌, ◌%◌, ◌<◌, ◌≤◌, Bool, not, cond, eqb, [], ◌∷◌, ◌++◌, refl, sym, ap, ap₂, ◌∙◌, append_assoc, arith, inl, inr, eq-eqb, List}
 use Rattle.std.proofs.lemmas.Bool.{cases_Bool, eqb-true}
-use Rattle.base.specs.Counts.{count_below}
-use Rattle.pool.specs.Pool.{Words, nonzero_in}
+use Rattle.stage2.proofs.Names.{count_below, Words, nonzero_in, Cursor, Level, TableEntry, pages_at, entry_at, entries_from, entry_row, left_in, IsCursor, PassTheSame, next_first, nat_tests, common_steps}
 use Rattle.pool.proofs.Count.{count_below-more}
-use Rattle.stage2.specs.declared.cursor.Cursor.{Cursor}
-use Rattle.stage2.specs.declared.table_page.Level.{Level}
-use Rattle.stage2.specs.Reading.{TableEntry, pages_at, entry_at, entries_from, entry_row, left_in, IsCursor, PassTheSame, next_first}
-use Rattle.std.proofs.lemmas.Bool.Decides.{nat_tests}
-use Rattle.std.proofs.lemmas.Grind.{common_steps}
 
 module _ (level : Level) (first : ℕ) (word : ℕ → ℕ) where
   -- the word at an index, and those behind it

@@ -1,32 +1,16 @@
 -- The entries of canonical tables are those that the views need.
 use Rattle.std.proofs.Common.{◌≡◌, ℕ, zero, suc, ◌+◌, ◌*◌, ◌/◌, ◌%◌, ◌<◌, ◌≤◌, Bool, true, false, cond, List, [], ◌∷◌, ◌++◌, Option, Some, None, is_some, length, refl, sym, ap, ap₂, ◌∙◌, append-nil, map, map-id, arith, eq-eqb}
-use Rattle.std.specs.List.{flat_map}
-use Rattle.std.specs.Option.{option_map_or}
+use Rattle.stage2.proofs.Names.{flat_map, option_map_or, View, row_of, is_mixed, is_reached, Entry, entry_of, leaf_level, Words, words_of, leaf_for, entry_for_table, word_at, number_of, each_below, page_entries, chunk_entries, gigabyte_entries, entries, answer_of, TableEntry, pages_at, entry_at, entries_from, table_entries, access_of, table_in, with_chunks, tree_entries, shown, entries_of, reading_of, Layout, slot, slot_from, view_of, AreCanonical, Root, Gigabyte, Chunk, table_at, next_page, at_2, at_3, Level, First, nat_tests, common_steps}
 use Rattle.std.proofs.lemmas.List.Concat.{flat_map-append}
-use Rattle.base.specs.Access.{View}
-use Rattle.base.specs.Manifest.{row_of}
-use Rattle.base.specs.Need.{is_mixed, is_reached}
-use Rattle.words.specs.declared.word.Entry.{Entry}
-use Rattle.words.specs.Words.{entry_of, leaf_level}
 use Rattle.words.proofs.RoundTrip.{entry-invalid}
-use Rattle.pool.specs.Pool.{Words, words_of}
-use Rattle.stage2.specs.Entries.{leaf_for, entry_for_table, word_at}
-use Rattle.stage2.specs.Level.{number_of}
-use Rattle.stage2.specs.Listing.{Listed, each_below, table_entry, leaf_entries, page_entries, chunk_entries, gigabyte_entries, entries}
-use Rattle.stage2.specs.Orderly.{answer_of}
-use Rattle.stage2.specs.Reading.{TableEntry, pages_at, entry_at, entries_from, table_entries, access_of, table_in, with_pages, with_chunks, tree_entries, shown, IsSound}
-use Rattle.stage2.specs.Readings.{entries_of, reading_of}
-use Rattle.stage2.specs.Slot.{Layout, slot, slot_from}
-use Rattle.stage2.specs.Tables.{TablesView, view_of, AreCanonical}
-use Rattle.stage2.specs.Walk.{Root, Gigabyte, Chunk, table_at, next_page, at_2, at_3}
-use Rattle.stage2.specs.declared.table_page.Level.{Level}
-use Rattle.stage2.specs.declared.table_page.Level.TheVariants.{First, Second, Third}
+use Rattle.stage2.specs.Listing.{Listed, table_entry, leaf_entries}
+use Rattle.stage2.specs.Reading.{with_pages, IsSound}
+use Rattle.stage2.specs.Tables.{TablesView}
+use Rattle.stage2.specs.declared.table_page.Level.TheVariants.{Second, Third}
 use Rattle.stage2.proofs.Reading.Rows.{odd-leaf-word}
 use Rattle.stage2.proofs.Counting.Needs.{reached-none}
 use Rattle.stage2.proofs.Tree.Rows.{no-row}
 use Rattle.stage2.proofs.Tree.WalkFrame.{table_at-chunk_in, walk-chunk, walk-gigabyte}
-use Rattle.std.proofs.lemmas.Bool.Decides.{nat_tests}
-use Rattle.std.proofs.lemmas.Grind.{common_steps}
 
 -- ---- lists that are made word by word
 

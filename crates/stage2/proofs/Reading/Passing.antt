@@ -1,14 +1,8 @@
 -- Entries that are passed on the way to the next pages that are reached.
 use Rattle.std.proofs.Common.{◌≡◌, ℕ, ◌+◌, ◌*◌, true, not, ◌&&◌, List, [], ◌∷◌, ◌++◌, None, is_some, sym, ap, ◌∙◌, append_assoc, arith}
 use Rattle.std.proofs.lemmas.List.Folds.{list_all-append}
-use Rattle.base.specs.Access.{Access, View}
-use Rattle.words.specs.declared.word.Entry.{Entry}
-use Rattle.words.specs.declared.word.Entry.TheVariants.{Leaf}
-use Rattle.words.specs.Words.{entry_of}
-use Rattle.stage2.specs.Level.{number_of}
-use Rattle.stage2.specs.Reading.{TableEntry, AlikePages, pages_at, access_by, reach_nothing, entry_row, StandInRow, AreNext, ArePassed}
-use Rattle.std.proofs.lemmas.Bool.Decides.{nat_tests}
-use Rattle.std.proofs.lemmas.Grind.{common_steps}
+use Rattle.stage2.proofs.Names.{Access, View, Entry, Leaf, entry_of, number_of, TableEntry, pages_at, entry_row, StandInRow, ArePassed, nat_tests, common_steps}
+use Rattle.stage2.specs.Reading.{AlikePages, access_by, reach_nothing, AreNext}
 
 pub passed-more : (old new : List TableEntry) (e : TableEntry) → access_by e ≡ None → ArePassed old (e ∷ new) → ArePassed old new
 passed-more old new e none so = record {

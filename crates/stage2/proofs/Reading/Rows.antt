@@ -1,23 +1,12 @@
 -- Entries in a row: what they reach, and that no table hangs at them.
 use Rattle.std.proofs.Common.{◌≡◌, not, eqb, ℕ, zero, suc, ◌+◌, ◌*◌, ◌%◌, ◌^◌, ◌<◌, ◌≤◌, IsTrue, Bool, true, false, List, [], ◌++◌, Some, None, refl, sym, ap, subst, ◌∙◌, arith}
-use Rattle.std.specs.List.{flat_map}
+use Rattle.stage2.proofs.Names.{flat_map, Rights, MemoryKind, Access, Entry, Invalid, Table, Leaf, entry_of, leaf_fields, leaf_word_of, leaf_level, Words, number_of, Cursor, Level, First, TableEntry, pages_at, access_of, table_in, entry_row, left_in, left_of, StandInRow, nat_tests, common_steps}
 use Rattle.std.proofs.lemmas.List.Concat.{flat_map-append}
-use Rattle.base.specs.declared.access.Rights.{Rights}
-use Rattle.base.specs.declared.access.MemoryKind.{MemoryKind}
-use Rattle.base.specs.Access.{Access}
-use Rattle.words.specs.declared.word.Entry.{Entry}
-use Rattle.words.specs.declared.word.Entry.TheVariants.{Invalid, Table, Leaf, Wrong}
-use Rattle.words.specs.Words.{entry_of, leaf_fields, leaf_word_of, leaf_level}
+use Rattle.words.specs.declared.word.Entry.TheVariants.{Wrong}
 use Rattle.words.proofs.RoundTrip.{word-table, word-leaf, odd-leaf, type-leaf, type-table, entry-page, entry-block}
-use Rattle.pool.specs.Pool.{Words}
-use Rattle.stage2.specs.Level.{number_of}
-use Rattle.stage2.specs.declared.cursor.Cursor.{Cursor}
-use Rattle.stage2.specs.declared.table_page.Level.{Level}
-use Rattle.stage2.specs.declared.table_page.Level.TheVariants.{First, Second, Third}
-use Rattle.stage2.specs.Reading.{TableEntry, pages_at, access_of, table_in, entry_row, with_pages, left_in, left_of, StandBehind, StandInRow}
+use Rattle.stage2.specs.declared.table_page.Level.TheVariants.{Second, Third}
+use Rattle.stage2.specs.Reading.{with_pages, StandBehind}
 use Rattle.stage2.proofs.Reading.Cursors.{pages-suc}
-use Rattle.std.proofs.lemmas.Bool.Decides.{nat_tests}
-use Rattle.std.proofs.lemmas.Grind.{common_steps}
 
 -- ---- the words of blocks
 

@@ -1,12 +1,8 @@
 -- Views that are alike on all pages have the same entries, and need as many tables.
 use Rattle.std.proofs.Common.{◌≡◌, ℕ, zero, suc, ◌^◌, ◌<◌, List, ◌++◌, refl, ap₂, arith}
-use Rattle.base.specs.Access.{View}
-use Rattle.base.specs.Need.{need}
+use Rattle.stage2.proofs.Names.{View, need, each_below, page_entries, chunk_entries, gigabyte_entries, entries, nat_tests, common_steps}
 use Rattle.pool.proofs.Count.{count_below-same}
 use Rattle.stage2.proofs.Counting.Needs.{mixed-same, reached-same}
-use Rattle.stage2.specs.Listing.{each_below, page_entries, chunk_entries, gigabyte_entries, entries}
-use Rattle.std.proofs.lemmas.Bool.Decides.{nat_tests}
-use Rattle.std.proofs.lemmas.Grind.{common_steps}
 
 -- what is given alike for each number is the same list
 pub each-same : {A : Type 0} (f g : ℕ → List A) (n : ℕ) → ((i : ℕ) → i < n → g i ≡ f i) → each_below g n ≡ each_below f n

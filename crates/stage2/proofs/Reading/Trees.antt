@@ -1,12 +1,8 @@
 -- The entries of a tree of tables, one after another.
 use Rattle.std.proofs.Common.{◌≡◌, ℕ, List, [], ◌∷◌, ◌++◌, Option, Some, None, refl, sym, ap, ◌∙◌, append_assoc}
-use Rattle.std.specs.List.{flat_map}
-use Rattle.std.specs.Option.{option_map_or}
-use Rattle.words.specs.Words.{entry_of}
-use Rattle.pool.specs.Pool.{Words}
-use Rattle.stage2.specs.declared.cursor.Cursor.{Cursor}
-use Rattle.stage2.specs.declared.table_page.Level.TheVariants.{First, Second, Third}
-use Rattle.stage2.specs.Reading.{TableEntry, table_entries, table_in, with_pages, with_chunks, tree_entries, left_in, left_of}
+use Rattle.stage2.proofs.Names.{flat_map, option_map_or, entry_of, Words, Cursor, First, TableEntry, table_entries, table_in, with_chunks, tree_entries, left_in, left_of}
+use Rattle.stage2.specs.declared.table_page.Level.TheVariants.{Second, Third}
+use Rattle.stage2.specs.Reading.{with_pages}
 
 through : (f : TableEntry → List TableEntry) (below : ℕ → List TableEntry) (table : Option ℕ) → option_map_or (λ j. flat_map f (below j)) table [] ≡ flat_map f (option_map_or below table [])
 through f below None = refl

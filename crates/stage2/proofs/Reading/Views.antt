@@ -1,16 +1,9 @@
 -- What the words of canonical tables say of the views.
 use Rattle.std.proofs.Common.{◌≡◌, ◌⊎◌, List, ◌≤◌, ℕ, ◌/◌, arith, Some, ap}
-use Rattle.base.specs.Access.{Access}
-use Rattle.words.specs.Words.{entry_of}
-use Rattle.stage2.specs.Slot.{Layout, slot, slot_from}
-use Rattle.pool.specs.Pool.{words_of}
-use Rattle.stage2.specs.Tables.{TablesView, walk_in, view_of, AreCanonical}
-use Rattle.stage2.specs.Walk.{walk_across, walked, at_1}
-use Rattle.stage2.specs.declared.walked.Walked.{Walked}
-use Rattle.stage2.specs.declared.walked.Walked.TheVariants.{None as Unmapped, Leaf as Mapped, Wrong}
+use Rattle.stage2.proofs.Names.{Access, entry_of, Layout, slot, slot_from, words_of, walk_in, view_of, AreCanonical, walk_across, walked, at_1, Walked, nat_tests, common_steps, Unmapped, Mapped}
+use Rattle.stage2.specs.Tables.{TablesView}
+use Rattle.stage2.specs.declared.walked.Walked.TheVariants.{Wrong}
 use Rattle.stage2.proofs.Editing.FourChunkEdits.{tidy-answer}
-use Rattle.std.proofs.lemmas.Bool.Decides.{nat_tests}
-use Rattle.std.proofs.lemmas.Grind.{common_steps}
 
 -- words behind those of a page read 0
 far-word : (words : List ℕ) (page i : ℕ) → 512 ≤ i → words_of words page i ≡ 0

@@ -1,11 +1,7 @@
 -- The runs with pages from one up to another are found by two halvings, as runs stand upward.
 use Rattle.std.proofs.Common.{◌≡◌, ℕ, zero, suc, ◌+◌, ◌*◌, ◌<◌, ◌≤◌, true, false, ◌&&◌, ◌||◌, Bool, leb, ltb, List, [], ◌∷◌, get_or, length, take, drop, refl, arith, ap, ◌∙◌, inl, inr}
 use Rattle.std.proofs.lemmas.Bool.{cases_Bool, ltb-true, and_parts}
-use Rattle.std.proofs.lemmas.Bool.Decides.{nat_tests}
-use Rattle.std.specs.List.{list_any}
-use Rattle.base.specs.Pages.{PageRun, in_run, covers, rise_above, are_normal}
-use Rattle.stage2.specs.Parts.{runs_past, runs_before, runs_between, chunk_runs}
-use Rattle.stage2.specs.inner.Chunks.{covers_chunk}
+use Rattle.stage2.proofs.Names.{nat_tests, list_any, PageRun, in_run, covers, rise_above, are_normal, runs_past, runs_before, runs_between, chunk_runs, covers_chunk}
 use Rattle.std.proofs.lemmas.Map.Views.{any-filter_same}
 use Rattle.stage2.proofs.Runs.Normal.{end_of, first_of}
 

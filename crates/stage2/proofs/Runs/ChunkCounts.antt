@@ -1,21 +1,11 @@
 -- How many chunks runs touch, and how many operations their edit takes at most, whatever the tables are.
-use Rattle.std.proofs.lemmas.Grind.{common_steps}
+use Rattle.stage2.proofs.Names.{common_steps, option_map_or, nat_tests, PageRun, covers, are_normal, rise_above, part_in, part_count, lie_within, edited, touches_run, touches_chunk, sum_below, pages_among, pages_in, reached_in, table_operations, chunk_operations, chunks_operations, gigabyte_operations, row_operations, Touches, View, is_mixed, index_from, words_in}
 use Rattle.std.proofs.Common.{◌≡◌, ℕ, zero, suc, ◌+◌, ◌-◌, ◌*◌, ◌/◌, ◌%◌, ◌<◌, ◌≤◌, min, Bool, true, false, cond, is_some, ◌&&◌, leb, ltb, List, [], ◌∷◌, refl, sym, ap, subst, ◌∙◌, arith, add-one, inl, inr}
-use Rattle.std.specs.Option.{option_map_or}
 use Rattle.std.proofs.lemmas.Bool.{cases_Bool, cases_eq, ltb-true, and_parts}
-use Rattle.std.proofs.lemmas.Bool.Decides.{nat_tests}
 use Rattle.std.proofs.lemmas.List.Sums.{sum_by-cons}
-use Rattle.base.specs.Pages.{PageRun, covers, are_normal, rise_above}
-use Rattle.stage2.specs.Parts.{part_in, part_count, lie_within}
-use Rattle.stage2.specs.Edits.{edited, touches_run, touches_chunk}
-use Rattle.stage2.specs.Room.{sum_below, pages_among, pages_in, reached_in, table_operations, chunk_operations, chunks_operations, gigabyte_operations, row_operations}
-use Rattle.stage2.specs.inner.Gigabytes.{Touches}
 use Rattle.stage2.proofs.Counting.Pieces.{pages_among-le, page-among, words-pages}
 use Rattle.pool.proofs.Count.{count_below-some}
-use Rattle.base.specs.Access.{View}
-use Rattle.base.specs.Need.{is_mixed}
 use Rattle.stage2.proofs.Editing.ChunkByChunk.{sum_below-more, untouched}
-use Rattle.pool.specs.Pool.{index_from, words_in}
 use Rattle.stage2.proofs.Counting.Pieces.{words-pages}
 use Rattle.stage2.proofs.Runs.Normal.{end_of, any-within}
 use Rattle.stage2.proofs.Runs.Spans.{sum_below-none}

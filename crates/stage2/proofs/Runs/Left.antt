@@ -1,12 +1,6 @@
 -- Whoever goes upward over chunks needs the runs that are left alone: those that do not end before the chunk.
 use Rattle.std.proofs.Common.{◌≡◌, ℕ, ◌/◌, not, ◌&&◌, List, refl, sym, ap, ◌∙◌, arith}
-use Rattle.base.specs.Access.{View}
-use Rattle.base.specs.Need.{is_mixed}
-use Rattle.base.specs.Pages.{PageRun, covers}
-use Rattle.stage2.specs.Edits.{edited, touches_chunk}
-use Rattle.stage2.specs.inner.Gigabytes.{grows_at}
-use Rattle.stage2.specs.Parts.{part_count, chunk_runs}
-use Rattle.stage2.specs.Room.{chunk_operations}
+use Rattle.stage2.proofs.Names.{View, is_mixed, PageRun, covers, edited, touches_chunk, grows_at, part_count, chunk_runs, chunk_operations}
 use Rattle.stage2.proofs.Counting.Operations.{chunk-same}
 use Rattle.stage2.proofs.Runs.Between.{AreLeft}
 use Rattle.stage2.proofs.Runs.OwnRuns.{chunk-covers, chunk-touches, chunk-count, chunk-mixed}

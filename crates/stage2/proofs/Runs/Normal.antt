@@ -1,11 +1,8 @@
 -- Maximal runs, which stand upward: how many there are, and how many chunks they touch.
 use Rattle.std.proofs.Common.{◌≡◌, ℕ, zero, suc, ◌+◌, ◌-◌, ◌<◌, ◌≤◌, true, Bool, leb, ltb, ◌&&◌, List, [], ◌∷◌, get_or, length, take, drop, inl, inr, refl, arith, ap, ◌∙◌}
-use Rattle.std.specs.List.{list_any}
+use Rattle.stage2.proofs.Names.{list_any, nat_tests, end_from, lie_within, PageRun, rise_above, are_normal}
 use Rattle.std.specs.List.Sorted.{IsNonDecreasingBy}
 use Rattle.std.proofs.lemmas.Bool.{cases_Bool, cases_eq, ltb-true, and_parts}
-use Rattle.std.proofs.lemmas.Bool.Decides.{nat_tests}
-use Rattle.stage2.specs.Parts.{end_from, lie_within}
-use Rattle.base.specs.Pages.{PageRun, rise_above, are_normal}
 
 abbrev pub end_of : PageRun → ℕ
 end_of run = run.first + run.count

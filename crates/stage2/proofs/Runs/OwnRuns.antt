@@ -1,25 +1,10 @@
 -- An edit asks of a chunk, or of a gigabyte, only those of the runs that have pages there: it edits it as all runs do.
 use Rattle.std.proofs.Common.{◌≡◌, ℕ, ◌+◌, ◌*◌, ◌/◌, ◌<◌, ◌≤◌, max, min, Bool, true, false, not, ◌&&◌, ◌||◌, cond, eqb, leb, ltb, List, [], ◌∷◌, refl, arith, ap, ap₂, sym, ◌∙◌, inl, inr}
-use Rattle.std.specs.Option.{option_map_or}
+use Rattle.stage2.proofs.Names.{option_map_or, nat_tests, View, is_mixed, is_reached, PageRun, in_run, covers, Pool, Pages, Walked, edited, touches_run, touches_chunk, AreFree, Turns, disturbs, disturbed, Redoes, Redoes_in, IsGrowing, grows_at, gigabyte_growth, FitsGigabyte, EditsGigabyte, StaysInStep, answers, linked, part_in, part_count, runs_between, chunk_runs, gigabyte_runs, chunk_operations, gigabyte_operations, Layout, walk, walked}
 use Rattle.std.proofs.lemmas.Bool.{cases_Bool, eqb-true}
-use Rattle.std.proofs.lemmas.Bool.Decides.{nat_tests}
 use Rattle.std.proofs.lemmas.List.Sums.{sum_by-cons}
 use Rattle.std.proofs.lemmas.Map.Views.{any-filter_same}
-use Rattle.base.specs.Access.{View}
-use Rattle.base.specs.Need.{is_mixed, is_reached}
-use Rattle.base.specs.Pages.{PageRun, in_run, covers}
-use Rattle.pool.specs.Pool.{Pool, Pages}
 use Rattle.pool.proofs.Count.{count_below-same}
-use Rattle.stage2.specs.declared.walked.Walked.{Walked}
-use Rattle.stage2.specs.Edits.{edited, touches_run, touches_chunk, AreFree, Turns, disturbs, disturbed}
-use Rattle.stage2.specs.inner.Chunks.{Redoes, Redoes_in, IsGrowing}
-use Rattle.stage2.specs.inner.Gigabytes.{grows_at, gigabyte_growth, FitsGigabyte, EditsGigabyte}
-use Rattle.stage2.specs.Moments.{StaysInStep}
-use Rattle.stage2.specs.Orderly.{answers, linked}
-use Rattle.stage2.specs.Parts.{part_in, part_count, runs_between, chunk_runs, gigabyte_runs}
-use Rattle.stage2.specs.Room.{chunk_operations, gigabyte_operations}
-use Rattle.stage2.specs.Slot.{Layout}
-use Rattle.stage2.specs.Walk.{walk, walked}
 use Rattle.stage2.proofs.Walkers.ZeroedTables.{stays-wider}
 use Rattle.stage2.proofs.Counting.Needs.{mixed-same, reached-same}
 use Rattle.stage2.proofs.Counting.Operations.{sum-same, chunk-same}

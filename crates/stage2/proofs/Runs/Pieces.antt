@@ -1,10 +1,7 @@
 -- Chunks before that of the first of runs are not touched.
 use Rattle.std.proofs.Common.{◌≡◌, ℕ, ◌+◌, ◌*◌, ◌/◌, ◌<◌, ◌≤◌, true, false, List, sym, ◌∙◌, ◌⊎◌, inl, inr, arith}
 use Rattle.std.proofs.lemmas.Bool.{cases_Bool}
-use Rattle.std.proofs.lemmas.Bool.Decides.{nat_tests}
-use Rattle.base.specs.Pages.{PageRun}
-use Rattle.stage2.specs.Edits.{touches_run, touches_chunk}
-use Rattle.stage2.specs.Parts.{lie_within, runs_past}
+use Rattle.stage2.proofs.Names.{nat_tests, PageRun, touches_run, touches_chunk, lie_within, runs_past}
 use Rattle.stage2.proofs.Runs.Between.{left-all, left-later, left-past}
 use Rattle.stage2.proofs.Runs.Left.{left-touches}
 use Rattle.stage2.proofs.Runs.Normal.{any-within}

@@ -1,19 +1,7 @@
 -- The gigabytes and chunks before the first that the runs touch, and after the last, stay as they are.
-use Rattle.std.proofs.lemmas.Bool.Decides.{nat_tests}
-use Rattle.std.proofs.lemmas.Grind.{common_steps}
+use Rattle.stage2.proofs.Names.{nat_tests, common_steps, View, PageRun, covers, Pool, Pages, Layout, walked, edited, touches_chunk, sum_below, IsUnderway, IsPast, StaysInStep, answers, linked, disturbed_below}
 use Rattle.std.proofs.Common.{◌≡◌, ℕ, zero, suc, ◌≢◌, ◌+◌, ◌-◌, ◌*◌, ◌/◌, ◌<◌, ◌≤◌, Bool, true, false, ◌||◌, List, length, refl, ap, subst, ◌∙◌, ◌⊎◌, arith, inl, inr}
 use Rattle.std.proofs.lemmas.Bool.{cases_Bool}
-use Rattle.base.specs.Access.{View}
-use Rattle.base.specs.Pages.{PageRun, covers}
-use Rattle.pool.specs.Pool.{Pool, Pages}
-use Rattle.stage2.specs.Slot.{Layout}
-use Rattle.stage2.specs.Walk.{walked}
-use Rattle.stage2.specs.Edits.{edited, touches_chunk}
-use Rattle.stage2.specs.Room.{sum_below}
-use Rattle.stage2.specs.inner.Gigabytes.{IsUnderway, IsPast}
-use Rattle.stage2.specs.Moments.{StaysInStep}
-use Rattle.stage2.specs.Orderly.{answers, linked}
-use Rattle.stage2.specs.inner.Steps.{disturbed_below}
 use Rattle.stage2.proofs.Walkers.GigabyteSteps.{disturbed_before, cross-skip}
 use Rattle.stage2.proofs.Walkers.ChunkSteps.{march-skip}
 use Rattle.stage2.proofs.Editing.GigabyteByGigabyte.{past-skip}

@@ -1,14 +1,8 @@
 -- Tables of words that are all 0: nothing hangs but the roots, and nothing is mapped.
 use Rattle.std.proofs.Common.{◌≡◌, ℕ, ◌+◌, ◌/◌, ◌^◌, ◌<◌, ◌≤◌, true, Some, None, length, ap, ◌∙◌, arith}
-use Rattle.std.proofs.lemmas.Bool.Decides.{nat_tests}
-use Rattle.base.specs.Manifest.{page_count}
-use Rattle.pool.specs.Pool.{Pages}
-use Rattle.stage2.specs.declared.walked.Walked.TheVariants.{None as Unmapped}
-use Rattle.stage2.specs.Slot.{Layout, slot}
-use Rattle.stage2.specs.Walk.{walk, walk_across, Place, Root, Gigabyte, Chunk, next_page, chunk_table, table_at}
+use Rattle.stage2.proofs.Names.{nat_tests, page_count, Pages, Layout, slot, walk, walk_across, Place, Root, Gigabyte, Chunk, next_page, chunk_table, table_at, common_steps, Unmapped}
 use Rattle.stage2.specs.Sound.{IsSound}
 use Rattle.stage2.proofs.Walkers.Level3Write.{slot-zero}
-use Rattle.std.proofs.lemmas.Grind.{common_steps}
 
 module _ (layout : Layout) (m : Pages) (zero : (page index : ℕ) → m.words page index ≡ 0) where
   empty_slot : (level page index : ℕ) → next_page (slot layout level (m.words page index)) ≡ None

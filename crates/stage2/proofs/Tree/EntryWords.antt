@@ -1,21 +1,11 @@
 -- The words of tables that hang are those of their entries.
 use Rattle.std.proofs.Common.{◌≡◌, ℕ, ◌+◌, ◌*◌, ◌/◌, ◌%◌, ◌^◌, ◌<◌, Bool, true, false, is_some, Some, length, refl, arith, ap, ◌∙◌}
-use Rattle.base.specs.Access.{Access}
-use Rattle.words.specs.declared.word.Entry.{Entry}
-use Rattle.words.specs.declared.word.Entry.TheVariants.{Leaf}
-use Rattle.words.specs.Words.{entry_of, leaf_word_of, leaf_level}
+use Rattle.stage2.proofs.Names.{Access, Entry, Leaf, entry_of, leaf_word_of, leaf_level, Pages, Layout, Slot, Empty, Next, Maps, Bad, slot, slot_from, at_2, at_3, walk, Place, Root, Gigabyte, Chunk, next_page, table_at, IsPlace, IsOrderly, answer_of, leaf_for, entry_for_table, word_at, nat_tests, common_steps}
 use Rattle.words.proofs.RoundTrip.{word-leaf, type-leaf}
-use Rattle.pool.specs.Pool.{Pages}
-use Rattle.stage2.specs.Slot.{Layout, Slot, Empty, Next, Maps, Bad, slot, slot_from}
-use Rattle.stage2.specs.Walk.{at_2, at_3, walk, Place, Root, Gigabyte, Chunk, next_page, table_at, IsPlace}
-use Rattle.stage2.specs.Orderly.{IsOrderly, answer_of}
-use Rattle.stage2.specs.Entries.{leaf_for, entry_for_table, word_at}
 use Rattle.stage2.proofs.Tree.WalkFrame.{table_at-root, table_at-chunk_in, walk-chunk}
 use Rattle.stage2.proofs.Tree.KnownWords.{wrong-root, root-known, chunk-walk, second-known}
 use Rattle.stage2.proofs.Walkers.InStep.{gigabyte-now}
 use Rattle.stage2.proofs.Editing.Gigabyte.{table-word}
-use Rattle.std.proofs.lemmas.Bool.Decides.{nat_tests}
-use Rattle.std.proofs.lemmas.Grind.{common_steps}
 
 leaf-entry : (layout : Layout) (n : ℕ) (a : Access) (e : Entry) → slot_from layout e ≡ Maps n a → e ≡ Leaf n a
 leaf-entry layout n a e is = grind (arith, common_steps, nat_tests)

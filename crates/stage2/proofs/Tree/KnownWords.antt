@@ -1,14 +1,9 @@
 -- The words of a root and of a level 2 table that hang have a form of their level.
 use Rattle.std.proofs.Common.{◌≡◌, ◌≢◌, ℕ, ◌+◌, ◌*◌, ◌/◌, ◌%◌, ◌<◌, Some, length, refl, arith, ap, ◌∙◌}
-use Rattle.pool.specs.Pool.{Pages}
+use Rattle.stage2.proofs.Names.{Pages, Layout, Slot, Bad, slot, at_1, at_2, walk, Gigabyte, table_at, IsOrderly, nat_tests, common_steps}
 use Rattle.stage2.specs.declared.walked.Walked.TheVariants.{Wrong}
-use Rattle.stage2.specs.Slot.{Layout, Slot, Bad, slot}
-use Rattle.stage2.specs.Walk.{at_1, at_2, walk, Gigabyte, table_at}
-use Rattle.stage2.specs.Orderly.{IsOrderly}
 use Rattle.stage2.proofs.Tree.WalkFrame.{walk-gigabyte}
 use Rattle.stage2.proofs.Tree.LinkTable.{walk-inside}
-use Rattle.std.proofs.lemmas.Bool.Decides.{nat_tests}
-use Rattle.std.proofs.lemmas.Grind.{common_steps}
 
 -- the walk of a chunk's first page goes on at the chunk's word
 pub chunk-walk : (layout : Layout) (m : Pages) (row g i q : ℕ) → row < length layout.ids → i < 512 → table_at layout m.words (Gigabyte row g) ≡ Some q

@@ -1,14 +1,7 @@
 -- The word of a table, and walks that begin at a root.
 use Rattle.std.proofs.Common.{◌≡◌, ℕ, ◌+◌, ◌^◌, ◌≤◌, ◌<◌, None, length, arith, ap, ◌∙◌}
-use Rattle.std.proofs.lemmas.Bool.Decides.{nat_tests}
-use Rattle.words.specs.Words.{table_word_of}
+use Rattle.stage2.proofs.Names.{nat_tests, table_word_of, Words, Layout, Slot, Next, slot, slot_from, index_1, at_1, walk, walk_across, next_page, IsTidy, common_steps, Unmapped}
 use Rattle.words.proofs.RoundTrip.{entry-table}
-use Rattle.pool.specs.Pool.{Words}
-use Rattle.stage2.specs.declared.walked.Walked.TheVariants.{None as Unmapped}
-use Rattle.stage2.specs.Slot.{Layout, Slot, Next, slot, slot_from}
-use Rattle.stage2.specs.Walk.{index_1, at_1, walk, walk_across, next_page}
-use Rattle.stage2.specs.Sound.{IsTidy}
-use Rattle.std.proofs.lemmas.Grind.{common_steps}
 
 -- a word that points at a page of the pool
 pub slot-table : (layout : Layout) (level k : ℕ) → level < 3 → k < layout.pages → layout.base + layout.pages ≤ 2 ^ 27 → slot layout level (table_word_of (layout.base + k)) ≡ Next k

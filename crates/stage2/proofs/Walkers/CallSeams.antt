@@ -1,24 +1,14 @@
 -- Where one call ends and the next begins, and tables that hang only once a root's word is set.
 use Rattle.std.proofs.Common.{◌≡◌, ◌≢◌, ℕ, ◌/◌, ◌%◌, ◌^◌, ◌<◌, false, List, [], ◌∷◌, Some, None, length, arith, ap, sym, ◌∙◌, subst, ◌⊎◌, inl, inr}
 use Rattle.std.proofs.lemmas.Bool.{cases_eq}
-use Rattle.base.specs.Access.{Access, View}
-use Rattle.base.specs.Manifest.{row_of}
-use Rattle.pool.specs.Pool.{Pool, Words, words_of, put}
-use Rattle.pool.specs.declared.operation.Op.{Op}
-use Rattle.pool.specs.declared.operation.Op.TheVariants.{Set}
-use Rattle.stage2.specs.declared.walked.Walked.{Walked}
-use Rattle.stage2.specs.declared.walked.Walked.TheVariants.{None as Unmapped, Leaf as Mapped}
-use Rattle.stage2.specs.Slot.{Layout, slot}
-use Rattle.stage2.specs.Walk.{walk, walked, Agrees, Place, Root, Gigabyte, Chunk, next_page, table_at, IsPlace, IsForest}
-use Rattle.stage2.specs.Moments.{words_after, invalidates, Since, Walker, Begins, Second, Third, Ends, UnderWay, begins, now, earlier, IsValid, Moments}
+use Rattle.stage2.proofs.Names.{Access, View, row_of, Pool, Words, words_of, put, Op, Set, Walked, Layout, slot, walk, walked, Agrees, Place, Root, Gigabyte, Chunk, next_page, table_at, IsPlace, IsForest, words_after, invalidates, Since, Walker, Begins, Ends, UnderWay, begins, now, earlier, Moments, nat_tests, common_steps, Unmapped, Mapped}
+use Rattle.stage2.specs.Moments.{Second, Third, IsValid}
 use Rattle.stage2.proofs.Tree.WalkFrame.{put-same, put-other, other_table, table_at-root, table_at-gigabyte, table_at-chunk, IsUnheld}
 use Rattle.stage2.proofs.Walkers.Level3Write.{slot-zero}
 use Rattle.stage2.proofs.Walkers.InStep.{gigabyte-now}
 use Rattle.stage2.proofs.Walkers.UnderWay.{under_way-now}
 use Rattle.stage2.proofs.Walkers.BreakBeforeMake.{second-at, third-at}
 use Rattle.stage2.proofs.Walkers.TableWrites.{no-table-below}
-use Rattle.std.proofs.lemmas.Bool.Decides.{nat_tests}
-use Rattle.std.proofs.lemmas.Grind.{common_steps}
 
 -- ---- the next call
 

@@ -1,24 +1,12 @@
 -- The edits of the chunks of a gigabyte, and of gigabytes, one after another, as walks under way see them.
 use Rattle.std.proofs.Common.{◌≡◌, ℕ, ◌+◌, ◌*◌, ◌/◌, ◌<◌, Bool, true, false, ◌&&◌, ◌||◌, eqb, cond, List, length, refl, arith, ap, sym, ◌∙◌, inl, inr}
 use Rattle.std.proofs.lemmas.Bool.{cases_Bool, eqb-true}
-use Rattle.std.proofs.lemmas.Bool.Decides.{nat_tests}
-use Rattle.base.specs.Pages.{PageRun, covers}
-use Rattle.base.specs.Access.{View}
-use Rattle.pool.specs.Pool.{Pool, Pages}
-use Rattle.stage2.specs.Slot.{Layout}
-use Rattle.stage2.specs.Walk.{walked}
-use Rattle.stage2.specs.Orderly.{answers, linked}
-use Rattle.stage2.specs.Edits.{edited, touches_chunk, AreFree, Turns, disturbs, disturbed}
-use Rattle.stage2.specs.inner.Chunks.{answers_in}
-use Rattle.stage2.specs.inner.Gigabytes.{IsUnderway}
-use Rattle.stage2.specs.Moments.{StaysInStep}
-use Rattle.stage2.specs.inner.Steps.{IsSeated, disturbed_below}
+use Rattle.stage2.proofs.Names.{nat_tests, PageRun, covers, View, Pool, Pages, Layout, walked, answers, linked, edited, touches_chunk, AreFree, Turns, disturbs, disturbed, answers_in, IsUnderway, StaysInStep, IsSeated, disturbed_below, common_steps}
 use Rattle.stage2.proofs.Editing.ChunkByChunk.{quotient, still-answers, still-mixed, now-mixed}
 use Rattle.stage2.proofs.Walkers.ZeroedTables.{stays-wider, stays-more, stays-as}
 use Rattle.stage2.proofs.Walkers.SeatedChunks.{seated-after}
 use Rattle.stage2.proofs.Walkers.Disturbed.{below-more, disturbs-same}
 use Rattle.base.proofs.Booleans.{both}
-use Rattle.std.proofs.lemmas.Grind.{common_steps}
 
 module _ (layout : Layout) (row g j : ℕ) (runs : List PageRun) (access : View) (old : Pages) (inside : row < length layout.ids) (below : g < 512) (i : ℕ) (lt : i < 512) (mid : Pages) (h : IsUnderway layout row g j i (edited runs access (answers layout (linked layout row g j old).words row)) old mid) where
   pub march-seated : IsSeated layout row g j old → IsSeated layout row ((512 * g + i) / 512) j mid

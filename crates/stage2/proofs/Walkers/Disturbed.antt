@@ -1,21 +1,9 @@
 -- Which pages an edit may disturb: chunk by chunk.
 use Rattle.std.proofs.Common.{◌≡◌, ℕ, ◌+◌, ◌*◌, ◌/◌, ◌<◌, Bool, true, false, not, ◌&&◌, ◌||◌, eqb, ltb, List, Some, refl, arith, ap, ap₂, sym, ◌∙◌}
 use Rattle.std.proofs.lemmas.Bool.{eqb-true}
-use Rattle.std.proofs.lemmas.Bool.Decides.{nat_tests}
-use Rattle.base.specs.Pages.{PageRun, covers}
-use Rattle.base.specs.Access.{View}
-use Rattle.pool.specs.Pool.{Pool}
-use Rattle.stage2.specs.declared.walked.Walked.{Walked}
-use Rattle.stage2.specs.Slot.{Layout}
-use Rattle.stage2.specs.Walk.{walked}
-use Rattle.base.specs.Need.{is_mixed}
-use Rattle.stage2.specs.Edits.{edited, disturbs, disturbed}
-use Rattle.stage2.specs.inner.Chunks.{IsOutcome}
-use Rattle.stage2.specs.Moments.{StaysInStep}
-use Rattle.stage2.specs.inner.Steps.{disturbed_below}
+use Rattle.stage2.proofs.Names.{nat_tests, PageRun, covers, View, Pool, Walked, Layout, walked, is_mixed, edited, disturbs, disturbed, IsOutcome, StaysInStep, disturbed_below, common_steps}
 use Rattle.stage2.proofs.Walkers.ZeroedTables.{stays-wider}
 use Rattle.base.proofs.Booleans.{both}
-use Rattle.std.proofs.lemmas.Grind.{common_steps}
 
 at_chunk : (x c : ℕ) (b : Bool) → eqb x c ≡ true → (x ≡ c → b ≡ true) → (eqb x c && b) ≡ true
 at_chunk x c b e f = rw (e, f (eqb-true x c e)) refl

@@ -1,22 +1,11 @@
 -- The edits of the gigabytes of a row, one after another, as walks under way see them.
 use Rattle.std.proofs.Common.{◌^◌, ◌≡◌, ℕ, ◌+◌, ◌*◌, ◌/◌, ◌<◌, Bool, true, ◌&&◌, ◌||◌, eqb, ltb, List, length, arith, ap, inr}
 use Rattle.std.proofs.lemmas.Bool.{eqb-true}
-use Rattle.std.proofs.lemmas.Bool.Decides.{nat_tests}
-use Rattle.base.specs.Pages.{PageRun}
-use Rattle.base.specs.Access.{View}
-use Rattle.pool.specs.Pool.{Pool, Pages}
-use Rattle.stage2.specs.Slot.{Layout}
-use Rattle.stage2.specs.Walk.{walked}
-use Rattle.base.specs.Need.{is_mixed}
-use Rattle.stage2.specs.Orderly.{answers}
-use Rattle.stage2.specs.Edits.{edited, AreFree, Turns, disturbed}
-use Rattle.stage2.specs.inner.Gigabytes.{IsPast}
-use Rattle.stage2.specs.Moments.{StaysInStep}
+use Rattle.stage2.proofs.Names.{nat_tests, PageRun, View, Pool, Pages, Layout, walked, is_mixed, answers, edited, AreFree, Turns, disturbed, IsPast, StaysInStep, common_steps}
 use Rattle.stage2.proofs.Editing.GigabyteByGigabyte.{still-answers, still-edited}
 use Rattle.stage2.proofs.Counting.Needs.{mixed-same}
 use Rattle.stage2.proofs.Walkers.ZeroedTables.{stays-wider, stays-more}
 use Rattle.base.proofs.Booleans.{both}
-use Rattle.std.proofs.lemmas.Grind.{common_steps}
 
 -- the pages that the edit of a row's gigabytes before the i-th may disturb
 abbrev pub disturbed_before : ℕ → List PageRun → (ℕ → View) → (ℕ → View) → ℕ → Bool

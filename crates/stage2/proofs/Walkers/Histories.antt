@@ -1,14 +1,7 @@
 -- Operations, one after another.
 use Rattle.std.proofs.Common.{◌≡◌, ℕ, ◌+◌, ◌*◌, ◌%◌, ◌^◌, ◌≤◌, List, [], ◌∷◌, ◌++◌, refl, ap, sym, ◌∙◌, arith, Option, Some}
-use Rattle.base.specs.Access.{View}
-use Rattle.pool.specs.declared.operation.Op.{Op}
-use Rattle.pool.specs.declared.operation.Op.TheVariants.{Set, Invalidate, Clear}
-use Rattle.pool.specs.Pool.{Words, Pool, words_of, put, after_set}
-use Rattle.stage2.specs.Moments.{words_after}
-use Rattle.pool.specs.Pool.{counted}
-use Rattle.stage2.specs.inner.History.{Made, AreSets, AllChange, Filled}
-use Rattle.std.proofs.lemmas.Bool.Decides.{nat_tests}
-use Rattle.std.proofs.lemmas.Grind.{common_steps}
+use Rattle.stage2.proofs.Names.{View, Op, Set, Invalidate, Clear, Words, Pool, words_of, put, words_after, counted, Made, AreSets, AllChange, Filled, nat_tests, common_steps}
+use Rattle.pool.specs.Pool.{after_set}
 
 after-append : (b a : List Op) (w : Words) → words_after (b ++ a) w ≡ words_after b (words_after a w)
 after-append [] a w = refl

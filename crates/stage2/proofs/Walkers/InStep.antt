@@ -1,20 +1,11 @@
 -- An edit that is orderly stays so, operation by operation.
 use Rattle.std.proofs.Common.{◌≡◌, ℕ, ◌+◌, ◌/◌, ◌^◌, ◌<◌, Bool, true, false, ◌&&◌, eqb, List, [], ◌∷◌, Some, length, refl, arith, ap, sym, ◌∙◌, subst, ◌⊎◌, inl, inr}
-use Rattle.std.proofs.lemmas.Bool.Decides.{nat_tests}
-use Rattle.base.specs.Pages.{PageRun, in_run}
-use Rattle.base.specs.Manifest.{row_of}
-use Rattle.pool.specs.Pool.{Words, put}
-use Rattle.pool.specs.declared.operation.Op.{Op}
-use Rattle.pool.specs.declared.operation.Op.TheVariants.{Set, Invalidate, Clear}
-use Rattle.stage2.specs.declared.walked.Walked.{Walked}
-use Rattle.stage2.specs.declared.walked.Walked.TheVariants.{None as Unmapped, Leaf as Mapped, Wrong}
-use Rattle.stage2.specs.Slot.{Layout, Slot, Empty, Next, Maps, Bad, slot}
-use Rattle.stage2.specs.Walk.{index_1, index_2, index_3, at_1, at_2, at_3, walk, Place, Gigabyte, Chunk, next_page, table_at, IsPlace}
-use Rattle.stage2.specs.Moments.{words_after, cleared_by, invalidates, AtEachMoment, Walker, Begins, Second, Third, Ends, from_1, from_2, goes_on, UnderWay, Stands, now, nothing, OpenCall, with_clear, MayGive, GivesOnly, BreaksFirst, AllBreakFirst, AllClearUnreached, IsInStep}
+use Rattle.stage2.proofs.Names.{nat_tests, PageRun, in_run, row_of, Words, put, Op, Set, Invalidate, Clear, Walked, Layout, Slot, Empty, Next, Maps, Bad, slot, index_1, index_2, index_3, at_1, at_2, at_3, walk, Place, Gigabyte, Chunk, next_page, table_at, IsPlace, words_after, invalidates, AtEachMoment, Walker, Begins, Ends, from_1, from_2, goes_on, UnderWay, now, nothing, OpenCall, MayGive, BreaksFirst, IsInStep, common_steps, Unmapped, Mapped}
+use Rattle.stage2.specs.declared.walked.Walked.TheVariants.{Wrong}
+use Rattle.stage2.specs.Moments.{cleared_by, Second, Third, Stands, with_clear, GivesOnly, AllBreakFirst, AllClearUnreached}
 use Rattle.stage2.proofs.Tree.WalkFrame.{table_at-chunk_in, walk-gigabyte, walk-chunk}
 use Rattle.stage2.proofs.Walkers.UnderWay.{after_op, at_start, under_way-now}
 use Rattle.stage2.proofs.Tree.LinkTable.{walk-inside}
-use Rattle.std.proofs.lemmas.Grind.{common_steps}
 
 -- a walk under way may go on from here, over these words
 abbrev pub Fits : OpenCall → Words → Bool → ℕ → ℕ → Walker → Type 0

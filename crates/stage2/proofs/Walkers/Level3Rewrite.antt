@@ -1,18 +1,6 @@
 -- Words of a level 3 table that hangs are written, and what walks under way see of it.
 use Rattle.std.proofs.Common.{◌≡◌, ℕ, ◌+◌, ◌*◌, ◌/◌, ◌%◌, ◌<◌, ◌≤◌, Bool, true, false, ◌&&◌, ◌||◌, eqb, List, [], ◌∷◌, ◌++◌, Option, Some, None, refl, arith, ap, sym, subst, ◌∙◌, inl, inr}
-use Rattle.std.proofs.lemmas.Bool.Decides.{nat_tests}
-use Rattle.base.specs.Pages.{PageRun, covers}
-use Rattle.base.specs.Access.{View}
-use Rattle.pool.specs.Pool.{Pool, Words, words_of, put}
-use Rattle.pool.specs.declared.operation.Op.{Op}
-use Rattle.pool.specs.declared.operation.Op.TheVariants.{Set, Invalidate, Clear}
-use Rattle.stage2.specs.declared.walked.Walked.{Walked}
-use Rattle.stage2.specs.declared.walked.Walked.TheVariants.{None as Unmapped}
-use Rattle.stage2.specs.Slot.{Layout, slot}
-use Rattle.stage2.specs.Walk.{index_1, at_3, walk, walked, Gigabyte, Chunk, table_at}
-use Rattle.stage2.specs.inner.Chunks.{planned}
-use Rattle.stage2.specs.inner.History.{AreSets, Filled}
-use Rattle.stage2.specs.Moments.{words_after, IsInvalid, OpenCall, MayGive, IsInStep, nothing, LeavesDue, StaysInStep}
+use Rattle.stage2.proofs.Names.{nat_tests, PageRun, covers, View, Pool, Words, words_of, put, Op, Set, Invalidate, Clear, Walked, Layout, slot, index_1, at_3, walk, walked, Gigabyte, Chunk, table_at, planned, AreSets, Filled, words_after, IsInvalid, OpenCall, MayGive, IsInStep, nothing, LeavesDue, StaysInStep, common_steps, Unmapped}
 use Rattle.stage2.proofs.Tree.WalkFrame.{put-other, IsUnheld, IsLevel3Write, table_at-level_3, walk-level_3, walk-level_3-other, forest-level_3, walk-chunk}
 use Rattle.stage2.proofs.Walkers.Level3Write.{slot-zero, at_3-word, which_page}
 use Rattle.stage2.proofs.Walkers.InStep.{may-now, orderly-set, orderly-weaker}
@@ -20,7 +8,6 @@ use Rattle.stage2.proofs.Walkers.BreakBeforeMake.{invalid-empty}
 use Rattle.stage2.proofs.Walkers.TableWrites.{fine-same, fine-made, breaks-invalid}
 use Rattle.stage2.proofs.Walkers.ZeroedTables.{breaks-zero, clears-none}
 use Rattle.stage2.proofs.Walkers.StepLists.{made-in-step, filled-unheld}
-use Rattle.std.proofs.lemmas.Grind.{common_steps}
 
 -- ---- one word of a table that hangs at a chunk
 

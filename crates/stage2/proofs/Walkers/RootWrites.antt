@@ -1,22 +1,6 @@
 -- The word of a root is written, or set to 0, as walks under way see it.
 use Rattle.std.proofs.Common.{◌≡◌, ◌≢◌, ℕ, ◌+◌, ◌*◌, ◌/◌, ◌^◌, ◌<◌, Bool, true, ◌&&◌, eqb, cond, List, ◌∷◌, Some, None, length, arith, ap, sym, subst, ◌∙◌, ◌⊎◌, inl, inr}
-use Rattle.std.proofs.lemmas.Bool.Decides.{nat_tests}
-use Rattle.base.specs.Pages.{PageRun, covers}
-use Rattle.base.specs.Access.{View}
-use Rattle.base.specs.Manifest.{row_of}
-use Rattle.words.specs.Words.{table_word_of}
-use Rattle.pool.specs.Pool.{Pool, Pages, Words, words_of, put, with_mark}
-use Rattle.pool.specs.declared.operation.Op.TheVariants.{Set, Invalidate}
-use Rattle.stage2.specs.declared.walked.Walked.{Walked}
-use Rattle.stage2.specs.declared.walked.Walked.TheVariants.{None as Unmapped}
-use Rattle.stage2.specs.Slot.{Layout, Slot, Empty, slot}
-use Rattle.stage2.specs.Walk.{index_1, at_1, walk, walked, Root, Gigabyte, next_page, table_at, IsForest}
-use Rattle.base.specs.Need.{is_mixed}
-use Rattle.stage2.specs.Orderly.{IsOrderly, IsCanonical, answers, linked}
-use Rattle.stage2.specs.Edits.{edited, AreFree, disturbed}
-use Rattle.stage2.specs.inner.Gigabytes.{IsUnderway}
-use Rattle.stage2.specs.Moments.{IsInvalid, MayGive, IsInStep, IsLogged, nothing, StaysInStep}
-use Rattle.stage2.specs.inner.Steps.{IsSeated, disturbed_below}
+use Rattle.stage2.proofs.Names.{nat_tests, PageRun, covers, View, row_of, table_word_of, Pool, Pages, Words, words_of, put, with_mark, Set, Invalidate, Walked, Layout, Slot, Empty, slot, index_1, at_1, walk, walked, Root, Gigabyte, next_page, table_at, IsForest, is_mixed, IsOrderly, IsCanonical, answers, linked, edited, AreFree, disturbed, IsUnderway, IsInvalid, MayGive, IsInStep, IsLogged, nothing, StaysInStep, IsSeated, disturbed_below, common_steps, Unmapped}
 use Rattle.stage2.proofs.Tree.WalkFrame.{put-same, put-other, table_at-root}
 use Rattle.stage2.proofs.Walkers.InStep.{may-now, gigabyte-now}
 use Rattle.stage2.proofs.Tree.LinkTable.{walk-inside}
@@ -29,7 +13,6 @@ use Rattle.stage2.proofs.Counting.Needs.{mixed-same}
 use Rattle.stage2.proofs.Editing.RootLinks.{untabled, IsUnlink, unlink-unmapped, IsLink}
 use Rattle.stage2.proofs.Editing.ChunkByChunk.{untouched}
 use Rattle.stage2.proofs.Walkers.Disturbed.{below-all}
-use Rattle.std.proofs.lemmas.Grind.{common_steps}
 
 -- it becomes 0, and the gigabyte, where nothing is mapped, is invalidated
 pub stays-unlinked : (layout : Layout) (row who g : ℕ) (which : ℕ → Bool) (answer : ℕ → Walked) (old mid new : Pool) → IsForest layout (words_of old.memory.words) → row < length layout.ids → row_of layout.ids who ≡ row

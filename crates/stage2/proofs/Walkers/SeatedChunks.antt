@@ -1,24 +1,13 @@
 -- A chunk whose gigabyte's table hangs, or hangs only once the root's word is written: what hangs in the words as they are.
 use Rattle.std.proofs.Common.{◌≡◌, ◌≢◌, ℕ, ◌+◌, ◌*◌, ◌/◌, ◌%◌, ◌^◌, ◌<◌, true, false, Some, None, length, refl, arith, ap, sym, subst, ◌∙◌, inl, inr}
-use Rattle.base.specs.Access.{View}
-use Rattle.words.specs.Words.{table_word_of}
-use Rattle.pool.specs.Pool.{Words, Pages, put}
-use Rattle.stage2.specs.declared.walked.Walked.TheVariants.{None as Unmapped}
-use Rattle.stage2.specs.Slot.{Layout, Slot, Empty, Next, slot}
-use Rattle.stage2.specs.Moments.{IsInvalid}
+use Rattle.stage2.proofs.Names.{View, table_word_of, Words, Pages, put, Layout, Slot, Empty, Next, slot, IsInvalid, at_2, walk, walked, Place, Gigabyte, Chunk, next_page, table_at, IsPlace, IsForest, answers, Redoes_in, IsSite, IsEntryFor, IsOutcome, IsSeated, nat_tests, common_steps, Unmapped}
 use Rattle.stage2.proofs.Walkers.BreakBeforeMake.{empty-invalid}
 use Rattle.stage2.proofs.Walkers.TableWrites.{unmapped_3}
-use Rattle.stage2.specs.Walk.{at_2, walk, walked, Place, Gigabyte, Chunk, next_page, table_at, IsPlace, IsForest}
-use Rattle.stage2.specs.Orderly.{answers}
-use Rattle.stage2.specs.inner.Chunks.{Redoes_in, IsSite, IsEntryFor, IsOutcome}
-use Rattle.stage2.specs.inner.Steps.{IsSeated}
-use Rattle.std.proofs.lemmas.Bool.Decides.{nat_tests}
 use Rattle.stage2.proofs.Tree.WalkFrame.{IsLevel3Write, IsUnheld, AgreeOutside, table_at-outside}
 use Rattle.stage2.proofs.Tree.PutTwice.{put-twice, put-there}
 use Rattle.stage2.proofs.Walkers.CallSeams.{hangs-linked, unheld-gigabyte, unheld-chunk}
 use Rattle.stage2.proofs.Editing.FourChunkEdits.{old, entry, table-entry, walk-entry, at_2-seen, third-at, slot-word, no-table, at_2-block, tidy-answer}
 use Rattle.stage2.proofs.Walkers.StepLists.{IsHung}
-use Rattle.std.proofs.lemmas.Grind.{common_steps}
 
 -- the root's words stay
 pub seated-after : (layout : Layout) (row g j : ℕ) (m new : Pages) → IsSeated layout row g j m → new.words row g ≡ m.words row g → IsSeated layout row g j new

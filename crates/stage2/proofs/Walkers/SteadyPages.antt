@@ -1,14 +1,9 @@
 -- Pages that an edit disturbs, and that keep their answers, have none.
 use Rattle.std.proofs.Common.{◌≡◌, ◌≢◌, ℕ, ◌+◌, ◌*◌, ◌/◌, ◌^◌, ◌<◌, ◌≤◌, Bool, true, ◌&&◌, ◌||◌, leb, ltb, List, [], ◌∷◌, None, refl, arith, ◌⊎◌, inl, inr}
 use Rattle.std.proofs.lemmas.Bool.{cases_Bool, cases_eq}
-use Rattle.std.proofs.lemmas.Bool.Decides.{nat_tests}
-use Rattle.base.specs.Pages.{PageRun, in_run, covers}
-use Rattle.base.specs.Access.{View}
-use Rattle.base.specs.Need.{is_mixed}
-use Rattle.stage2.specs.Edits.{edited, touches_run, touches_chunk, AreFree, disturbed}
+use Rattle.stage2.proofs.Names.{nat_tests, PageRun, in_run, covers, View, is_mixed, edited, touches_run, touches_chunk, AreFree, disturbed, common_steps}
 use Rattle.stage2.proofs.Counting.Needs.{mixed-same, equal-first}
 use Rattle.base.proofs.Booleans.{both}
-use Rattle.std.proofs.lemmas.Grind.{common_steps}
 
 -- ---- a chunk that runs touch has a page of theirs
 

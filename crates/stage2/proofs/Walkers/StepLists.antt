@@ -1,19 +1,8 @@
 -- Lists of operations that keep an edit in step.
 use Rattle.std.proofs.Common.{◌≡◌, ◌≢◌, ℕ, ◌+◌, ◌*◌, ◌/◌, ◌%◌, ◌^◌, ◌<◌, Bool, true, eqb, List, [], ◌∷◌, ◌++◌, Option, Some, None, length, refl, arith, ap, sym, subst, ◌∙◌, ◌⊎◌, inl, inr}
 use Rattle.std.proofs.lemmas.Bool.{cases_Bool}
-use Rattle.std.proofs.lemmas.Bool.Decides.{nat_tests}
-use Rattle.base.specs.Access.{View}
-use Rattle.base.specs.Manifest.{row_of}
-use Rattle.pool.specs.Pool.{Pool, Words, words_of, put}
-use Rattle.pool.specs.declared.operation.Op.{Op}
-use Rattle.pool.specs.declared.operation.Op.TheVariants.{Set, Invalidate, Clear}
-use Rattle.stage2.specs.declared.walked.Walked.{Walked}
-use Rattle.stage2.specs.declared.walked.Walked.TheVariants.{None as Unmapped}
-use Rattle.stage2.specs.Slot.{Layout, slot}
-use Rattle.stage2.specs.Walk.{at_2, Place, Gigabyte, Chunk, next_page, table_at, IsPlace, IsForest}
-use Rattle.pool.specs.Pool.{counted}
-use Rattle.stage2.specs.inner.History.{Made, AreSets, Filled, broken, replaced}
-use Rattle.stage2.specs.Moments.{words_after, IsInvalid, OpenCall, MayGive, IsInStep, IsInStepIn, nothing, StaysInStep}
+use Rattle.stage2.proofs.Names.{nat_tests, View, row_of, Pool, Words, words_of, put, Op, Set, Invalidate, Clear, Walked, Layout, slot, at_2, Place, Gigabyte, Chunk, next_page, table_at, IsPlace, IsForest, counted, Made, AreSets, Filled, replaced, words_after, IsInvalid, OpenCall, MayGive, IsInStep, IsInStepIn, nothing, StaysInStep, common_steps, Unmapped}
+use Rattle.stage2.specs.inner.History.{broken}
 use Rattle.stage2.proofs.Tree.WalkFrame.{put-same, IsUnheld, table_at-unheld, IsLevel2Write, table_at-level_2, table_at-level_2-other, walk-level_2}
 use Rattle.stage2.proofs.Tree.RootWrites.{is_chunk, forest-level_2}
 use Rattle.stage2.proofs.Walkers.Level3Write.{slot-zero}
@@ -21,7 +10,6 @@ use Rattle.stage2.proofs.Tree.PutTwice.{put-twice, put-there}
 use Rattle.stage2.proofs.Walkers.InStep.{orderly-invalidate}
 use Rattle.stage2.proofs.Walkers.TableWrites.{orderly-unheld, orderly-level_2, orderly-cut_chunk, level_2-zero}
 use Rattle.stage2.proofs.Walkers.ZeroedTables.{counted-more}
-use Rattle.std.proofs.lemmas.Grind.{common_steps}
 
 -- ---- counting
 

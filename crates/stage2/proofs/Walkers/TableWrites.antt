@@ -1,23 +1,12 @@
 -- Writes by which tables are filled, linked, cut off and given back, and what walks under way see of them.
 use Rattle.std.proofs.Common.{◌≡◌, ◌≢◌, ℕ, ◌+◌, ◌*◌, ◌/◌, ◌%◌, ◌^◌, ◌<◌, Bool, true, false, ◌&&◌, eqb, List, ◌∷◌, Some, None, length, arith, ap, sym, ◌∙◌, subst, ◌⊎◌, inl, inr}
-use Rattle.std.proofs.lemmas.Bool.Decides.{nat_tests}
-use Rattle.base.specs.Pages.{PageRun, in_run}
-use Rattle.base.specs.Manifest.{row_of}
-use Rattle.pool.specs.Pool.{Words, put}
-use Rattle.pool.specs.declared.operation.Op.{Op}
-use Rattle.pool.specs.declared.operation.Op.TheVariants.{Set, Invalidate}
-use Rattle.stage2.specs.declared.walked.Walked.{Walked}
-use Rattle.stage2.specs.declared.walked.Walked.TheVariants.{None as Unmapped}
-use Rattle.stage2.specs.Slot.{Layout, Slot, Empty, slot}
-use Rattle.stage2.specs.Walk.{index_1, index_2, index_3, at_1, at_2, at_3, walk, Place, Root, Gigabyte, Chunk, next_page, chunk_table, table_at, IsPlace, IsForest}
-use Rattle.stage2.specs.Moments.{IsInvalid, BreaksFirst, OpenCall, MayGive, IsInStep, nothing}
+use Rattle.stage2.proofs.Names.{nat_tests, PageRun, in_run, row_of, Words, put, Op, Set, Invalidate, Walked, Layout, Slot, Empty, slot, index_1, index_2, index_3, at_1, at_2, at_3, walk, Place, Root, Gigabyte, Chunk, next_page, chunk_table, table_at, IsPlace, IsForest, IsInvalid, BreaksFirst, OpenCall, MayGive, IsInStep, nothing, common_steps, Unmapped}
 use Rattle.stage2.proofs.Tree.WalkFrame.{put-other, put-same, walk-same, other_table, table_at-gigabyte, table_at-chunk, table_at-root, IsUnheld, table_at-unheld, walk-unheld, IsLevel2Write, table_at-level_2-other, walk-level_2, walk-level_2-other, walk-gigabyte, table_at-chunk_in}
 use Rattle.stage2.proofs.Walkers.Level3Write.{slot-zero}
 use Rattle.stage2.proofs.Walkers.InStep.{IsFine, may-now, orderly-set, orderly-cut, gigabyte-now}
 use Rattle.stage2.proofs.Tree.LinkTable.{walk-inside}
 use Rattle.stage2.proofs.Walkers.BreakBeforeMake.{invalid-empty, none-stood}
 use Rattle.stage2.proofs.Walkers.ZeroedTables.{breaks-zero}
-use Rattle.std.proofs.lemmas.Grind.{common_steps}
 
 -- ---- pages whose walks do not change
 

@@ -1,23 +1,13 @@
 -- What walkers see of a whole call: from its entry on, over an edit, and at its end.
 use Rattle.std.proofs.Common.{◌≡◌, ℕ, ◌/◌, ◌^◌, ◌<◌, true, ◌&&◌, eqb, cond, List, [], None, refl, arith, ap, sym, subst, ◌∙◌, ◌⊎◌, inl, inr, eq-eqb}
 use Rattle.std.proofs.lemmas.Bool.{ltb-true}
-use Rattle.base.specs.Pages.{PageRun, covers}
-use Rattle.base.specs.Access.{View}
-use Rattle.base.specs.Manifest.{row_of}
-use Rattle.base.specs.Need.{is_mixed}
-use Rattle.pool.specs.Pool.{Words, words_of, all_lie_in}
-use Rattle.stage2.specs.Slot.{Layout}
-use Rattle.stage2.specs.Walk.{walk, walked, Agrees}
-use Rattle.stage2.specs.Orderly.{answers, answer_of}
-use Rattle.stage2.specs.Edits.{edited, AreFree, disturbed, with_pages}
-use Rattle.stage2.specs.Moments.{IsSteady, StaysInStep, Moments}
-use Rattle.stage2.specs.Tables.{TablesView, view_of, has_root, ReachSo, AreFreeFor, ShowsMoments, ClearsNothing, edit_from, IsCallInStep, EditsInStep}
+use Rattle.stage2.proofs.Names.{PageRun, covers, View, row_of, is_mixed, Words, words_of, all_lie_in, Layout, walk, walked, Agrees, answers, answer_of, edited, AreFree, disturbed, IsSteady, StaysInStep, Moments, view_of, has_root, ReachSo, ShowsMoments, EditsInStep, nat_tests, common_steps}
+use Rattle.stage2.specs.Edits.{with_pages}
+use Rattle.stage2.specs.Tables.{TablesView, AreFreeFor, ClearsNothing, edit_from, IsCallInStep}
 use Rattle.stage2.proofs.Tree.Rows.{same_row}
 use Rattle.stage2.proofs.Editing.ChunkKeeps.{answer-walked}
 use Rattle.stage2.proofs.Walkers.SteadyPages.{differ-mixed, none-steady}
 use Rattle.stage2.proofs.Walkers.WholeEdit.{orderly-begun, moments-of}
-use Rattle.std.proofs.lemmas.Bool.Decides.{nat_tests}
-use Rattle.std.proofs.lemmas.Grind.{common_steps}
 
 -- the pages of a map are not reached, as the tables say
 pub free-views : (t : TablesView) (before : ℕ → ℕ → View) (p : ℕ) (runs : List PageRun) (access : View) → Agrees t.layout (words_of t.pool.memory.words) before → AreFreeFor p runs access before → AreFree (λ n. true) runs access (view_of t p)

@@ -1,20 +1,9 @@
 -- What walkers see of a whole edit.
 use Rattle.std.proofs.Common.{◌≡◌, ℕ, ◌^◌, ◌<◌, Bool, true, ◌&&◌, eqb, List, [], ◌∷◌, refl, arith}
 use Rattle.std.proofs.lemmas.Bool.{eqb-true}
-use Rattle.base.specs.Access.{View}
-use Rattle.base.specs.Pages.{PageRun}
-use Rattle.base.specs.Manifest.{row_of}
-use Rattle.pool.specs.Pool.{Pool, words_of, all_lie_in}
-use Rattle.pool.specs.declared.operation.Op.{Op}
-use Rattle.stage2.specs.declared.walked.Walked.{Walked}
-use Rattle.stage2.specs.declared.walked.Walked.TheVariants.{None as Unmapped}
-use Rattle.stage2.specs.Slot.{Layout}
-use Rattle.stage2.specs.Walk.{walked, Agrees}
-use Rattle.stage2.specs.Moments.{AtEachMoment, OpenCall, IsInStepIn, nothing, IsSteady, Moments}
+use Rattle.stage2.proofs.Names.{View, PageRun, row_of, Pool, words_of, all_lie_in, Op, Walked, Layout, walked, Agrees, AtEachMoment, OpenCall, IsInStepIn, nothing, IsSteady, Moments, nat_tests, common_steps, Unmapped}
 use Rattle.stage2.proofs.Walkers.InStep.{orderly-start}
 use Rattle.base.proofs.Booleans.{both}
-use Rattle.std.proofs.lemmas.Bool.Decides.{nat_tests}
-use Rattle.std.proofs.lemmas.Grind.{common_steps}
 
 pub at_each : (P Q : List Op → Type 0) → ((past : List Op) → P past → Q past) → (past : List Op) → AtEachMoment P past → AtEachMoment Q past
 at_each P Q f [] h = f [] h

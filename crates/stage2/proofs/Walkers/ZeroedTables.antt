@@ -1,17 +1,8 @@
 -- Words of level 3 tables are set to 0, and their pages are invalidated later.
 use Rattle.std.proofs.Common.{◌≡◌, ℕ, suc, ◌+◌, ◌%◌, ◌^◌, ◌<◌, Bool, true, false, ◌&&◌, ◌||◌, not, List, length, refl, arith, ◌∙◌, ◌⊎◌}
-use Rattle.base.specs.Pages.{PageRun, in_run}
-use Rattle.base.specs.Manifest.{row_of}
-use Rattle.pool.specs.Pool.{Pool, Words, words_of}
-use Rattle.pool.specs.declared.operation.Op.{Op}
-use Rattle.pool.specs.declared.operation.Op.TheVariants.{Invalidate}
-use Rattle.stage2.specs.declared.walked.Walked.{Walked}
-use Rattle.stage2.specs.declared.walked.Walked.TheVariants.{None as Unmapped}
-use Rattle.stage2.specs.Slot.{Layout}
-use Rattle.stage2.specs.Moments.{BreaksFirst, OpenCall, IsInStepIn, IsLogged, nothing, Allows, LeavesDue, Settles, StaysInStep}
+use Rattle.stage2.proofs.Names.{PageRun, in_run, row_of, Pool, Words, words_of, Op, Invalidate, Walked, Layout, BreaksFirst, OpenCall, IsInStepIn, IsLogged, nothing, LeavesDue, Settles, StaysInStep, nat_tests, common_steps, Unmapped}
+use Rattle.stage2.specs.Moments.{Allows}
 use Rattle.stage2.proofs.Walkers.InStep.{orderly-invalidate, orderly-weaker}
-use Rattle.std.proofs.lemmas.Bool.Decides.{nat_tests}
-use Rattle.std.proofs.lemmas.Grind.{common_steps}
 
 -- 0 may be written anywhere
 pub breaks-zero : (layout : Layout) (entry : Words) (past : List Op) (page index : ℕ) → BreaksFirst layout entry past page index 0

@@ -1,5 +1,5 @@
 use Rattle.std.proofs.Common.{ℕ, ◌≤◌, take}
-use Rattle.stage2.specs.Room.{pages_in}
+use Rattle.stage2.proofs.Names.{pages_in}
 use Rattle.stage2.proofs.bound.count_pages.Given as goal
 
 -- the pages of the first runs are counted

@@ -1,10 +1,7 @@
 use Rattle.std.proofs.Common.{◌≡◌, ℕ, ◌&&◌, not, Bool, false, Some, refl, arith}
-use Rattle.std.proofs.lemmas.Bool.Decides.{nat_tests}
-use Rattle.pool.specs.Pool.{Pool}
+use Rattle.stage2.proofs.Names.{nat_tests, Pool, is_between, points_at, common_steps}
 use Rattle.pool.proofs.Count.{count_below-none, count_below-tail, count_below-more}
-use Rattle.stage2.specs.inner.Clauses.{is_between, points_at}
 use Rattle.stage2.proofs.bound.count_plain.Goals as goal
-use Rattle.std.proofs.lemmas.Grind.{common_steps}
 
 outside : (pool : Pool) (j first end x : ℕ) → is_between first end x ≡ false → (is_between first end x && not (points_at (Some j) x pool)) ≡ false
 outside pool j first end x out = rw out refl

@@ -1,6 +1,5 @@
 use Rattle.std.proofs.Common.{◌+◌, ◌≤◌, ◌&&◌, not, Some}
-use Rattle.base.specs.Counts.{count_below}
-use Rattle.stage2.specs.inner.Clauses.{is_between, points_at}
+use Rattle.stage2.proofs.Names.{count_below, is_between, points_at}
 use Rattle.stage2.proofs.bound.count_plain.Given as goal
 
 -- the chunks before this one are counted

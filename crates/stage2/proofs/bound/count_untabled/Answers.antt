@@ -1,8 +1,7 @@
 use Rattle.std.proofs.Common.{arith}
 use Rattle.stage2.proofs.Counting.Pieces.{count_below-between, count_below-fewer}
 use Rattle.stage2.proofs.bound.count_untabled.Goals as goal
-use Rattle.std.proofs.lemmas.Bool.Decides.{nat_tests}
-use Rattle.std.proofs.lemmas.Grind.{common_steps}
+use Rattle.stage2.proofs.Names.{nat_tests, common_steps}
 
 pub returns-in-None-clause-counts : goal.returns-in-None-clause-counts
 returns-in-None-clause-counts g c =

@@ -1,10 +1,5 @@
 use Rattle.std.proofs.Common.{◌≡◌, ℕ, ◌+◌, ◌*◌, ◌/◌, ◌%◌, ◌≤◌, false, is_some, length, None, sym, ap, ◌∙◌, arith}
-use Rattle.base.specs.Access.{View}
-use Rattle.base.specs.Pages.{covers}
-use Rattle.pool.specs.Pool.{pages_of, nonzero_in}
-use Rattle.stage2.specs.inner.Chunks.{answers_of, second_of, block_answer}
-use Rattle.stage2.specs.Walk.{next_page}
-use Rattle.stage2.specs.Room.{pages_in}
+use Rattle.stage2.proofs.Names.{View, covers, pages_of, nonzero_in, answers_of, second_of, block_answer, next_page, pages_in, nat_tests, common_steps}
 use Rattle.stage2.proofs.Counting.Bounds.{in-chunk}
 use Rattle.stage2.proofs.Counting.FewOperations.{few-unmapped, few-mapped, few-either, few-hung, few-filled, entry-known, entry-mixed, entry-plain, entry-words, entry-beside, entry-filled}
 use Rattle.stage2.proofs.Counting.Growth.{second-inside, second-held}
@@ -12,8 +7,6 @@ use Rattle.stage2.proofs.Counting.Pieces.{nonzero-most}
 use Rattle.stage2.proofs.Editing.FourChunkEdits.{is-next}
 use Rattle.stage2.proofs.bound.few_operations.Goals.{in-Some+then-is_some+then-pages-nonzero, in-Some+else-is_some, else-is_some-via-then-is_some+else-pages-nonzero, else-is_some-via-else-is_some, in-None+else-is_filled+else-is_some-2}
 use Rattle.stage2.proofs.bound.few_operations.Goals as goal
-use Rattle.std.proofs.lemmas.Bool.Decides.{nat_tests}
-use Rattle.std.proofs.lemmas.Grind.{common_steps}
 
 nothing : (a : View) → is_some a ≡ false → a ≡ None
 nothing a e = grind (arith, common_steps, nat_tests)

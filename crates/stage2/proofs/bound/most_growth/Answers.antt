@@ -1,8 +1,7 @@
 use Rattle.std.proofs.Common.{ℕ, ◌≡◌, ◌+◌, ◌/◌, arith}
 use Rattle.stage2.proofs.Counting.Bounds.{grow-most}
 use Rattle.stage2.proofs.bound.most_growth.Goals as goal
-use Rattle.std.proofs.lemmas.Bool.Decides.{nat_tests}
-use Rattle.std.proofs.lemmas.Grind.{common_steps}
+use Rattle.stage2.proofs.Names.{nat_tests, common_steps}
 
 -- the gigabyte of a page is that of its chunk
 gigabyte_of : (n : ℕ) → n / 262144 ≡ n / 512 / 512

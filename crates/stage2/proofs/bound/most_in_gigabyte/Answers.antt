@@ -1,11 +1,9 @@
 use Rattle.std.proofs.Common.{◌≡◌, ℕ, ◌≤◌, Bool, true, false, cond, is_some, is_none, Option, Some, None, sym, ◌∙◌, refl, arith, inl, inr}
 use Rattle.std.proofs.lemmas.Bool.{cases_Bool}
-use Rattle.pool.specs.Pool.{pages_of}
+use Rattle.stage2.proofs.Names.{pages_of, nat_tests, common_steps}
 use Rattle.stage2.proofs.Counting.Growth.{second-inside}
 use Rattle.stage2.proofs.Counting.Untabled.{growth-untabled}
 use Rattle.stage2.proofs.bound.most_in_gigabyte.Goals as goal
-use Rattle.std.proofs.lemmas.Bool.Decides.{nat_tests}
-use Rattle.std.proofs.lemmas.Grind.{common_steps}
 
 pub count_untabled-chunks-requires-clause-page_in : goal.count_untabled-chunks-requires-clause-page_in
 count_untabled-chunks-requires-clause-page_in g c = λ j e.

@@ -1,8 +1,7 @@
 use Rattle.std.proofs.Common.{arith}
 use Rattle.stage2.proofs.Runs.ChunkCounts.{row-operations}
 use Rattle.stage2.proofs.bound.most_operations.Goals as goal
-use Rattle.std.proofs.lemmas.Bool.Decides.{nat_tests}
-use Rattle.std.proofs.lemmas.Grind.{common_steps}
+use Rattle.stage2.proofs.Names.{nat_tests, common_steps}
 
 pub returns-clause-bound : goal.returns-clause-bound
 returns-clause-bound c = λ before access. grind (arith, common_steps, nat_tests, row-operations c.args.runs.now c.bounds.result.first c.bounds.result.end c.bounds.ensures.within access before c.bounds.ensures.normal)

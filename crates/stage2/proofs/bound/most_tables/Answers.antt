@@ -1,16 +1,10 @@
 use Rattle.std.proofs.Common.{◌≡◌, ℕ, ◌+◌, ◌-◌, ◌≤◌, inr, ap, arith}
-use Rattle.base.specs.Access.{View}
-use Rattle.stage2.specs.Edits.{edited}
-use Rattle.stage2.specs.Room.{sum_below}
-use Rattle.stage2.specs.inner.Clauses.{view_in}
-use Rattle.stage2.specs.inner.Gigabytes.{gigabyte_growth}
+use Rattle.stage2.proofs.Names.{View, edited, sum_below, view_in, gigabyte_growth, nat_tests, common_steps}
 use Rattle.stage2.proofs.Counting.Growth.{growth-nothing}
 use Rattle.stage2.proofs.Editing.ChunkByChunk.{sum_below-more}
 use Rattle.stage2.proofs.Editing.GigabyteByGigabyte.{grow-sum}
 use Rattle.stage2.proofs.Runs.Spans.{sum_below-none, sum_below-tail, outside-gigabytes}
 use Rattle.stage2.proofs.bound.most_tables.Goals as goal
-use Rattle.std.proofs.lemmas.Bool.Decides.{nat_tests}
-use Rattle.std.proofs.lemmas.Grind.{common_steps}
 
 pub loop-number-init : goal.loop-number-init
 loop-number-init g c = grind (arith, common_steps, nat_tests, sum_below-none, growth-nothing, outside-gigabytes)

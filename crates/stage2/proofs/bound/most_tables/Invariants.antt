@@ -1,8 +1,5 @@
 use Rattle.std.proofs.Common.{◌*◌, ◌≤◌}
-use Rattle.stage2.specs.Edits.{edited}
-use Rattle.stage2.specs.Room.{sum_below}
-use Rattle.stage2.specs.inner.Clauses.{view_in}
-use Rattle.stage2.specs.inner.Gigabytes.{gigabyte_growth}
+use Rattle.stage2.proofs.Names.{edited, sum_below, view_in, gigabyte_growth}
 use Rattle.stage2.proofs.bound.most_tables.Given as goal
 
 -- what the gigabytes before this one take is counted

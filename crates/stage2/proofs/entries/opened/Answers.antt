@@ -1,7 +1,5 @@
 use Rattle.std.proofs.Common.{List, [], ℕ, Option, sym, ap, ◌∙◌}
-use Rattle.std.specs.Option.{option_map_or}
-use Rattle.pool.specs.Pool.{words_of}
-use Rattle.stage2.specs.Reading.{TableEntry, table_entries}
+use Rattle.stage2.proofs.Names.{option_map_or, words_of, TableEntry, table_entries}
 use Rattle.stage2.proofs.entries.opened.Goals as goal
 
 pub returns-in-None-clause-entries : goal.returns-in-None-clause-entries

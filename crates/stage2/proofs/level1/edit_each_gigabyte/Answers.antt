@@ -1,12 +1,10 @@
 use Rattle.std.proofs.Common.{◌≡◌, ℕ, ◌+◌, ◌/◌, ◌<◌, ◌≤◌, false, sym, ◌∙◌, inr, arith}
-use Rattle.base.specs.Pages.{covers}
+use Rattle.stage2.proofs.Names.{covers, nat_tests, common_steps}
 use Rattle.stage2.proofs.Editing.UpToGigabyte.{row-start, row-ahead, row-done, row-can, row-next, part-touches, part-can, part-done}
 use Rattle.stage2.proofs.Runs.OwnRuns.{gigabyte-covers}
 use Rattle.stage2.proofs.Runs.Spans.{outside-gigabytes}
 use Rattle.stage2.proofs.level1.edit_each_gigabyte.Goals as goal
 use Rattle.stage2.proofs.level1.edit_each_gigabyte.Goals.{then-touches, else-touches}
-use Rattle.std.proofs.lemmas.Bool.Decides.{nat_tests}
-use Rattle.std.proofs.lemmas.Grind.{common_steps}
 
 pub edit_gigabyte-requires : goal.edit_gigabyte-requires
 edit_gigabyte-requires g c =

@@ -1,10 +1,5 @@
 use Rattle.std.proofs.Common.{◌≡◌, ◌+◌, Bool, true, false, not, is_some, Option, None, Some, ℕ, sym, ap, subst, ◌∙◌, arith}
-use Rattle.base.specs.Access.{View}
-use Rattle.pool.specs.Pool.{pages_of}
-use Rattle.words.specs.Words.{table_word_of}
-use Rattle.stage2.specs.Orderly.{answers}
-use Rattle.stage2.specs.Edits.{edited}
-use Rattle.stage2.specs.inner.Gigabytes.{EditsGigabyte}
+use Rattle.stage2.proofs.Names.{View, pages_of, table_word_of, answers, edited, EditsGigabyte}
 use Rattle.stage2.proofs.Editing.Gigabyte.{is-none, finish-none}
 use Rattle.stage2.proofs.Editing.TabledGigabyte.{tabled-can, tabled-page, tabled-left, can-unlink, kept, emptied}
 use Rattle.stage2.proofs.Editing.UntabledGigabyte.{untabled-free, untabled-can, untabled-left, untabled-edited}

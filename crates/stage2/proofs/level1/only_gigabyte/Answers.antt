@@ -1,11 +1,9 @@
 use Rattle.std.proofs.Common.{◌≡◌, ◌/◌, ◌≤◌, ap, sym, ◌∙◌, arith}
 use Rattle.std.proofs.lemmas.Bool.{ltb-true}
-use Rattle.std.proofs.lemmas.Bool.Decides.{nat_tests}
-use Rattle.stage2.specs.Parts.{end_from}
+use Rattle.stage2.proofs.Names.{nat_tests, end_from, common_steps}
 use Rattle.stage2.proofs.Runs.Normal.{any-within, normal-within}
 use Rattle.stage2.proofs.Editing.GigabyteByGigabyte.{touched}
 use Rattle.stage2.proofs.level1.only_gigabyte.Goals as goal
-use Rattle.std.proofs.lemmas.Grind.{common_steps}
 
 pub returns-then-end_of_last-end : goal.returns-then-end_of_last-end
 returns-then-end_of_last-end c =

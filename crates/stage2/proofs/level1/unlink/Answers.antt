@@ -1,11 +1,7 @@
 use Rattle.std.proofs.Common.{◌≡◌, ◌≢◌, ◌*◌, ◌<◌, ◌∷◌, false, sym, ap, subst, ◌∙◌}
-use Rattle.base.specs.Pages.{PageRun}
-use Rattle.pool.specs.declared.operation.Op.TheVariants.{Invalidate}
-use Rattle.stage2.specs.Moments.{IsLogged}
+use Rattle.stage2.proofs.Names.{PageRun, Invalidate, IsLogged, page_count, Pages, Pool, InShare, pages_of, words_of, with_mark, with_put}
 use Rattle.stage2.proofs.Walkers.ZeroedTables.{stays-after, stays-taken}
 use Rattle.stage2.proofs.Walkers.RootWrites.{stays-unlinked}
-use Rattle.base.specs.Manifest.{page_count}
-use Rattle.pool.specs.Pool.{Pages, Pool, InShare, pages_of, words_of, with_mark, with_put}
 use Rattle.pool.proofs.Shares.{share_inside, root-outside}
 use Rattle.stage2.proofs.Tree.WalkFrame.{put-other}
 use Rattle.stage2.proofs.Tree.TakenPages.{pages_of-give}

@@ -1,12 +1,5 @@
 use Rattle.std.proofs.Common.{◌≡◌, ℕ, ◌/◌, ◌%◌, ◌<◌, Bool, cond, eqb, [], is_some, Some, None, arith, sym, ap, subst, ◌∙◌}
-use Rattle.base.specs.Manifest.{page_count}
-use Rattle.pool.specs.Pool.{Pages, Pool, Words, pages_of, words_of, put}
-use Rattle.stage2.specs.declared.walked.Walked.{Walked}
-use Rattle.stage2.specs.inner.Chunks.{planned}
-use Rattle.stage2.specs.inner.Clauses.{StaysAtChunk, IsSeatedAt, chunk_after}
-use Rattle.stage2.specs.Moments.{StaysInStep}
-use Rattle.stage2.specs.Room.{pages_in}
-use Rattle.stage2.specs.Walk.{walked}
+use Rattle.stage2.proofs.Names.{page_count, Pages, Pool, Words, pages_of, words_of, put, Walked, planned, StaysAtChunk, IsSeatedAt, chunk_after, StaysInStep, pages_in, walked, nat_tests, common_steps}
 use Rattle.stage2.proofs.Tree.WalkFrame.{IsUnheld}
 use Rattle.stage2.proofs.Walkers.ZeroedTables.{stays-after, stays-taken}
 use Rattle.stage2.proofs.Walkers.StepLists.{stays-replaced, stays-filled, unheld-word}
@@ -15,8 +8,6 @@ use Rattle.stage2.proofs.Editing.FourChunkEdits.{second-inside, second-taken, th
 use Rattle.stage2.proofs.Editing.OneChunk.{in-step-alike, others, dropped}
 use Rattle.stage2.proofs.Tree.TakenPages.{pages_of-give}
 use Rattle.stage2.proofs.level2.drop_table.Goals as goal
-use Rattle.std.proofs.lemmas.Bool.Decides.{nat_tests}
-use Rattle.std.proofs.lemmas.Grind.{common_steps}
 
 pub replace_entry-requires-clause-page_in : goal.replace_entry-requires-clause-page_in
 replace_entry-requires-clause-page_in g c = second-inside c.args.edit.now.layout.now c.args.site.now.row c.args.edit.now.chunk c.args.site.now.second (pages_of (g.M.TableMem.state c.args.memory.now).memory) c.requires.can.site

@@ -1,6 +1,5 @@
 use Rattle.std.proofs.Common.{◌<◌, sym, ap, subst, ◌∙◌}
-use Rattle.pool.specs.Pool.{pages_of}
-use Rattle.stage2.specs.Walk.{next_page}
+use Rattle.stage2.proofs.Names.{pages_of, next_page}
 use Rattle.stage2.proofs.Editing.FourChunkEdits.{second-inside, second-taken, entry-known}
 use Rattle.stage2.proofs.Editing.OneChunk.{is-table, told-alike, told-mixed, read-before}
 use Rattle.stage2.proofs.level2.edit_chunk.Goals as goal

@@ -1,13 +1,10 @@
 use Rattle.std.proofs.Common.{◌≡◌, false, refl, ap, subst, ◌∙◌, arith}
-use Rattle.stage2.specs.Edits.{touches_chunk}
-use Rattle.stage2.specs.Parts.{chunk_runs}
+use Rattle.stage2.proofs.Names.{touches_chunk, chunk_runs, nat_tests, common_steps}
 use Rattle.stage2.proofs.Editing.UpToChunk.{at-start, at-piece, at-untouched, at-end, own-here, here-can, here-next, table-inside, table-taken, blocks-room, blocks-next}
 use Rattle.stage2.proofs.Runs.Between.{past-past}
 use Rattle.stage2.proofs.Tree.Rows.{has-row}
 use Rattle.stage2.proofs.level2.edit_each_chunk.Goals as goal
 use Rattle.stage2.proofs.level2.edit_each_chunk.Goals.{in-Some-new, in_default-new}
-use Rattle.std.proofs.lemmas.Bool.Decides.{nat_tests}
-use Rattle.std.proofs.lemmas.Grind.{common_steps}
 
 pub loop-piece-init : goal.loop-piece-init
 loop-piece-init g c = record { up_to = λ below. rw c.again-rest.ensures (at-start c.requires below) }

@@ -1,15 +1,7 @@
 use Rattle.std.proofs.Common.{◌≡◌, ℕ, ◌+◌, ◌/◌, ◌%◌, ◌<◌, Bool, eqb, true, Some, arith, sym, ap, subst, ◌∙◌}
-use Rattle.base.specs.Access.{View}
-use Rattle.base.specs.Manifest.{page_count}
-use Rattle.words.specs.Words.{table_word_of}
-use Rattle.pool.specs.Pool.{Pages, Pool, Words, pages_of, words_of, put, with_put}
+use Rattle.stage2.proofs.Names.{View, page_count, table_word_of, Pages, Pool, Words, pages_of, words_of, put, with_put, Walked, StaysAtChunk, IsSeatedAt, chunk_after, StaysInStep, Next, slot, at_2, next_page, walked, nat_tests, common_steps}
 use Rattle.pool.proofs.Shares.{share_inside}
 use Rattle.pool.proofs.Words.{mark-same, mark-kept}
-use Rattle.stage2.specs.declared.walked.Walked.{Walked}
-use Rattle.stage2.specs.inner.Clauses.{StaysAtChunk, IsSeatedAt, chunk_after}
-use Rattle.stage2.specs.Moments.{StaysInStep}
-use Rattle.stage2.specs.Slot.{Next, slot}
-use Rattle.stage2.specs.Walk.{at_2, next_page, walked}
 use Rattle.stage2.proofs.Editing.FourChunkEdits.{second-inside, second-taken, does-hang}
 use Rattle.stage2.proofs.Editing.OneChunk.{in-step-hung, grows, some-hung, hung}
 use Rattle.stage2.proofs.Tree.LinkTable.{slot-table}
@@ -20,8 +12,6 @@ use Rattle.stage2.proofs.Walkers.SeatedChunks.{hung-seen, hung-outside, unheld-f
 use Rattle.stage2.proofs.Walkers.StepLists.{IsHung, stays-replaced}
 use Rattle.stage2.proofs.Walkers.ZeroedTables.{stays-after, stays-taken}
 use Rattle.stage2.proofs.level2.hang_table.Goals as goal
-use Rattle.std.proofs.lemmas.Bool.Decides.{nat_tests}
-use Rattle.std.proofs.lemmas.Grind.{common_steps}
 
 pub take_page-third-requires : goal.take_page-third-requires
 take_page-third-requires g c = record { free = c.requires.can.free (grows c.args.site.now c.args.edit.now (g.M.TableMem.state c.args.memory.now) c.requires.can.site c.requires.none c.requires.mixed) }

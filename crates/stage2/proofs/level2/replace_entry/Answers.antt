@@ -1,7 +1,6 @@
 use Rattle.std.proofs.Common.{◌≡◌, ◌+◌, ◌-◌, ◌*◌, ◌%◌, refl, sym, ap, subst, ◌∙◌, arith}
-use Rattle.pool.specs.Pool.{Pool, after_break, after_make, pages_of, words_of}
+use Rattle.stage2.proofs.Names.{Pool, after_break, after_make, pages_of, words_of, Made, replaced}
 use Rattle.pool.proofs.Replaced.{replaces-one}
-use Rattle.stage2.specs.inner.History.{Made, replaced}
 use Rattle.stage2.proofs.Editing.FilledChunks.{replace-pages, replace-made}
 use Rattle.stage2.proofs.level2.replace_entry.Goals as goal
 

@@ -1,13 +1,6 @@
 use Rattle.std.proofs.Common.{◌≡◌, ℕ, ◌+◌, ◌*◌, ◌/◌, Bool, true, false, ◌&&◌, eqb, is_some, List, None, arith, cond, not, refl, sym, ◌∙◌, ap, subst, ◌⊎◌, inl, inr}
-use Rattle.base.specs.Pages.{PageRun, covers}
-use Rattle.base.specs.Access.{View}
+use Rattle.stage2.proofs.Names.{PageRun, covers, View, Memory, pages_of, Redoes_in, planned, answers_in, chunk_view, chunk_after, part_count, walked, nat_tests, common_steps, Unmapped}
 use Rattle.base.proofs.Booleans.{both}
-use Rattle.pool.specs.Pool.{Memory, pages_of}
-use Rattle.stage2.specs.declared.walked.Walked.TheVariants.{None as Unmapped}
-use Rattle.stage2.specs.inner.Chunks.{Redoes_in, planned, answers_in}
-use Rattle.stage2.specs.inner.Clauses.{chunk_view, chunk_after}
-use Rattle.stage2.specs.Parts.{part_count}
-use Rattle.stage2.specs.Walk.{walked}
 use Rattle.stage2.proofs.Editing.FourChunkEdits.{does-rewrite}
 use Rattle.stage2.proofs.Editing.OneChunk.{is-table, kept}
 use Rattle.stage2.proofs.Tree.Rows.{has-row}
@@ -17,8 +10,6 @@ use Rattle.stage2.proofs.Walkers.SeatedChunks.{level_3-seen, invalid-word, unhel
 use Rattle.stage2.proofs.Walkers.StepLists.{stays-filled}
 use Rattle.stage2.proofs.Walkers.ZeroedTables.{stays-cleared}
 use Rattle.stage2.proofs.level2.rewrite_table.Goals as goal
-use Rattle.std.proofs.lemmas.Bool.Decides.{nat_tests}
-use Rattle.std.proofs.lemmas.Grind.{common_steps}
 
 pub write_runs-requires : goal.write_runs-requires
 write_runs-requires g c =

@@ -1,7 +1,5 @@
 use Rattle.std.proofs.Common.{◌%◌, arith}
-use Rattle.pool.specs.Pool.{pages_of, words_of, put}
-use Rattle.stage2.specs.inner.Clauses.{chunk_after}
-use Rattle.stage2.specs.Walk.{walked}
+use Rattle.stage2.proofs.Names.{pages_of, words_of, put, chunk_after, walked}
 use Rattle.stage2.proofs.Editing.OneChunk.{in-step-alike}
 use Rattle.stage2.proofs.Walkers.StepLists.{stays-replaced}
 use Rattle.stage2.proofs.Walkers.SeatedChunks.{hung-seen, gives-block, block-no-table}

@@ -1,8 +1,7 @@
 use Rattle.std.proofs.Common.{arith}
 use Rattle.stage2.proofs.Editing.FilledChunks.{blocks-small}
 use Rattle.stage2.proofs.level2.set_blocks.Goals as goal
-use Rattle.std.proofs.lemmas.Bool.Decides.{nat_tests}
-use Rattle.std.proofs.lemmas.Grind.{common_steps}
+use Rattle.stage2.proofs.Names.{nat_tests, common_steps}
 
 pub replace_words-requires-clause-in_range : goal.replace_words-requires-clause-in_range
 replace_words-requires-clause-in_range g c = grind (arith, common_steps, nat_tests, blocks-small)

@@ -1,11 +1,7 @@
 use Rattle.std.proofs.Common.{◌≡◌, ℕ, ◌+◌, ◌*◌, ◌==◌, not, is_some, subst, ◌∙◌, arith}
-use Rattle.std.proofs.lemmas.Bool.Decides.{nat_tests}
-use Rattle.base.specs.Access.{View}
-use Rattle.stage2.specs.inner.Change.{step_for}
-use Rattle.stage2.specs.inner.Chunks.{IsWordFor}
+use Rattle.stage2.proofs.Names.{nat_tests, View, step_for, IsWordFor, common_steps}
 use Rattle.stage2.proofs.Editing.Stretches.{stretch-small, stretch-words, word-some}
 use Rattle.stage2.proofs.level3.chunk_words.Goals as goal
-use Rattle.std.proofs.lemmas.Grind.{common_steps}
 
 is-valid : (n word : ℕ) (answer : View) → IsWordFor n answer word → not (word == 0) ≡ is_some answer
 is-valid n word answer is = grind (arith, common_steps, nat_tests, word-some)

@@ -1,11 +1,5 @@
 use Rattle.std.proofs.Common.{◌≡◌, ℕ, ◌+◌, ◌*◌, ◌≤◌, ◌==◌, true, false, [], List, Option, Some, None, arith, refl, subst, not, ◌≢◌, is_some, sym, ◌∙◌, ap}
-use Rattle.std.proofs.lemmas.Bool.Decides.{nat_tests}
-use Rattle.base.specs.Access.{View}
-use Rattle.base.specs.Pages.{PageRun, covers}
-use Rattle.pool.specs.Pool.{Pool, pages_of, words_of, nonzero_in}
-use Rattle.stage2.specs.declared.site.ChunkEdit.{ChunkEdit}
-use Rattle.stage2.specs.inner.Chunks.{planned}
-use Rattle.stage2.specs.inner.Clauses.{WritesPlan, OthersAnswer, words_left, some_pages, gaps}
+use Rattle.stage2.proofs.Names.{nat_tests, View, PageRun, covers, Pool, pages_of, words_of, nonzero_in, ChunkEdit, planned, WritesPlan, OthersAnswer, words_left, some_pages, gaps, common_steps}
 use Rattle.stage2.proofs.Editing.PlannedWords.{writes-join, filled-join}
 use Rattle.stage2.proofs.Editing.Stretches.{word-zero, word-some, writes-stretch}
 use Rattle.stage2.proofs.Editing.Level3Words.{writes-none, writes-all, writes-rest, writes-zero}
@@ -13,7 +7,6 @@ use Rattle.stage2.proofs.Walkers.Histories.{filled-none, filled-more}
 use Rattle.stage2.proofs.Counting.Pieces.{nonzero-most, none-among, all-among, word-beside}
 use Rattle.stage2.proofs.Editing.Gaps.{writes-gaps}
 use Rattle.stage2.proofs.level3.empty_table.Goals as goal
-use Rattle.std.proofs.lemmas.Grind.{common_steps}
 
 -- all words are written
 abbrev plan : ℕ → Option View

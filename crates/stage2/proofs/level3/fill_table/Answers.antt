@@ -1,7 +1,5 @@
 use Rattle.std.proofs.Common.{None, is_some, ap, arith}
-use Rattle.pool.specs.Pool.{pages_of, words_of}
-use Rattle.stage2.specs.inner.Chunks.{planned}
-use Rattle.stage2.specs.inner.Clauses.{gaps}
+use Rattle.stage2.proofs.Names.{pages_of, words_of, planned, gaps}
 use Rattle.stage2.proofs.Counting.Operations.{new-unmapped, new-all}
 use Rattle.stage2.proofs.Editing.Gaps.{writes-gaps}
 use Rattle.stage2.proofs.Editing.Level3Words.{writes-rest}

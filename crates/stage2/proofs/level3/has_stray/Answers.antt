@@ -1,7 +1,6 @@
 use Rattle.std.proofs.Common.{◌≡◌, ◌+◌, ◌*◌, Bool, true, false, not, refl, sym, ap, subst, ◌∙◌}
 use Rattle.pool.proofs.Gaps.{rise-normal, gaps-out, gaps-in}
-use Rattle.stage2.specs.inner.Chunks.{IsWordFor}
-use Rattle.stage2.specs.inner.Clauses.{word_in}
+use Rattle.stage2.proofs.Names.{IsWordFor, word_in}
 use Rattle.stage2.proofs.Counting.Outcomes.{same-word}
 use Rattle.stage2.proofs.level3.has_stray.Goals as goal
 

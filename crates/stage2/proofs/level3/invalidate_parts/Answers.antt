@@ -1,10 +1,5 @@
 use Rattle.std.proofs.Common.{◌≡◌, ℕ, ◌+◌, ◌/◌, ◌&&◌, eqb, take, List, None, Some, sym, ap, ◌∙◌, arith}
-use Rattle.std.specs.Option.{option_map_or}
-use Rattle.base.specs.Pages.{PageRun, in_run, covers}
-use Rattle.pool.specs.Pool.{Pool}
-use Rattle.pool.specs.declared.operation.Op.TheVariants.{Invalidate}
-use Rattle.stage2.specs.Parts.{part_in}
-use Rattle.stage2.specs.Moments.{IsLogged}
+use Rattle.stage2.proofs.Names.{option_map_or, PageRun, in_run, covers, Pool, Invalidate, part_in, IsLogged}
 use Rattle.pool.proofs.FirstRuns.{take-all}
 use Rattle.stage2.proofs.Runs.Parts.{parts-more, parts-same, sum-take}
 use Rattle.stage2.proofs.Walkers.ZeroedTables.{settles-one, settles-more, settles-as}

@@ -1,7 +1,5 @@
 use Rattle.std.proofs.Common.{◌≡◌, ◌+◌, ◌/◌, ◌&&◌, eqb, take}
-use Rattle.base.specs.Pages.{covers}
-use Rattle.stage2.specs.Parts.{part_count}
-use Rattle.stage2.specs.Moments.{Settles}
+use Rattle.stage2.proofs.Names.{covers, part_count, Settles}
 use Rattle.stage2.proofs.level3.invalidate_parts.Given as goal
 
 -- the parts of the first runs are invalidated

@@ -1,12 +1,10 @@
 use Rattle.std.proofs.Common.{◌*◌, arith}
-use Rattle.pool.specs.Pool.{gaps_of}
+use Rattle.stage2.proofs.Names.{gaps_of, nat_tests, common_steps}
 use Rattle.pool.proofs.Gaps.{rise-normal, gaps-rise, gaps-words, gaps-out}
 use Rattle.stage2.proofs.Editing.Gaps.{writes-gap-runs}
 use Rattle.stage2.proofs.Editing.RunWords.{runs-written}
 use Rattle.stage2.proofs.Counting.Pieces.{words-pages}
 use Rattle.stage2.proofs.level3.write_gaps.Goals as goal
-use Rattle.std.proofs.lemmas.Bool.Decides.{nat_tests}
-use Rattle.std.proofs.lemmas.Grind.{common_steps}
 
 pub set_gaps-requires : goal.set_gaps-requires
 set_gaps-requires g c = grind (arith, common_steps, nat_tests, words-pages, gaps-words, rise-normal, gaps-out)

@@ -1,10 +1,8 @@
 use Rattle.std.proofs.Common.{◌≡◌, ap, sym, ◌∙◌, arith}
 use Rattle.std.proofs.lemmas.Bool.{eqb-true}
-use Rattle.std.proofs.lemmas.Bool.Decides.{nat_tests}
-use Rattle.pool.specs.Pool.{words_of, nonzero_in}
+use Rattle.stage2.proofs.Names.{nat_tests, words_of, nonzero_in, common_steps}
 use Rattle.pool.proofs.Nonzero.{nonzero-zeros, nonzero-word}
 use Rattle.stage2.proofs.memory.is_empty.Goals as goal
-use Rattle.std.proofs.lemmas.Grind.{common_steps}
 
 pub returns-clause-yes : goal.returns-clause-yes
 returns-clause-yes g c = λ is i lt.

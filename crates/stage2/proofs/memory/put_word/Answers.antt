@@ -1,5 +1,5 @@
 use Rattle.std.proofs.Common.{◌≡◌, ap}
-use Rattle.pool.specs.Pool.{Pages, pages_of, with_put}
+use Rattle.stage2.proofs.Names.{Pages, pages_of, with_put}
 use Rattle.stage2.proofs.Walkers.Histories.{made-set}
 use Rattle.pool.proofs.Words.{pages_of-set}
 use Rattle.stage2.proofs.memory.put_word.Goals as goal

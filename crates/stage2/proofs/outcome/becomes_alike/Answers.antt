@@ -1,7 +1,5 @@
 use Rattle.std.proofs.Common.{◌≡◌, None, sym, ◌∙◌}
-use Rattle.pool.specs.Pool.{words_of}
-use Rattle.stage2.specs.inner.Chunks.{answers_at}
-use Rattle.stage2.specs.Walk.{next_page}
+use Rattle.stage2.proofs.Names.{words_of, answers_at, next_page}
 use Rattle.stage2.proofs.Counting.Operations.{plain-answer}
 use Rattle.stage2.proofs.Editing.FourChunkEdits.{is-next}
 use Rattle.stage2.proofs.outcome.becomes_alike.Goals as goal

@@ -1,7 +1,5 @@
 use Rattle.std.proofs.Common.{◌≡◌, eqb, true, sym, ap, subst, ◌∙◌}
-use Rattle.stage2.specs.Edits.{edited}
-use Rattle.stage2.specs.inner.Chunks.{IsOutcome}
-use Rattle.stage2.specs.inner.Clauses.{tells}
+use Rattle.stage2.proofs.Names.{edited, IsOutcome, tells}
 use Rattle.stage2.proofs.Counting.Outcomes.{told-filled, told-block}
 use Rattle.stage2.proofs.outcome.is_alike_in_block.Goals as goal
 

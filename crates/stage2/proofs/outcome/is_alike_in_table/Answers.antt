@@ -1,17 +1,11 @@
 use Rattle.std.proofs.Common.{◌≡◌, ℕ, ◌+◌, ◌*◌, ◌<◌, ◌==◌, Bool, true, false, is_some, ◌∙◌, arith, not, refl, sym, ap, subst, inl, inr}
 use Rattle.std.proofs.lemmas.Bool.{cases_Bool, eqb-false}
-use Rattle.base.specs.Pages.{covers}
-use Rattle.pool.specs.Pool.{words_of}
-use Rattle.stage2.specs.inner.Chunks.{IsOutcome}
-use Rattle.stage2.specs.inner.Clauses.{read_after, tells}
-use Rattle.stage2.specs.Slot.{Next}
+use Rattle.stage2.proofs.Names.{covers, words_of, IsOutcome, read_after, tells, Next, nat_tests, common_steps}
 use Rattle.stage2.proofs.Counting.Operations.{others-alike, emptied-alike}
 use Rattle.stage2.proofs.Counting.Outcomes.{stray-mixed}
 use Rattle.stage2.proofs.Counting.Pieces.{none-beside, words-least}
 use Rattle.stage2.proofs.Editing.Gigabyte.{is-none}
 use Rattle.stage2.proofs.outcome.is_alike_in_table.Goals as goal
-use Rattle.std.proofs.lemmas.Bool.Decides.{nat_tests}
-use Rattle.std.proofs.lemmas.Grind.{common_steps}
 
 pub returns-then-is_told_mixed : goal.returns-then-is_told_mixed
 returns-then-is_told_mixed g c = grind (arith, common_steps, nat_tests, stray-mixed)

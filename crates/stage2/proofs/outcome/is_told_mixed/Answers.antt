@@ -1,10 +1,8 @@
 use Rattle.std.proofs.Common.{◌≡◌, ℕ, ap, ◌∙◌, arith}
 use Rattle.words.proofs.RoundTrip.{entry-zero}
-use Rattle.pool.specs.Pool.{Words, nonzero_in}
+use Rattle.stage2.proofs.Names.{Words, nonzero_in, nat_tests, common_steps}
 use Rattle.stage2.proofs.Counting.Pieces.{nonzero-most, zero-beside, word-beside}
 use Rattle.stage2.proofs.outcome.is_told_mixed.Goals as goal
-use Rattle.std.proofs.lemmas.Bool.Decides.{nat_tests}
-use Rattle.std.proofs.lemmas.Grind.{common_steps}
 
 counted : (n k table : ℕ) (words : Words) → n ≡ nonzero_in words k → k ≡ table → n ≡ nonzero_in words table
 counted n k table words is same = is ∙ ap (nonzero_in words) same

@@ -1,8 +1,7 @@
 use Rattle.std.proofs.Common.{◌≤◌, ltb, get_or, ap, arith, rules}
 use Rattle.std.proofs.lemmas.List.{get_or_read}
-use Rattle.std.proofs.lemmas.Bool.Decides.{nat_tests}
+use Rattle.stage2.proofs.Names.{nat_tests, PageRun}
 use Rattle.std.proofs.lemmas.List.Sorted.{IsPartitionPoint-from_clause, IsPartitionedBy-ltb}
-use Rattle.base.specs.Pages.{PageRun}
 use Rattle.stage2.proofs.Runs.Normal.{first_of, firsts-rise}
 use Rattle.stage2.proofs.Runs.Between.{before-halved}
 use Rattle.stage2.proofs.parts.begun.Goals as goal

@@ -1,5 +1,5 @@
 use Rattle.std.proofs.Common.{◌+◌, ◌*◌, sym, ap, ◌∙◌}
-use Rattle.stage2.specs.Parts.{runs_before}
+use Rattle.stage2.proofs.Names.{runs_before}
 use Rattle.stage2.proofs.Runs.Between.{between-parts}
 use Rattle.stage2.proofs.parts.chunk_runs.Goals as goal
 

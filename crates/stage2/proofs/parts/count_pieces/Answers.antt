@@ -1,12 +1,8 @@
 use Rattle.std.proofs.Common.{◌≡◌, [], ◌∷◌, arith}
-use Rattle.std.specs.Option.{option_map_or}
-use Rattle.base.specs.Pages.{PageRun}
-use Rattle.stage2.specs.Parts.{part_in, part_count}
+use Rattle.stage2.proofs.Names.{option_map_or, PageRun, part_in, part_count, nat_tests, common_steps}
 use Rattle.stage2.proofs.Runs.Parts.{sum-take}
 use Rattle.stage2.proofs.Counting.Pieces.{pages_among-le, pages-none, pages-more}
 use Rattle.stage2.proofs.parts.count_pieces.Goals as goal
-use Rattle.std.proofs.lemmas.Bool.Decides.{nat_tests}
-use Rattle.std.proofs.lemmas.Grind.{common_steps}
 
 pub loop-run-init : goal.loop-run-init
 loop-run-init c = grind (arith, common_steps, nat_tests, pages-none c.args.chunk c.list-list.result.now)

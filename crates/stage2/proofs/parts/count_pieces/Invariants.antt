@@ -1,6 +1,5 @@
 use Rattle.std.proofs.Common.{◌≡◌, ◌≤◌, take}
-use Rattle.stage2.specs.Parts.{part_count}
-use Rattle.stage2.specs.Room.{pages_in}
+use Rattle.stage2.proofs.Names.{part_count, pages_in}
 use Rattle.stage2.proofs.parts.count_pieces.Given as goal
 
 -- the pages of the first runs are counted

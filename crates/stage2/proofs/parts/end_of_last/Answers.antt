@@ -1,6 +1,6 @@
 use Rattle.std.proofs.Common.{sym, ap, ◌∙◌}
 use Rattle.std.proofs.lemmas.Bool.{ltb-true}
-use Rattle.stage2.specs.Parts.{end_from}
+use Rattle.stage2.proofs.Names.{end_from}
 use Rattle.stage2.proofs.Runs.Normal.{end-last}
 use Rattle.stage2.proofs.parts.end_of_last.Goals as goal
 

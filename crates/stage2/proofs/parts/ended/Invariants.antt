@@ -1,5 +1,5 @@
 use Rattle.std.proofs.Common.{◌≡◌, ℕ, ◌<◌, leb, true, get_or}
-use Rattle.base.specs.Pages.{PageRun}
+use Rattle.stage2.proofs.Names.{PageRun}
 use Rattle.stage2.proofs.Runs.Normal.{end_of}
 use Rattle.stage2.proofs.parts.ended.Given as goal
 

@@ -1,5 +1,5 @@
 use Rattle.std.proofs.Common.{ap, ap₂, ◌∙◌}
-use Rattle.stage2.specs.Parts.{runs_before, runs_between}
+use Rattle.stage2.proofs.Names.{runs_before, runs_between}
 use Rattle.stage2.proofs.Runs.Between.{between-parts}
 use Rattle.stage2.proofs.parts.gigabyte_runs.Goals as goal
 

@@ -1,6 +1,5 @@
 use Rattle.std.proofs.Common.{◌≡◌, ◌≢◌, ◌+◌, ◌*◌, ◌/◌, ◌≤◌, inl, inr, ap, ◌∙◌, arith}
-use Rattle.std.proofs.lemmas.Bool.Decides.{nat_tests}
-use Rattle.stage2.specs.Parts.{runs_past}
+use Rattle.stage2.proofs.Names.{nat_tests, runs_past}
 use Rattle.stage2.proofs.Runs.Between.{past-later}
 use Rattle.stage2.proofs.Runs.Pieces.{apart-before}
 use Rattle.stage2.proofs.parts.next_piece.Goals as goal

@@ -1,13 +1,9 @@
 use Rattle.std.proofs.Common.{◌+◌, ◌*◌, ◌≡◌, ℕ, ◌/◌, true, [], ◌∷◌, List, sym, ap, ◌∙◌, arith}
-use Rattle.base.specs.Pages.{PageRun, covers}
+use Rattle.stage2.proofs.Names.{PageRun, covers, part_count, pages_in, nat_tests, common_steps}
 use Rattle.pool.proofs.RunWords.{runs-single}
-use Rattle.stage2.specs.Parts.{part_count}
-use Rattle.stage2.specs.Room.{pages_in}
 use Rattle.stage2.proofs.Counting.FewOperations.{run-all, run-whole, page-counted}
 use Rattle.stage2.proofs.Counting.Pieces.{pages_among-le}
 use Rattle.stage2.proofs.parts.pieces_within.Goals as goal
-use Rattle.std.proofs.lemmas.Bool.Decides.{nat_tests}
-use Rattle.std.proofs.lemmas.Grind.{common_steps}
 
 module _ (runs : List PageRun) (run : PageRun) (chunk : ℕ) (single : runs ≡ run ∷ []) (some : (n : ℕ) × (covers runs n ≡ true)) (only : (n : ℕ) → covers runs n ≡ true → n / 512 ≡ chunk) where
   pages : pages_in runs chunk ≡ run.count

@@ -1,7 +1,6 @@
 use Rattle.std.proofs.Common.{◌<◌, get_or, ap, ◌∙◌, arith}
-use Rattle.std.proofs.lemmas.Bool.Decides.{nat_tests}
+use Rattle.stage2.proofs.Names.{nat_tests, runs_past}
 use Rattle.std.proofs.lemmas.List.{get_or_read}
-use Rattle.stage2.specs.Parts.{runs_past}
 use Rattle.stage2.proofs.Runs.Between.{past-halved}
 use Rattle.stage2.proofs.Runs.Normal.{end_of, ends-rise}
 use Rattle.stage2.proofs.parts.runs_on.Goals as goal

@@ -1,11 +1,9 @@
 use Rattle.std.proofs.Common.{arith}
-use Rattle.stage2.specs.inner.Chunks.{block_answer}
+use Rattle.stage2.proofs.Names.{block_answer, nat_tests, common_steps}
 use Rattle.stage2.proofs.Counting.EditPlans.{edit-planned}
 use Rattle.stage2.proofs.Counting.Needs.{same-unmixed}
 use Rattle.stage2.proofs.Counting.Operations.{hung, plain, reached-as}
 use Rattle.stage2.proofs.plan.plan_block.Goals as goal
-use Rattle.std.proofs.lemmas.Bool.Decides.{nat_tests}
-use Rattle.std.proofs.lemmas.Grind.{common_steps}
 
 pub returns-then-is_alike_in_block : goal.returns-then-is_alike_in_block
 returns-then-is_alike_in_block c = λ before same.

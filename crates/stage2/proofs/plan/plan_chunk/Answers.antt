@@ -1,8 +1,6 @@
 use Rattle.std.proofs.Common.{Bool, is_some, not, ◌&&◌, refl, sym, ap, ◌∙◌}
 use Rattle.std.proofs.Math.Bool.{and-true}
-use Rattle.base.specs.Need.{is_mixed}
-use Rattle.pool.specs.Pool.{words_of}
-use Rattle.stage2.specs.inner.Clauses.{read_before, read_after}
+use Rattle.stage2.proofs.Names.{is_mixed, words_of, read_before, read_after}
 use Rattle.stage2.proofs.Counting.Operations.{plain-answer}
 use Rattle.stage2.proofs.Editing.ChunkByChunk.{bit}
 use Rattle.stage2.proofs.Editing.FourChunkEdits.{is-next}

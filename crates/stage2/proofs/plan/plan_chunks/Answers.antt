@@ -1,13 +1,10 @@
 use Rattle.std.proofs.Common.{◌≡◌, ℕ, ◌+◌, ◌*◌, ◌<◌, ◌≤◌, true, refl, sym, subst, ◌∙◌, arith}
-use Rattle.pool.specs.Pool.{pages_of}
-use Rattle.stage2.specs.inner.Chunks.{covers_chunk}
+use Rattle.stage2.proofs.Names.{pages_of, covers_chunk, nat_tests, common_steps}
 use Rattle.stage2.proofs.Counting.Growth.{filled-grows, filled-operations, second-inside}
 use Rattle.stage2.proofs.Counting.UpToPiece.{planned-start, planned-piece, planned-end, planned-filled, planned-one}
 use Rattle.stage2.proofs.Runs.Between.{past-past}
 use Rattle.stage2.proofs.Runs.Left.{left-covers}
 use Rattle.stage2.proofs.plan.plan_chunks.Goals as goal
-use Rattle.std.proofs.lemmas.Bool.Decides.{nat_tests}
-use Rattle.std.proofs.lemmas.Grind.{common_steps}
 
 pub loop-piece-init : goal.loop-piece-init
 loop-piece-init g c = record {

@@ -1,13 +1,7 @@
 use Rattle.std.proofs.Common.{◌≡◌, ◌+◌, ◌*◌, None, sym, ap, subst, ◌∙◌}
-use Rattle.base.specs.Access.{View}
-use Rattle.pool.specs.Pool.{pages_of}
-use Rattle.base.specs.Counts.{count_below}
-use Rattle.stage2.specs.Edits.{edited}
-use Rattle.stage2.specs.inner.Chunks.{answers_of}
-use Rattle.stage2.specs.inner.Gigabytes.{grows_at, gigabyte_growth}
+use Rattle.stage2.proofs.Names.{View, pages_of, count_below, edited, answers_of, grows_at, gigabyte_growth, Plan}
 use Rattle.stage2.proofs.Editing.Gigabyte.{touched-below, is-none}
 use Rattle.stage2.proofs.Counting.Growth.{growth-mapped, growth-unmapped}
-use Rattle.stage2.specs.declared.plan.Plan.{Plan}
 use Rattle.stage2.proofs.plan.plan_gigabyte.Goals as goal
 
 pub returns-then-is_some-clause-tables : goal.returns-then-is_some-clause-tables

@@ -1,14 +1,5 @@
 use Rattle.std.proofs.Common.{◌≡◌, ◌≤◌, ◌<◌, ℕ, ◌+◌, ◌*◌, ◌%◌, ◌/◌, not, is_some, ◌&&◌, cond, refl, sym, ap, subst, ◌∙◌, arith}
-use Rattle.base.specs.Access.{View}
-use Rattle.pool.specs.Pool.{pages_of}
-use Rattle.stage2.specs.Slot.{Layout, Slot, Next}
-use Rattle.stage2.specs.Walk.{next_page}
-use Rattle.base.specs.Need.{is_mixed}
-use Rattle.stage2.specs.Edits.{edited}
-use Rattle.stage2.specs.inner.Chunks.{answers_at, answers_of, entry_in}
-use Rattle.stage2.specs.inner.Clauses.{IsSpelled}
-use Rattle.stage2.specs.inner.Gigabytes.{grows_at}
-use Rattle.stage2.specs.Room.{table_operations, chunk_operations}
+use Rattle.stage2.proofs.Names.{View, pages_of, Layout, Slot, Next, next_page, is_mixed, edited, answers_at, answers_of, entry_in, IsSpelled, grows_at, table_operations, chunk_operations}
 use Rattle.stage2.proofs.Editing.ChunkByChunk.{bit}
 use Rattle.stage2.proofs.Editing.MadeEdit.{touches-made}
 use Rattle.stage2.proofs.Counting.Growth.{grows-entry, second-inside, second-held, entry-view, view-mixed, view-spelled, view-taken}

@@ -1,22 +1,13 @@
 use Rattle.std.proofs.Common.{◌≡◌, ℕ, ◌+◌, ◌-◌, ◌*◌, ◌/◌, ◌≤◌, false, inl, inr, sym, ap, ◌∙◌, arith}
-use Rattle.pool.specs.Pool.{pages_of}
-use Rattle.stage2.specs.Edits.{edited}
-use Rattle.stage2.specs.inner.Chunks.{answers_of}
-use Rattle.stage2.specs.Room.{sum_below, gigabyte_operations}
-use Rattle.stage2.specs.inner.Gigabytes.{gigabyte_growth}
+use Rattle.stage2.proofs.Names.{pages_of, edited, answers_of, sum_below, gigabyte_operations, gigabyte_growth, Plan, View, covers, nat_tests, common_steps}
 use Rattle.stage2.proofs.Editing.ChunkByChunk.{sum_below-more}
 use Rattle.stage2.proofs.Editing.GigabyteByGigabyte.{grow-sum}
 use Rattle.stage2.proofs.Runs.Spans.{sum_below-none, sum_below-tail, outside-gigabytes}
 use Rattle.stage2.proofs.Counting.Growth.{growth-nothing}
 use Rattle.stage2.proofs.Runs.ChunkCounts.{operations-nothing}
-use Rattle.stage2.specs.declared.plan.Plan.{Plan}
-use Rattle.base.specs.Access.{View}
-use Rattle.base.specs.Pages.{covers}
 use Rattle.stage2.proofs.Runs.OwnRuns.{gigabyte-covers, gigabyte-growth, gigabyte-operations}
 use Rattle.stage2.proofs.plan.plan_row.Goals as goal
 use Rattle.stage2.proofs.plan.plan_row.Goals.{then-touches, else-touches}
-use Rattle.std.proofs.lemmas.Bool.Decides.{nat_tests}
-use Rattle.std.proofs.lemmas.Grind.{common_steps}
 
 pub plan_gigabyte-more-requires-clause-touched : goal.plan_gigabyte-more-requires-clause-touched
 plan_gigabyte-more-requires-clause-touched g c = c.touches.ensures.yes c.if-touches.true c.new-gigabyte.result c.args.runs.now c.gigabyte_runs-part.ensures

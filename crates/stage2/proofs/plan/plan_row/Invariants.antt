@@ -1,9 +1,5 @@
 use Rattle.std.proofs.Common.{◌≡◌, ◌*◌, ◌≤◌}
-use Rattle.pool.specs.Pool.{pages_of}
-use Rattle.stage2.specs.Edits.{edited}
-use Rattle.stage2.specs.inner.Chunks.{answers_of}
-use Rattle.stage2.specs.Room.{sum_below, gigabyte_operations}
-use Rattle.stage2.specs.inner.Gigabytes.{gigabyte_growth}
+use Rattle.stage2.proofs.Names.{pages_of, edited, answers_of, sum_below, gigabyte_operations, gigabyte_growth}
 use Rattle.stage2.proofs.plan.plan_row.Given as goal
 
 abbrev pub invariant-loop-number : goal.invariant-loop-number

@@ -1,17 +1,9 @@
 use Rattle.std.proofs.Common.{◌≡◌, ◌⊎◌, ℕ, ◌+◌, ◌*◌, false, cond, is_some, subst, arith}
-use Rattle.base.specs.Access.{View}
-use Rattle.pool.specs.Pool.{Pool}
-use Rattle.stage2.specs.declared.site.ChunkEdit.{ChunkEdit}
-use Rattle.stage2.specs.inner.Chunks.{IsOutcome}
-use Rattle.stage2.specs.inner.Clauses.{IsSpelled, read_before, read_after, tells, words_left}
-use Rattle.stage2.specs.Room.{pages_in, reached_in, table_operations}
-use Rattle.stage2.specs.Slot.{Next}
+use Rattle.stage2.proofs.Names.{View, Pool, ChunkEdit, IsOutcome, IsSpelled, read_before, read_after, tells, words_left, pages_in, reached_in, table_operations, Next, nat_tests, common_steps}
 use Rattle.stage2.proofs.Counting.EditPlans.{edit-planned, either-most, either-near}
 use Rattle.stage2.proofs.Counting.Operations.{kept, dropped, table-either, table-words}
 use Rattle.stage2.proofs.Counting.Outcomes.{one, stray-mixed}
 use Rattle.stage2.proofs.plan.plan_table.Goals as goal
-use Rattle.std.proofs.lemmas.Bool.Decides.{nat_tests}
-use Rattle.std.proofs.lemmas.Grind.{common_steps}
 
 -- what a table loses, by the pages that are reached
 gone-words : (e : ChunkEdit) (k gone : ℕ) (pool : Pool) → IsSpelled e k pool → gone ≡ words_left k e pool → gone ≡ cond (is_some e.access) (reached_in (read_before e (Next k) pool) e.chunk) (pages_in e.runs e.chunk)

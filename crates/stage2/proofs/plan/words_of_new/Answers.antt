@@ -1,7 +1,5 @@
 use Rattle.std.proofs.Common.{is_some, sym, ap, ap₂, ◌∙◌, arith}
-use Rattle.base.specs.Access.{View}
-use Rattle.stage2.specs.Edits.{edited}
-use Rattle.stage2.specs.Room.{reached_in}
+use Rattle.stage2.proofs.Names.{View, edited, reached_in}
 use Rattle.stage2.proofs.Counting.Operations.{new-unmapped, new-all, new-none}
 use Rattle.stage2.proofs.plan.words_of_new.Goals as goal
 

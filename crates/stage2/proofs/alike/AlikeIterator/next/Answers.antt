@@ -1,5 +1,5 @@
 use Rattle.std.proofs.Common.{List, sym, subst}
-use Rattle.stage2.specs.Reading.{TableEntry, ArePassed}
+use Rattle.stage2.proofs.Names.{TableEntry, ArePassed}
 use Rattle.stage2.proofs.Reading.Passing.{passed-more, passed-nothing, next-pages}
 use Rattle.stage2.proofs.alike.AlikeIterator.next.Goals as goal
 

@@ -1,5 +1,5 @@
 use Rattle.std.proofs.Common.{length}
-use Rattle.stage2.specs.Reading.{ArePassed}
+use Rattle.stage2.proofs.Names.{ArePassed}
 use Rattle.stage2.proofs.alike.AlikeIterator.next.Given as goal
 
 -- nothing is reached by the entries that came

@@ -1,10 +1,7 @@
 use Rattle.std.proofs.Common.{◌≡◌, ◌+◌, ◌*◌, ◌%◌, ap, ◌∙◌, arith}
-use Rattle.pool.specs.Pool.{words_of}
-use Rattle.stage2.specs.Reading.{pages_at}
+use Rattle.stage2.proofs.Names.{words_of, pages_at, nat_tests, common_steps}
 use Rattle.stage2.proofs.Reading.Cursors.{counted, odd-row, row-none, row-step, step-more}
 use Rattle.stage2.proofs.cursor.Cursor.pass_row.Goals as goal
-use Rattle.std.proofs.lemmas.Bool.Decides.{nat_tests}
-use Rattle.std.proofs.lemmas.Grind.{common_steps}
 
 pub loop-self-init : goal.loop-self-init
 loop-self-init g c = grind (arith, common_steps, nat_tests, row-none)

@@ -1,6 +1,5 @@
 use Rattle.std.proofs.Common.{◌≡◌, ◌+◌, ◌-◌, ◌*◌, ◌++◌}
-use Rattle.pool.specs.Pool.{words_of}
-use Rattle.stage2.specs.Reading.{left_in, entry_row, next_first, IsCursor}
+use Rattle.stage2.proofs.Names.{words_of, left_in, entry_row, next_first, IsCursor}
 use Rattle.stage2.proofs.cursor.Cursor.pass_row.Given as goal
 
 -- the words that were passed stand in a row

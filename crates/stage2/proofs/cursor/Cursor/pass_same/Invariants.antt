@@ -1,7 +1,6 @@
 use Rattle.std.proofs.Common.{◌≡◌, ◌-◌}
-use Rattle.pool.specs.Pool.{words_of}
+use Rattle.stage2.proofs.Names.{words_of, left_in, IsCursor, PassTheSame}
 use Rattle.stage2.specs.declared.table_page.Level.TheVariants.{Third}
-use Rattle.stage2.specs.Reading.{left_in, IsCursor, PassTheSame}
 use Rattle.stage2.proofs.cursor.Cursor.pass_same.Given as goal
 
 abbrev pub invariant-loop-self : goal.invariant-loop-self

@@ -1,4 +1,4 @@
-use Rattle.pool.specs.Pool.{words_of}
+use Rattle.stage2.proofs.Names.{words_of}
 use Rattle.stage2.proofs.Reading.Trees.{all-left}
 use Rattle.stage2.proofs.entries.Entries.new.Goals as goal
 

@@ -1,6 +1,5 @@
 use Rattle.std.proofs.Common.{sym, ap, ◌∙◌}
-use Rattle.words.specs.Words.{entry_of}
-use Rattle.stage2.specs.Level.{number_of}
+use Rattle.stage2.proofs.Names.{entry_of, number_of}
 use Rattle.stage2.proofs.Reading.Rows.{in-row-behind, in-row-alone, leaf-small, leaf-odd, leaf-block}
 use Rattle.stage2.proofs.entries.Entries.pass_row.Goals as goal
 

@@ -1,5 +1,5 @@
 use Rattle.std.proofs.Common.{sym, ◌∙◌}
-use Rattle.pool.specs.Pool.{words_of}
+use Rattle.stage2.proofs.Names.{words_of}
 use Rattle.stage2.proofs.Reading.Rows.{third-row}
 use Rattle.stage2.proofs.entries.Entries.pass_same.Goals as goal
 

@@ -1,15 +1,8 @@
 use Rattle.std.proofs.Common.{◌≡◌, ℕ, List, [], length, sym, ap, ◌∙◌, arith}
-use Rattle.pool.specs.Pool.{words_of}
-use Rattle.std.specs.Option.{option_map_or}
-use Rattle.words.specs.Words.{entry_of}
-use Rattle.pool.specs.Pool.{Words}
-use Rattle.stage2.specs.Level.{number_of}
+use Rattle.stage2.proofs.Names.{words_of, option_map_or, entry_of, Words, number_of, TableEntry, table_entries, table_in, left_in, nat_tests, common_steps}
 use Rattle.stage2.specs.declared.table_page.Level.TheVariants.{Second, Third}
-use Rattle.stage2.specs.Reading.{TableEntry, table_entries, table_in, left_in}
 use Rattle.stage2.proofs.Reading.Trees.{third-next, second-next, root-next, none-next}
 use Rattle.stage2.proofs.entries.EntriesIterator.next.Goals as goal
-use Rattle.std.proofs.lemmas.Bool.Decides.{nat_tests}
-use Rattle.std.proofs.lemmas.Grind.{common_steps}
 
 pub returns-in-Some-clause-steps : goal.returns-in-Some-clause-steps
 returns-in-Some-clause-steps g c = grind (arith, common_steps, nat_tests, third-next)

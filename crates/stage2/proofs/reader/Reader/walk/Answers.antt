@@ -1,6 +1,5 @@
 use Rattle.std.proofs.Common.{eqb, position, sym, ap, ◌∙◌}
-use Rattle.pool.specs.Pool.{words_of}
-use Rattle.stage2.specs.Readings.{Reading}
+use Rattle.stage2.proofs.Names.{words_of, Reading}
 use Rattle.stage2.proofs.Tree.Rows.{no-row}
 use Rattle.stage2.proofs.reader.Reader.walk.Goals as goal
 

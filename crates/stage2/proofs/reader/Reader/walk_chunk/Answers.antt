@@ -1,5 +1,5 @@
 use Rattle.std.proofs.Common.{sym, ◌∙◌}
-use Rattle.pool.specs.Pool.{words_of}
+use Rattle.stage2.proofs.Names.{words_of}
 use Rattle.stage2.proofs.Tree.EntryWords.{block-page}
 use Rattle.stage2.proofs.reader.Reader.walk_chunk.Goals as goal
 

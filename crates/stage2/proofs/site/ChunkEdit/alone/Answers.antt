@@ -1,12 +1,8 @@
 use Rattle.std.proofs.Common.{◌≡◌, ◌≢◌, ℕ, ◌+◌, ◌*◌, ◌/◌, ◌≤◌, true, false, List, arith}
-use Rattle.std.proofs.lemmas.Bool.Decides.{nat_tests}
-use Rattle.base.specs.Pages.{PageRun}
-use Rattle.stage2.specs.Edits.{touches_chunk}
-use Rattle.stage2.specs.Parts.{lie_within}
+use Rattle.stage2.proofs.Names.{nat_tests, PageRun, touches_chunk, lie_within, common_steps}
 use Rattle.stage2.proofs.Counting.Bounds.{between, in-chunk}
 use Rattle.stage2.proofs.Runs.Normal.{any-within}
 use Rattle.stage2.proofs.site.ChunkEdit.alone.Goals as goal
-use Rattle.std.proofs.lemmas.Grind.{common_steps}
 
 -- runs within a chunk touch no other
 elsewhere : (runs : List PageRun) (first end c k : ℕ) → lie_within first end runs ≡ true → c ≡ first / 512 → end ≤ 512 * c + 512 → k ≢ c → touches_chunk k runs ≡ false

@@ -1,5 +1,5 @@
 use Rattle.std.proofs.Common.{ℕ, ◌≤◌, List, not, eqb}
-use Rattle.pool.specs.Pool.{words_of, nonzero_in}
+use Rattle.stage2.proofs.Names.{words_of, nonzero_in}
 use Rattle.pool.proofs.Count.{count_below-le}
 use Rattle.stage2.proofs.source.ImageWordsWordSource.most_words.Goals as goal
 

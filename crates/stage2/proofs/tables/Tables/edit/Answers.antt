@@ -1,5 +1,6 @@
 use Rattle.std.proofs.Common.{Some, ◌≡◌, ◌≤◌, false, eqb, sym, ap, subst, ◌∙◌, position, length}
-use Rattle.stage2.specs.Tables.{TablesView, has_root, AreTurnedFor, Fits, edit_operations, AreEdited}
+use Rattle.stage2.proofs.Names.{has_root, AreTurnedFor, edit_operations, AreEdited}
+use Rattle.stage2.specs.Tables.{TablesView, Fits}
 use Rattle.stage2.proofs.Tree.Rows.{row-found}
 use Rattle.stage2.proofs.Editing.WholeTables.{view, canonical-inside, edited-rooted, edited-rootless, found-none, turned-found, fits-row, room-row, rootless-edit}
 use Rattle.stage2.proofs.tables.Tables.edit.Goals as goal

@@ -1,11 +1,8 @@
 use Rattle.std.proofs.Common.{◌≡◌, ◌<◌, rules, refl, sym, subst, ◌∙◌, arith}
 use Rattle.std.proofs.lemmas.Result.{on_ok_weaker}
-use Rattle.base.specs.Access.{View}
-use Rattle.stage2.specs.inner.Filling.{in_range, IsFilling}
+use Rattle.stage2.proofs.Names.{View, in_range, IsFilling, nat_tests, common_steps}
 use Rattle.stage2.proofs.Editing.FillUpward.{can-map, mapped, others, others-more, others-none, edge-between, edge-last, filling-none, filling-more, filling-next, filled, segment-alike, in-range-fits}
 use Rattle.stage2.proofs.tables.Tables.fill.Goals as goal
-use Rattle.std.proofs.lemmas.Bool.Decides.{nat_tests}
-use Rattle.std.proofs.lemmas.Grind.{common_steps}
 
 pub loop-number-init : goal.loop-number-init
 loop-number-init g c = grind (arith, common_steps, nat_tests, filling-none c.args.self.now.layout (in_range (g.V.Views.view c.args.views.now c.args.p)) c.args.p c.args.self.now refl c.requires.canonical c.requires.unmapped, others-none c.args.p c.args.self.now)

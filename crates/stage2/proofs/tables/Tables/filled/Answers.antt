@@ -1,11 +1,9 @@
 use Rattle.std.proofs.Common.{◌≡◌, ◌<◌, List, length, get_or, ap, subst, ◌∙◌, arith}
-use Rattle.base.specs.Manifest.{PartitionRow}
+use Rattle.stage2.proofs.Names.{PartitionRow, nat_tests, common_steps}
 use Rattle.manifest.proofs.Facts.{facts}
 use Rattle.stage2.proofs.Counting.Quotas.{quota_at}
 use Rattle.stage2.proofs.Editing.FillPartitions.{filled-none, not-filled, filled-more, filled-all}
 use Rattle.stage2.proofs.tables.Tables.filled.Goals as goal
-use Rattle.std.proofs.lemmas.Bool.Decides.{nat_tests}
-use Rattle.std.proofs.lemmas.Grind.{common_steps}
 
 pub loop-partition-init : goal.loop-partition-init
 loop-partition-init g c = filled-none c.args.manifest.now (g.V.Views.view c.args.views.now) c.in_ok-tables.tables c.in_ok-tables.ensures.layout c.in_ok-tables.ensures.canonical c.in_ok-tables.ensures.unmapped

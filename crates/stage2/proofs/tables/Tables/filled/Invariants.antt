@@ -1,5 +1,4 @@
-use Rattle.stage2.specs.inner.Filling.{AreFilled}
-use Rattle.stage2.specs.Slot.{layout_of}
+use Rattle.stage2.proofs.Names.{AreFilled, layout_of}
 use Rattle.stage2.proofs.tables.Tables.filled.Given as goal
 
 -- the views of the partitions before this one are mapped

@@ -1,8 +1,6 @@
 use Rattle.std.proofs.Common.{◌≡◌, ◌+◌, ap, sym, subst, ◌∙◌}
-use Rattle.base.specs.Need.{need}
-use Rattle.base.specs.Manifest.{row_of}
-use Rattle.pool.specs.Pool.{row_quota, pages_of, free_of}
-use Rattle.stage2.specs.Tables.{TablesView, view_of}
+use Rattle.stage2.proofs.Names.{need, row_of, row_quota, pages_of, free_of, view_of}
+use Rattle.stage2.specs.Tables.{TablesView}
 use Rattle.stage2.proofs.Editing.WholeTables.{view, found-none, free-and-need, free-none}
 use Rattle.stage2.proofs.Tree.Rows.{row-found}
 use Rattle.stage2.proofs.tables.Tables.free.Goals as goal

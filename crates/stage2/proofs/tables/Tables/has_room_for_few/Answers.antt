@@ -1,6 +1,6 @@
 use Rattle.std.proofs.Common.{ap, arith}
 use Rattle.stage2.specs.Sound.{TablesView}
-use Rattle.stage2.specs.Tables.{edit_operations}
+use Rattle.stage2.proofs.Names.{edit_operations}
 use Rattle.stage2.proofs.Editing.WholeTables.{view, room-found}
 use Rattle.stage2.proofs.tables.Tables.has_room_for_few.Goals as goal
 

@@ -1,5 +1,6 @@
 use Rattle.std.proofs.Common.{◌≡◌, ap, arith}
-use Rattle.stage2.specs.Tables.{TablesView, view_of}
+use Rattle.stage2.proofs.Names.{view_of}
+use Rattle.stage2.specs.Tables.{TablesView}
 use Rattle.stage2.proofs.Editing.WholeTables.{canonical-inside, ready-already, room-most}
 use Rattle.stage2.proofs.tables.Tables.make_room.Goals as goal
 

@@ -2,8 +2,7 @@ use Rattle.std.proofs.Common.{arith}
 use Rattle.stage2.proofs.Editing.FillUpward.{fits-same}
 use Rattle.stage2.proofs.Editing.WholeTables.{turned-same}
 use Rattle.stage2.proofs.tables.Tables.map_pending.Goals as goal
-use Rattle.std.proofs.lemmas.Bool.Decides.{nat_tests}
-use Rattle.std.proofs.lemmas.Grind.{common_steps}
+use Rattle.stage2.proofs.Names.{nat_tests, common_steps}
 
 pub new-requires : goal.new-requires
 new-requires g c = let can = c.requires.fits c.in-Some.access c.in-Some.is in let a = can.some in let b = can.inside in omega (arith, a, b)

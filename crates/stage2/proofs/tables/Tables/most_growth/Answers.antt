@@ -1,8 +1,6 @@
 use Rattle.std.proofs.Common.{ap, arith}
-use Rattle.base.specs.Need.{grow}
-use Rattle.stage2.specs.Edits.{edited}
+use Rattle.stage2.proofs.Names.{grow, edited, view_of}
 use Rattle.stage2.specs.Sound.{TablesView}
-use Rattle.stage2.specs.Tables.{view_of}
 use Rattle.stage2.proofs.Editing.WholeTables.{view, grow-found}
 use Rattle.stage2.proofs.tables.Tables.most_growth.Goals as goal
 

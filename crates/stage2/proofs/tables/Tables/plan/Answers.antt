@@ -1,8 +1,6 @@
 use Rattle.std.proofs.Common.{sym, ap, subst, ◌∙◌}
-use Rattle.base.specs.Need.{grow}
-use Rattle.stage2.specs.Edits.{edited}
+use Rattle.stage2.proofs.Names.{grow, edited, view_of, AreTurnedFor}
 use Rattle.stage2.specs.Sound.{TablesView}
-use Rattle.stage2.specs.Tables.{view_of, AreTurnedFor}
 use Rattle.stage2.proofs.Editing.WholeTables.{view, turned-found, grow-found}
 use Rattle.stage2.proofs.tables.Tables.plan.Goals as goal
 

@@ -1,13 +1,9 @@
 use Rattle.std.proofs.Common.{◌≡◌, eqb, position, sym, ap, ◌∙◌, arith}
-use Rattle.std.specs.Option.{option_map}
-use Rattle.base.specs.Manifest.{row_of}
-use Rattle.pool.specs.Pool.{row_quota}
+use Rattle.stage2.proofs.Names.{option_map, row_of, row_quota, nat_tests, common_steps}
 use Rattle.stage2.specs.Tables.{TablesView}
 use Rattle.stage2.proofs.Editing.WholeTables.{quota-found, quota-none, rootless-need}
 use Rattle.stage2.proofs.tables.Tables.used.Given.{Over}
 use Rattle.stage2.proofs.tables.Tables.used.Goals as goal
-use Rattle.std.proofs.lemmas.Bool.Decides.{nat_tests}
-use Rattle.std.proofs.lemmas.Grind.{common_steps}
 
 -- the quota is the partition's
 quota-is : (g : Over) (c : goal.After-free g) → c.in-Some.quota ≡ row_quota c.args.self.now.layout.quotas (row_of c.args.self.now.layout.ids c.args.p)
