@@ -7,7 +7,7 @@ use Rattle.std.proofs.lemmas.Bool.{cases_eq, cases_Bool}
 pub count_below-same : (passes others : ℕ → Bool) (n : ℕ) → ((k : ℕ) → k < n → others k ≡ passes k) → count_below others n ≡ count_below passes n
 unfolding count_below
 count_below-same passes others zero same = refl
-count_below-same passes others (suc n) same = grind (arith, common_steps, nat_tests, count_below-same passes others n (λ k below. same k (omega arith)))
+count_below-same passes others (suc n) same = grind (arith, common_steps, nat_tests, same n, count_below-same passes others n (λ k below. same k (omega arith)))
 
 -- one number passes that did not
 pub count_below-one : (passes others : ℕ → Bool) (n x : ℕ) → x < n → passes x ≡ false → others x ≡ true → ((k : ℕ) → k < n → k ≢ x → others k ≡ passes k) → count_below others n ≡ count_below passes n + 1
@@ -35,10 +35,7 @@ count_below-none passes (suc n) none = grind (arith, common_steps, nat_tests, co
 pub count_below-some : (passes : ℕ → Bool) (n k : ℕ) → k < n → passes k ≡ true → 0 < count_below passes n
 unfolding count_below
 count_below-some passes zero k below is_one = absurd (omega arith)
-count_below-some passes (suc n) k below is_one = elim (cases_eq k n) [
-  | inl is ↦ let here : passes n ≡ true = rw (← is) is_one in rw here (omega arith)
-  | inr is_other ↦ let rest = count_below-some passes n k (omega arith) is_one in omega (arith, rest)
-]
+count_below-some passes (suc n) k below is_one = grind (arith, common_steps, nat_tests, count_below-some passes n k)
 
 -- all pass
 pub count_below-all : (passes : ℕ → Bool) (n : ℕ) → ((k : ℕ) → k < n → passes k ≡ true) → count_below passes n ≡ n
@@ -49,7 +46,7 @@ count_below-all passes (suc n) all = grind (arith, common_steps, nat_tests, coun
 -- from a number on none passes
 pub count_below-tail : (passes : ℕ → Bool) (n m : ℕ) → n ≤ m → ((k : ℕ) → n ≤ k → k < m → passes k ≡ false) → count_below passes m ≡ count_below passes n
 unfolding count_below
-count_below-tail passes n zero within none = let is : n ≡ 0 = omega arith in rw is refl
+count_below-tail passes n zero within none = grind (arith, common_steps, nat_tests)
 count_below-tail passes n (suc m) within none = elim (cases_eq n (suc m)) [
   | inl is ↦ rw is refl
   | inr is_other ↦
@@ -73,10 +70,4 @@ count_below-le passes (suc n) = grind (arith, common_steps, nat_tests, count_bel
 pub count_below-witness : (a : ℕ → Bool) (n : ℕ) → 0 < count_below a n → (x : ℕ) × (x < n) × (a x ≡ true)
 unfolding count_below
 count_below-witness a zero some = absurd (omega (arith, some))
-count_below-witness a (suc n) some = elim (cases_Bool (a n)) [
-  | inl is ↦ (n, omega arith, is)
-  | inr isnt ↦
-      let fewer : 0 < 0 + count_below a n = (rw isnt at some) in
-      let rest = count_below-witness a n (omega (arith, fewer)) in
-      (rest.0, (let lt = rest.1 in omega (arith, lt)), rest.2)
-]
+count_below-witness a (suc n) some = grind (arith, common_steps, nat_tests, count_below-witness a n)

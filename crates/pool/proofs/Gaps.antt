@@ -35,11 +35,10 @@ gap-one page start word step first end pool most = grind (arith, nat_tests, gap-
 
 pub gaps-left : (start first i : ℕ) (runs : List PageRun) (run : PageRun) → i < length runs → run ≡ get_or runs i run
     → gaps_from start first (drop i runs) ≡ gap start first (index_from start run.first) ++ gaps_from start (max first (index_from start (run.first + run.count))) (drop (i + 1) runs)
-gaps-left start first i runs run lt is =
-    at_drop_more (gaps_from start first) runs i run lt ∙ ap (λ r. gaps_from start first (r ∷ drop (i + 1) runs)) (sym is) ∙ gaps-next start first run (drop (i + 1) runs)
+gaps-left start first i runs run lt is = grind (arith, common_steps, nat_tests, at_drop_more (gaps_from start first) runs i run lt, gaps-next)
 
 pub gaps-done : (start first i : ℕ) (runs : List PageRun) → length runs ≤ i → gaps_from start first (drop i runs) ≡ gap start first 512
-gaps-done start first i runs all = at_drop_all (gaps_from start first) runs i all ∙ gaps-none start first
+gaps-done start first i runs all = grind (arith, common_steps, at_drop_all (gaps_from start first) runs i all, gaps-none)
 
 -- ---- runs that stand upward
 
@@ -52,20 +51,12 @@ rise-lower (run ∷ runs) a b le up = grind (arith, common_steps, nat_tests)
 
 pub before-rise : (runs : List PageRun) (e n : ℕ) → rise e runs ≡ true → n < e → covers runs n ≡ false
 before-rise [] e n up lt = refl
-before-rise (run ∷ runs) e n up lt =
-    let both = above run runs e up in
-    let least = both.0 in
-    let out : in_run run n ≡ false = grind (arith, nat_tests, least, lt) in
-    rw out (before-rise runs (run.first + run.count) n both.1 (omega (arith, least, lt)))
+before-rise (run ∷ runs) e n up lt = grind (arith, common_steps, nat_tests, above run runs e up, before-rise runs (run.first + run.count) n)
 
 -- maximal runs do
 rise-strict : (e : ℕ) (runs : List PageRun) → rise_above e runs ≡ true → rise e runs ≡ true
 rise-strict e [] up = refl
-rise-strict e (run ∷ runs) up =
-    let both = and_parts (nat_lt e run.first) (rise_above (run.first + run.count) runs) up in
-    let test = both.0 in
-    let le : nat_le e run.first ≡ true = grind (arith, nat_tests, test) in
-    rw (le, rise-strict (run.first + run.count) runs both.1) refl
+rise-strict e (run ∷ runs) up = grind (arith, common_steps, nat_tests, rise-strict (run.first + run.count) runs)
 
 pub rise-normal : (runs : List PageRun) → are_normal runs ≡ true → rise 0 runs ≡ true
 rise-normal [] normal = refl
@@ -80,15 +71,8 @@ module _ (start : ℕ) where
 
   -- gaps stand upward
   rise-gaps : (runs : List PageRun) (first : ℕ) → rise (start + first) (gaps_from start first runs) ≡ true
-  rise-gaps [] first = rw gaps-none (last-rise first)
-  rise-gaps (run ∷ runs) first =
-      let a = index_from start run.first in
-      let b = max first (index_from start (run.first + run.count)) in
-      let rest = rise-gaps runs b in
-      rw gaps-next (elim (cases_lt first a) [
-        | inl lt ↦ rise-gap first a (start + first) (gaps_from start b runs) (omega arith) (omega (arith, lt)) (rise-lower (gaps_from start b runs) (start + b) (start + a) (omega (arith, lt)) rest)
-        | inr ge ↦ rw (gap-none start first a ge) (rise-lower (gaps_from start b runs) (start + b) (start + first) (omega arith) rest)
-      ])
+  rise-gaps [] first = grind (arith, nat_tests, gaps-none, last-rise)
+  rise-gaps (run ∷ runs) first = grind (arith, nat_tests, gaps-next, gap-none, rise-gap, rise-lower, rise-gaps runs (max first (index_from start (run.first + run.count))))
 
   pub gaps-rise : (runs : List PageRun) → rise 0 (gaps_of start runs) ≡ true
   gaps-rise runs = rise-lower (gaps_of start runs) (start + 0) 0 (omega arith) (rise-gaps runs 0)
@@ -97,16 +81,7 @@ module _ (start : ℕ) where
 
   words-from : (runs : List PageRun) (e first : ℕ) → first ≡ index_from start e → rise e runs ≡ true → words_in start (gaps_from start first runs) + words_in start runs + first ≡ 512
   words-from [] e first at up = rw gaps-none (let words = gap-words start first 512 (omega arith) in omega (arith, words, at))
-  words-from (run ∷ runs) e first at up =
-      let both = above run runs e up in
-      let least = both.0 in
-      let a = index_from start run.first in
-      let b = max first (index_from start (run.first + run.count)) in
-      let next : b ≡ index_from start (run.first + run.count) = omega (arith, at, least) in
-      let rest = words-from runs (run.first + run.count) b next both.1 in
-      let here = gap-words start first a (omega arith) in
-      let all = words_in-append start (gap start first a) (gaps_from start b runs) in
-      rw gaps-next (omega (arith, rest, here, all, at, least, next))
+  words-from (run ∷ runs) e first at up = grind (arith, nat_tests, above run runs e up, gaps-next, gap-words, words_in-append, words-from runs (run.first + run.count) (max first (index_from start (run.first + run.count))))
 
   pub gaps-words : (runs : List PageRun) → rise 0 runs ≡ true → words_in start (gaps_of start runs) + words_in start runs ≡ 512
   gaps-words runs up = let all = words-from runs 0 0 (omega arith) up in omega (arith, all)
@@ -134,63 +109,19 @@ module _ (start : ℕ) where
   -- none behind the 512
   gaps-below : (runs : List PageRun) (first n : ℕ) → covers (gaps_from start first runs) n ≡ true → n < start + 512
   gaps-below [] first n there = (gap-at first 512 n (rw gaps-none at there)).1
-  gaps-below (run ∷ runs) first n there =
-      let a = index_from start run.first in
-      let b = max first (index_from start (run.first + run.count)) in
-      let all = sym (covers-append (gap start first a) (gaps_from start b runs) n) ∙ (rw gaps-next at there) in
-      elim (cases_Bool (covers (gap start first a) n)) [
-        | inl t ↦ let at = (gap-at first a n t).1 in omega (arith, at)
-        | inr f ↦ gaps-below runs b n (rw f at all)
-      ]
+  gaps-below (run ∷ runs) first n there = grind (arith, nat_tests, gaps-next, covers-append, gap-at, gaps-below runs (max first (index_from start (run.first + run.count))) n)
 
   -- nor before the first
   pub gaps-behind : (runs : List PageRun) (first n : ℕ) → covers (gaps_from start first runs) n ≡ true → start + first ≤ n
-  gaps-behind runs first n there = elim (cases_lt n (start + first)) [
-    | inl lt ↦ let none = before-rise (gaps_from start first runs) (start + first) n (rise-gaps runs first) lt in absurd (cc)
-    | inr ge ↦ ge
-  ]
+  gaps-behind runs first n there = grind (arith, nat_tests, before-rise (gaps_from start first runs) (start + first) n (rise-gaps runs first))
 
   out-from : (runs : List PageRun) (e first n : ℕ) → first ≡ index_from start e → rise e runs ≡ true → covers (gaps_from start first runs) n ≡ true → covers runs n ≡ false
   out-from [] e first n at up there = refl
-  out-from (run ∷ runs) e first n at up there =
-      let both = above run runs e up in
-      let least = both.0 in
-      let a = index_from start run.first in
-      let b = max first (index_from start (run.first + run.count)) in
-      let next : b ≡ index_from start (run.first + run.count) = omega (arith, at, least) in
-      let all = sym (covers-append (gap start first a) (gaps_from start b runs) n) ∙ (rw gaps-next at there) in
-      elim (cases_Bool (covers (gap start first a) n)) [
-        | inl t ↦
-            let within = gap-at first a n t in
-            let early : n < run.first = (let low = within.0 in let high = within.1 in omega (arith, low, high)) in
-            let out : in_run run n ≡ false = grind (arith, nat_tests, early) in
-            rw out (before-rise runs (run.first + run.count) n both.1 (omega (arith, early)))
-        | inr f ↦
-            let behind : covers (gaps_from start b runs) n ≡ true = rw f at all in
-            let from = gaps-behind runs b n behind in
-            let below = gaps-below runs b n behind in
-            let past : run.first + run.count ≤ n = omega (arith, from, below, next) in
-            let out : in_run run n ≡ false = grind (arith, nat_tests, past) in
-            rw out (out-from runs (run.first + run.count) b n next both.1 behind)
-      ]
+  out-from (run ∷ runs) e first n at up there = grind (arith, common_steps, nat_tests, above run runs e up, gaps-next, covers-append, gap-at, before-rise runs (run.first + run.count) n, gaps-behind runs (max first (index_from start (run.first + run.count))) n, gaps-below runs (max first (index_from start (run.first + run.count))) n, out-from runs (run.first + run.count) (max first (index_from start (run.first + run.count))) n)
 
   in-from : (runs : List PageRun) (e first x : ℕ) → first ≡ index_from start e → rise e runs ≡ true → first ≤ x → x < 512 → covers runs (start + x) ≡ false → covers (gaps_from start first runs) (start + x) ≡ true
   in-from [] e first x at up from small out = rw gaps-none (gap-has first 512 x from small)
-  in-from (run ∷ runs) e first x at up from small out =
-      let both = above run runs e up in
-      let least = both.0 in
-      let a = index_from start run.first in
-      let b = max first (index_from start (run.first + run.count)) in
-      let next : b ≡ index_from start (run.first + run.count) = omega (arith, at, least) in
-      let none = or-parts (in_run run (start + x)) (covers runs (start + x)) out in
-      rw (gaps-next, covers-append (gap start first a) (gaps_from start b runs) (start + x)) (elim (cases_lt x a) [
-        | inl lt ↦ rw (gap-has first a x from lt) refl
-        | inr ge ↦
-            let begun : run.first ≤ start + x = omega (arith, ge, small) in
-            let test = none.0 in
-            let past : run.first + run.count ≤ start + x = grind (arith, nat_tests, test, begun) in
-            rw (in-from runs (run.first + run.count) b x next both.1 (omega (arith, past, next)) small none.1) (or-right (covers (gap start first a) (start + x)))
-      ])
+  in-from (run ∷ runs) e first x at up from small out = grind (arith, common_steps, nat_tests, above run runs e up, gaps-next, covers-append, gap-has, in-from runs (run.first + run.count) (max first (index_from start (run.first + run.count))) x)
 
   -- a page of a gap is in none of the runs, and among the 512
   pub gaps-out : (runs : List PageRun) (n : ℕ) → rise 0 runs ≡ true → covers (gaps_of start runs) n ≡ true → covers runs n ≡ false

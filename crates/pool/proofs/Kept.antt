@@ -70,11 +70,7 @@ free-some m row free held = grind (arith, nat_tests, count_below-all, share_at)
 -- nor are all from the page on below which none is free
 pub some-unmarked : (m : Memory) (lowest : List ℕ) (row : ℕ) → NoneFreeBelow m.quotas m.taken lowest → length m.taken ≡ page_count m.quotas → HasFree (pages_of m) row → ¬ AllMarkedFrom m.taken (slice_index lowest row)
 unfolding taken_of
-some-unmarked m lowest row below whole free held =
-    free-some (pages_of m) row free (λ q inside. elim (cases_lt q (slice_index lowest row)) [
-      | inl under ↦ below.below row q inside under
-      | inr on ↦ held q on (omega (arith, whole, share_inside m.quotas row q inside))
-    ])
+some-unmarked m lowest row below whole free held = free-some (pages_of m) row free (λ q inside. grind (arith, nat_tests, below.below row q inside, held q, share_inside m.quotas row q inside))
 
 -- the next one that is not taken is the lowest free one
 pub found-lowest : (m : Memory) (lowest : List ℕ) (row found : ℕ) → NoneFreeBelow m.quotas m.taken lowest → HasFree (pages_of m) row → IsFirstUnmarked m.taken (slice_index lowest row) found → IsLowestFree (pages_of m) row found
@@ -129,24 +125,14 @@ pub below-take : (quotas lowest : List ℕ) (taken : List Bool) (row page : ℕ)
     → ((q : ℕ) → InShare quotas row q → q < page → taken_of taken q ≡ true)
     → NoneFreeBelow quotas (slice_set taken page true) (slice_set lowest row (page + 1))
 unfolding mark
-below-take quotas lowest taken row page old inside small before =
-    below-set quotas lowest taken row page (page + 1) true old inside small (omega (arith, inside.from))
-    (λ q in_share under. elim (cases_eq q page) [
-      | inl same ↦ grind (arith, nat_tests, same)
-      | inr differs ↦ let held = before q in_share (omega (arith, under, differs)) in grind (arith, nat_tests, differs, held)
-    ])
+below-take quotas lowest taken row page old inside small before = below-set quotas lowest taken row page (page + 1) true old inside small (omega (arith, inside.from)) (λ q in_share under. grind (arith, nat_tests, before q in_share))
 
 -- and a page that is given back, where that is lower
 pub below-give : (quotas lowest : List ℕ) (taken : List Bool) (row page : ℕ) → NoneFreeBelow quotas taken lowest → InShare quotas row page → page < length taken
     → NoneFreeBelow quotas (slice_set taken page false) (slice_set lowest row (min (slice_index lowest row) page))
 unfolding mark
 below-give quotas lowest taken row page old inside small =
-    below-set quotas lowest taken row page (min (slice_index lowest row) page) false old inside small
-    (let from = old.from row inside.partition in omega (arith, from, inside.from))
-    (λ q in_share under.
-    let held = old.below row q in_share (omega (arith, under)) in
-    let differs : q ≢ page = λ same. omega (arith, under, same) in
-    grind (arith, nat_tests, differs, held))
+    below-set quotas lowest taken row page (min (slice_index lowest row) page) false old inside small (omega (arith, old.from row inside.partition, inside.from)) (λ q in_share under. grind (arith, nat_tests, old.below row q in_share))
 
 -- ---- the pages of a share that are free
 
@@ -170,17 +156,13 @@ counts-set m free row page n is counts inside below right = record {
 pub counts-take : (m : Memory) (free : List ℕ) (row page n : ℕ) → CountsFree m.quotas m.taken free → InShare m.quotas row page → page < length m.taken → taken_of m.taken page ≡ false → n + 1 ≡ slice_index free row
     → CountsFree m.quotas (slice_set m.taken page true) (slice_set free row n)
 counts-take m free row page n counts inside below is_free less =
-    let was = counts.each row inside.partition in
-    let now = used_by-take (pages_of m) row page inside is_free in
-    counts-set m free row page n true counts inside below (omega (arith, was, now, less))
+    counts-set m free row page n true counts inside below (omega (arith, counts.each row inside.partition, used_by-take (pages_of m) row page inside is_free, less))
 
 -- and one more, once one is given back
 pub counts-give : (m : Memory) (free : List ℕ) (row page n : ℕ) → CountsFree m.quotas m.taken free → InShare m.quotas row page → page < length m.taken → taken_of m.taken page ≡ true → n ≡ slice_index free row + 1
     → CountsFree m.quotas (slice_set m.taken page false) (slice_set free row n)
 counts-give m free row page n counts inside below is_taken more =
-    let was = counts.each row inside.partition in
-    let now = used_by-give (pages_of m) row page inside is_taken in
-    counts-set m free row page n false counts inside below (omega (arith, was, now, more))
+    counts-set m free row page n false counts inside below (omega (arith, counts.each row inside.partition, used_by-give (pages_of m) row page inside is_taken, more))
 
 -- ---- a valid manifest
 
