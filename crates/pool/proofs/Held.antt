@@ -23,7 +23,7 @@ held-set cs i x = ap held (set-set cs i None (Some x)) ∙ map-set (λ c. unwrap
 
 pub held-new : (n : ℕ) → held (replicate n None) ≡ replicate n 0
 held-new zero = refl
-held-new (suc n) = ap (λ rest. 0 ∷ rest) (held-new n)
+held-new (suc n) = grind (arith, common_steps, held-new n)
 
 is-some : (o : Option ℕ) → is_some o ≡ true → (x : ℕ) × (o ≡ Some x)
 is-some None h = absurd (true≢false (sym h))
@@ -39,8 +39,7 @@ filled-place marks cs place marked is =
     is-some _ (ap (λ k. is_some (get_or cs k None)) (sym (div-add-mod place 512)) ∙ marked.filled (place / 512) is (place % 512) (mod-lt place (omega arith)))
 
 pub empty-place : (marks : List Bool) (cs : List (Option ℕ)) (place : ℕ) → AreMarked marks cs → slice_index_or marks (place / 512) false ≡ false → get_or cs place None ≡ None
-empty-place marks cs place marked is =
-    ap (λ k. get_or cs k None) (sym (div-add-mod place 512)) ∙ marked.empty (place / 512) is (place % 512) (mod-lt place (omega arith))
+empty-place marks cs place marked is = grind (arith, common_steps, nat_tests, div-add-mod place 512, mod-lt place, marked.empty (place / 512))
 
 -- ---- a page that is filled with zeros
 
@@ -60,32 +59,20 @@ zeros-next cs page n = rw add-one refl
 pub zeros-beside : (cs : List (Option ℕ)) (page n k : ℕ) → (k < 512 * page) ⊎ (512 * page + n ≤ k) → get_or (with_zeros cs page n) k None ≡ get_or cs k None
 unfolding with_zeros
 zeros-beside cs page zero k beside = refl
-zeros-beside cs page (suc n) k beside =
-    let other : k ≢ 512 * page + n = elim beside [ inl before ↦ (λ is. omega (arith, before, is)) | inr behind ↦ (λ is. omega (arith, behind, is)) ] in
-    let less : (k < 512 * page) ⊎ (512 * page + n ≤ k) = elim beside [ inl before ↦ inl before | inr behind ↦ inr (omega (arith, behind)) ] in
-    get_or-set_other (with_zeros cs page n) (512 * page + n) k (Some 0) None other ∙ zeros-beside cs page n k less
+zeros-beside cs page (suc n) k beside = grind (arith, common_steps, nat_tests, get_or-set_other, zeros-beside cs page n k)
 
 zeros-done : (cs : List (Option ℕ)) (page n i : ℕ) → i < n → 512 * page + n ≤ length cs → get_or (with_zeros cs page n) (512 * page + i) None ≡ Some 0
 unfolding with_zeros
 zeros-done cs page zero i lt inside = absurd (omega (arith, lt))
-zeros-done cs page (suc n) i lt inside =
-    let before = with_zeros cs page n in
-    let long : length before ≡ length cs = length-zeros cs page n in
-    elim (cases_eq i n) [
-      | inl same ↦ ap (λ j. get_or (set before (512 * page + n) (Some 0)) (512 * page + j) None) same ∙ get_or-set_same before (512 * page + n) (Some 0) None (omega (arith, long, inside))
-      | inr other ↦ get_or-set_other before (512 * page + n) (512 * page + i) (Some 0) None (λ is. other (omega (arith, is))) ∙ zeros-done cs page n i (omega (arith, lt, other)) (omega (arith, inside))
-    ]
+zeros-done cs page (suc n) i lt inside = grind (arith, common_steps, nat_tests, length-zeros cs page n, get_or-set_same, get_or-set_other, zeros-done cs page n i)
 
 pub held-zeros : (cs : List (Option ℕ)) (page n : ℕ) → n ≤ 512 → IsPageEmpty cs page → held (with_zeros cs page n) ≡ held cs
 unfolding with_zeros
 held-zeros cs page zero most empty = refl
-held-zeros cs page (suc n) most empty =
-    let before = with_zeros cs page n in
-    let none : get_or before (512 * page + n) None ≡ None = zeros-beside cs page n (512 * page + n) (inr (omega arith)) ∙ empty n (omega (arith, most)) in
-    map-set_same (λ c. unwrap_or c 0) before (512 * page + n) (Some 0) None (sym (ap (λ c. unwrap_or c 0) none)) ∙ held-zeros cs page n (omega (arith, most)) empty
+held-zeros cs page (suc n) most empty = grind (arith, common_steps, nat_tests, empty n, zeros-beside cs page n (512 * page + n), held-zeros cs page n, map-set_same (λ c. unwrap_or c 0) (with_zeros cs page n) (512 * page + n) (Some 0) None)
 
 apart : (q page i n : ℕ) → q ≢ page → i < 512 → n ≡ 512 → (512 * q + i < 512 * page) ⊎ (512 * page + n ≤ 512 * q + i)
-apart q page i n other lt is = elim (cases_lt q page) [ inl before ↦ inl (omega (arith, before, lt)) | inr behind ↦ inr (omega (arith, behind, other, is)) ]
+apart q page i n other lt is = grind (arith, nat_tests)
 
 pub marked-fill : (marks : List Bool) (cs : List (Option ℕ)) (page n : ℕ) → n ≡ 512 → page < length marks → 512 * page + n ≤ length cs → AreMarked marks cs → AreMarked (set marks page true) (with_zeros cs page n)
 marked-fill marks cs page n is inside room marked = grind (arith, nat_tests, zeros-done, zeros-beside, apart, get_or-set_other, true≢false, get_or-set_same)

@@ -77,18 +77,12 @@ pub found-lowest : (m : Memory) (lowest : List ℕ) (row found : ℕ) → NoneFr
 unfolding taken_of
 found-lowest m lowest row found below free first =
     let inside = share_at m.quotas row 0 (omega (arith, free)) in
-    let before : (q : ℕ) → InShare m.quotas row q → q < found → taken_of m.taken q ≡ true = λ q in_share early. elim (cases_lt q (slice_index lowest row)) [
-      | inl under ↦ below.below row q in_share under
-      | inr on ↦ first.before q on early
-    ] in
+    let before : (q : ℕ) → InShare m.quotas row q → q < found → taken_of m.taken q ≡ true = λ q in_share early. grind (arith, nat_tests, below.below row q in_share, first.before q) in
     record {
       inside = record {
         partition = inside.partition;
         from = omega (arith, first.from, below.from row inside.partition);
-        to = elim (cases_lt found (share_start m.quotas row + row_quota m.quotas row)) [
-          | inl within ↦ within
-          | inr beyond ↦ absurd (free-some (pages_of m) row free (λ q in_share. before q in_share (omega (arith, beyond, in_share.to))))
-        ];
+        to = grind (arith, nat_tests, before, free-some (pages_of m) row free);
       };
       free = first.free;
       lowest = before;

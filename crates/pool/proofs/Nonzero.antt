@@ -36,19 +36,12 @@ not-one false = refl
 pub nonzero-put : (words : Words) (page index word : ℕ) → index < 512
     → nonzero_in (put page index word words) page + cond (words page index == 0) 0 1 ≡ nonzero_in words page + cond (word == 0) 0 1
 unfolding nonzero_in
-nonzero-put words page index word below =
-    let at = count_below-at (λ i. not (words page i == 0)) (λ i. not (put page index word words page i == 0)) 512 index below
-    (λ k small other. ap (λ w. not (w == 0)) (put-other_index words page index word page k other)) in
-    let here : put page index word words page index ≡ word = put-same words page index word in
-    let new : ◌≡◌ {A = ℕ} (cond (not (put page index word words page index == 0)) 1 0) (cond (word == 0) 0 1) = rw here (not-one (word == 0)) in
-    let old = not-one (words page index == 0) in
-    rw (← old, ← new) at
+nonzero-put words page index word below = grind (arith, common_steps, nat_tests, put-same words page index word, put-other_index, count_below-at (λ i. not (words page i == 0)) (λ i. not (put page index word words page i == 0)) 512 index below)
 
 -- a page whose words are the same
 pub nonzero-same : (words others : Words) (page : ℕ) → ((i : ℕ) → others page i ≡ words page i) → nonzero_in others page ≡ nonzero_in words page
 unfolding nonzero_in
-nonzero-same words others page same =
-    count_below-same (λ i. not (words page i == 0)) (λ i. not (others page i == 0)) 512 (λ k below. ap (λ w. not (w == 0)) (same k))
+nonzero-same words others page same = grind (arith, nat_tests, same, count_below-same (λ i. not (words page i == 0)) (λ i. not (others page i == 0)) 512)
 
 pub nonzero-le : (words : Words) (page : ℕ) → nonzero_in words page ≤ 512
 unfolding nonzero_in
@@ -57,16 +50,11 @@ nonzero-le words page = count_below-le (λ i. not (words page i == 0)) 512
 -- a word that is not 0 is counted
 pub nonzero-some : (words : Words) (page index : ℕ) → index < 512 → words page index ≢ 0 → 1 ≤ nonzero_in words page
 unfolding nonzero_in
-nonzero-some words page index below is =
-    let test : not (words page index == 0) ≡ true = grind (arith, nat_tests, is) in
-    let some = count_below-some (λ i. not (words page i == 0)) 512 index below test in omega (arith, some)
+nonzero-some words page index below is = grind (arith, nat_tests, count_below-some (λ i. not (words page i == 0)) 512 index below)
 
 -- where none is counted, all are 0
 pub nonzero-zeros : (words : Words) (page index : ℕ) → nonzero_in words page ≡ 0 → index < 512 → words page index ≡ 0
-nonzero-zeros words page index none below = elim (cases_eq (words page index) 0) [
-  | inl is ↦ is
-  | inr differs ↦ let some = nonzero-some words page index below differs in absurd (omega (arith, some, none))
-]
+nonzero-zeros words page index none below = grind (arith, nat_tests, nonzero-some words page index below)
 
 -- where one is counted, it is there
 pub nonzero-word : (words : Words) (page : ℕ) → 0 < nonzero_in words page → (index : ℕ) × (index < 512) × (words page index ≢ 0)
@@ -80,13 +68,7 @@ word-read words page index word below is = grind (arith, nat_tests, is)
 
 -- where it is known whether the word is 0, in whose place one comes: one that is not is counted
 pub recount-some : (words : List ℕ) (page index count before : ℕ) → index < 512 → count ≡ nonzero_in (words_of words) page → (before == 0) ≡ (words_of words page index == 0) → (1 ≤ count) ⊎ (before ≡ 0)
-recount-some words page index count before below counted same = elim (cases_eq before 0) [
-  | inl zero ↦ inr zero
-  | inr some ↦
-      let is : words_of words page index ≢ 0 = grind (arith, nat_tests, some, same) in
-      let least = nonzero-some (words_of words) page index below is in
-      inl (omega (arith, counted, least))
-]
+recount-some words page index count before below counted same = grind (arith, nat_tests, nonzero-some (words_of words) page index below)
 
 -- and how many are counted then
 pub recount : (words new : List ℕ) (page index word count before after : ℕ) → index < 512 → 512 * page + 512 ≤ length words → count ≡ nonzero_in (words_of words) page → (before == 0) ≡ (words_of words page index == 0)
@@ -100,8 +82,7 @@ read-test words page index word below is = ap (λ (w : ℕ). w == 0) (word-read 
 -- a page whose words are all 0 has none
 pub nonzero-none : (words : Words) (page : ℕ) → ((i : ℕ) → i < 512 → words page i ≡ 0) → nonzero_in words page ≡ 0
 unfolding nonzero_in
-nonzero-none words page zeros =
-    count_below-none (λ i. not (words page i == 0)) 512 (λ k below. let zero = zeros k below in rw zero refl)
+nonzero-none words page zeros = grind (arith, nat_tests, zeros, count_below-none (λ i. not (words page i == 0)) 512)
 
 -- ---- the list of all counts
 

@@ -60,15 +60,7 @@ keeps-make page index word a below room = grind (arith, common_steps, nat_tests,
 pub keeps-replaces : (p page first n word step start : ℕ) (a : Pool) → first + n ≤ 512 → 512 * page + 512 ≤ length a.memory.words → Keeps page a (after_replaces p page first n word step start a)
 unfolding after_replaces
 keeps-replaces p page first zero word step start a small room = keeps-self page a
-keeps-replaces p page first (suc n) word step start a small room =
-    let so = keeps-replaces p page first n word step start a (omega (arith, small)) room in
-    let b = after_replaces p page first n word step start a in
-    let run : PageRun = record { first = start + 512 * n; count = 512 } in
-    let long = so.whole in
-    let broken = keeps-break p page (first + n) run b (omega (arith, small)) (omega (arith, room, long)) in
-    let longer = broken.whole in
-    keeps-more page a b (after_make page (first + n) (word + step * n) (after_break p page (first + n) run b)) so
-    (keeps-more page b (after_break p page (first + n) run b) (after_make page (first + n) (word + step * n) (after_break p page (first + n) run b)) broken (keeps-make page (first + n) (word + step * n) (after_break p page (first + n) run b) (omega (arith, small)) (omega (arith, room, long, longer))))
+keeps-replaces p page first (suc n) word step start a small room = grind (arith, keeps-more, keeps-break, keeps-make, keeps-replaces p page first n word step start a)
 
 -- two pools that agree in all
 pub pools-same : (a b : Pool) → a.memory.ids ≡ b.memory.ids → a.memory.quotas ≡ b.memory.quotas → a.memory.words ≡ b.memory.words → a.memory.taken ≡ b.memory.taken → a.operations ≡ b.operations → a.made ≡ b.made → a ≡ b
@@ -86,15 +78,12 @@ replaces-more p page first n word step start index next from a is there at = rw 
 
 -- one alone
 pub replaces-one : (p page index next step from : ℕ) (a : Pool) → after_replaces p page index 1 next step from a ≡ after_make page index next (after_break p page index (record { first = from; count = 512 }) a)
-replaces-one p page index next step from a =
-    replaces-more p page index 0 next step from index next from a (omega arith) (omega arith) (omega arith)
-    ∙ ap (λ (q : Pool). after_make page index next (after_break p page index (record { first = from; count = 512 }) q)) (replaces-none p page index next step from a)
+replaces-one p page index next step from a = grind (arith, common_steps, replaces-more p page index 0 next step from index next from a, replaces-none)
 
 -- behind others
 pub replaces-then : (p page first n word step start index next from : ℕ) (a : Pool) → first + n ≡ index → word + step * n ≡ next → start + 512 * n ≡ from
     → after_replaces p page index 1 next step from (after_replaces p page first n word step start a) ≡ after_replaces p page first (n + 1) word step start a
-replaces-then p page first n word step start index next from a is there at =
-    replaces-one p page index next step from (after_replaces p page first n word step start a) ∙ sym (replaces-more p page first n word step start index next from a is there at)
+replaces-then p page first n word step start index next from a is there at = grind (arith, common_steps, replaces-one, replaces-more)
 
 -- the words of the page that are not yet replaced stay
 break-beside : (p page index i : ℕ) (run : PageRun) (a : Pool) → index < 512 → 512 * page + 512 ≤ length a.memory.words → i ≢ index → words_of (after_break p page index run a).memory.words page i ≡ words_of a.memory.words page i
@@ -112,16 +101,7 @@ make-beside page index word i a below room other = elim (cases_Bool (word == 0))
 pub replaces-beside : (p page first n word step start i : ℕ) (a : Pool) → first + n ≤ 512 → 512 * page + 512 ≤ length a.memory.words → first + n ≤ i → words_of (after_replaces p page first n word step start a).memory.words page i ≡ words_of a.memory.words page i
 unfolding after_replaces
 replaces-beside p page first zero word step start i a small room behind = refl
-replaces-beside p page first (suc n) word step start i a small room behind =
-    let so = keeps-replaces p page first n word step start a (omega (arith, small)) room in
-    let b = after_replaces p page first n word step start a in
-    let run : PageRun = record { first = start + 512 * n; count = 512 } in
-    let long = so.whole in
-    let broken = keeps-break p page (first + n) run b (omega (arith, small)) (omega (arith, room, long)) in
-    let longer = broken.whole in
-    make-beside page (first + n) (word + step * n) i (after_break p page (first + n) run b) (omega (arith, small)) (omega (arith, room, long, longer)) (λ is. absurd (omega (arith, behind, is)))
-    ∙ break-beside p page (first + n) i run b (omega (arith, small)) (omega (arith, room, long)) (λ is. absurd (omega (arith, behind, is)))
-    ∙ replaces-beside p page first n word step start i a (omega (arith, small)) room (omega (arith, behind))
+replaces-beside p page first (suc n) word step start i a small room behind = grind (arith, nat_tests, keeps-break, keeps-replaces p page first n word step start a, make-beside, break-beside, replaces-beside p page first n word step start i a)
 
 -- ---- words that are replaced in a page whose words are all 0
 
@@ -130,15 +110,4 @@ pub replaces-fresh : (p page first n word step start : ℕ) (a : Pool) → first
     → after_replaces p page first n word step start a ≡ after_sets page first n word step a
 unfolding after_replaces words_set sets_of
 replaces-fresh p page first zero word step start a small room none some = refl
-replaces-fresh p page first (suc n) word step start a small room none some =
-    let run : PageRun = record { first = start + 512 * n; count = 512 } in
-    let next = word + step * n in
-    let b = after_sets page first n word step a in
-    let rest = replaces-fresh p page first n word step start a (omega (arith, small)) room none some in
-    let was : words_of b.memory.words page (first + n) ≡ 0 = words_set-beside a.memory.words page first n word step (first + n) room (omega (arith, small)) (inr (omega arith)) ∙ nonzero-zeros (words_of a.memory.words) page (first + n) none (omega (arith, small)) in
-    let zero_test : (words_of b.memory.words page (first + n) == 0) ≡ true = grind (arith, nat_tests, was) in
-    let some_test : (next == 0) ≡ false = (let above : 0 < next = omega (arith, some) in grind (arith, nat_tests, above)) in
-    let read = word-read b.memory.words page (first + n) (slice_index b.memory.words (512 * page + (first + n))) (omega (arith, small)) refl in
-    let differs : slice_index b.memory.words (512 * page + (first + n)) ≢ next = λ is. absurd (let zero = sym is ∙ read ∙ was in omega (arith, zero, some)) in
-    ap (λ (q : Pool). after_make page (first + n) next (after_break p page (first + n) run q)) rest
-    ∙ (rw (zero_test, some_test) (sym (rw add-one at (sets-more page first n word step (first + n) next a refl refl differs))))
+replaces-fresh p page first (suc n) word step start a small room none some = grind (arith, common_steps, nat_tests, replaces-fresh p page first n word step start a, words_set-beside a.memory.words page first n word step (first + n) room, nonzero-zeros (words_of a.memory.words) page (first + n) none, sets-more page first n word step (first + n) (word + step * n) a, word-read)

@@ -43,11 +43,7 @@ keeps-sets page first n word step a small room =
 pub keeps-runs : (page start word step : ℕ) (runs : List PageRun) (a : Pool) → 512 * page + 512 ≤ length a.memory.words → Keeps page a (after_runs page start word step runs a)
 unfolding after_runs
 keeps-runs page start word step [] a room = keeps-self page a
-keeps-runs page start word step (run ∷ runs) a room =
-    let b = after_run page start word step run a in
-    let here : Keeps page a b = keeps-sets page (index_from start run.first) (index_from start (run.first + run.count) - index_from start run.first) (word + step * index_from start run.first) step a (run-within start run) room in
-    let long = here.whole in
-    keeps-more page a b (after_runs page start word step runs b) here (keeps-runs page start word step runs b (omega (arith, long, room)))
+keeps-runs page start word step (run ∷ runs) a room = grind (arith, nat_tests, keeps-more, keeps-sets, run-within start run, keeps-runs page start word step runs (after_run page start word step run a))
 
 -- ---- which words they are
 
@@ -68,8 +64,7 @@ after_run-outside page start word step run pool is =
 
 pub words_in-left : (start i : ℕ) (runs : List PageRun) (run : PageRun) → i < length runs → run ≡ get_or runs i run
     → words_in start (drop i runs) ≡ (index_from start (run.first + run.count) - index_from start run.first) + words_in start (drop (i + 1) runs)
-words_in-left start i runs run lt is =
-    at_drop_more (words_in start) runs i run lt ∙ ap (λ r. words_in start (r ∷ drop (i + 1) runs)) (sym is)
+words_in-left start i runs run lt is = grind (arith, common_steps, at_drop_more (words_in start) runs i run lt)
 
 -- ---- a run of one page alone
 
@@ -88,8 +83,8 @@ runs-single (r ∷ q ∷ rs) run one is = absurd (omega (arith, one))
 pub after_runs-append : (page start word step : ℕ) (a b : List PageRun) (pool : Pool) → after_runs page start word step (a ++ b) pool ≡ after_runs page start word step b (after_runs page start word step a pool)
 unfolding after_runs
 after_runs-append page start word step [] b pool = refl
-after_runs-append page start word step (run ∷ a) b pool = after_runs-append page start word step a b (after_run page start word step run pool)
+after_runs-append page start word step (run ∷ a) b pool = grind (arith, common_steps, after_runs-append page start word step a b (after_run page start word step run pool))
 
 pub words_in-append : (start : ℕ) (a b : List PageRun) → words_in start (a ++ b) ≡ words_in start a + words_in start b
 words_in-append start [] b = omega arith
-words_in-append start (run ∷ a) b = let rest = words_in-append start a b in omega (arith, rest)
+words_in-append start (run ∷ a) b = grind (arith, common_steps, words_in-append start a b)

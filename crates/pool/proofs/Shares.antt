@@ -12,10 +12,7 @@ use Rattle.pool.proofs.Count.{count_below-same, count_below-one, count_below-non
 
 -- two partitions of one row are one
 pub row_of-injective : (ids : List ℕ) (p q : ℕ) → row_of ids p ≡ row_of ids q → row_of ids p < length ids → p ≡ q
-row_of-injective ids p q same below =
-    let first = eqb-true _ _ (passes_at_first (λ id. id == p) ids 0 below) in
-    let second = eqb-true _ _ (passes_at_first (λ id. id == q) ids 0 (rw (← same) below)) in
-    sym first ∙ ap (λ (row : ℕ). get_or ids row 0) same ∙ second
+row_of-injective ids p q same below = grind (arith, common_steps, nat_tests, passes_at_first (λ id. id == p) ids 0, passes_at_first (λ id. id == q) ids 0)
 
 -- past the last row there is no quota
 pub row_quota-none : (quotas : List ℕ) (row : ℕ) → length quotas ≤ row → row_quota quotas row ≡ 0
@@ -53,15 +50,7 @@ share_unique quotas row other page here there = grind (arith, nat_tests, share_s
 
 -- a page at a place of a share
 pub share_at : (quotas : List ℕ) (row k : ℕ) → k < row_quota quotas row → InShare quotas row (share_start quotas row + k)
-share_at quotas row k below =
-    record {
-      partition = elim (cases_lt row (length quotas)) [
-        | inl inside ↦ inside
-        | inr beyond ↦ absurd (omega (arith, below, row_quota-none quotas row beyond))
-      ];
-      from = omega arith;
-      to = omega arith;
-    }
+share_at quotas row k below = grind (arith, nat_tests, row_quota-none quotas row)
 
 -- ---- how many pages are taken
 
@@ -71,22 +60,12 @@ used_by-le m row = count_below-le (λ k. m.taken (share_start m.quotas row + k))
 -- a page that is taken counts for its row
 pub used_by-take : (m : Pages) (row k : ℕ) → InShare m.quotas row k → m.taken k ≡ false → used_by (with_mark k true m) row ≡ used_by m row + 1
 unfolding mark
-used_by-take m row k inside free =
-    let start = share_start m.quotas row in
-    let x = k - start in
-    let at : start + x ≡ k = omega (arith, inside.from) in
-    count_below-one (λ i. m.taken (start + i)) (λ i. mark k true m.taken (start + i)) (row_quota m.quotas row) x (omega (arith, inside.from, inside.to))
-    (rw at free) (rw at (grind (arith, nat_tests))) (λ i below other. grind (arith, nat_tests))
+used_by-take m row k inside free = grind (arith, common_steps, nat_tests, count_below-one (λ i. m.taken (share_start m.quotas row + i)) (λ i. mark k true m.taken (share_start m.quotas row + i)) (row_quota m.quotas row) (k - share_start m.quotas row))
 
 -- a page that is given back counts no more
 pub used_by-give : (m : Pages) (row k : ℕ) → InShare m.quotas row k → m.taken k ≡ true → used_by (with_mark k false m) row + 1 ≡ used_by m row
 unfolding mark
-used_by-give m row k inside held =
-    let start = share_start m.quotas row in
-    let x = k - start in
-    let at : start + x ≡ k = omega (arith, inside.from) in
-    sym (count_below-one (λ i. mark k false m.taken (start + i)) (λ i. m.taken (start + i)) (row_quota m.quotas row) x (omega (arith, inside.from, inside.to))
-    (rw at (grind (arith, nat_tests))) (rw at held) (λ i below other. grind (arith, nat_tests)))
+used_by-give m row k inside held = grind (arith, common_steps, nat_tests, count_below-one (λ i. mark k false m.taken (share_start m.quotas row + i)) (λ i. m.taken (share_start m.quotas row + i)) (row_quota m.quotas row) (k - share_start m.quotas row))
 
 -- the other rows keep what they have
 pub used_by-other : (m : Pages) (row other k : ℕ) (is : Bool) → InShare m.quotas row k → other ≢ row → used_by (with_mark k is m) other ≡ used_by m other

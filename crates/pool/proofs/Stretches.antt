@@ -37,7 +37,7 @@ sets_of-write words page first n word step index next is there differs = grind (
 -- how many operations were made after some more
 pub counted-length : (ops : List Op) (n : ℕ) → counted ops (n % 2 ^ 64) ≡ (n + length ops) % 2 ^ 64
 counted-length [] n = omega arith
-counted-length (op ∷ ops) n = let rest = counted-length ops n in rw rest (omega arith)
+counted-length (op ∷ ops) n = grind (arith, common_steps, nat_tests, counted-length ops n)
 
 -- a word that is written where it stands
 pub set-same : (items : List ℕ) (place word : ℕ) → place < length items → slice_index items place ≡ word → slice_set items place word ≡ items
@@ -99,7 +99,7 @@ words_set-at words page first (suc n) word step x whole small lt =
 pub words_set-join : (words : List ℕ) (page first a b n word step index next : ℕ) → first + a ≡ index → word + step * a ≡ next → a + b ≡ n
     → words_set (words_set words page first a word step) page index b next step ≡ words_set words page first n word step
 unfolding words_set
-words_set-join words page first a zero n word step index next is there sum = let all : a ≡ n = omega (arith, sum) in ap (λ k. words_set words page first k word step) all
+words_set-join words page first a zero n word step index next is there sum = grind (arith, common_steps, nat_tests)
 words_set-join words page first a (suc b) n word step index next is there sum =
     let more : n ≡ suc (a + b) = omega (arith, sum) in
     let before = words_set-join words page first a b (a + b) word step index next is there refl in
@@ -110,7 +110,7 @@ words_set-join words page first a (suc b) n word step index next is there sum =
 pub sets_of-join : (words : List ℕ) (page first a b n word step index next : ℕ) → first + a ≡ index → word + step * a ≡ next → a + b ≡ n
     → sets_of (words_set words page first a word step) page index b next step ++ sets_of words page first a word step ≡ sets_of words page first n word step
 unfolding sets_of
-sets_of-join words page first a zero n word step index next is there sum = let all : a ≡ n = omega (arith, sum) in ap (λ k. sets_of words page first k word step) all
+sets_of-join words page first a zero n word step index next is there sum = grind (arith, common_steps, nat_tests)
 sets_of-join words page first a (suc b) n word step index next is there sum =
     let more : n ≡ suc (a + b) = omega (arith, sum) in
     let before = words_set-join words page first a b (a + b) word step index next is there refl in
@@ -156,12 +156,7 @@ length-sets_of-le words page first (suc n) word step = grind (arith, common_step
 
 -- for some of the words no more than for all
 pub length-sets_of-part : (words : List ℕ) (page first a n word step : ℕ) → a ≤ n → length (sets_of words page first a word step) ≤ length (sets_of words page first n word step)
-length-sets_of-part words page first a n word step few =
-    let set = words_set words page first a word step in
-    let left = sets_of set page (first + a) (n - a) (word + step * a) step in
-    let all = sets_of-join words page first a (n - a) n word step (first + a) (word + step * a) refl refl (omega (arith, few)) in
-    let long = sym (length-append left (sets_of words page first a word step)) ∙ ap length all in
-    omega (arith, long)
+length-sets_of-part words page first a n word step few = grind (arith, common_steps, length-append, sets_of-join words page first a (n - a) n word step (first + a) (word + step * a))
 
 -- so much longer is the list then
 pub vec_len-made : (old new : Vec Op Global) (sets : List Op) → reverse new.items ≡ sets ++ reverse old.items → vec_len new ≡ vec_len old + length sets

@@ -23,7 +23,7 @@ module _ (old : List ℕ) (page first n word step : ℕ) (zeros : word ≡ 0 →
 
   module _ (room : 512 * page + 512 ≤ length old) (small : first + n ≤ 512) where
     pub turned-least : word ≡ 0 → n ≤ nonzero_in (words_of old) page
-    turned-least zero = let fewer = nonzero-cleared old page first n room small (was-other zero) in omega (arith, fewer)
+    turned-least zero = grind (arith, nonzero-cleared old page first n room small, was-other zero)
 
     -- how many are not 0 then
     pub turned-counted : (new : List ℕ) (count after : ℕ) → new ≡ words_set old page first n word step → count ≡ nonzero_in (words_of old) page
@@ -32,15 +32,12 @@ module _ (old : List ℕ) (page first n word step : ℕ) (zeros : word ≡ 0 →
 
 -- words come in the place of zeros, where all of the page are 0
 pub turns-empty : (words : List ℕ) (range : WordRange) → 0 < range.word → range.end ≤ 512 → nonzero_in (words_of words) range.page ≡ 0 → Turns words range
-turns-empty words range some small none = record {
-  zeros = λ zero. absurd (omega (arith, some, zero));
-  each = λ x lt. let is = nonzero-zeros (words_of words) range.page (range.first + x) none (omega (arith, small, lt)) in grind (arith, nat_tests, some, is);
-}
+turns-empty words range some small none = grind (arith, nat_tests, nonzero-zeros (words_of words) range.page)
 
 -- ---- runs
 
 pub runs-left : (runs : List PageRun) (i : ℕ) (run : PageRun) → i < length runs → run ≡ get_or runs i run → drop i runs ≡ run ∷ drop (i + 1) runs
-runs-left runs i run lt is = at_drop_more (λ l. l) runs i run lt ∙ ap (λ r. r ∷ drop (i + 1) runs) (sym is)
+runs-left runs i run lt is = grind (arith, common_steps, at_drop_more (λ l. l) runs i run lt)
 
 pub runs-done : (runs : List PageRun) (i : ℕ) → length runs ≤ i → drop i runs ≡ []
 runs-done runs i all = at_drop_all (λ l. l) runs i all
