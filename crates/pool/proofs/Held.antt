@@ -26,7 +26,7 @@ held-new zero = refl
 held-new (suc n) = grind (arith, common_steps, held-new n)
 
 is-some : (o : Option ℕ) → is_some o ≡ true → (x : ℕ) × (o ≡ Some x)
-is-some None h = absurd (true≢false (sym h))
+is-some None h = grind (arith, common_steps)
 is-some (Some x) h = (x, refl)
 
 -- ---- the page of a place
@@ -35,8 +35,7 @@ pub filled-at : (cs : List (Option ℕ)) (page i : ℕ) → IsPageFilled cs page
 filled-at cs page i filled lt = is-some _ (filled i lt)
 
 pub filled-place : (marks : List Bool) (cs : List (Option ℕ)) (place : ℕ) → AreMarked marks cs → slice_index_or marks (place / 512) false ≡ true → IsFilled cs place
-filled-place marks cs place marked is =
-    is-some _ (ap (λ k. is_some (get_or cs k None)) (sym (div-add-mod place 512)) ∙ marked.filled (place / 512) is (place % 512) (mod-lt place (omega arith)))
+filled-place marks cs place marked is = grind (arith, common_steps, nat_tests, is-some (get_or cs place None), div-add-mod place 512, mod-lt place, marked.filled (place / 512) is (place % 512))
 
 pub empty-place : (marks : List Bool) (cs : List (Option ℕ)) (place : ℕ) → AreMarked marks cs → slice_index_or marks (place / 512) false ≡ false → get_or cs place None ≡ None
 empty-place marks cs place marked is = grind (arith, common_steps, nat_tests, div-add-mod place 512, mod-lt place, marked.empty (place / 512))

@@ -4,7 +4,7 @@ use Rattle.std.proofs.Common.{◌≡◌, ◌≢◌, ℕ, zero, suc, ◌+◌, ◌
 use Rattle.std.proofs.lemmas.Bool.{cases_Bool}
 use Rattle.std.proofs.lemmas.List.{length-set}
 use Rattle.pool.specs.Pool.{after_break, after_make}
-use Rattle.pool.proofs.Words.{words_of-set_at, put-other_index, put-other_page}
+use Rattle.pool.proofs.Words.{word-set, words_of-set_at, put-other_index, put-other_page}
 use Rattle.pool.proofs.Nonzero.{word-read, nonzero-zeros}
 use Rattle.pool.proofs.Stretches.{words_set-beside, sets-more}
 
@@ -30,7 +30,7 @@ pub record Keeps (page : ℕ) (a b : Pool) : Type 0 where
   pub made : (n : ℕ) → a.made ≡ (n + length a.operations) % 2 ^ 64 → b.made ≡ (n + length b.operations) % 2 ^ 64
 
 pub keeps-self : (page : ℕ) (a : Pool) → Keeps page a a
-keeps-self page a = record { ids = refl; quotas = refl; taken = refl; whole = refl; others = λ q i other. refl; made = λ n is. is }
+keeps-self page a = grind (arith, common_steps, nat_tests)
 
 pub keeps-more : (page : ℕ) (a b c : Pool) → Keeps page a b → Keeps page b c → Keeps page a c
 keeps-more page a b c so here = grind (arith, common_steps, nat_tests)
@@ -39,17 +39,10 @@ one-more : (n made count : ℕ) → made ≡ (n + count) % 2 ^ 64 → (made + 1)
 one-more n made count is = omega (arith, is)
 
 pub keeps-set : (page index word : ℕ) (a : Pool) → index < 512 → 512 * page + 512 ≤ length a.memory.words → Keeps page a (after_set page index word a)
-keeps-set page index word a below room = record {
-  ids = refl;
-  quotas = refl;
-  taken = refl;
-  whole = length-set a.memory.words (512 * page + index) word;
-  others = λ q i other. ap (λ (w : Words). w q i) (words_of-set_at a.memory.words page index word below (omega (arith, below, room))) ∙ put-other_page (words_of a.memory.words) page index word q i other;
-  made = λ n is. one-more n a.made (length a.operations) is;
-}
+keeps-set page index word a below room = grind (arith, common_steps, nat_tests, one-more, word-set, put-other_page, length-set)
 
 keeps-invalidate : (page p : ℕ) (run : PageRun) (a : Pool) → Keeps page a (after_invalidate p run a)
-keeps-invalidate page p run a = record { ids = refl; quotas = refl; taken = refl; whole = refl; others = λ q i other. refl; made = λ n is. one-more n a.made (length a.operations) is }
+keeps-invalidate page p run a = grind (arith, common_steps, nat_tests, one-more)
 
 pub keeps-break : (p page index : ℕ) (run : PageRun) (a : Pool) → index < 512 → 512 * page + 512 ≤ length a.memory.words → Keeps page a (after_break p page index run a)
 keeps-break p page index run a below room = grind (arith, common_steps, nat_tests, keeps-self, keeps-more, keeps-set, keeps-invalidate)
@@ -87,16 +80,10 @@ replaces-then p page first n word step start index next from a is there at = gri
 
 -- the words of the page that are not yet replaced stay
 break-beside : (p page index i : ℕ) (run : PageRun) (a : Pool) → index < 512 → 512 * page + 512 ≤ length a.memory.words → i ≢ index → words_of (after_break p page index run a).memory.words page i ≡ words_of a.memory.words page i
-break-beside p page index i run a below room other = elim (cases_Bool (words_of a.memory.words page index == 0)) [
-  | inl is ↦ rw is refl
-  | inr isnt ↦ rw isnt (ap (λ (w : Words). w page i) (words_of-set_at a.memory.words page index 0 below (omega (arith, below, room))) ∙ put-other_index (words_of a.memory.words) page index 0 page i other)
-]
+break-beside p page index i run a below room other = grind (arith, common_steps, nat_tests, word-set, put-other_index)
 
 make-beside : (page index word i : ℕ) (a : Pool) → index < 512 → 512 * page + 512 ≤ length a.memory.words → i ≢ index → words_of (after_make page index word a).memory.words page i ≡ words_of a.memory.words page i
-make-beside page index word i a below room other = elim (cases_Bool (word == 0)) [
-  | inl is ↦ rw is refl
-  | inr isnt ↦ rw isnt (ap (λ (w : Words). w page i) (words_of-set_at a.memory.words page index word below (omega (arith, below, room))) ∙ put-other_index (words_of a.memory.words) page index word page i other)
-]
+make-beside page index word i a below room other = grind (arith, common_steps, nat_tests, word-set, put-other_index)
 
 pub replaces-beside : (p page first n word step start i : ℕ) (a : Pool) → first + n ≤ 512 → 512 * page + 512 ≤ length a.memory.words → first + n ≤ i → words_of (after_replaces p page first n word step start a).memory.words page i ≡ words_of a.memory.words page i
 unfolding after_replaces

@@ -26,19 +26,7 @@ pub run-within : (start : ℕ) (run : PageRun) → index_from start run.first + 
 run-within start run = omega arith
 
 pub keeps-sets : (page first n word step : ℕ) (a : Pool) → first + n ≤ 512 → 512 * page + 512 ≤ length a.memory.words → Keeps page a (after_sets page first n word step a)
-keeps-sets page first n word step a small room =
-    let sets = sets_of a.memory.words page first n word step in
-    record {
-      ids = refl;
-      quotas = refl;
-      taken = refl;
-      whole = length-words_set a.memory.words page first n word step;
-      others = λ q i other. words_set-other a.memory.words page first n word step q i room small other;
-      made = λ k is.
-          let long = length-append sets a.operations in
-          let sum : k + length a.operations + length sets ≡ k + length (sets ++ a.operations) = omega (arith, long) in
-          ap (counted sets) is ∙ counted-length sets (k + length a.operations) ∙ ap (λ x. x % 2 ^ 64) sum;
-    }
+keeps-sets page first n word step a small room = grind (arith, common_steps, nat_tests, length-words_set, words_set-other, length-append, counted-length)
 
 pub keeps-runs : (page start word step : ℕ) (runs : List PageRun) (a : Pool) → 512 * page + 512 ≤ length a.memory.words → Keeps page a (after_runs page start word step runs a)
 unfolding after_runs

@@ -3,7 +3,7 @@ use Rattle.pool.proofs.Names.{common_steps, nat_tests, Pool, Words, words_of, no
 use Rattle.std.proofs.Common.{◌≡◌, ◌≢◌, ℕ, zero, suc, ◌+◌, ◌-◌, ◌*◌, ◌%◌, ◌^◌, ◌<◌, ◌≤◌, ◌==◌, arith, cond, List, [], ◌∷◌, ◌++◌, length, reverse, slice_index, slice_set, refl, sym, ap, ◌∙◌, ◌⊎◌, inl, inr, add-one, Vec, Global, vec_len}
 use Rattle.std.proofs.lemmas.Bool.{cases_eq}
 use Rattle.std.proofs.lemmas.List.{length-append, append_assoc}
-use Rattle.pool.proofs.Words.{words_of-set_at, put-same, put-other_index, put-other_page}
+use Rattle.pool.proofs.Words.{words_of-set_at, word-set, put-same, put-other_index, put-other_page}
 use Rattle.pool.proofs.Nonzero.{word-read, nonzero-put}
 
 -- their number stays
@@ -62,38 +62,21 @@ pub words_set-other : (words : List ℕ) (page first n word step q i : ℕ) → 
     → words_of (words_set words page first n word step) q i ≡ words_of words q i
 unfolding words_set
 words_set-other words page first zero word step q i whole small other = refl
-words_set-other words page first (suc n) word step q i whole small other =
-    let long = length-words_set words page first n word step in
-    ap (λ (w : Words). w q i) (words_of-set_at (words_set words page first n word step) page (first + n) (word + step * n) (omega (arith, small)) (omega (arith, small, whole, long)))
-    ∙ put-other_page (words_of (words_set words page first n word step)) page (first + n) (word + step * n) q i other
-    ∙ words_set-other words page first n word step q i whole (omega (arith, small)) other
+words_set-other words page first (suc n) word step q i whole small other = grind (arith, nat_tests, length-words_set words page first n word step, word-set, put-other_page, words_set-other words page first n word step q i)
 
 -- so do those of the page that are not among them
 pub words_set-beside : (words : List ℕ) (page first n word step i : ℕ) → 512 * page + 512 ≤ length words → first + n ≤ 512 → (i < first) ⊎ (first + n ≤ i)
     → words_of (words_set words page first n word step) page i ≡ words_of words page i
 unfolding words_set
 words_set-beside words page first zero word step i whole small beside = refl
-words_set-beside words page first (suc n) word step i whole small beside =
-    let long = length-words_set words page first n word step in
-    let other : i ≢ first + n = λ is. elim beside [ inl before ↦ absurd (omega (arith, before, is)) | inr behind ↦ absurd (omega (arith, behind, is)) ] in
-    ap (λ (w : Words). w page i) (words_of-set_at (words_set words page first n word step) page (first + n) (word + step * n) (omega (arith, small)) (omega (arith, small, whole, long)))
-    ∙ put-other_index (words_of (words_set words page first n word step)) page (first + n) (word + step * n) page i other
-    ∙ words_set-beside words page first n word step i whole (omega (arith, small)) (elim beside [ inl before ↦ inl before | inr behind ↦ inr (omega (arith, behind)) ])
+words_set-beside words page first (suc n) word step i whole small beside = grind (arith, nat_tests, length-words_set words page first n word step, word-set, put-other_index, words_set-beside words page first n word step i)
 
 -- and those are what they are to be
 pub words_set-at : (words : List ℕ) (page first n word step x : ℕ) → 512 * page + 512 ≤ length words → first + n ≤ 512 → x < n
     → words_of (words_set words page first n word step) page (first + x) ≡ word + step * x
 unfolding words_set
 words_set-at words page first zero word step x whole small lt = absurd (omega (arith, lt))
-words_set-at words page first (suc n) word step x whole small lt =
-    let long = length-words_set words page first n word step in
-    ap (λ (w : Words). w page (first + x)) (words_of-set_at (words_set words page first n word step) page (first + n) (word + step * n) (omega (arith, small)) (omega (arith, small, whole, long)))
-    ∙ (elim (cases_eq x n) [
-      | inl is ↦ rw is (put-same (words_of (words_set words page first n word step)) page (first + n) (word + step * n))
-      | inr other ↦
-          put-other_index (words_of (words_set words page first n word step)) page (first + n) (word + step * n) page (first + x) (λ is. other (omega (arith, is)))
-          ∙ words_set-at words page first n word step x whole (omega (arith, small)) (omega (arith, lt, other))
-    ])
+words_set-at words page first (suc n) word step x whole small lt = grind (arith, nat_tests, length-words_set words page first n word step, word-set, put-same, put-other_index, words_set-at words page first n word step x)
 
 -- words that go on where others end
 pub words_set-join : (words : List ℕ) (page first a b n word step index next : ℕ) → first + a ≡ index → word + step * a ≡ next → a + b ≡ n
@@ -101,11 +84,7 @@ pub words_set-join : (words : List ℕ) (page first a b n word step index next :
 unfolding words_set
 words_set-join words page first a zero n word step index next is there sum = grind (arith, common_steps, nat_tests)
 words_set-join words page first a (suc b) n word step index next is there sum =
-    let more : n ≡ suc (a + b) = omega (arith, sum) in
-    let before = words_set-join words page first a b (a + b) word step index next is there refl in
-    let place : index + b ≡ first + (a + b) = omega (arith, is) in
-    let at : next + step * b ≡ word + step * (a + b) = omega (arith, there) in
-    rw (more, before, place, at) refl
+    let more : n ≡ suc (a + b) = omega (arith, sum) in rw more (grind (arith, common_steps, nat_tests, words_set-join words page first a b (a + b) word step index next))
 
 pub sets_of-join : (words : List ℕ) (page first a b n word step index next : ℕ) → first + a ≡ index → word + step * a ≡ next → a + b ≡ n
     → sets_of (words_set words page first a word step) page index b next step ++ sets_of words page first a word step ≡ sets_of words page first n word step

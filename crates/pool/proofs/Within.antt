@@ -23,10 +23,7 @@ pub within-runs : (ids quotas : List ℕ) (page start word step : ℕ) (runs : L
 unfolding after_runs
 within-runs ids quotas page start word step [] pool inside all = all
 within-runs ids quotas page start word step (run ∷ runs) pool inside all =
-    let first = index_from start run.first in
-    let end = index_from start (run.first + run.count) in
-    within-runs ids quotas page start word step runs (after_run page start word step run pool) inside
-    (within-behind ids quotas pool.memory.words page first (end - first) (word + step * first) step pool.operations inside (run-within start run) all)
+    within-runs ids quotas page start word step runs (after_run page start word step run pool) inside (within-behind ids quotas pool.memory.words page _ _ _ step pool.operations inside (run-within start run) all)
 
 -- and of words that are replaced
 pub within-replaces : (ids quotas : List ℕ) (p page first n word step start : ℕ) (pool : Pool) → page < page_count quotas → first + n ≤ 512 → row_of ids p < length ids → start + 512 * n ≤ 2 ^ 27 → list_all (lies_in ids quotas) pool.operations ≡ true

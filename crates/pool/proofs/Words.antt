@@ -24,6 +24,10 @@ pub words_of-set_at : (items : List ℕ) (page index word : ℕ) → index < 512
 unfolding words_of put
 words_of-set_at items page index word below here = fun_ext (λ q. fun_ext (λ i. grind (arith, common_steps, nat_tests)))
 
+-- the same word by word
+pub word-set : (items : List ℕ) (page index word q i : ℕ) → index < 512 → 512 * page + index < length items → words_of (slice_set items (512 * page + index) word) q i ≡ put page index word (words_of items) q i
+word-set items page index word q i below here = ap (λ (w : Words). w q i) (words_of-set_at items page index word below here)
+
 pub words_of-set : (items : List ℕ) (count page index word : ℕ) → length items ≡ 512 * count → page < count → index < 512 → words_of (slice_set items (512 * page + index) word) ≡ put page index word (words_of items)
 words_of-set items count page index word whole inside below = words_of-set_at items page index word below (omega arith)
 

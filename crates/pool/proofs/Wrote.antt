@@ -49,15 +49,7 @@ wrote-invalidate p run page words before after pushed more right = grind (arith,
 
 pub wrote-range : (range : WordRange) (old new : List ℕ) (before after : Log) → new ≡ with_range old range → Records old range before.operations.items after.operations.items
     → Grows (range.end - range.first) before.operations after.operations → after.nonzero ≡ nonzero_in (words_of new) range.page → Wrote (range_set range) range.page (range.end - range.first) old new before after
-wrote-range range old new before after written made more right = record {
-  shown = λ pool shown. record {
-    words = written ∙ ap (λ w. with_range w range) shown.words;
-    operations = made ∙ ap (λ w. writes_of w range ++ reverse before.operations.items) shown.words ∙ ap (λ l. writes_of pool.memory.words range ++ l) shown.operations;
-  };
-  whole = ap length written ∙ length-words_set old range.page range.first (range.end - range.first) range.word range.step;
-  counted = right;
-  grows = more;
-}
+wrote-range range old new before after written made more right = grind (arith, common_steps, nat_tests, length-words_set)
 
 -- how much longer is the list then
 pub wrote-length : (range : WordRange) (most : ℕ) (old new : List ℕ) (before after : Log) → Wrote (range_set range) range.page most old new before after
@@ -68,7 +60,7 @@ wrote-length range most old new before after wrote = vec_len-made before.operati
 
 -- those of one
 pub alone-run : (with : TableWords) (run : PageRun) (pool : Pool) → runs_set with (run ∷ []) pool ≡ after_run with.page with.start with.word with.step run pool
-alone-run with run pool = after_runs-next with.page with.start with.word with.step run [] pool ∙ after_runs-none with.page with.start with.word with.step (after_run with.page with.start with.word with.step run pool)
+alone-run with run pool = grind (arith, common_steps, after_runs-next, after_runs-none)
 
 pub wrote-run : (with : TableWords) (run : PageRun) (first end : ℕ) (old new : List ℕ) (before after : Log) → first ≡ index_from with.start run.first → end ≡ index_from with.start (run.first + run.count)
     → Wrote (indexes_set with first end) with.page (end - first) old new before after → Wrote (runs_set with (run ∷ [])) with.page (words_in with.start (run ∷ [])) old new before after
@@ -95,9 +87,7 @@ may-range with first end may some most = record {
 -- the words behind stay
 pub wrote-beside : (with : TableWords) (first end most i : ℕ) (old new : List ℕ) (before after : Log) → Wrote (indexes_set with first end) with.page most old new before after → 512 * with.page + 512 ≤ length old
     → first ≤ 512 → end ≤ 512 → first ≤ i → end ≤ i → words_of new with.page i ≡ words_of old with.page i
-wrote-beside with first end most i old new before after wrote room low high from behind =
-    ap (λ l. words_of l with.page i) (wrote-is wrote).words
-    ∙ words_set-beside old with.page first (end - first) (with.word + with.step * first) with.step i room (omega (arith, low, high)) (inr (omega (arith, from, behind)))
+wrote-beside with first end most i old new before after wrote room low high from behind = grind (arith, nat_tests, wrote-is wrote, words_set-beside)
 
 pub run-beside : (with : TableWords) (run : PageRun) (i : ℕ) (old new : List ℕ) (before after : Log) → Wrote (runs_set with (run ∷ [])) with.page (words_in with.start (run ∷ [])) old new before after → 512 * with.page + 512 ≤ length old
     → index_from with.start (run.first + run.count) ≤ i → words_of new with.page i ≡ words_of old with.page i
@@ -132,17 +122,7 @@ module _ {with : TableWords} {all left : List PageRun} {old mid : List ℕ} {bef
   -- the first of them can be written
   pub left-can : {known : Bool} {stood stands : ℕ → Bool} (part rest : List PageRun) → left ≡ part ++ rest → CanWriteRuns known old stood with all before → stands ≡ stood → (known ≡ true → TurnRuns mid with left)
       → CanWriteRuns known mid stands with part log
-  left-can part rest parts can standing turned =
-      let sum = ap (words_in with.start) parts ∙ words_in-append with.start part rest in
-      record {
-        may = record {
-          start_in = can.may.start_in;
-          in_range = can.may.in_range;
-          page_in = record { inside = omega (arith, so.whole, can.may.page_in.inside); standing = ap (λ (s : ℕ → Bool). s with.page) standing ∙ can.may.page_in.standing };
-        };
-        turned = λ is. turned-part mid with part rest (subst (λ (rs : List PageRun). TurnRuns mid with rs) parts (turned is));
-        ready = record { counted = so.counted; room = omega (arith, so.len, so.capacity, sum, can.ready.room) };
-      }
+  left-can part rest parts can standing turned = grind (arith, common_steps, nat_tests, words_in-append, turned-part)
 
   -- which are written
   pub left-less : {new : List ℕ} {after : Log} (part rest : List PageRun) → left ≡ part ++ rest → Wrote (runs_set with part) with.page (words_in with.start part) mid new log after → Left with all rest old new before after

@@ -1,3 +1,4 @@
+use Rattle.pool.proofs.Names.{nat_tests, common_steps}
 use Rattle.std.proofs.Common.{◌≡◌, ◌+◌, ◌-◌, arith}
 use Rattle.pool.proofs.Recorded.{records-none, records-next, puts-none, puts-next}
 use Rattle.pool.proofs.block.put_and_record.Goals as goal

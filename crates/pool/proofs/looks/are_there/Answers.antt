@@ -1,6 +1,6 @@
 use Rattle.std.proofs.Common.{◌≡◌, ◌+◌, ◌-◌, ◌*◌, Bool, true, false, ◌&&◌, ◌==◌, arith, sym, ap, ◌∙◌, inl, inr}
 use Rattle.std.proofs.lemmas.Bool.{and_parts, cases_Bool, cases_eq, eqb-true}
-use Rattle.pool.proofs.Names.{nat_tests, words_of}
+use Rattle.pool.proofs.Names.{common_steps, nat_tests, words_of}
 use Rattle.pool.proofs.Nonzero.{word-read}
 use Rattle.pool.proofs.looks.are_there.Goals as goal
 

@@ -1,5 +1,5 @@
 use Rattle.std.proofs.Common.{◌≡◌, ◌+◌, ◌-◌, ◌*◌, refl, sym, ◌∙◌, arith}
-use Rattle.pool.proofs.Names.{replaces}
+use Rattle.pool.proofs.Names.{nat_tests, common_steps, replaces}
 use Rattle.pool.proofs.Replaced.{replaces-none, replaces-then}
 use Rattle.pool.proofs.Wrote.{wrote-none, wrote-then, wrote-as}
 use Rattle.pool.proofs.replace.replace_others.Goals as goal

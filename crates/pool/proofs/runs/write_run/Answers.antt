@@ -1,3 +1,5 @@
+use Rattle.std.proofs.Common.{arith}
+use Rattle.pool.proofs.Names.{nat_tests, common_steps}
 use Rattle.pool.proofs.Wrote.{wrote-run}
 use Rattle.pool.proofs.runs.write_run.Goals as goal
 

@@ -1,5 +1,5 @@
-use Rattle.std.proofs.Common.{List, sym, subst}
-use Rattle.pool.proofs.Names.{PageRun, words_in, Wrote, log_of, runs_set}
+use Rattle.std.proofs.Common.{List, sym, subst, arith}
+use Rattle.pool.proofs.Names.{nat_tests, common_steps, PageRun, words_in, Wrote, log_of, runs_set}
 use Rattle.pool.proofs.RunWords.{runs-single}
 use Rattle.pool.proofs.Wrote.{wrote-run}
 use Rattle.pool.proofs.runs.write_runs.Goals as goal

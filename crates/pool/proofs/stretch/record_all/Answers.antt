@@ -1,3 +1,4 @@
+use Rattle.pool.proofs.Names.{nat_tests, common_steps}
 use Rattle.std.proofs.Common.{◌≡◌, ◌+◌, ◌-◌, arith}
 use Rattle.pool.proofs.Recorded.{records-none, records-next}
 use Rattle.pool.proofs.stretch.record_all.Goals as goal

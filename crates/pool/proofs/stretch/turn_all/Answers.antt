@@ -1,5 +1,5 @@
 use Rattle.std.proofs.Common.{◌+◌, ◌-◌, ◌≤◌, arith}
-use Rattle.pool.proofs.Names.{words_of, log_of}
+use Rattle.pool.proofs.Names.{nat_tests, common_steps, words_of, log_of}
 use Rattle.pool.proofs.Nonzero.{nonzero-le}
 use Rattle.pool.proofs.Turned.{turned-differ, turned-least, turned-counted}
 use Rattle.pool.proofs.Wrote.{wrote-range}

@@ -1,7 +1,7 @@
 use Rattle.std.proofs.Common.{◌≡◌, ℕ, ◌-◌, ◌<◌, ◌∙◌, arith, length, slice_index, get_or, ap, true}
 use Rattle.std.proofs.lemmas.List.{get_or_read}
 use Rattle.std.proofs.Math.ListN.{length-set}
-use Rattle.pool.proofs.Names.{HasFree, IsLowestFree, TablePool, IsFirstUnmarked}
+use Rattle.pool.proofs.Names.{nat_tests, common_steps, HasFree, IsLowestFree, TablePool, IsFirstUnmarked}
 use Rattle.pool.specs.declared.word_store.WordStore.{Ghosts}
 use Rattle.pool.proofs.Shares.{share_inside}
 use Rattle.pool.proofs.Kept.{memory_in, pages_in, free_zero-mark, roots-mark, standing-mark, some-unmarked, found-lowest, row-within, counts-take, below-take}
@@ -9,7 +9,7 @@ use Rattle.pool.proofs.table_pool.TablePoolTableMem.take_page.Goals as goal
 
 -- the page from which on is looked is that of the row
 begins : {S : Type 0} {g : Ghosts S} (old : TablePool S g) (row start : ℕ) → HasFree (pages_in old) row → start ≡ get_or old.lowest.items row start → start ≡ slice_index old.lowest.items row
-begins old row start free read = get_or_read old.lowest.items row start (omega (arith, row-within (pages_in old) row free, old.none_free_below.rows)) read 0
+begins old row start free read = grind (arith, common_steps, nat_tests, row-within, get_or_read)
 
 -- the page that is found is the lowest free one
 found : {S : Type 0} {g : Ghosts S} (old : TablePool S g) (row start page : ℕ) → HasFree (pages_in old) row → start ≡ get_or old.lowest.items row start → IsFirstUnmarked old.taken start page → IsLowestFree (pages_in old) row page
