@@ -4,10 +4,7 @@ use Rattle.pool.proofs.Recorded.{records-none, records-next}
 use Rattle.pool.proofs.stretch.record_all.Goals as goal
 
 pub loop-index-init : goal.loop-index-init
-loop-index-init c =
-    let r = c.args.range in
-    let none : r.first - r.first ≡ 0 = omega arith in
-    record { recorded = records-none r c.args.operations; word = rw none (omega arith) }
+loop-index-init c = grind (arith, common_steps, nat_tests, records-none c.args.range c.args.operations)
 
 pub loop-index-preserved : goal.loop-index-preserved
 loop-index-preserved c =

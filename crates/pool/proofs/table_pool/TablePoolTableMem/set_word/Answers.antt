@@ -9,9 +9,7 @@ use Rattle.pool.proofs.Written.{stays, state}
 use Rattle.pool.proofs.table_pool.TablePoolTableMem.set_word.Goals as goal
 
 pub invariant_of-self : goal.invariant_of-self
-invariant_of-self g c =
-    let old = c.args.self.now in
-    stays old c.args.page c.requires.page_in c.write_word-count.ensures.wrote (λ a room. keeps-set c.args.page c.args.index c.args.word a c.requires.index_in room) c.write_word-count.ensures.standing c.requires.taken (let here = set-within old.ids old.quotas.items c.args.page c.args.index c.args.word c.requires.page_in c.requires.index_in in rw here old.within)
+invariant_of-self g c = stays c.args.self.now c.args.page c.requires.page_in c.write_word-count.ensures.wrote (λ a room. keeps-set c.args.page c.args.index c.args.word a c.requires.index_in room) c.write_word-count.ensures.standing c.requires.taken (grind (arith, nat_tests, set-within, c.args.self.now.within))
 
 pub returns-clause-state : goal.returns-clause-state
 returns-clause-state g c =
@@ -22,7 +20,4 @@ pub write_word-count-requires-clause-may : goal.write_word-count-requires-clause
 write_word-count-requires-clause-may g c = grind (arith, common_steps, nat_tests, read-test)
 
 pub returns-clause-room : goal.returns-clause-room
-returns-clause-room g c =
-    let wrote = c.write_word-count.ensures.wrote in
-    let long = vec_len-made c.args.self.now.operations c.write_word-count.new.operations (Set c.args.page c.args.index c.args.word ∷ []) (wrote-is wrote).operations in
-    omega (arith, long, wrote.grows.capacity, c.requires.ready)
+returns-clause-room g c = grind (arith, common_steps, nat_tests, wrote-is c.write_word-count.ensures.wrote, vec_len-made)
