@@ -3,8 +3,8 @@ use Rattle.pool.proofs.Names.{nat_tests, Pool, words_of, after_set, after_sets, 
 use Rattle.std.proofs.Common.{◌≡◌, ◌≢◌, ℕ, ◌+◌, ◌*◌, ◌<◌, ◌≤◌, ◌⊎◌, arith, [], ◌∷◌, length, slice_index, refl, sym, ap, ◌∙◌, inl, inr}
 use Rattle.pool.specs.Writing.{page_alone}
 use Rattle.pool.proofs.Nonzero.{word-read}
-use Rattle.pool.proofs.RunWords.{after_run-outside, page-alone, sets-none}
-use Rattle.pool.proofs.Stretches.{words_set-none, sets-more, sets-pass}
+use Rattle.pool.proofs.RunWords.{after_run-outside, page-alone}
+use Rattle.pool.proofs.Stretches.{set-one, pass-one}
 use Rattle.pool.proofs.Wrote.{alone-run}
 
 -- none of them is its
@@ -23,25 +23,17 @@ module _ (with : TableWords) (page index : ℕ) (small : index < 512) (is : with
   pub alone-words : words_in with.start (page_alone page ∷ []) ≡ 1
   alone-words = let a = at in let b = end in omega (arith, a, b)
 
-  alone-sets : (pool : Pool) → runs_set with (page_alone page ∷ []) pool ≡ after_sets with.page index (0 + 1) (with.word + with.step * index) with.step pool
+  alone-sets : (pool : Pool) → runs_set with (page_alone page ∷ []) pool ≡ after_sets with.page index 1 (with.word + with.step * index) with.step pool
   alone-sets pool = alone-run with (page_alone page) pool ∙ page-alone with.page with.start with.word with.step page index (with.word + with.step * index) pool at end refl
 
   -- the word that stands there
-  stands : (pool : Pool) → slice_index (words_set pool.memory.words with.page index 0 (with.word + with.step * index) with.step) (512 * with.page + index) ≡ words_of pool.memory.words with.page index
-  stands pool = grind (arith, nat_tests, words_set-none, word-read)
+  stands : (pool : Pool) → slice_index pool.memory.words (512 * with.page + index) ≡ words_of pool.memory.words with.page index
+  stands pool = word-read pool.memory.words with.page index (slice_index pool.memory.words (512 * with.page + index)) small refl
 
   -- it is written
   pub alone-set : (pool : Pool) → words_of pool.memory.words with.page index ≢ with.word + with.step * index → runs_set with (page_alone page ∷ []) pool ≡ after_set with.page index (with.word + with.step * index) pool
-  alone-set pool differs =
-      let next = with.word + with.step * index in
-      alone-sets pool
-      ∙ sets-more with.page index 0 next with.step index next pool (omega arith) (omega arith) (λ e. differs (sym (stands pool) ∙ e))
-      ∙ ap (λ p. after_set with.page index next p) (sets-none with.page index next with.step pool)
+  alone-set pool differs = alone-sets pool ∙ set-one with.page index (with.word + with.step * index) with.step pool (λ e. differs (sym (stands pool) ∙ e))
 
   -- or is there
   pub alone-stays : (pool : Pool) → 512 * with.page + index < length pool.memory.words → words_of pool.memory.words with.page index ≡ with.word + with.step * index → runs_set with (page_alone page ∷ []) pool ≡ pool
-  alone-stays pool within there =
-      let next = with.word + with.step * index in
-      alone-sets pool
-      ∙ sets-pass with.page index 0 next with.step index next pool (omega arith) (omega arith) within (stands pool ∙ there)
-      ∙ sets-none with.page index next with.step pool
+  alone-stays pool within there = alone-sets pool ∙ pass-one with.page index (with.word + with.step * index) with.step pool within (stands pool ∙ there)

@@ -6,7 +6,7 @@ use Rattle.std.proofs.lemmas.List.{length-set}
 use Rattle.pool.specs.Pool.{after_break, after_make}
 use Rattle.pool.proofs.Words.{word-set, words_of-set_at, put-other_index, put-other_page}
 use Rattle.pool.proofs.Nonzero.{word-read, nonzero-zeros}
-use Rattle.pool.proofs.Stretches.{words_set-beside, sets-more}
+use Rattle.pool.proofs.Stretches.{words_set-beside}
 
 -- ---- one word
 
@@ -97,4 +97,4 @@ pub replaces-fresh : (p page first n word step start : ℕ) (a : Pool) → first
     → after_replaces p page first n word step start a ≡ after_sets page first n word step a
 unfolding after_replaces words_set sets_of
 replaces-fresh p page first zero word step start a small room none some = refl
-replaces-fresh p page first (suc n) word step start a small room none some = grind (arith, common_steps, nat_tests, replaces-fresh p page first n word step start a, words_set-beside a.memory.words page first n word step (first + n) room, nonzero-zeros (words_of a.memory.words) page (first + n) none, sets-more page first n word step (first + n) (word + step * n) a, word-read)
+replaces-fresh p page first (suc n) word step start a small room none some = grind (arith, common_steps, nat_tests, replaces-fresh p page first n word step start a, words_set-beside a.memory.words page first n word step (first + n) room, nonzero-zeros (words_of a.memory.words) page (first + n) none, word-read)

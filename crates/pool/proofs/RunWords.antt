@@ -58,7 +58,7 @@ words_in-left start i runs run lt is = grind (arith, common_steps, at_drop_more 
 
 -- its word is that of one index
 pub page-alone : (page start word step number index next : ℕ) (pool : Pool) → index ≡ index_from start number → index + 1 ≡ index_from start (number + 1) → word + step * index ≡ next
-    → after_run page start word step (record { first = number; count = 1 }) pool ≡ after_sets page index (0 + 1) next step pool
+    → after_run page start word step (record { first = number; count = 1 }) pool ≡ after_sets page index 1 next step pool
 page-alone page start word step number index next pool at end is = grind (arith, common_steps, nat_tests)
 
 -- runs of which there is one

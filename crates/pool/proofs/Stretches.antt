@@ -1,8 +1,9 @@
 -- Words of a page that follow one another, and the operations that write them.
-use Rattle.pool.proofs.Names.{common_steps, nat_tests, Pool, Words, words_of, nonzero_in, words_set, sets_of, counted, after_set, after_sets, Op, Set, AllDiffer}
+use Rattle.pool.proofs.Names.{common_steps, nat_tests, Pool, Words, words_of, nonzero_in, words_set, sets_of, counted, after_set, after_sets, Op, Set, WordRange, with_range, range_set}
 use Rattle.std.proofs.Common.{◌≡◌, ◌≢◌, ℕ, zero, suc, ◌+◌, ◌-◌, ◌*◌, ◌%◌, ◌^◌, ◌<◌, ◌≤◌, ◌==◌, arith, cond, List, [], ◌∷◌, ◌++◌, length, reverse, slice_index, slice_set, refl, sym, ap, ◌∙◌, ◌⊎◌, inl, inr, add-one, Vec, Global, vec_len}
 use Rattle.std.proofs.lemmas.Bool.{cases_eq}
 use Rattle.std.proofs.lemmas.List.{length-append, append_assoc}
+use Rattle.pool.specs.Writing.{writes_of, NoneThere}
 use Rattle.pool.proofs.Words.{words_of-set_at, word-set, put-same, put-other_index, put-other_page}
 use Rattle.pool.proofs.Nonzero.{word-read, nonzero-put}
 
@@ -11,28 +12,6 @@ pub length-words_set : (words : List ℕ) (page first n word step : ℕ) → len
 unfolding words_set
 length-words_set words page first zero word step = refl
 length-words_set words page first (suc n) word step = grind (arith, common_steps, nat_tests, length-words_set words page first n word step)
-
--- none of them
-pub words_set-none : (words : List ℕ) (page first word step : ℕ) → words_set words page first 0 word step ≡ words
-unfolding words_set
-words_set-none words page first word step = refl
-
-pub sets_of-none : (words : List ℕ) (page first word step : ℕ) → sets_of words page first 0 word step ≡ []
-unfolding sets_of
-sets_of-none words page first word step = refl
-
--- one word more
-pub words_set-next : (words : List ℕ) (page first n word step index next : ℕ) → first + n ≡ index → word + step * n ≡ next
-    → words_set words page first (n + 1) word step ≡ slice_set (words_set words page first n word step) (512 * page + index) next
-unfolding words_set
-words_set-next words page first n word step index next is there = rw (add-one, is, there) refl
-
--- which is not there
-pub sets_of-write : (words : List ℕ) (page first n word step index next : ℕ) → first + n ≡ index → word + step * n ≡ next
-    → slice_index (words_set words page first n word step) (512 * page + index) ≢ next
-    → sets_of words page first (n + 1) word step ≡ Set page index next ∷ sets_of words page first n word step
-unfolding sets_of
-sets_of-write words page first n word step index next is there differs = grind (arith, common_steps, nat_tests)
 
 -- how many operations were made after some more
 pub counted-length : (ops : List Op) (n : ℕ) → counted ops (n % 2 ^ 64) ≡ (n + length ops) % 2 ^ 64
@@ -45,17 +24,64 @@ set-same [] place word inside is = refl
 set-same (x ∷ items) zero word inside is = ap (λ y. y ∷ items) (sym is)
 set-same (x ∷ items) (suc place) word inside is = ap (λ rest. x ∷ rest) (set-same items place word (omega arith) is)
 
--- one more, which is not there
-pub sets-more : (page first n word step index next : ℕ) (pool : Pool) → first + n ≡ index → word + step * n ≡ next → slice_index (words_set pool.memory.words page first n word step) (512 * page + index) ≢ next
-    → after_sets page first (n + 1) word step pool ≡ after_set page index next (after_sets page first n word step pool)
-unfolding words_set sets_of
-sets-more page first n word step index next pool is there differs = grind (arith, common_steps, nat_tests)
+-- ---- one word
 
--- or which is
-pub sets-pass : (page first n word step index next : ℕ) (pool : Pool) → first + n ≡ index → word + step * n ≡ next → 512 * page + index < length pool.memory.words → slice_index (words_set pool.memory.words page first n word step) (512 * page + index) ≡ next
-    → after_sets page first (n + 1) word step pool ≡ after_sets page first n word step pool
+pub set-one : (page index word step : ℕ) (pool : Pool) → slice_index pool.memory.words (512 * page + index) ≢ word → after_sets page index 1 word step pool ≡ after_set page index word pool
 unfolding words_set sets_of
-sets-pass page first n word step index next pool is there inside same = grind (arith, common_steps, nat_tests)
+set-one page index word step pool differs = grind (arith, common_steps, nat_tests)
+
+-- or it is there
+pub pass-one : (page index word step : ℕ) (pool : Pool) → 512 * page + index < length pool.memory.words → slice_index pool.memory.words (512 * page + index) ≡ word → after_sets page index 1 word step pool ≡ pool
+unfolding words_set sets_of
+pass-one page index word step pool inside is = grind (arith, common_steps, nat_tests, set-same)
+
+-- ---- the words of a range up to an index
+
+-- none of them
+module _ (r : WordRange) where
+  pub first-word : r.word ≡ r.word + r.step * (r.first - r.first)
+  first-word = let none : r.first - r.first ≡ 0 = omega arith in rw none (omega arith)
+
+  pub first-words : (words : List ℕ) → with_range words (record r { end = r.first }) ≡ words
+  unfolding words_set
+  first-words words = let none : r.first - r.first ≡ 0 = omega arith in rw none refl
+
+  pub first-writes : (words : List ℕ) → writes_of words (record r { end = r.first }) ≡ []
+  unfolding sets_of
+  first-writes words = let none : r.first - r.first ≡ 0 = omega arith in rw none refl
+
+  pub first-set : (pool : Pool) → range_set (record r { end = r.first }) pool ≡ pool
+  first-set pool = grind (arith, common_steps, first-words pool.memory.words, first-writes pool.memory.words)
+
+-- one more
+module _ (r : WordRange) (i word : ℕ) (from : r.first ≤ i) (is : word ≡ r.word + r.step * (i - r.first)) where
+  more : (i + 1) - r.first ≡ suc (i - r.first)
+  more = omega (arith, from)
+
+  at : r.first + (i - r.first) ≡ i
+  at = omega (arith, from)
+
+  pub next-word : word + r.step ≡ r.word + r.step * ((i + 1) - r.first)
+  next-word = rw more (omega (arith, is))
+
+  pub next-words : (words : List ℕ) → with_range words (record r { end = i + 1 }) ≡ slice_set (with_range words (record r { end = i })) (512 * r.page + i) word
+  unfolding words_set
+  next-words words = rw (more, at, is) refl
+
+  -- which is not there
+  pub next-writes : (words : List ℕ) → slice_index (with_range words (record r { end = i })) (512 * r.page + i) ≢ word → writes_of words (record r { end = i + 1 }) ≡ Set r.page i word ∷ writes_of words (record r { end = i })
+  unfolding sets_of
+  next-writes words differs = rw (more, at, is) (grind (arith, common_steps, nat_tests))
+
+  pub next-set : (pool : Pool) → slice_index (with_range pool.memory.words (record r { end = i })) (512 * r.page + i) ≢ word → range_set (record r { end = i + 1 }) pool ≡ after_set r.page i word (range_set (record r { end = i }) pool)
+  next-set pool differs = grind (arith, common_steps, next-words pool.memory.words, next-writes pool.memory.words)
+
+  -- or which is
+  pub next-pass : (pool : Pool) → 512 * r.page + i < length pool.memory.words → slice_index (with_range pool.memory.words (record r { end = i })) (512 * r.page + i) ≡ word → range_set (record r { end = i + 1 }) pool ≡ range_set (record r { end = i }) pool
+  unfolding words_set sets_of
+  next-pass pool inside same = rw (more, at) (grind (arith, common_steps, nat_tests, set-same, length-words_set))
+
+-- ---- other words
 
 -- the words of another page stay
 pub words_set-other : (words : List ℕ) (page first n word step q i : ℕ) → 512 * page + 512 ≤ length words → first + n ≤ 512 → q ≢ page
@@ -78,30 +104,6 @@ unfolding words_set
 words_set-at words page first zero word step x whole small lt = absurd (omega (arith, lt))
 words_set-at words page first (suc n) word step x whole small lt = grind (arith, nat_tests, length-words_set words page first n word step, word-set, put-same, put-other_index, words_set-at words page first n word step x)
 
--- words that go on where others end
-pub words_set-join : (words : List ℕ) (page first a b n word step index next : ℕ) → first + a ≡ index → word + step * a ≡ next → a + b ≡ n
-    → words_set (words_set words page first a word step) page index b next step ≡ words_set words page first n word step
-unfolding words_set
-words_set-join words page first a zero n word step index next is there sum = grind (arith, common_steps, nat_tests)
-words_set-join words page first a (suc b) n word step index next is there sum =
-    let more : n ≡ suc (a + b) = omega (arith, sum) in rw more (grind (arith, common_steps, nat_tests, words_set-join words page first a b (a + b) word step index next))
-
-pub sets_of-join : (words : List ℕ) (page first a b n word step index next : ℕ) → first + a ≡ index → word + step * a ≡ next → a + b ≡ n
-    → sets_of (words_set words page first a word step) page index b next step ++ sets_of words page first a word step ≡ sets_of words page first n word step
-unfolding sets_of
-sets_of-join words page first a zero n word step index next is there sum = grind (arith, common_steps, nat_tests)
-sets_of-join words page first a (suc b) n word step index next is there sum =
-    let more : n ≡ suc (a + b) = omega (arith, sum) in
-    let before = words_set-join words page first a b (a + b) word step index next is there refl in
-    let place : index + b ≡ first + (a + b) = omega (arith, is) in
-    let at : next + step * b ≡ word + step * (a + b) = omega (arith, there) in
-    rw (more, before, place, at)
-    (append_assoc (here (first + (a + b)) (word + step * (a + b))) (sets_of (words_set words page first a word step) page index b next step) (sets_of words page first a word step)
-    ∙ ap (λ ops. here (first + (a + b)) (word + step * (a + b)) ++ ops) (sets_of-join words page first a b (a + b) word step index next is there refl))
-  where
-    here : ℕ → ℕ → List Op
-    here i w = cond (slice_index (words_set words page first (a + b) word step) (512 * page + i) == w) [] (Set page i w ∷ [])
-
 -- ---- stretches whose words are all 0, or none of which is
 
 -- how many are not 0 then
@@ -117,13 +119,14 @@ unfolding words_set
 nonzero-cleared words page first zero room small others = omega arith
 nonzero-cleared words page first (suc n) room small others = grind (arith, nat_tests, length-words_set, words_of-set_at, words_set-beside, nonzero-put, nonzero-cleared words page first n room (omega (arith, small)) (λ x lt. others x (omega (arith, lt))))
 
--- what is not there where a stretch begins is not there once the words before it are written
-pub differ-next : (words : List ℕ) (page first n m word step index next : ℕ) → 512 * page + 512 ≤ length words → first + m ≤ 512 → n < m → first + n ≡ index → word + step * n ≡ next → AllDiffer words page first m word step
-    → slice_index (words_set words page first n word step) (512 * page + index) ≢ next
-differ-next words page first n m word step index next room small lt at there differ is =
-    let read = word-read (words_set words page first n word step) page index (slice_index (words_set words page first n word step) (512 * page + index)) (omega (arith, at, small, lt)) refl in
-    let beside = words_set-beside words page first n word step index room (omega (arith, small, lt)) (inr (omega (arith, at))) in
-    differ n lt (ap (words_of words page) at ∙ sym beside ∙ sym read ∙ is ∙ sym there)
+-- none of a range is there: the next one is not once the words before it are written
+pub next-differs : (r : WordRange) (i word : ℕ) (words : List ℕ) → r.first ≤ i → word ≡ r.word + r.step * (i - r.first) → i < 512 → 512 * r.page + 512 ≤ length words → NoneThere words (record r { end = i + 1 })
+    → slice_index (with_range words (record r { end = i })) (512 * r.page + i) ≢ word
+next-differs r i word words from is small room differ same =
+    let at : r.first + (i - r.first) ≡ i = omega (arith, from) in
+    let beside = words_set-beside words r.page r.first (i - r.first) r.word r.step i room (omega (arith, at, small)) (inr (omega (arith, at))) in
+    let read = word-read (with_range words (record r { end = i })) r.page i (slice_index (with_range words (record r { end = i })) (512 * r.page + i)) small refl in
+    differ (i - r.first) (omega (arith, from)) (rw at (sym beside ∙ sym read ∙ same ∙ is))
 
 -- ---- how many operations they are
 
@@ -135,7 +138,12 @@ length-sets_of-le words page first (suc n) word step = grind (arith, common_step
 
 -- for some of the words no more than for all
 pub length-sets_of-part : (words : List ℕ) (page first a n word step : ℕ) → a ≤ n → length (sets_of words page first a word step) ≤ length (sets_of words page first n word step)
-length-sets_of-part words page first a n word step few = grind (arith, common_steps, length-append, sets_of-join words page first a (n - a) n word step (first + a) (word + step * a))
+unfolding sets_of
+length-sets_of-part words page first a zero word step few = let none : a ≡ 0 = omega (arith, few) in rw none (omega arith)
+length-sets_of-part words page first a (suc n) word step few = elim (cases_eq a (suc n)) [
+  | inl all ↦ rw all (omega arith)
+  | inr less ↦ grind (arith, common_steps, nat_tests, length-sets_of-part words page first a n word step)
+]
 
 -- so much longer is the list then
 pub vec_len-made : (old new : Vec Op Global) (sets : List Op) → reverse new.items ≡ sets ++ reverse old.items → vec_len new ≡ vec_len old + length sets

@@ -1,9 +1,9 @@
 -- What is written of a page, step by step.
 use Rattle.pool.proofs.Names.{common_steps, nat_tests, PageRun, covers, Pool, words_of, nonzero_in, counted, after_set, after_run, after_invalidate, index_from, words_in, gap, IsShown, Grows, Wrote, TurnRuns, with_range, range_set, runs_set, indexes_set, Log, Set, TableWords, WordRange}
-use Rattle.std.proofs.Common.{◌≡◌, ℕ, ◌+◌, ◌-◌, ◌*◌, ◌<◌, ◌≤◌, Bool, true, arith, List, [], ◌∷◌, ◌++◌, length, reverse, slice_set, vec_len, vec_capacity, refl, sym, subst, ap, ◌∙◌, inr}
+use Rattle.std.proofs.Common.{◌≡◌, ◌≢◌, ℕ, slice_index, ◌+◌, ◌-◌, ◌*◌, ◌<◌, ◌≤◌, Bool, true, arith, List, [], ◌∷◌, ◌++◌, length, reverse, slice_set, vec_len, vec_capacity, refl, sym, subst, ap, ◌∙◌, inr}
 use Rattle.pool.specs.Writing.{MayWrite, MayWriteRuns, Records, CanWriteRuns, CanWriteIndexes, writes_of}
 use Rattle.pool.specs.declared.operation.Op.TheVariants.{Invalidate}
-use Rattle.pool.proofs.Stretches.{words_set-beside, vec_len-made, length-words_set}
+use Rattle.pool.proofs.Stretches.{words_set-beside, vec_len-made, length-words_set, length-sets_of-part, next-writes, next-set, next-pass}
 use Rattle.pool.proofs.RunWords.{words-in_range, after_runs-none, after_runs-next, after_runs-append, words_in-append}
 use Rattle.pool.proofs.Gaps.{gap-one, gap-words}
 
@@ -55,6 +55,23 @@ wrote-range range old new before after written made more right = grind (arith, c
 pub wrote-length : (range : WordRange) (most : ℕ) (old new : List ℕ) (before after : Log) → Wrote (range_set range) range.page most old new before after
     → vec_len after.operations ≡ vec_len before.operations + length (writes_of old range)
 wrote-length range most old new before after wrote = vec_len-made before.operations after.operations (writes_of old range) (wrote-is wrote).operations
+
+-- words of a range are written up to an index
+module _ (r : WordRange) (i word : ℕ) (from : r.first ≤ i) (is : word ≡ r.word + r.step * (i - r.first)) {old mid : List ℕ} {before log : Log} (wrote : Wrote (range_set (record r { end = i })) r.page (i - r.first) old mid before log) where
+  -- one more is
+  pub wrote-next : {new : List ℕ} {after : Log} → slice_index mid (512 * r.page + i) ≢ word → Wrote (after_set r.page i word) r.page 1 mid new log after → Wrote (range_set (record r { end = i + 1 })) r.page ((i + 1) - r.first) old new before after
+  wrote-next differs one = wrote-as (wrote-then wrote one) (omega (arith, from)) (λ pool same. sym (next-set r i word from is pool (grind (arith, common_steps, wrote-is wrote))))
+
+  -- or is there
+  pub wrote-pass : i < 512 → 512 * r.page + 512 ≤ length old → slice_index mid (512 * r.page + i) ≡ word → Wrote (range_set (record r { end = i + 1 })) r.page ((i + 1) - r.first) old mid before log
+  wrote-pass small room there = wrote-as wrote (omega (arith, from)) (λ pool same. sym (next-pass r i word from is pool (grind (arith, nat_tests)) (grind (arith, common_steps, wrote-is wrote))))
+
+  -- there is room for its operation
+  pub next-room : i < r.end → slice_index mid (512 * r.page + i) ≢ word → vec_len before.operations + length (writes_of old r) ≤ vec_capacity before.operations → vec_len log.operations + 1 ≤ vec_capacity log.operations
+  next-room lt differs room =
+      let one_more = ap length (next-writes r i word from is old (grind (arith, common_steps, wrote-is wrote))) in
+      let most = length-sets_of-part old r.page r.first ((i + 1) - r.first) (r.end - r.first) r.word r.step (omega (arith, from, lt)) in
+      omega (arith, one_more, most, wrote-length (record r { end = i }) (i - r.first) old mid before log wrote, wrote.grows.capacity, room)
 
 -- ---- words for the pages of runs
 

@@ -1,13 +1,10 @@
-use Rattle.pool.proofs.Names.{nat_tests, common_steps}
-use Rattle.std.proofs.Common.{◌≡◌, ◌+◌, ◌-◌, arith}
+use Rattle.std.proofs.Common.{◌+◌, arith}
 use Rattle.pool.proofs.Recorded.{records-none, records-next, puts-none, puts-next}
+use Rattle.pool.proofs.Stretches.{first-word, next-word}
 use Rattle.pool.proofs.block.put_and_record.Goals as goal
 
 pub loop-index-init : goal.loop-index-init
-loop-index-init c =
-    let r = c.args.range in
-    let none : r.first - r.first ≡ 0 = omega arith in
-    record { put = puts-none r c.args.cells.now c.requires.may.filled; recorded = records-none r c.args.operations; word = rw none (omega arith) }
+loop-index-init c = record { put = puts-none c.args.range c.args.cells.now c.requires.may.filled; recorded = records-none c.args.range c.args.operations; word = first-word c.args.range }
 
 pub loop-index-preserved : goal.loop-index-preserved
 loop-index-preserved c =
@@ -17,9 +14,8 @@ loop-index-preserved c =
     let from = c.loop-index.auto.index in
     let wrote = c.put_word.ensures in
     let pushed = c.push_reserved.ensures in
-    let more : (i + 1) - r.first ≡ (i - r.first) + 1 = omega (arith, from) in
     record {
-      put = puts-next r i c.loop-index.word _ _ _ from before.word wrote.place wrote.len wrote.filled wrote.words wrote.marked before.put;
-      recorded = records-next r i c.loop-index.word c.args.operations c.loop-index.operations c.push_reserved.new.self from (omega (arith, c.requires.may.index_in, c.loop-index-test.true)) before.word pushed.items (record { len = omega (arith, pushed.len); capacity = pushed.capacity }) before.recorded;
-      word = rw more (omega (arith, before.word));
+      put = puts-next r i c.loop-index.word from before.word _ _ _ wrote.place wrote.len wrote.filled wrote.words wrote.marked before.put;
+      recorded = records-next r i c.loop-index.word from before.word c.args.operations c.loop-index.operations c.push_reserved.new.self (omega (arith, c.requires.may.index_in, c.loop-index-test.true)) pushed.items (record { len = omega (arith, pushed.len); capacity = pushed.capacity }) before.recorded;
+      word = next-word r i c.loop-index.word from before.word;
     }
