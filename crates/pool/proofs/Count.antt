@@ -9,21 +9,18 @@ unfolding count_below
 count_below-same passes others zero same = refl
 count_below-same passes others (suc n) same = grind (arith, common_steps, nat_tests, same n, count_below-same passes others n (λ k below. same k (omega arith)))
 
+-- a test that has another answer at one number
+pub count_below-at : (passes others : ℕ → Bool) (n x : ℕ) → x < n → ((k : ℕ) → k < n → k ≢ x → others k ≡ passes k) → count_below others n + cond (passes x) 1 0 ≡ count_below passes n + cond (others x) 1 0
+unfolding count_below
+count_below-at passes others zero x inside same = absurd (omega arith)
+count_below-at passes others (suc n) x inside same = elim (cases_eq n x) [
+  | inl is ↦ grind (arith, nat_tests, is, count_below-same passes others n (λ k below. same k (omega arith) (λ equal. omega (arith, is, equal))))
+  | inr differs ↦ grind (arith, nat_tests, same n (omega arith) differs, count_below-at passes others n x (omega arith) (λ k below other. same k (omega arith) other))
+]
+
 -- one number passes that did not
 pub count_below-one : (passes others : ℕ → Bool) (n x : ℕ) → x < n → passes x ≡ false → others x ≡ true → ((k : ℕ) → k < n → k ≢ x → others k ≡ passes k) → count_below others n ≡ count_below passes n + 1
-unfolding count_below
-count_below-one passes others zero x inside old new same = absurd (omega arith)
-count_below-one passes others (suc n) x inside old new same = elim (cases_eq n x) [
-  | inl is ↦
-      let rest = count_below-same passes others n (λ k below. same k (omega arith) (λ equal. omega arith)) in
-      let here : others n ≡ true = rw is new in
-      let there : passes n ≡ false = rw is old in
-      rw (here, there, rest) (omega arith)
-  | inr is_other ↦
-      let rest = count_below-one passes others n x (omega arith) old new (λ k below other. same k (omega arith) other) in
-      let here : others n ≡ passes n = same n (omega arith) is_other in
-      rw (here, rest) (omega arith)
-]
+count_below-one passes others n x inside old new same = grind (arith, common_steps, count_below-at passes others n x inside same)
 
 -- none passes
 pub count_below-none : (passes : ℕ → Bool) (n : ℕ) → ((k : ℕ) → k < n → passes k ≡ false) → count_below passes n ≡ 0
@@ -49,10 +46,7 @@ unfolding count_below
 count_below-tail passes n zero within none = grind (arith, common_steps, nat_tests)
 count_below-tail passes n (suc m) within none = elim (cases_eq n (suc m)) [
   | inl is ↦ rw is refl
-  | inr is_other ↦
-      let here = none m (omega arith) (omega arith) in
-      let rest = count_below-tail passes n m (omega arith) (λ k from below. none k from (omega arith)) in
-      rw (here, rest) (omega arith)
+  | inr is_other ↦ grind (arith, common_steps, none m, count_below-tail passes n m (omega arith) (λ k from below. none k from (omega arith)))
 ]
 
 -- one number more

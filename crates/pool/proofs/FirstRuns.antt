@@ -14,9 +14,3 @@ covers-take runs i run n lt is =
 
 pub take-all : (runs : List PageRun) (i : ℕ) → length runs ≤ i → i ≤ length runs → take i runs ≡ runs
 take-all runs i le ge = let same : i ≡ length runs = omega arith in rw same (take-length runs)
-
--- a page of one of the runs is in them
-pub covers-at : (runs : List PageRun) (i : ℕ) (run : PageRun) (n : ℕ) → i < length runs → run ≡ get_or runs i run → in_run run n ≡ true → covers runs n ≡ true
-covers-at [] i run n lt is there = absurd (omega arith)
-covers-at (r ∷ runs) zero run n lt is there = let here : in_run r n ≡ true = ap (λ (x : PageRun). in_run x n) (sym is) ∙ there in rw here refl
-covers-at (r ∷ runs) (suc i) run n lt is there = grind (arith, common_steps, nat_tests, covers-at runs i run n (omega (arith, lt)) is there)

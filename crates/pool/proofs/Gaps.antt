@@ -33,9 +33,9 @@ gap-one page start word step first end pool most = grind (arith, nat_tests, gap-
 
 -- ---- gaps that are left
 
-pub gaps-left : (start first i : ℕ) (runs : List PageRun) (run : PageRun) → i < length runs → run ≡ get_or runs i run
-    → gaps_from start first (drop i runs) ≡ gap start first (index_from start run.first) ++ gaps_from start (max first (index_from start (run.first + run.count))) (drop (i + 1) runs)
-gaps-left start first i runs run lt is = grind (arith, common_steps, nat_tests, at_drop_more (gaps_from start first) runs i run lt, gaps-next)
+pub gaps-left : (start first end next i : ℕ) (runs : List PageRun) (run : PageRun) → i < length runs → run ≡ get_or runs i run → end ≡ index_from start run.first → next ≡ max first (index_from start (run.first + run.count))
+    → gaps_from start first (drop i runs) ≡ gap start first end ++ gaps_from start next (drop (i + 1) runs)
+gaps-left start first end next i runs run lt is at after = grind (arith, common_steps, nat_tests, at_drop_more (gaps_from start first) runs i run lt, gaps-next)
 
 pub gaps-done : (start first i : ℕ) (runs : List PageRun) → length runs ≤ i → gaps_from start first (drop i runs) ≡ gap start first 512
 gaps-done start first i runs all = grind (arith, common_steps, at_drop_all (gaps_from start first) runs i all, gaps-none)
@@ -62,6 +62,10 @@ pub rise-normal : (runs : List PageRun) → are_normal runs ≡ true → rise 0 
 rise-normal [] normal = refl
 rise-normal (run ∷ runs) normal = grind (arith, nat_tests, rise-strict)
 
+pub covers-append : (a b : List PageRun) (n : ℕ) → covers (a ++ b) n ≡ (covers a n || covers b n)
+covers-append [] b n = refl
+covers-append (run ∷ a) b n = grind (arith, nat_tests, covers-append a b n)
+
 module _ (start : ℕ) where
   rise-gap : (first end e : ℕ) (rest : List PageRun) → e ≤ start + first → first ≤ end → rise (start + end) rest ≡ true → rise e (gap start first end ++ rest) ≡ true
   rise-gap first end e rest least ordered up = grind (arith, nat_tests, gap-some, gap-none, rise-lower)
@@ -87,18 +91,6 @@ module _ (start : ℕ) where
   gaps-words runs up = let all = words-from runs 0 0 (omega arith) up in omega (arith, all)
 
   -- ---- which pages they have
-
-  or-parts : (a b : Bool) → (a || b) ≡ false → (a ≡ false) × (b ≡ false)
-  or-parts true b e = absurd (cc)
-  or-parts false b e = (refl, e)
-
-  pub or-right : (a : Bool) → (a || true) ≡ true
-  or-right true = refl
-  or-right false = refl
-
-  pub covers-append : (a b : List PageRun) (n : ℕ) → covers (a ++ b) n ≡ (covers a n || covers b n)
-  covers-append [] b n = refl
-  covers-append (run ∷ a) b n = elim (in_run run n) as (λ t. (t || covers (a ++ b) n) ≡ ((t || covers a n) || covers b n)) [ true ↦ refl | false ↦ covers-append a b n ]
 
   pub gap-at : (first end n : ℕ) → covers (gap start first end) n ≡ true → (start + first ≤ n) × (n < start + end)
   gap-at first end n there = grind (arith, common_steps, nat_tests)

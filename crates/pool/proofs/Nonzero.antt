@@ -3,30 +3,8 @@ use Rattle.std.proofs.Common.{◌≡◌, ◌≢◌, ℕ, ◌+◌, ◌*◌, ◌<�
 use Rattle.std.proofs.lemmas.Bool.{cases_eq, cases_Bool}
 use Rattle.pool.proofs.Names.{nat_tests, common_steps, count_below, page_count, Words, words_of, put, nonzero_in, CountsNonzero}
 use Rattle.std.proofs.lemmas.List.{length-set, length-replicate, get_or-set_same, get_or-set_other}
-use Rattle.pool.proofs.Count.{count_below-same, count_below-one, count_below-some, count_below-none, count_below-le, count_below-witness}
+use Rattle.pool.proofs.Count.{count_below-same, count_below-at, count_below-some, count_below-none, count_below-le, count_below-witness}
 use Rattle.pool.proofs.Words.{put-same, put-other_index, words_of-set_at, words_of-zeros}
-
--- a test that has another answer at one number
-count_below-at : (passes others : ℕ → Bool) (n x : ℕ) → x < n → ((k : ℕ) → k < n → k ≢ x → others k ≡ passes k)
-    → count_below others n + cond (passes x) 1 0 ≡ count_below passes n + cond (others x) 1 0
-count_below-at passes others n x inside same = elim (cases_Bool (passes x)) [
-  | inl was ↦ elim (cases_Bool (others x)) [
-    | inl is ↦
-        let all = count_below-same passes others n (λ k below. elim (cases_eq k x) [ inl here ↦ rw here (is ∙ sym was) | inr other ↦ same k below other ]) in
-        rw (was, is, all) refl
-    | inr isnt ↦
-        let one = count_below-one others passes n x inside isnt was (λ k below other. sym (same k below other)) in
-        rw (was, isnt) (omega (arith, one))
-  ]
-  | inr wasnt ↦ elim (cases_Bool (others x)) [
-    | inl is ↦
-        let one = count_below-one passes others n x inside wasnt is same in
-        rw (wasnt, is) (omega (arith, one))
-    | inr isnt ↦
-        let all = count_below-same passes others n (λ k below. elim (cases_eq k x) [ inl here ↦ rw here (isnt ∙ sym wasnt) | inr other ↦ same k below other ]) in
-        rw (wasnt, isnt, all) refl
-  ]
-]
 
 not-one : (b : Bool) → ◌≡◌ {A = ℕ} (cond (not b) 1 0) (cond b 0 1)
 not-one true = refl

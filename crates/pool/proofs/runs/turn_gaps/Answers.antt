@@ -10,12 +10,10 @@ write_apart-log-requires g c =
     let w = c.args.with in
     let first = c.loop-run.first in
     let end = c.index_from-end.result in
-    let run = c.run-item.result in
     let before = c.loop-run.invariant in
-    let rest = gaps_from w.start (max first (index_from w.start (run.first + run.count))) (drop (c.loop-run.run-index + 1) c.args.runs.now) in
-    let end_at : index_from w.start run.first ≡ end = sym (c.index_from-end.ensures ∙ ap (index_from w.start) (c.number.ensures.same ∙ c.first.ensures.same)) in
-    let parts = gaps-left w.start first c.loop-run.run-index c.args.runs.now run c.loop-run-test.true c.run-item.is ∙ ap (λ e. gap w.start first e ++ rest) end_at in
-    can-gap first end (omega (arith, c.index_from-end.ensures)) (left-can before.left (gap w.start first end) rest parts c.requires before.standing (λ _. before.turned))
+    let end_at = c.index_from-end.ensures ∙ ap (index_from w.start) (c.number.ensures.same ∙ c.first.ensures.same) in
+    let parts = gaps-left w.start first end _ c.loop-run.run-index c.args.runs.now c.run-item.result c.loop-run-test.true c.run-item.is end_at refl in
+    can-gap first end (omega (arith, c.index_from-end.ensures)) (left-can before.left (gap w.start first end) _ parts c.requires before.standing (λ _. before.turned))
 
 pub loop-run-preserved : goal.loop-run-preserved
 loop-run-preserved g c =
@@ -23,16 +21,13 @@ loop-run-preserved g c =
     let first = c.loop-run.first in
     let end = c.index_from-end.result in
     let next = c.max-first.result in
-    let run = c.run-item.result in
     let before = c.loop-run.invariant in
     let behind = drop (c.loop-run.run-index + 1) c.args.runs.now in
     let here = gap w.start first end in
     let rest = gaps_from w.start next behind in
-    let next_at : max first (index_from w.start (run.first + run.count)) ≡ next = sym (c.max-first.ensures ∙ ap (λ e. max first e) (c.index_from.ensures ∙ ap (index_from w.start) c.end.ensures.same)) in
-    let end_at : index_from w.start run.first ≡ end = sym (c.index_from-end.ensures ∙ ap (index_from w.start) (c.number.ensures.same ∙ c.first.ensures.same)) in
-    let parts =
-    gaps-left w.start first c.loop-run.run-index c.args.runs.now run c.loop-run-test.true c.run-item.is
-    ∙ ap₂ (λ e f. gap w.start first e ++ gaps_from w.start f behind) end_at next_at in
+    let next_at = c.max-first.ensures ∙ ap (λ e. max first e) (c.index_from.ensures ∙ ap (index_from w.start) c.end.ensures.same) in
+    let end_at = c.index_from-end.ensures ∙ ap (index_from w.start) (c.number.ensures.same ∙ c.first.ensures.same) in
+    let parts = gaps-left w.start first end next c.loop-run.run-index c.args.runs.now c.run-item.result c.loop-run-test.true c.run-item.is end_at next_at in
     let small : end ≤ 512 = omega (arith, c.index_from-end.ensures) in
     let old = g.S.WordStore.words c.loop-run.store in
     let new = g.S.WordStore.words c.write_apart-log.new.store in
