@@ -28,7 +28,7 @@ pub roots-mark : (taken : List Bool) (count page : ℕ) (is : Bool) → page < l
     → ((row : ℕ) → row < count → taken_of taken row ≡ true)
     → (row : ℕ) → row < count → taken_of (slice_set taken page is) row ≡ true
 unfolding mark
-roots-mark taken count page is inside above old row below = rw (taken_of-set taken page is inside) (grind (arith, nat_tests, old row below))
+roots-mark taken count page is inside above old row below = grind (arith, nat_tests, taken_of-set, old row below)
 
 pub roots-new : (roots shares row : ℕ) → row < roots → taken_of (replicate roots true ++ replicate shares false) row ≡ true
 unfolding taken_of
@@ -95,24 +95,12 @@ below-set : (quotas lowest : List ℕ) (taken : List Bool) (row page n : ℕ) (i
     → ((q : ℕ) → InShare quotas row q → q < n → mark page is (taken_of taken) q ≡ true)
     → NoneFreeBelow quotas (slice_set taken page is) (slice_set lowest row n)
 unfolding mark
-below-set quotas lowest taken row page n is old inside small from right = record {
-  rows = length-set lowest row n ∙ old.rows;
-  from = λ r below. elim (cases_eq r row) [
-    | inl same ↦ rw same (omega (arith, from, get_or-set_same lowest row n 0 (omega (arith, old.rows, inside.partition))))
-    | inr differs ↦ omega (arith, old.from r below, get_or-set_other lowest row r n 0 differs)
-  ];
-  below = λ r q in_share under. rw (taken_of-set taken page is small) (elim (cases_eq r row) [
-    | inl same ↦
-        let at = get_or-set_same lowest row n 0 (omega (arith, old.rows, inside.partition)) in
-        let here : q < slice_index (slice_set lowest row n) row = rw same at under in
-        right q (rw same at in_share) (omega (arith, at, here))
-    | inr differs ↦
-        let at = get_or-set_other lowest row r n 0 differs in
-        let apart : q ≢ page = λ equal. differs (share_unique quotas r row q in_share (rw (← equal) at inside)) in
-        let held = old.below r q in_share (omega (arith, at, under)) in
-        grind (arith, nat_tests, apart, held)
-  ]);
-}
+below-set quotas lowest taken row page n is old inside small from right =
+    record {
+      rows = length-set lowest row n ∙ old.rows;
+      from = λ r below. grind (arith, nat_tests, get_or-set_same lowest row n 0, get_or-set_other lowest row r n 0, old.from r below, old.rows, inside.partition, from);
+      below = λ r q in_share under. rw (taken_of-set taken page is small) (grind (arith, nat_tests, get_or-set_same lowest row n 0, get_or-set_other lowest row r n 0, share_unique quotas r row q in_share, old.below r q in_share, right q, old.rows, inside.partition));
+    }
 
 -- it is the one behind a page that was the lowest free one, once that is taken
 pub below-take : (quotas lowest : List ℕ) (taken : List Bool) (row page : ℕ) → NoneFreeBelow quotas taken lowest → InShare quotas row page → page < length taken
@@ -138,13 +126,11 @@ counts-new m = grind (arith, common_steps, nat_tests, used_by-new)
 counts-set : (m : Memory) (free : List ℕ) (row page n : ℕ) (is : Bool) → CountsFree m.quotas m.taken free → InShare m.quotas row page → page < length m.taken
     → n + used_by (with_mark page is (pages_of m)) row ≡ row_quota m.quotas row
     → CountsFree m.quotas (slice_set m.taken page is) (slice_set free row n)
-counts-set m free row page n is counts inside below right = record {
-  rows = length-set free row n ∙ counts.rows;
-  each = λ r small. ap (λ t. slice_index (slice_set free row n) r + used_of m.quotas t r) (taken_of-set m.taken page is below) ∙ (elim (cases_eq r row) [
-    | inl same ↦ rw same (ap (λ x. x + used_by (with_mark page is (pages_of m)) row) (get_or-set_same free row n 0 (let rows = counts.rows in omega (arith, rows, inside.partition))) ∙ right)
-    | inr differs ↦ ap₂ (λ x y. x + y) (get_or-set_other free row r n 0 differs) (used_by-other (pages_of m) row r page is inside differs) ∙ counts.each r small
-  ]);
-}
+counts-set m free row page n is counts inside below right =
+    record {
+      rows = length-set free row n ∙ counts.rows;
+      each = λ r small. rw (taken_of-set m.taken page is below) (grind (arith, nat_tests, get_or-set_same free row n 0, get_or-set_other free row r n 0, used_by-other (pages_of m) row r page is inside, counts.each r small, counts.rows, inside.partition, right));
+    }
 
 -- one page less is free, once one is taken
 pub counts-take : (m : Memory) (free : List ℕ) (row page n : ℕ) → CountsFree m.quotas m.taken free → InShare m.quotas row page → page < length m.taken → taken_of m.taken page ≡ false → n + 1 ≡ slice_index free row

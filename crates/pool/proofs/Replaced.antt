@@ -35,14 +35,11 @@ keeps-self page a = grind (arith, common_steps, nat_tests)
 pub keeps-more : (page : ℕ) (a b c : Pool) → Keeps page a b → Keeps page b c → Keeps page a c
 keeps-more page a b c so here = grind (arith, common_steps, nat_tests)
 
-one-more : (n made count : ℕ) → made ≡ (n + count) % 2 ^ 64 → (made + 1) % 2 ^ 64 ≡ (n + suc count) % 2 ^ 64
-one-more n made count is = omega (arith, is)
-
 pub keeps-set : (page index word : ℕ) (a : Pool) → index < 512 → 512 * page + 512 ≤ length a.memory.words → Keeps page a (after_set page index word a)
-keeps-set page index word a below room = grind (arith, common_steps, nat_tests, one-more, word-set, put-other_page, length-set)
+keeps-set page index word a below room = grind (arith, common_steps, nat_tests, word-set, put-other_page, length-set)
 
 keeps-invalidate : (page p : ℕ) (run : PageRun) (a : Pool) → Keeps page a (after_invalidate p run a)
-keeps-invalidate page p run a = grind (arith, common_steps, nat_tests, one-more)
+keeps-invalidate page p run a = grind (arith, common_steps, nat_tests)
 
 pub keeps-break : (p page index : ℕ) (run : PageRun) (a : Pool) → index < 512 → 512 * page + 512 ≤ length a.memory.words → Keeps page a (after_break p page index run a)
 keeps-break p page index run a below room = grind (arith, common_steps, nat_tests, keeps-self, keeps-more, keeps-set, keeps-invalidate)

@@ -39,27 +39,11 @@ keeps-runs page start word step (run ∷ runs) a room = grind (arith, nat_tests,
 pub words-in_range : (word step first end : ℕ) → word + step * 512 < 2 ^ 64 → first ≤ 512 → end ≤ 512 → word + step * first + step * (end - first) < 2 ^ 64
 words-in_range word step first end fits low high = grind (arith, common_steps, nat_tests)
 
--- ---- what is shown
-
--- a run none of whose pages has a word among them
-pub after_run-outside : (page start word step : ℕ) (run : PageRun) (pool : Pool) → index_from start (run.first + run.count) ≡ index_from start run.first → after_run page start word step run pool ≡ pool
-after_run-outside page start word step run pool is =
-    let none : index_from start (run.first + run.count) - index_from start run.first ≡ 0 = omega (arith, is) in
-    ap (λ n. after_sets page (index_from start run.first) n (word + step * index_from start run.first) step pool) none
-    ∙ sets-none page (index_from start run.first) (word + step * index_from start run.first) step pool
-
 -- ---- the runs that are left
 
 pub words_in-left : (start i : ℕ) (runs : List PageRun) (run : PageRun) → i < length runs → run ≡ get_or runs i run
     → words_in start (drop i runs) ≡ (index_from start (run.first + run.count) - index_from start run.first) + words_in start (drop (i + 1) runs)
 words_in-left start i runs run lt is = grind (arith, common_steps, at_drop_more (words_in start) runs i run lt)
-
--- ---- a run of one page alone
-
--- its word is that of one index
-pub page-alone : (page start word step number index next : ℕ) (pool : Pool) → index ≡ index_from start number → index + 1 ≡ index_from start (number + 1) → word + step * index ≡ next
-    → after_run page start word step (record { first = number; count = 1 }) pool ≡ after_sets page index 1 next step pool
-page-alone page start word step number index next pool at end is = grind (arith, common_steps, nat_tests)
 
 -- runs of which there is one
 pub runs-single : (runs : List PageRun) (run : PageRun) → length runs ≡ 1 → run ≡ get_or runs 0 run → runs ≡ run ∷ []

@@ -33,8 +33,7 @@ share_end quotas row below = grind (arith, common_steps)
 
 -- a share ends before a later one begins
 pub share_start-rises : (quotas : List ℕ) (row later : ℕ) → row < later → later < length quotas → share_start quotas row + row_quota quotas row ≤ share_start quotas later
-share_start-rises quotas row later before below =
-    omega (arith, sum_by_more (λ x. x) quotas row 0 (omega arith), sum-take-le quotas (row + 1) later (omega arith))
+share_start-rises quotas row later before below = grind (arith, sum_by_more (λ x. x) quotas row 0, sum-take-le quotas (row + 1) later)
 
 -- a page of a share is below the number of pages
 pub share_inside : (quotas : List ℕ) (row page : ℕ) → InShare quotas row page → page < page_count quotas
@@ -70,10 +69,7 @@ used_by-give m row k inside held = grind (arith, common_steps, nat_tests, count_
 -- the other rows keep what they have
 pub used_by-other : (m : Pages) (row other k : ℕ) (is : Bool) → InShare m.quotas row k → other ≢ row → used_by (with_mark k is m) other ≡ used_by m other
 used_by-other m row other k is inside differs =
-    let start = share_start m.quotas other in
-    count_below-same (λ i. m.taken (start + i)) (λ i. mark k is m.taken (start + i)) (row_quota m.quotas other)
-    (λ i below. mark-other m.taken k (start + i) is
-    (λ same. differs (share_unique m.quotas other row k (rw same at (share_at m.quotas other i below)) inside)))
+    count_below-same (λ i. m.taken (share_start m.quotas other + i)) (λ i. mark k is m.taken (share_start m.quotas other + i)) (row_quota m.quotas other) (λ i below. grind (arith, nat_tests, mark-other, share_unique m.quotas other row k, share_at m.quotas other i below))
 
 -- at first no page of a share is taken
 pub taken_of-new : (m : ManifestRows) (page : ℕ) → length m.partitions ≤ page → taken_of (new_memory m).taken page ≡ false

@@ -47,14 +47,14 @@ wrote-invalidate p run page words before after pushed more right = grind (arith,
 
 -- ---- words of a range
 
-pub wrote-range : (range : WordRange) (old new : List ℕ) (before after : Log) → new ≡ with_range old range → Records old range before.operations.items after.operations.items
+pub wrote-range : (range : WordRange) {old new : List ℕ} {before after : Log} → new ≡ with_range old range → Records old range before.operations.items after.operations.items
     → Grows (range.end - range.first) before.operations after.operations → after.nonzero ≡ nonzero_in (words_of new) range.page → Wrote (range_set range) range.page (range.end - range.first) old new before after
-wrote-range range old new before after written made more right = grind (arith, common_steps, nat_tests, length-words_set)
+wrote-range range {old} {new} {before} {after} written made more right = grind (arith, common_steps, nat_tests, length-words_set)
 
 -- how much longer is the list then
-pub wrote-length : (range : WordRange) (most : ℕ) (old new : List ℕ) (before after : Log) → Wrote (range_set range) range.page most old new before after
+pub wrote-length : (range : WordRange) {most : ℕ} {old new : List ℕ} {before after : Log} → Wrote (range_set range) range.page most old new before after
     → vec_len after.operations ≡ vec_len before.operations + length (writes_of old range)
-wrote-length range most old new before after wrote = vec_len-made before.operations after.operations (writes_of old range) (wrote-is wrote).operations
+wrote-length range {old = old} {before = before} {after = after} wrote = vec_len-made before.operations after.operations (writes_of old range) (wrote-is wrote).operations
 
 -- words of a range are written up to an index
 module _ (r : WordRange) (i word : ℕ) (from : r.first ≤ i) (is : word ≡ r.word + r.step * (i - r.first)) {old mid : List ℕ} {before log : Log} (wrote : Wrote (range_set (record r { end = i })) r.page (i - r.first) old mid before log) where
@@ -71,7 +71,7 @@ module _ (r : WordRange) (i word : ℕ) (from : r.first ≤ i) (is : word ≡ r.
   next-room lt differs room =
       let one_more = ap length (next-writes r i word from is old (grind (arith, common_steps, wrote-is wrote))) in
       let most = length-sets_of-part old r.page r.first ((i + 1) - r.first) (r.end - r.first) r.word r.step (omega (arith, from, lt)) in
-      omega (arith, one_more, most, wrote-length (record r { end = i }) (i - r.first) old mid before log wrote, wrote.grows.capacity, room)
+      omega (arith, one_more, most, wrote-length (record r { end = i }) wrote, wrote.grows.capacity, room)
 
 -- ---- words for the pages of runs
 
@@ -79,13 +79,13 @@ module _ (r : WordRange) (i word : ℕ) (from : r.first ≤ i) (is : word ≡ r.
 pub alone-run : (with : TableWords) (run : PageRun) (pool : Pool) → runs_set with (run ∷ []) pool ≡ after_run with.page with.start with.word with.step run pool
 alone-run with run pool = grind (arith, common_steps, after_runs-next, after_runs-none)
 
-pub wrote-run : (with : TableWords) (run : PageRun) (first end : ℕ) (old new : List ℕ) (before after : Log) → first ≡ index_from with.start run.first → end ≡ index_from with.start (run.first + run.count)
+pub wrote-run : (with : TableWords) (run : PageRun) {first end : ℕ} {old new : List ℕ} {before after : Log} → first ≡ index_from with.start run.first → end ≡ index_from with.start (run.first + run.count)
     → Wrote (indexes_set with first end) with.page (end - first) old new before after → Wrote (runs_set with (run ∷ [])) with.page (words_in with.start (run ∷ [])) old new before after
-wrote-run with run first end old new before after from to wrote = grind (arith, nat_tests, wrote-as, alone-run)
+wrote-run with run {first} {end} {old} {new} {before} {after} from to wrote = grind (arith, nat_tests, wrote-as, alone-run)
 
-pub wrote-gap : (with : TableWords) (first end : ℕ) (old new : List ℕ) (before after : Log) → end ≤ 512 → Wrote (indexes_set with first end) with.page (end - first) old new before after
+pub wrote-gap : (with : TableWords) (first end : ℕ) {old new : List ℕ} {before after : Log} → end ≤ 512 → Wrote (indexes_set with first end) with.page (end - first) old new before after
     → Wrote (runs_set with (gap with.start first end)) with.page (words_in with.start (gap with.start first end)) old new before after
-wrote-gap with first end old new before after most wrote = grind (arith, nat_tests, gap-words, wrote-as, gap-one)
+wrote-gap with first end {old} {new} {before} {after} most wrote = grind (arith, nat_tests, gap-words, wrote-as, gap-one)
 
 -- words for the pages of a gap can be written from one index up to another
 pub can-gap : {known : Bool} {words : List ℕ} {stands : ℕ → Bool} {with : TableWords} {log : Log} (first end : ℕ) → end ≤ 512 → CanWriteRuns known words stands with (gap with.start first end) log → CanWriteIndexes known words stands with first end log
@@ -94,25 +94,18 @@ can-gap {with = with} first end most can = grind (arith, common_steps, nat_tests
 -- they may be written then
 pub may-range : {words : List ℕ} {stands : ℕ → Bool} (with : TableWords) (first end : ℕ) → MayWriteRuns words stands with → first < end → end ≤ 512
     → MayWrite words stands (record { page = with.page; first = first; end = end; word = with.word + with.step * first; step = with.step })
-may-range with first end may some most = record {
-  ordered = omega (arith, some);
-  index_in = most;
-  in_range = words-in_range with.word with.step first end may.in_range (omega (arith, some, most)) most;
-  page_in = may.page_in;
-}
+may-range with first end may some most =
+    record { ordered = omega (arith, some); index_in = most; in_range = words-in_range with.word with.step first end may.in_range (omega (arith, some, most)) most; page_in = may.page_in }
 
 -- the words behind stay
-pub wrote-beside : (with : TableWords) (first end most i : ℕ) (old new : List ℕ) (before after : Log) → Wrote (indexes_set with first end) with.page most old new before after → 512 * with.page + 512 ≤ length old
+pub wrote-beside : (with : TableWords) (first end : ℕ) (most i : ℕ) {old new : List ℕ} {before after : Log} → Wrote (indexes_set with first end) with.page most old new before after → 512 * with.page + 512 ≤ length old
     → first ≤ 512 → end ≤ 512 → first ≤ i → end ≤ i → words_of new with.page i ≡ words_of old with.page i
-wrote-beside with first end most i old new before after wrote room low high from behind = grind (arith, nat_tests, wrote-is wrote, words_set-beside)
+wrote-beside with first end most i {old} {new} wrote room low high from behind = grind (arith, nat_tests, wrote-is wrote, words_set-beside)
 
-pub run-beside : (with : TableWords) (run : PageRun) (i : ℕ) (old new : List ℕ) (before after : Log) → Wrote (runs_set with (run ∷ [])) with.page (words_in with.start (run ∷ [])) old new before after → 512 * with.page + 512 ≤ length old
+pub run-beside : (with : TableWords) (run : PageRun) (i : ℕ) {old new : List ℕ} {before after : Log} → Wrote (runs_set with (run ∷ [])) with.page (words_in with.start (run ∷ [])) old new before after → 512 * with.page + 512 ≤ length old
     → index_from with.start (run.first + run.count) ≤ i → words_of new with.page i ≡ words_of old with.page i
-run-beside with run i old new before after wrote room behind =
-    let first = index_from with.start run.first in
-    let end = index_from with.start (run.first + run.count) in
-    let sets : Wrote (indexes_set with first end) with.page (words_in with.start (run ∷ [])) old new before after = wrote-as wrote (omega arith) (λ pool _. alone-run with run pool) in
-    wrote-beside with first end (words_in with.start (run ∷ [])) i old new before after sets room (omega arith) (omega arith) (omega (arith, behind)) behind
+run-beside with run i wrote room behind =
+    wrote-beside with (index_from with.start run.first) (index_from with.start (run.first + run.count)) (words_in with.start (run ∷ [])) i (wrote-as wrote (omega arith) (λ pool _. alone-run with run pool)) room (omega arith) (omega arith) (omega (arith, behind)) behind
 
 -- ---- words that are turned
 
@@ -160,12 +153,10 @@ module _ {with : TableWords} {all left : List PageRun} {old mid : List ℕ} {bef
 
   -- none is left
   pub left-none : left ≡ [] → Wrote (runs_set with all) with.page (words_in with.start all) old mid before log
-  left-none none = record {
-    shown = λ pool shown.
-        let was = so.shown pool shown in
-        let done = ap (λ rs. runs_set with rs was.0) none ∙ after_runs-none with.page with.start with.word with.step was.0 in
-        subst (λ (p : Pool). IsShown mid log.operations.items p) (sym done ∙ was.2) was.1;
-    whole = so.whole;
-    counted = so.counted;
-    grows = record { len = omega (arith, so.len); capacity = so.capacity };
-  }
+  left-none none =
+      record {
+        shown = λ pool shown. grind (arith, common_steps, so.shown pool shown, after_runs-none);
+        whole = so.whole;
+        counted = so.counted;
+        grows = record { len = omega (arith, so.len); capacity = so.capacity };
+      }

@@ -29,15 +29,13 @@ loop-run-preserved g c =
     let end_at = c.index_from-end.ensures ∙ ap (index_from w.start) (c.number.ensures.same ∙ c.first.ensures.same) in
     let parts = gaps-left w.start first end next c.loop-run.run-index c.args.runs.now c.run-item.result c.loop-run-test.true c.run-item.is end_at next_at in
     let small : end ≤ 512 = omega (arith, c.index_from-end.ensures) in
-    let old = g.S.WordStore.words c.loop-run.store in
-    let new = g.S.WordStore.words c.write_apart-log.new.store in
     let wrote = c.write_apart-log.ensures.wrote in
     record {
-      left = left-less before.left here rest parts (wrote-gap w first end old new c.loop-run.log c.write_apart-log.result small wrote);
+      left = left-less before.left here rest parts (wrote-gap w first end small wrote);
       standing = c.write_apart-log.ensures.standing ∙ before.standing;
-      turned = turned-rest old new w here rest (rw parts at before.turned) (λ i within.
+      turned = turned-rest (g.S.WordStore.words c.loop-run.store) (g.S.WordStore.words c.write_apart-log.new.store) w here rest (rw parts at before.turned) (λ i within.
           let from = gaps-behind w.start behind next (w.start + i) within in
-          wrote-beside w first end _ i old new c.loop-run.log c.write_apart-log.result wrote (omega (arith, before.left.whole, c.requires.may.page_in.inside)) before.most small (omega (arith, from, next_at)) (omega (arith, from, next_at, end_at)));
+          wrote-beside w first end _ i wrote (omega (arith, before.left.whole, c.requires.may.page_in.inside)) before.most small (omega (arith, from, next_at)) (omega (arith, from, next_at, end_at)));
       most = omega (arith, before.most, next_at);
     }
 
@@ -46,8 +44,6 @@ write_apart-requires g c = grind (arith, common_steps, nat_tests, gaps-done, app
 
 pub returns-clause-wrote : goal.returns-clause-wrote
 returns-clause-wrote g c =
-    let w = c.args.with in
     let first = c.loop-run.first in
-    let here = gap w.start first 512 in
-    let parts = gaps-done w.start first c.loop-run.run-index c.args.runs.now c.loop-run-test.false ∙ sym (append-nil here) in
-    left-none (left-less c.loop-run.invariant.left here [] parts (wrote-gap w first 512 (g.S.WordStore.words c.loop-run.store) (g.S.WordStore.words c.write_apart.new.store) c.loop-run.log c.write_apart.result (omega arith) c.write_apart.ensures.wrote)) refl
+    let parts = gaps-done c.args.with.start first c.loop-run.run-index c.args.runs.now c.loop-run-test.false ∙ sym (append-nil (gap c.args.with.start first 512)) in
+    left-none (left-less c.loop-run.invariant.left (gap c.args.with.start first 512) [] parts (wrote-gap c.args.with first 512 (omega arith) c.write_apart.ensures.wrote)) refl

@@ -27,7 +27,7 @@ loop-run-preserved g c =
       standing = c.write_run-log.ensures.standing ∙ before.standing;
       turned = λ known. turned-rest old new w (run ∷ []) behind (rw parts at (before.turned known)) (λ i within. elim (cases_lt (w.start + i) (run.first + run.count)) [
         | inl lt ↦ let none = before-rise behind (run.first + run.count) (w.start + i) up lt in absurd (cc)
-        | inr past ↦ run-beside w run i old new c.loop-run.log c.write_run-log.result c.write_run-log.ensures.wrote (omega (arith, before.left.whole, c.requires.can.may.page_in.inside)) (omega (arith, past))
+        | inr past ↦ run-beside w run i c.write_run-log.ensures.wrote (omega (arith, before.left.whole, c.requires.can.may.page_in.inside)) (omega (arith, past))
       ]);
       up = rise-lower behind (run.first + run.count) 0 (omega arith) up;
     }

@@ -8,10 +8,8 @@ use Rattle.pool.proofs.runs.write_indexes.Goals as goal
 pub returns-then-first-end-clause-wrote : goal.returns-then-first-end-clause-wrote
 returns-then-first-end-clause-wrote g c =
     let w = c.args.with in
-    let first = c.args.indexes.first in
-    let end = c.args.indexes.end in
-    let none : end - first ≡ 0 = omega (arith, c.if-first-end.true) in
-    wrote-none (indexes_set w first end) w.page (end - first) (g.S.WordStore.words c.args.store.now) c.args.log c.requires.ready.counted (λ pool _. rw none (sets-none w.page first (w.word + w.step * first) w.step pool))
+    let none : c.args.indexes.end - c.args.indexes.first ≡ 0 = omega (arith, c.if-first-end.true) in
+    wrote-none (indexes_set w c.args.indexes.first c.args.indexes.end) w.page _ (g.S.WordStore.words c.args.store.now) c.args.log c.requires.ready.counted (λ pool _. rw none (sets-none w.page _ _ w.step pool))
 
 pub turn_all-requires-clause-may : goal.turn_all-requires-clause-may
 turn_all-requires-clause-may g c = rw c.range-range.ensures (may-range c.args.with c.args.indexes.first c.args.indexes.end c.requires.may c.if-first-end.false c.requires.most)
@@ -21,8 +19,7 @@ write_others-requires g c =
     let w = c.args.with in
     let first = c.args.indexes.first in
     let end = c.args.indexes.end in
-    let most = length-sets_of-le (g.S.WordStore.words c.args.store.now) w.page first (end - first) (w.word + w.step * first) w.step in
     rw c.range-range.ensures record {
       may = may-range w first end c.requires.may c.if-first-end.false c.requires.most;
-      ready = record { counted = c.requires.ready.counted; room = omega (arith, most, c.requires.ready.room) };
+      ready = record { counted = c.requires.ready.counted; room = omega (arith, length-sets_of-le (g.S.WordStore.words c.args.store.now) w.page first (end - first) (w.word + w.step * first) w.step, c.requires.ready.room) };
     }

@@ -19,12 +19,6 @@ returns-then-before-at-clause-wrote g c = grind (arith, common_steps, nat_tests,
 
 pub returns-clause-wrote : goal.returns-clause-wrote
 returns-clause-wrote g c =
-    let w = c.args.with in
-    let page = c.args.page in
-    let i = c.index_at-index.result in
-    let small = c.if-index-ge-TABLE_WORDS.false in
-    let at = c.index_at-index.ensures.within small in
-    let one = alone-words w page i small at in
+    let at = c.index_at-index.ensures.within c.if-index-ge-TABLE_WORDS.false in
     let other = rw c.from.ensures at (differs _ _ _ c.word_before-before.ensures.there c.if-before-at.false) in
-    wrote-as (rw c.from.ensures at c.write_word.ensures.wrote) (omega (arith, one)) (λ pool same.
-    sym (alone-set w page i small at pool (λ is. other (ap (λ l. words_of l w.page i) (sym same) ∙ is))))
+    wrote-as (rw c.from.ensures at c.write_word.ensures.wrote) (omega (arith, alone-words c.args.with c.args.page c.index_at-index.result c.if-index-ge-TABLE_WORDS.false at)) (λ pool same. sym (alone-set c.args.with c.args.page c.index_at-index.result c.if-index-ge-TABLE_WORDS.false at pool (λ is. other (ap (λ l. words_of l c.args.with.page c.index_at-index.result) (sym same) ∙ is))))

@@ -8,12 +8,7 @@ use Rattle.pool.proofs.stretch.write_others.Goals as goal
 
 pub loop-index-init : goal.loop-index-init
 loop-index-init g c =
-    let s = c.args.range in
-    record {
-      wrote = wrote-none (range_set (record s { end = s.first })) s.page (s.first - s.first) (g.S.WordStore.words c.args.store.now) c.args.log c.requires.ready.counted (λ pool _. first-set s pool);
-      word = first-word s;
-      standing = refl;
-    }
+    record { wrote = wrote-none _ c.args.range.page _ (g.S.WordStore.words c.args.store.now) c.args.log c.requires.ready.counted (λ pool _. first-set c.args.range pool); word = first-word c.args.range; standing = refl }
 
 pub write_word-requires-clause-may : goal.write_word-requires-clause-may
 write_word-requires-clause-may g c = grind (arith, common_steps, nat_tests, read-test)

@@ -7,17 +7,13 @@ use Rattle.pool.proofs.block.Block.hold.Goals as goal
 pub invariant_of-self-clause-marked : goal.invariant_of-self-clause-marked
 invariant_of-self-clause-marked c =
     let block = c.args.self.now in
-    let inside : c.args.page < length block.marks.items = omega (arith, block.sized, c.requires) in
-    rw c.fill_page.ensures.slots (marked-fill block.marks.items block.cells.slots c.args.page 512 refl inside (omega (arith, block.counted, c.requires)) block.marked)
+    rw c.fill_page.ensures.slots (marked-fill block.marks.items block.cells.slots c.args.page 512 refl (omega (arith, block.sized, c.requires)) (omega (arith, block.counted, c.requires)) block.marked)
 
 pub invariant_of-self-clause-counted : goal.invariant_of-self-clause-counted
 invariant_of-self-clause-counted c = grind (arith, common_steps, nat_tests, length-zeros)
 
 pub invariant_of-self-clause-sized : goal.invariant_of-self-clause-sized
-invariant_of-self-clause-sized c =
-    let block = c.args.self.now in
-    let same = length-set block.marks.items c.args.page true in
-    omega (arith, same, block.sized)
+invariant_of-self-clause-sized c = grind (arith, length-set c.args.self.now.marks.items c.args.page true, c.args.self.now.sized)
 
 pub returns-then-not-index-clause-words : goal.returns-then-not-index-clause-words
 returns-then-not-index-clause-words c = grind (arith, common_steps, nat_tests, get_or_read, held-zeros)

@@ -15,19 +15,13 @@ returns-clause-room g c =
     let old = c.args.self.now in
     let sets = nonzero-sets_of (g.S.WordStore.words old.store) c.args.page 0 512 (omega (arith, old.words_whole, c.requires.page_in)) (omega arith) in
     let wrote = rw c.take-log.ensures at c.write_others-operations.ensures.wrote in
-    let long = wrote-length (record { page = c.args.page; first = 0; end = 512; word = 0; step = 0 }) _ _ _ _ _ wrote in
-    omega (arith, long, sets, wrote.grows.capacity)
+    omega (arith, wrote-length (record { page = c.args.page; first = 0; end = 512; word = 0; step = 0 }) wrote, sets, wrote.grows.capacity)
 
 pub invariant_of-self : goal.invariant_of-self
 invariant_of-self g c =
     let old = c.args.self.now in
-    let page = c.args.page in
-    let small : 0 + 512 ≤ 512 = omega arith in
-    stays old page c.requires.page_in (rw c.take-log.ensures at c.write_others-operations.ensures.wrote) (λ a room. keeps-sets page 0 512 0 0 a small room) c.write_others-operations.ensures.standing c.requires.taken (within-behind old.ids old.quotas.items (g.S.WordStore.words old.store) page 0 512 0 0 (reverse old.operations.items) c.requires.page_in small old.within)
+    stays old c.args.page c.requires.page_in (rw c.take-log.ensures at c.write_others-operations.ensures.wrote) (λ a room. keeps-sets c.args.page 0 512 0 0 a (omega arith) room) c.write_others-operations.ensures.standing c.requires.taken
+    (within-behind old.ids old.quotas.items (g.S.WordStore.words old.store) c.args.page 0 512 0 0 (reverse old.operations.items) c.requires.page_in (omega arith) old.within)
 
 pub returns-clause-state : goal.returns-clause-state
-returns-clause-state g c =
-    let old = c.args.self.now in
-    let page = c.args.page in
-    let small : 0 + 512 ≤ 512 = omega arith in
-    state old page c.requires.page_in (rw c.take-log.ensures at c.write_others-operations.ensures.wrote) (λ a room. keeps-sets page 0 512 0 0 a small room)
+returns-clause-state g c = state c.args.self.now c.args.page c.requires.page_in (rw c.take-log.ensures at c.write_others-operations.ensures.wrote) (λ a room. keeps-sets c.args.page 0 512 0 0 a (omega arith) room)

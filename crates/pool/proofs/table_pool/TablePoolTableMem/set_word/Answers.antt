@@ -12,9 +12,7 @@ pub invariant_of-self : goal.invariant_of-self
 invariant_of-self g c = stays c.args.self.now c.args.page c.requires.page_in c.write_word-count.ensures.wrote (λ a room. keeps-set c.args.page c.args.index c.args.word a c.requires.index_in room) c.write_word-count.ensures.standing c.requires.taken (grind (arith, nat_tests, set-within, c.args.self.now.within))
 
 pub returns-clause-state : goal.returns-clause-state
-returns-clause-state g c =
-    let old = c.args.self.now in
-    state old c.args.page c.requires.page_in c.write_word-count.ensures.wrote (λ a room. keeps-set c.args.page c.args.index c.args.word a c.requires.index_in room)
+returns-clause-state g c = state c.args.self.now c.args.page c.requires.page_in c.write_word-count.ensures.wrote (λ a room. keeps-set c.args.page c.args.index c.args.word a c.requires.index_in room)
 
 pub write_word-count-requires-clause-may : goal.write_word-count-requires-clause-may
 write_word-count-requires-clause-may g c = grind (arith, common_steps, nat_tests, read-test)
