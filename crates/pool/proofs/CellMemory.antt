@@ -3,33 +3,15 @@
 --     slot_out, slot_in, slot_seen      one place is taken out of the row, put back, or seen
 --     of_room, to_room      room for an array is a row of empty places
 --     place_fits      how far a place is from the first
-use Rattle.pool.proofs.WalkNames.{◌≡◌, refl, sym, ap, subst, ◌∙◌, ℕ, ◌+◌, ◌*◌, ◌^◌, ◌<◌, arith, List, [], ◌∷◌, ◌++◌, length, set, get_or, replicate, full_share, ty_array, Val, vstruct, vcons, vnil, id⊢, ftrue, fat, froom, fact, prop, ‵, raw, some, ◌⊛◌, ◌$◌, ◌∵◌, !, qed, move, keep, drop as skip, use0, use1, use2, pick, split, frame, fsplit, fjoin, feq_i, feq_l, rewrite, done, RattleType, layout, Ptr, ptr_val, nothing, Some, None, El, R, elτ, Good, word}
-use Prim.Native.Nat.{zero, suc, ◌≤◌}
+use Rattle.pool.proofs.WalkNames.{◌≡◌, refl, sym, ap, subst, ◌∙◌, ℕ, ◌+◌, ◌*◌, ◌^◌, ◌<◌, arith, List, [], ◌∷◌, ◌++◌, length, set, get_or, replicate, full_share, ty_array, Val, vstruct, vcons, vnil, id⊢, ftrue, fat, froom, fact, prop, ‵, raw, some, ◌⊛◌, ◌$◌, ◌∵◌, !, qed, move, keep, drop as skip, use0, use1, use2, pick, split, frame, fsplit, fjoin, feq_i, feq_l, rewrite, done, RattleType, layout, Ptr, ptr_val, nothing, Some, None, El, R, elτ, Good, word, zero, suc, ◌≤◌, Ura, Ty, of_list, SProp, ent, sep, emp, ex, guard, via, snd∗, Fml, Lft, fsep, Logic, sem, fact_i, Item, Goal, Seq, Step, step, by, check, show, fpick, fpack, Valss, Typed, Is, shows, param, Laws, param_laws, RawPtr, peeks, Shape, Struct, within, Tuple, tuple_type, el_x}
 use native.Mathlib.Nat.{zero-mul, suc-mul}
 use lib.ListN.{take, drop, take-append-drop, length-take}
 use lib.Seq.{drop-cons, set_split}
-use seplogic.Ra.Ura.{Ura}
-use mir.Syntax.{Ty}
-use mir.Val.{of_list}
-use base.Logic.{SProp, ent, sep, emp, ex, guard, via, snd∗}
-use base.Fml.{Fml, Lft, fsep}
-use types.Logic.{Logic, sem}
-use contract.Monad.{fact_i}
-use types.Kit.{Item, Goal, Seq, Step, step, by, check, show, fpick, fpack}
-use denote.RattleType.{Valss}
-use denote.Laws.{Typed, Is, shows}
-use denote.Param.{param}
-use denote.Param.Laws.{Laws, param_laws}
 use denote.Memory.{part_at}
-use denote.RawPtr.{RawPtr}
 use denote.Shadow.{makes_shadow}
-use denote.Steps.{peeks}
-use denote.Struct.Struct.{Shape, Struct, within}
 use denote.Struct.Owning.{shape}
-use denote.Struct.Tuple.{Tuple, tuple_type}
 use borrow.Table.OneValue.{part_in, part_out}
 use Rattle.pool.proofs.Names.{Option, type_size, slot, slots, slot_lent, slots_lent}
-use Rattle.core.proofs.mem.Param.{el_x}
 use Rattle.core.proofs.ptr.Rows.{times_below, one_below}
 use denote.Struct.Declared as Declared
 use Rattle.pool.specs.contracts.cells.Cells as C-type

@@ -1,17 +1,8 @@
 -- A `&` to the places gives a `&` to what fills each.
-use Prim.Native.Nat.{ℕ, ◌+◌}
+use Rattle.pool.proofs.WalkNames.{ℕ, ◌+◌, List, [], ◌∷◌, Some, None, Ura, Lft, Incl, ftrue, ffalse, Logic, RattleType, RowLaws, Laws, Ptr, block_ptr, null_ptr, beside_shr_laws, nothing_shr_laws, said_shr_laws, Lends, Lends-both, Lends-nothing, Lends-said, Lends-false}
 use Rattle.pool.proofs.Names.{Option, type_size, slot, slots, slot_lent, slots_lent, cells_own, cells_lent}
-use Rattle.std.specs.Prelude.{List, [], ◌∷◌, Some, None}
-use seplogic.Ra.Ura.{Ura}
-use base.Fml.{Lft, Incl, ftrue, ffalse}
-use types.Logic.{Logic}
-use denote.RattleType.{RattleType, RowLaws}
-use denote.Param.Laws.{Laws}
-use denote.RawPtr.{Ptr, block_ptr, null_ptr}
 use denote.Sharing.{ShrLaws, said}
-use denote.SharingLaws.{beside_shr_laws, nothing_shr_laws, said_shr_laws}
 use denote.Shares.{Shares-less}
-use denote.Struct.Lending.{Lends, Lends-both, Lends-nothing, Lends-said, Lends-false}
 use Rattle.pool.specs.CellOwnership.{fit}
 
 module _ (R : RattleType) (L : RowLaws R) where

@@ -1,15 +1,11 @@
 -- `allocate` cuts the new block into empty places, and keeps the right to free it.
-use Rattle.pool.proofs.WalkNames.{◌≡◌, refl, sym, ap, subst, ℕ, ◌*◌, ◌<◌, ◌^◌, arith, List, [], ◌∷◌, ◌++◌, lit<, Fn, Body, named, w64, inst_fn, Val, vint, vstruct, vcons, vnil, ftrue, flft, Env, WpFn, fact, tables, ‵, raw, ◌⊛◌, later, await, at_ret, ◌$◌, ◌∵◌, !, qed, move, keep, use0, use1, use2, use3, split, join, fsplit, fsplit3, fjoin, feq_l, suffices, frame, done, whole, agg, stop, fld, lit, of_opd, and_then, no_more, first, exec, returns, enter, alloc_all, pass_all, free_all, look_at, get, get_in, sets, sets_last, is, env, yes, RattleType, owns, layout, Ptr, block_ptr, ShrRef, RefOf, plain, nothing, says, Stays, stay_dropped, walk_of, ends_at, Goes-dropped, after, Good, word, word-Good, length, flt_l, flt_i, bin, usize, None, El, R, elτ, as_written, Incl-trans, replicate, length-replicate, ty_array, align, capped, capped_fits, Wp, after_seq, at_return, ◌⊑◌, any_q, size_word, align_word, switches_on, get_tag, lands_as, owned, calls_at, IfOk, Ok, Err, Al, Answer-typed, Takes, at_takes, Answered, Takes-goes, Takes-gives, answers, head, arm_body, first_Good, prop, regoal, drop, Sq, heard, framed, proved_at}
+use Rattle.pool.proofs.WalkNames.{◌≡◌, refl, sym, ap, subst, ℕ, ◌*◌, ◌<◌, ◌^◌, arith, List, [], ◌∷◌, ◌++◌, lit<, Fn, Body, named, w64, inst_fn, Val, vint, vstruct, vcons, vnil, ftrue, flft, Env, WpFn, fact, tables, ‵, raw, ◌⊛◌, later, await, at_ret, ◌$◌, ◌∵◌, !, qed, move, keep, use0, use1, use2, use3, split, join, fsplit, fsplit3, fjoin, feq_l, suffices, frame, done, whole, agg, stop, fld, lit, of_opd, and_then, no_more, first, exec, returns, enter, alloc_all, pass_all, free_all, look_at, get, get_in, sets, sets_last, is, env, yes, RattleType, owns, layout, Ptr, block_ptr, ShrRef, RefOf, plain, nothing, says, Stays, stay_dropped, walk_of, ends_at, Goes-dropped, after, Good, word, word-Good, length, flt_l, flt_i, bin, usize, None, El, R, elτ, as_written, Incl-trans, replicate, length-replicate, ty_array, align, capped, capped_fits, Wp, after_seq, at_return, ◌⊑◌, any_q, size_word, align_word, switches_on, get_tag, lands_as, owned, calls_at, IfOk, Ok, Err, Al, Answer-typed, Takes, at_takes, Answered, Takes-goes, Takes-gives, answers, head, arm_body, first_Good, prop, regoal, drop, Sq, heard, framed, proved_at, Tuple, Post as After, Is, Struct, Struct-Makes, uncapped, block_ty, block_size, block_align, P}
 use mathlib.Core.Bool.{true, false}
-use denote.Struct.Tuple.{Tuple}
 use Rattle.pool.proofs.Names.{slots}
 use Rattle.pool.proofs.CellMemory.{Cr, Bs, Mark, sz, mark, mark_made, word_made, three_val, three_of, of_room}
-use types.Kit.{Post as After}
 use types.Match.{live, vrt, in_variant}
-use denote.Laws.{Is}
-use denote.Struct.Struct.{Struct, Struct-Makes}
 use Rattle.std.specs.Vec.Ownership.{FitsInBlock}
-use Rattle.core.proofs.slots.Leases.{uncapped, block_ty, block_size, block_align, args, P}
+use Rattle.core.proofs.slots.Leases.{args}
 use Rattle.std_alloc.proofs.ResultValues.{ok_of, err_of}
 use Rattle.pool.specs.contracts.cells.allocate.Key.{name as #self}
 use denote.Struct.Declared as Declared

@@ -1,9 +1,9 @@
 -- `deallocate` makes the block of its empty places, and hands it back with the allocator's token.
-use Rattle.pool.proofs.WalkNames.{◌≡◌, refl, sym, ap, subst, ◌∙◌, ℕ, ◌*◌, ◌<◌, ◌^◌, arith, List, [], ◌∷◌, ◌++◌, Fn, named, w64, inst_fn, Val, vint, vunit, never, id⊢, ftrue, froom, flft, WpFn, fact, tables, ‵, raw, ◌⊛◌, given, later, await, learn, at_ret, ◌$◌, ◌∵◌, !, qed, move, keep, use1, split, join, group, rewrite, fsplit, fsplit3, fjoin, feq_i, feq_l, suffices, done, whole, sub, stop, fld, unit_lit, of_opd, and_then, no_more, first, blocks, exec, returns, enter, alloc_all, pass_all, free_all, look_at, get, get_in, sets, is, env, yes, no, owns, Ptr, ptr_val, in_a_block, ShrRef, RefOf, plain, nothing, Stays, stay_dropped, walk_of, ends_at, Goes-dropped, Goes-blank, after, word-Good, flt_l, bin, usize, None, El, R, elτ, as_raw, Incl-trans, T, replicate, length-replicate, ty_unit, ty_array, has_ty, WT, align, capped, capped_fits, ◌⊑◌, size_word, align_word, lands_last, calls_at_last, Al, token, Gives, at_gives, Gives-goes, Gives-Gives, prop, regoal, drop, heard, framed, proved_at}
+use Rattle.pool.proofs.WalkNames.{◌≡◌, refl, sym, ap, subst, ◌∙◌, ℕ, ◌*◌, ◌<◌, ◌^◌, arith, List, [], ◌∷◌, ◌++◌, Fn, named, w64, inst_fn, Val, vint, vunit, never, id⊢, ftrue, froom, flft, WpFn, fact, tables, ‵, raw, ◌⊛◌, given, later, await, learn, at_ret, ◌$◌, ◌∵◌, !, qed, move, keep, use1, split, join, group, rewrite, fsplit, fsplit3, fjoin, feq_i, feq_l, suffices, done, whole, sub, stop, fld, unit_lit, of_opd, and_then, no_more, first, blocks, exec, returns, enter, alloc_all, pass_all, free_all, look_at, get, get_in, sets, is, env, yes, no, owns, Ptr, ptr_val, in_a_block, ShrRef, RefOf, plain, nothing, Stays, stay_dropped, walk_of, ends_at, Goes-dropped, Goes-blank, after, word-Good, flt_l, bin, usize, None, El, R, elτ, as_raw, Incl-trans, T, replicate, length-replicate, ty_unit, ty_array, has_ty, WT, align, capped, capped_fits, ◌⊑◌, size_word, align_word, lands_last, calls_at_last, Al, token, Gives, at_gives, Gives-goes, Gives-Gives, prop, regoal, drop, heard, framed, proved_at, uncapped, block_ty, block_size, block_align, P}
 use Rattle.pool.proofs.Names.{cells_own}
 use Rattle.pool.specs.CellOwnership.{deed_owns}
 use Rattle.pool.proofs.CellMemory.{Cr, Bs, sz, Place, mark_had, word_had, to_room}
-use Rattle.core.proofs.slots.Leases.{uncapped, block_ty, block_size, block_align, args, P}
+use Rattle.core.proofs.slots.Leases.{args}
 use Rattle.pool.specs.contracts.cells.deallocate.Key.{name as #self}
 use Rattle.pool.specs.contracts.cells.Deed as D-type
 use Rattle.pool.specs.contracts.cells.deallocate as F

@@ -1,13 +1,5 @@
 -- A `&` to the places reaches each item.
-use mathlib.Core.List.{[], ◌++◌}
-use base.Fml.{Incl-trans}
-use contract.BorrowLft.{meet_⊑_left}
-use denote.RattleType.{RattleType}
-use denote.RawPtr.{RawPtr}
-use denote.Param.Laws.{Laws}
-use denote.Param.Shared.{copy_shared}
-use denote.Struct.Laws.{field_copy}
-use denote.Struct.Lending.{of_Lends}
+use Rattle.pool.proofs.WalkNames.{[], ◌++◌, Incl-trans, meet_⊑_left, RattleType, RawPtr, Laws, copy_shared, field_copy, of_Lends}
 use Rattle.core.specs.contracts.marker.PhantomData as marker
 use Rattle.pool.specs.contracts.cells.Cells as C
 use Rattle.pool.proofs.cells.Cells.TheLaw.Statement.{statement}
