@@ -1,5 +1,6 @@
 -- The places of a block, while they are emptied one after another.
 use Rattle.std.proofs.Common.{◌≡◌, ℕ, zero, suc, ◌+◌, ◌<◌, List, [], ◌∷◌, ◌++◌, length, replicate, drop, get_or, refl, ap, arith, add-one}
+use Rattle.pool.proofs.Names.{common_steps}
 use Rattle.std.proofs.Math.ListN.{set}
 
 -- ---- places that are changed one after another
@@ -10,14 +11,9 @@ module _ {X : Type 0} where
   swept x count items = replicate count x ++ drop count items
 
   pub swept-here : (x : X) (count : ℕ) (items : List X) (d : X) → count < length items → get_or (swept x count items) count d ≡ get_or items count d
-  swept-here x count [] d below = absurd (omega (arith, below))
-  swept-here x zero (y ∷ items) d below = refl
-  swept-here x (suc count) (y ∷ items) d below = swept-here x count items d (omega (arith, below))
-
-  swept-suc : (x : X) (count : ℕ) (items : List X) → count < length items → set (swept x count items) count x ≡ swept x (suc count) items
-  swept-suc x count [] below = absurd (omega (arith, below))
-  swept-suc x zero (y ∷ items) below = refl
-  swept-suc x (suc count) (y ∷ items) below = ap (λ rest. x ∷ rest) (swept-suc x count items (omega (arith, below)))
+  swept-here x count items d below = grind (arith, common_steps)
 
   pub swept-next : (x : X) (count : ℕ) (items : List X) → count < length items → set (swept x count items) count x ≡ swept x (count + 1) items
-  swept-next x count items below = rw (add-one count) (swept-suc x count items below)
+  swept-next x count [] below = absurd (omega (arith, below))
+  swept-next x zero (y ∷ items) below = refl
+  swept-next x (suc count) (y ∷ items) below = let rest = rw add-one at (swept-next x count items (omega (arith, below))) in rw add-one (ap (λ xs. x ∷ xs) rest)

@@ -8,12 +8,6 @@ use Rattle.pool.proofs.RunWords.{after_runs-none, after_runs-next, words_in-appe
 
 -- ---- one gap
 
-pub gap-some : (start first end : ℕ) → first < end → gap start first end ≡ record { first = start + first; count = end - first } ∷ []
-gap-some start first end lt = let test : nat_lt first end ≡ true = grind (arith, nat_tests, lt) in rw test refl
-
-pub gap-none : (start first end : ℕ) → end ≤ first → gap start first end ≡ []
-gap-none start first end le = let test : nat_lt first end ≡ false = grind (arith, nat_tests, le) in rw test refl
-
 pub gaps-none : (start first : ℕ) → gaps_from start first [] ≡ gap start first 512
 unfolding gaps_from
 gaps-none start first = refl
@@ -29,7 +23,7 @@ gap-words start first end most = grind (arith, common_steps, nat_tests)
 
 pub gap-one : (page start word step first end : ℕ) (pool : Pool) → end ≤ 512
     → after_runs page start word step (gap start first end) pool ≡ after_sets page first (end - first) (word + step * first) step pool
-gap-one page start word step first end pool most = grind (arith, nat_tests, gap-some, after_runs-next, after_runs-none, gap-none, sets-none)
+gap-one page start word step first end pool most = grind (arith, common_steps, nat_tests, after_runs-next, after_runs-none, sets-none)
 
 -- ---- gaps that are left
 
@@ -68,15 +62,12 @@ covers-append (run ∷ a) b n = grind (arith, nat_tests, covers-append a b n)
 
 module _ (start : ℕ) where
   rise-gap : (first end e : ℕ) (rest : List PageRun) → e ≤ start + first → first ≤ end → rise (start + end) rest ≡ true → rise e (gap start first end ++ rest) ≡ true
-  rise-gap first end e rest least ordered up = grind (arith, nat_tests, gap-some, gap-none, rise-lower)
-
-  last-rise : (first : ℕ) → rise (start + first) (gap start first 512) ≡ true
-  last-rise first = grind (arith, common_steps, nat_tests)
+  rise-gap first end e rest least ordered up = grind (arith, nat_tests, common_steps, rise-lower)
 
   -- gaps stand upward
   rise-gaps : (runs : List PageRun) (first : ℕ) → rise (start + first) (gaps_from start first runs) ≡ true
-  rise-gaps [] first = grind (arith, nat_tests, gaps-none, last-rise)
-  rise-gaps (run ∷ runs) first = grind (arith, nat_tests, gaps-next, gap-none, rise-gap, rise-lower, rise-gaps runs (max first (index_from start (run.first + run.count))))
+  rise-gaps [] first = grind (arith, common_steps, nat_tests, gaps-none)
+  rise-gaps (run ∷ runs) first = grind (arith, nat_tests, common_steps, gaps-next, rise-gap, rise-lower, rise-gaps runs (max first (index_from start (run.first + run.count))))
 
   pub gaps-rise : (runs : List PageRun) → rise 0 (gaps_of start runs) ≡ true
   gaps-rise runs = rise-lower (gaps_of start runs) (start + 0) 0 (omega arith) (rise-gaps runs 0)

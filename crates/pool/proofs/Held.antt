@@ -26,13 +26,13 @@ held-new zero = refl
 held-new (suc n) = grind (arith, common_steps, held-new n)
 
 is-some : (o : Option ℕ) → is_some o ≡ true → (x : ℕ) × (o ≡ Some x)
-is-some None h = grind (arith, common_steps)
+is-some None h = grind (arith, nat_tests)
 is-some (Some x) h = (x, refl)
 
 -- ---- the page of a place
 
 pub filled-at : (cs : List (Option ℕ)) (page i : ℕ) → IsPageFilled cs page → i < 512 → IsFilled cs (512 * page + i)
-filled-at cs page i filled lt = is-some _ (filled i lt)
+filled-at cs page i filled lt = grind (arith, common_steps, filled i lt)
 
 pub filled-place : (marks : List Bool) (cs : List (Option ℕ)) (place : ℕ) → AreMarked marks cs → slice_index_or marks (place / 512) false ≡ true → IsFilled cs place
 filled-place marks cs place marked is = grind (arith, common_steps, nat_tests, is-some (get_or cs place None), div-add-mod place 512, mod-lt place, marked.filled (place / 512) is (place % 512))
@@ -53,7 +53,7 @@ zeros-none cs page = refl
 
 pub zeros-next : (cs : List (Option ℕ)) (page n : ℕ) → with_zeros cs page (n + 1) ≡ set (with_zeros cs page n) (512 * page + n) (Some 0)
 unfolding with_zeros
-zeros-next cs page n = rw add-one refl
+zeros-next cs page n = grind (arith, common_steps)
 
 pub zeros-beside : (cs : List (Option ℕ)) (page n k : ℕ) → (k < 512 * page) ⊎ (512 * page + n ≤ k) → get_or (with_zeros cs page n) k None ≡ get_or cs k None
 unfolding with_zeros
@@ -74,7 +74,7 @@ apart : (q page i n : ℕ) → q ≢ page → i < 512 → n ≡ 512 → (512 * q
 apart q page i n other lt is = grind (arith, nat_tests)
 
 pub marked-fill : (marks : List Bool) (cs : List (Option ℕ)) (page n : ℕ) → n ≡ 512 → page < length marks → 512 * page + n ≤ length cs → AreMarked marks cs → AreMarked (set marks page true) (with_zeros cs page n)
-marked-fill marks cs page n is inside room marked = grind (arith, nat_tests, zeros-done, zeros-beside, apart, get_or-set_other, true≢false, get_or-set_same)
+marked-fill marks cs page n is inside room marked = grind (arith, nat_tests, zeros-done, zeros-beside, get_or-set_other, true≢false, get_or-set_same)
 
 -- ---- places that are emptied one after another
 

@@ -12,38 +12,12 @@ use Rattle.std.proofs.lemmas.List.{length-set, get_or-set_same, get_or-set_other
 use Rattle.pool.proofs.Shares.{row_quota-none, share_at, share_inside, share_unique, used_by-new, used_by-take, used_by-give, used_by-other}
 use Rattle.pool.proofs.Count.{count_below-all}
 
--- ---- free pages hold zeros
-
--- a page of zeros may be taken or given back
-pub free_zero-mark : (words : List ℕ) (taken : List Bool) (page : ℕ) (is : Bool) → page < length taken → ((i : ℕ) → words_of words page i ≡ 0)
-    → ((q i : ℕ) → taken_of taken q ≡ false → words_of words q i ≡ 0)
-    → (q i : ℕ) → taken_of (slice_set taken page is) q ≡ false → words_of words q i ≡ 0
-unfolding mark
-free_zero-mark words taken page is inside empty old q i free = grind (arith, nat_tests, taken_of-set)
-
--- ---- roots are taken
-
--- a page above them may be taken or given back
-pub roots-mark : (taken : List Bool) (count page : ℕ) (is : Bool) → page < length taken → count ≤ page
-    → ((row : ℕ) → row < count → taken_of taken row ≡ true)
-    → (row : ℕ) → row < count → taken_of (slice_set taken page is) row ≡ true
-unfolding mark
-roots-mark taken count page is inside above old row below = grind (arith, nat_tests, taken_of-set, old row below)
+-- ---- at first the roots alone are taken
 
 pub roots-new : (roots shares row : ℕ) → row < roots → taken_of (replicate roots true ++ replicate shares false) row ≡ true
 unfolding taken_of
 roots-new roots shares row below = grind (arith, common_steps)
 
--- ---- pages that are taken stand in memory
-
--- a page that stands may be taken, and one may be given back
-pub standing-mark : (taken : List Bool) (stood stands : ℕ → Bool) (page : ℕ) (is : Bool) → page < length taken → (is ≡ true → stands page ≡ true) → ((q : ℕ) → stood q ≡ true → stands q ≡ true)
-    → ((q : ℕ) → taken_of taken q ≡ true → stood q ≡ true)
-    → (q : ℕ) → taken_of (slice_set taken page is) q ≡ true → stands q ≡ true
-unfolding mark
-standing-mark taken stood stands page is inside here kept old q held = grind (arith, nat_tests, taken_of-set)
-
--- at first the roots alone are taken
 pub taken_of-new : (roots shares page : ℕ) → taken_of (replicate roots true ++ replicate shares false) page ≡ true → page < roots
 unfolding taken_of
 taken_of-new roots shares page held = grind (arith, common_steps, nat_tests)

@@ -4,7 +4,7 @@ use Rattle.std.proofs.lemmas.Bool.{cases_eq, cases_Bool}
 use Rattle.pool.proofs.Names.{nat_tests, common_steps, count_below, page_count, Words, words_of, put, nonzero_in, CountsNonzero}
 use Rattle.std.proofs.lemmas.List.{length-set, length-replicate, get_or-set_same, get_or-set_other}
 use Rattle.pool.proofs.Count.{count_below-same, count_below-at, count_below-some, count_below-none, count_below-le, count_below-witness}
-use Rattle.pool.proofs.Words.{put-same, put-other_index, words_of-set_at, words_of-zeros}
+use Rattle.pool.proofs.Words.{words_of-set_at, words_of-zeros}
 
 not-one : (b : Bool) → ◌≡◌ {A = ℕ} (cond (not b) 1 0) (cond b 0 1)
 not-one true = refl
@@ -13,8 +13,8 @@ not-one false = refl
 -- a word of the page is written
 pub nonzero-put : (words : Words) (page index word : ℕ) → index < 512
     → nonzero_in (put page index word words) page + cond (words page index == 0) 0 1 ≡ nonzero_in words page + cond (word == 0) 0 1
-unfolding nonzero_in
-nonzero-put words page index word below = grind (arith, common_steps, nat_tests, put-same words page index word, put-other_index, count_below-at (λ i. not (words page i == 0)) (λ i. not (put page index word words page i == 0)) 512 index below)
+unfolding nonzero_in put
+nonzero-put words page index word below = grind (arith, common_steps, nat_tests, count_below-at (λ i. not (words page i == 0)) (λ i. not (put page index word words page i == 0)) 512 index below)
 
 -- a page whose words are the same
 pub nonzero-same : (words others : Words) (page : ℕ) → ((i : ℕ) → others page i ≡ words page i) → nonzero_in others page ≡ nonzero_in words page

@@ -4,7 +4,7 @@ use Rattle.std.proofs.Common.{◌≡◌, ◌≢◌, ℕ, zero, suc, ◌+◌, ◌
 use Rattle.std.proofs.lemmas.Bool.{cases_Bool}
 use Rattle.std.proofs.lemmas.List.{length-set}
 use Rattle.pool.specs.Pool.{after_break, after_make}
-use Rattle.pool.proofs.Words.{word-set, words_of-set_at, put-other_index, put-other_page}
+use Rattle.pool.proofs.Words.{word-set, words_of-set_at}
 use Rattle.pool.proofs.Nonzero.{word-read, nonzero-zeros}
 use Rattle.pool.proofs.Stretches.{words_set-beside}
 
@@ -33,24 +33,18 @@ pub keeps-self : (page : ℕ) (a : Pool) → Keeps page a a
 keeps-self page a = grind (arith, common_steps, nat_tests)
 
 pub keeps-more : (page : ℕ) (a b c : Pool) → Keeps page a b → Keeps page b c → Keeps page a c
-keeps-more page a b c so here = grind (arith, common_steps, nat_tests)
+keeps-more page a b c so here = grind (arith, so.made, here.made, so.others, here.others)
 
 pub keeps-set : (page index word : ℕ) (a : Pool) → index < 512 → 512 * page + 512 ≤ length a.memory.words → Keeps page a (after_set page index word a)
-keeps-set page index word a below room = grind (arith, common_steps, nat_tests, word-set, put-other_page, length-set)
-
-keeps-invalidate : (page p : ℕ) (run : PageRun) (a : Pool) → Keeps page a (after_invalidate p run a)
-keeps-invalidate page p run a = grind (arith, common_steps, nat_tests)
+keeps-set page index word a below room = grind (arith, common_steps, nat_tests, word-set, length-set)
 
 pub keeps-break : (p page index : ℕ) (run : PageRun) (a : Pool) → index < 512 → 512 * page + 512 ≤ length a.memory.words → Keeps page a (after_break p page index run a)
-keeps-break p page index run a below room = grind (arith, common_steps, nat_tests, keeps-self, keeps-more, keeps-set, keeps-invalidate)
-
-keeps-make : (page index word : ℕ) (a : Pool) → index < 512 → 512 * page + 512 ≤ length a.memory.words → Keeps page a (after_make page index word a)
-keeps-make page index word a below room = grind (arith, common_steps, nat_tests, keeps-self, keeps-set)
+keeps-break p page index run a below room = grind (arith, common_steps, nat_tests, keeps-self, keeps-more, keeps-set)
 
 pub keeps-replaces : (p page first n word step start : ℕ) (a : Pool) → first + n ≤ 512 → 512 * page + 512 ≤ length a.memory.words → Keeps page a (after_replaces p page first n word step start a)
 unfolding after_replaces
 keeps-replaces p page first zero word step start a small room = keeps-self page a
-keeps-replaces p page first (suc n) word step start a small room = grind (arith, keeps-more, keeps-break, keeps-make, keeps-replaces p page first n word step start a)
+keeps-replaces p page first (suc n) word step start a small room = grind (arith, common_steps, nat_tests, keeps-self, keeps-set, keeps-more, keeps-break, keeps-replaces p page first n word step start a)
 
 -- two pools that agree in all
 pub pools-same : (a b : Pool) → a.memory.ids ≡ b.memory.ids → a.memory.quotas ≡ b.memory.quotas → a.memory.words ≡ b.memory.words → a.memory.taken ≡ b.memory.taken → a.operations ≡ b.operations → a.made ≡ b.made → a ≡ b
@@ -76,16 +70,10 @@ pub replaces-then : (p page first n word step start index next from : ℕ) (a : 
 replaces-then p page first n word step start index next from a is there at = grind (arith, common_steps, replaces-one, replaces-more)
 
 -- the words of the page that are not yet replaced stay
-break-beside : (p page index i : ℕ) (run : PageRun) (a : Pool) → index < 512 → 512 * page + 512 ≤ length a.memory.words → i ≢ index → words_of (after_break p page index run a).memory.words page i ≡ words_of a.memory.words page i
-break-beside p page index i run a below room other = grind (arith, common_steps, nat_tests, word-set, put-other_index)
-
-make-beside : (page index word i : ℕ) (a : Pool) → index < 512 → 512 * page + 512 ≤ length a.memory.words → i ≢ index → words_of (after_make page index word a).memory.words page i ≡ words_of a.memory.words page i
-make-beside page index word i a below room other = grind (arith, common_steps, nat_tests, word-set, put-other_index)
-
 pub replaces-beside : (p page first n word step start i : ℕ) (a : Pool) → first + n ≤ 512 → 512 * page + 512 ≤ length a.memory.words → first + n ≤ i → words_of (after_replaces p page first n word step start a).memory.words page i ≡ words_of a.memory.words page i
 unfolding after_replaces
 replaces-beside p page first zero word step start i a small room behind = refl
-replaces-beside p page first (suc n) word step start i a small room behind = grind (arith, nat_tests, keeps-break, keeps-replaces p page first n word step start a, make-beside, break-beside, replaces-beside p page first n word step start i a)
+replaces-beside p page first (suc n) word step start i a small room behind = grind (arith, common_steps, nat_tests, keeps-break, keeps-replaces p page first n word step start a, word-set, replaces-beside p page first n word step start i a)
 
 -- ---- words that are replaced in a page whose words are all 0
 

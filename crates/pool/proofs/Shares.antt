@@ -22,10 +22,7 @@ row_quota-none quotas row beyond = get_or_past quotas row 0 beyond
 
 sum-take-le : (quotas : List ℕ) (n m : ℕ) → n ≤ m → sum (take n quotas) ≤ sum (take m quotas)
 sum-take-le quotas n m within =
-    let whole : sum (take (n + (m - n)) quotas) ≡ sum (take n quotas) + sum (take (m - n) (drop n quotas)) = rw take-add (sum_by-append (λ x. x) (take n quotas) (take (m - n) (drop n quotas))) in
-    let same : n + (m - n) ≡ m = omega arith in
-    let split : sum (take m quotas) ≡ sum (take n quotas) + sum (take (m - n) (drop n quotas)) = rw same at whole in
-    omega (arith, split)
+    let same : n + (m - n) ≡ m = omega arith in rw (← same) (grind (arith, common_steps, take-add, sum_by-append (λ x. x) (take n quotas) (take (m - n) (drop n quotas))))
 
 -- a share ends among the pages
 pub share_end : (quotas : List ℕ) (row : ℕ) → row < length quotas → share_start quotas row + row_quota quotas row ≤ page_count quotas
@@ -33,7 +30,7 @@ share_end quotas row below = grind (arith, common_steps)
 
 -- a share ends before a later one begins
 pub share_start-rises : (quotas : List ℕ) (row later : ℕ) → row < later → later < length quotas → share_start quotas row + row_quota quotas row ≤ share_start quotas later
-share_start-rises quotas row later before below = grind (arith, sum_by_more (λ x. x) quotas row 0, sum-take-le quotas (row + 1) later)
+share_start-rises quotas row later before below = grind (arith, common_steps, sum_by_more (λ x. x) quotas row 0, sum-take-le quotas (row + 1) later)
 
 -- a page of a share is below the number of pages
 pub share_inside : (quotas : List ℕ) (row page : ℕ) → InShare quotas row page → page < page_count quotas

@@ -4,7 +4,7 @@ use Rattle.std.proofs.Common.{◌≡◌, ◌≢◌, ℕ, zero, suc, ◌+◌, ◌
 use Rattle.std.proofs.lemmas.Bool.{cases_eq}
 use Rattle.std.proofs.lemmas.List.{length-append, append_assoc}
 use Rattle.pool.specs.Writing.{writes_of, NoneThere}
-use Rattle.pool.proofs.Words.{words_of-set_at, word-set, put-same, put-other_index, put-other_page}
+use Rattle.pool.proofs.Words.{words_of-set_at, word-set}
 use Rattle.pool.proofs.Nonzero.{word-read, nonzero-put}
 
 -- their number stays
@@ -88,21 +88,21 @@ pub words_set-other : (words : List ℕ) (page first n word step q i : ℕ) → 
     → words_of (words_set words page first n word step) q i ≡ words_of words q i
 unfolding words_set
 words_set-other words page first zero word step q i whole small other = refl
-words_set-other words page first (suc n) word step q i whole small other = grind (arith, nat_tests, length-words_set words page first n word step, word-set, put-other_page, words_set-other words page first n word step q i)
+words_set-other words page first (suc n) word step q i whole small other = grind (arith, nat_tests, length-words_set words page first n word step, word-set, words_set-other words page first n word step q i)
 
 -- so do those of the page that are not among them
 pub words_set-beside : (words : List ℕ) (page first n word step i : ℕ) → 512 * page + 512 ≤ length words → first + n ≤ 512 → (i < first) ⊎ (first + n ≤ i)
     → words_of (words_set words page first n word step) page i ≡ words_of words page i
 unfolding words_set
 words_set-beside words page first zero word step i whole small beside = refl
-words_set-beside words page first (suc n) word step i whole small beside = grind (arith, nat_tests, length-words_set words page first n word step, word-set, put-other_index, words_set-beside words page first n word step i)
+words_set-beside words page first (suc n) word step i whole small beside = grind (arith, nat_tests, length-words_set words page first n word step, word-set, words_set-beside words page first n word step i)
 
 -- and those are what they are to be
 pub words_set-at : (words : List ℕ) (page first n word step x : ℕ) → 512 * page + 512 ≤ length words → first + n ≤ 512 → x < n
     → words_of (words_set words page first n word step) page (first + x) ≡ word + step * x
 unfolding words_set
 words_set-at words page first zero word step x whole small lt = absurd (omega (arith, lt))
-words_set-at words page first (suc n) word step x whole small lt = grind (arith, nat_tests, length-words_set words page first n word step, word-set, put-same, put-other_index, words_set-at words page first n word step x)
+words_set-at words page first (suc n) word step x whole small lt = grind (arith, nat_tests, length-words_set words page first n word step, word-set, words_set-at words page first n word step x)
 
 -- ---- stretches whose words are all 0, or none of which is
 

@@ -15,7 +15,7 @@ within-sets ids quotas words page first (suc n) word step inside small = grind (
 
 pub within-behind : (ids quotas : List ℕ) (words : List ℕ) (page first n word step : ℕ) (old : List Op) → page < page_count quotas → first + n ≤ 512 → list_all (lies_in ids quotas) old ≡ true
     → list_all (lies_in ids quotas) (sets_of words page first n word step ++ old) ≡ true
-within-behind ids quotas words page first n word step old inside small all = grind (arith, nat_tests, list_all-append, within-sets ids quotas words page first n word step inside small)
+within-behind ids quotas words page first n word step old inside small all = grind (arith, common_steps, within-sets ids quotas words page first n word step inside small)
 
 -- of the words for runs
 pub within-runs : (ids quotas : List ℕ) (page start word step : ℕ) (runs : List PageRun) (pool : Pool) → page < page_count quotas → list_all (lies_in ids quotas) pool.operations ≡ true

@@ -1,31 +1,18 @@
 -- Words and marks after a write, in the lists and in the functions that show them.
-use Rattle.std.proofs.Common.{◌≡◌, ◌≢◌, ℕ, ◌+◌, ◌*◌, ◌<◌, List, Bool, true, length, replicate, slice_set, arith, ap}
+use Rattle.std.proofs.Common.{◌≡◌, ◌≢◌, ℕ, ◌+◌, ◌*◌, ◌<◌, ◌==◌, ◌&&◌, if◌then◌else◌, List, Bool, true, length, replicate, slice_set, arith, ap}
 use mathlib.Core.Path.{fun_ext}
 use Rattle.pool.proofs.Names.{common_steps, nat_tests, ManifestRows, quotas_of, page_count, Memory, Words, words_of, taken_of, pages_of, put, mark, with_mark, new_memory}
 use Rattle.pool.specs.Pool.{IsWhole, with_word, with_taken, with_put}
 
 -- ---- words
 
-pub put-same : (words : Words) (page index word : ℕ) → put page index word words page index ≡ word
-unfolding put
-put-same words page index word = grind (arith, nat_tests)
-
--- another index keeps its word, in all pages
-pub put-other_index : (words : Words) (page index word q i : ℕ) → i ≢ index → put page index word words q i ≡ words q i
-unfolding put
-put-other_index words page index word q i other = grind (arith, nat_tests)
-
--- another page keeps its words
-pub put-other_page : (words : Words) (page index word q i : ℕ) → q ≢ page → put page index word words q i ≡ words q i
-unfolding put
-put-other_page words page index word q i other = grind (arith, nat_tests)
-
 pub words_of-set_at : (items : List ℕ) (page index word : ℕ) → index < 512 → 512 * page + index < length items → words_of (slice_set items (512 * page + index) word) ≡ put page index word (words_of items)
 unfolding words_of put
 words_of-set_at items page index word below here = fun_ext (λ q. fun_ext (λ i. grind (arith, common_steps, nat_tests)))
 
 -- the same word by word
-pub word-set : (items : List ℕ) (page index word q i : ℕ) → index < 512 → 512 * page + index < length items → words_of (slice_set items (512 * page + index) word) q i ≡ put page index word (words_of items) q i
+pub word-set : (items : List ℕ) (page index word q i : ℕ) → index < 512 → 512 * page + index < length items → words_of (slice_set items (512 * page + index) word) q i ≡ (if (q == page) && (i == index) then word else words_of items q i)
+unfolding put
 word-set items page index word q i below here = ap (λ (w : Words). w q i) (words_of-set_at items page index word below here)
 
 pub words_of-set : (items : List ℕ) (count page index word : ℕ) → length items ≡ 512 * count → page < count → index < 512 → words_of (slice_set items (512 * page + index) word) ≡ put page index word (words_of items)
@@ -54,6 +41,11 @@ mark-kept taken page q held = grind (arith, nat_tests)
 pub taken_of-set : (items : List Bool) (page : ℕ) (is : Bool) → page < length items → taken_of (slice_set items page is) ≡ mark page is (taken_of items)
 unfolding taken_of mark
 taken_of-set items page is inside = fun_ext (λ q. grind (arith, common_steps, nat_tests))
+
+-- the same page by page
+pub mark-set : (items : List Bool) (page q : ℕ) (is : Bool) → page < length items → taken_of (slice_set items page is) q ≡ (if q == page then is else taken_of items q)
+unfolding mark
+mark-set items page q is inside = ap (λ (t : ℕ → Bool). t q) (taken_of-set items page is inside)
 
 -- ---- the pages of a memory
 

@@ -2,7 +2,7 @@ use Rattle.pool.proofs.Names.{nat_tests, common_steps, Words, words_of}
 use Rattle.std.proofs.Common.{ap, ◌∙◌, arith}
 use Rattle.pool.proofs.Nonzero.{read-test, word-read}
 use Rattle.pool.proofs.Replaced.{break-none, break-some}
-use Rattle.pool.proofs.Words.{word-set, put-same}
+use Rattle.pool.proofs.Words.{word-set}
 use Rattle.pool.proofs.Wrote.{wrote-none, wrote-then, wrote-as, wrote-is, wrote-invalidate}
 use Rattle.pool.proofs.replace.break_word.Goals as goal
 
@@ -16,4 +16,4 @@ pub returns-clause-wrote : goal.returns-clause-wrote
 returns-clause-wrote g c = grind (arith, common_steps, nat_tests, wrote-invalidate, word-read, wrote-as, wrote-then, break-some)
 
 pub returns-clause-zero : goal.returns-clause-zero
-returns-clause-zero g c = grind (arith, nat_tests, (wrote-is c.write_word-nonzero.ensures.wrote).words, word-set, put-same)
+returns-clause-zero g c = grind (arith, nat_tests, (wrote-is c.write_word-nonzero.ensures.wrote).words, word-set)

@@ -44,6 +44,4 @@ write_apart-requires g c = grind (arith, common_steps, nat_tests, gaps-done, app
 
 pub returns-clause-wrote : goal.returns-clause-wrote
 returns-clause-wrote g c =
-    let first = c.loop-run.first in
-    let parts = gaps-done c.args.with.start first c.loop-run.run-index c.args.runs.now c.loop-run-test.false ∙ sym (append-nil (gap c.args.with.start first 512)) in
-    left-none (left-less c.loop-run.invariant.left (gap c.args.with.start first 512) [] parts (wrote-gap c.args.with first 512 (omega arith) c.write_apart.ensures.wrote)) refl
+    left-none (left-less c.loop-run.invariant.left (gap c.args.with.start c.loop-run.first 512) [] (grind (arith, common_steps, gaps-done)) (wrote-gap c.args.with c.loop-run.first 512 (omega arith) c.write_apart.ensures.wrote)) refl

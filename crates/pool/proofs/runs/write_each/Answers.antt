@@ -33,4 +33,4 @@ loop-run-preserved g c =
     }
 
 pub returns-clause-wrote : goal.returns-clause-wrote
-returns-clause-wrote g c = left-none c.loop-run.invariant.left (runs-done c.args.runs.now c.loop-run.run-index c.loop-run-test.false)
+returns-clause-wrote g c = grind (arith, nat_tests, left-none c.loop-run.invariant.left, runs-done)

@@ -2,9 +2,9 @@ use Rattle.pool.proofs.Names.{nat_tests, common_steps}
 use Rattle.std.proofs.Common.{◌≡◌, false, ◌+◌, ◌∙◌, ◌<◌, length, slice_index, arith, ap, min}
 use Rattle.std.proofs.lemmas.List.{get_or_read}
 use Rattle.std.proofs.Math.ListN.{length-set}
-use Rattle.pool.proofs.Words.{words_of-beyond}
+use Rattle.pool.proofs.Words.{words_of-beyond, mark-set}
 use Rattle.pool.proofs.Shares.{share_inside}
-use Rattle.pool.proofs.Kept.{free_zero-mark, roots-mark, standing-mark, memory_in, counts-give, below-give}
+use Rattle.pool.proofs.Kept.{memory_in, counts-give, below-give}
 use Rattle.pool.proofs.table_pool.TablePoolTableMem.give_page.Goals as goal
 
 pub invariant_of-self : goal.invariant_of-self
@@ -18,7 +18,6 @@ invariant_of-self g c =
     let inside : page < length old.taken = omega (arith, old.taken_whole, share_inside _ _ _ c.requires.inside) in
     let low : c.min.result ≡ min (slice_index old.lowest.items row) page =
     c.min.ensures ∙ ap (λ n. min n page) (get_or_read old.lowest.items _ _ (omega (arith, share.partition, old.none_free_below.rows)) c.index.ensures 0) in
-    let stands = g.S.WordStore.stands old.store in
     record {
       ids_whole = old.ids_whole;
       words_whole = old.words_whole;
@@ -27,8 +26,8 @@ invariant_of-self g c =
       none_free_below = rw (c.unmark.ensures, low) (below-give old.quotas.items old.lowest.items old.taken row page old.none_free_below share inside);
       nonzero_counted = old.nonzero_counted;
       fits = old.fits;
-      roots = rw c.unmark.ensures (roots-mark old.taken (length old.quotas.items) page false inside (omega (arith, c.requires.inside.from)) old.roots);
-      free_zero = rw c.unmark.ensures (free_zero-mark (g.S.WordStore.words old.store) old.taken page false inside (words_of-beyond (g.S.WordStore.words old.store) page c.requires.empty) old.free_zero);
+      roots = rw c.unmark.ensures (λ r below. grind (arith, nat_tests, mark-set old.taken page r false inside, old.roots r below, share.from));
+      free_zero = rw c.unmark.ensures (λ q i free. grind (arith, nat_tests, mark-set old.taken page q false inside, words_of-beyond (g.S.WordStore.words old.store) page c.requires.empty i, old.free_zero q i));
       within = old.within;
-      standing = rw c.unmark.ensures (standing-mark old.taken stands stands page false inside (λ is. old.standing page c.requires.taken) (λ q stood. stood) old.standing);
+      standing = rw c.unmark.ensures (λ q held. grind (arith, nat_tests, mark-set old.taken page q false inside, old.standing q));
     }

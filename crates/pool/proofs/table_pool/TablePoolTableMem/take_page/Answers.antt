@@ -3,8 +3,9 @@ use Rattle.std.proofs.lemmas.List.{get_or_read}
 use Rattle.std.proofs.Math.ListN.{length-set}
 use Rattle.pool.proofs.Names.{nat_tests, common_steps, HasFree, IsLowestFree, TablePool, IsFirstUnmarked}
 use Rattle.pool.specs.declared.word_store.WordStore.{Ghosts}
+use Rattle.pool.proofs.Words.{mark-set}
 use Rattle.pool.proofs.Shares.{share_inside}
-use Rattle.pool.proofs.Kept.{memory_in, pages_in, free_zero-mark, roots-mark, standing-mark, some-unmarked, found-lowest, row-within, counts-take, below-take}
+use Rattle.pool.proofs.Kept.{memory_in, pages_in, some-unmarked, found-lowest, row-within, counts-take, below-take}
 use Rattle.pool.proofs.table_pool.TablePoolTableMem.take_page.Goals as goal
 
 -- the page from which on is looked is that of the row
@@ -13,7 +14,7 @@ begins old row start free read = grind (arith, common_steps, nat_tests, row-with
 
 -- the page that is found is the lowest free one
 found : {S : Type 0} {g : Ghosts S} (old : TablePool S g) (row start page : ℕ) → HasFree (pages_in old) row → start ≡ get_or old.lowest.items row start → IsFirstUnmarked old.taken start page → IsLowestFree (pages_in old) row page
-found old row start page free read first = found-lowest (memory_in old) old.lowest.items row page old.none_free_below free (rw (begins old row start free read) at first)
+found old row start page free read first = grind (arith, begins old row start free read, found-lowest (memory_in old) old.lowest.items row page old.none_free_below free)
 
 pub next_unmarked-page-requires : goal.next_unmarked-page-requires
 next_unmarked-page-requires g c =
@@ -44,8 +45,8 @@ invariant_of-self g c =
       none_free_below = rw c.mark.ensures (below-take old.quotas.items old.lowest.items old.taken row page old.none_free_below lowest.inside inside lowest.lowest);
       nonzero_counted = rw c.fill.ensures.words old.nonzero_counted;
       fits = old.fits;
-      roots = rw c.mark.ensures (roots-mark old.taken (length old.quotas.items) page true inside (omega (arith, lowest.inside.from)) old.roots);
-      free_zero = rw (c.mark.ensures, c.fill.ensures.words) (free_zero-mark (g.S.WordStore.words old.store) old.taken page true inside (λ i. old.free_zero page i lowest.free) old.free_zero);
+      roots = rw c.mark.ensures (λ r below. grind (arith, nat_tests, mark-set old.taken page r true inside, old.roots r below));
+      free_zero = rw (c.mark.ensures, c.fill.ensures.words) (λ q i free. grind (arith, nat_tests, mark-set old.taken page q true inside, old.free_zero q i));
       within = old.within;
-      standing = rw c.mark.ensures (standing-mark old.taken (g.S.WordStore.stands old.store) (g.S.WordStore.stands c.fill.new.self) page true inside (λ is. c.fill.ensures.filled) c.fill.ensures.kept old.standing);
+      standing = rw c.mark.ensures (λ q held. grind (arith, nat_tests, mark-set old.taken page q true inside, c.fill.ensures.filled, c.fill.ensures.kept q, old.standing q));
     }
