@@ -1,5 +1,5 @@
 -- What a table memory keeps at each write, and what its searches find.
-use Rattle.std.proofs.Common.{◌≡◌, ℕ, ◌+◌, ◌<◌, ◌≤◌, ◌^◌, Bool, true, false, List, length, slice_index, slice_set, ◌∙◌, ap, ap₂, replicate, ◌++◌, arith, inl, inr, IsTrue, ◌≢◌, min}
+use Rattle.std.proofs.Common.{◌≡◌, ℕ, ◌+◌, ◌<◌, ◌≤◌, ◌==◌, if◌then◌else◌, ◌^◌, Bool, true, false, List, length, slice_index, slice_set, ◌∙◌, ap, ap₂, replicate, ◌++◌, arith, inl, inr, IsTrue, ◌≢◌, min}
 use Rattle.pool.proofs.Names.{common_steps, nat_tests, PartitionRow, ManifestRows, quotas_of, page_count, Memory, Pages, InShare, HasFree, IsLowestFree, words_of, taken_of, mark, with_mark, share_start, row_quota, pages_of, CountsFree, NoneFreeBelow, new_memory, used_by, TablePool, IsFirstUnmarked}
 use Rattle.std.proofs.lemmas.Bool.{cases_eq, cases_lt}
 use Rattle.std.proofs.lemmas.List.{length-map}
@@ -7,7 +7,7 @@ use Rattle.manifest.specs.Valid.{is_valid}
 use Rattle.pool.specs.Pool.{used_of}
 use Rattle.pool.specs.declared.word_store.WordStore.{Ghosts}
 use Rattle.marks.specs.Marks.{AllMarkedFrom}
-use Rattle.pool.proofs.Words.{taken_of-set}
+use Rattle.pool.proofs.Words.{taken_of-set, mark-set}
 use Rattle.std.proofs.lemmas.List.{length-set, get_or-set_same, get_or-set_other}
 use Rattle.pool.proofs.Shares.{row_quota-none, share_at, share_inside, share_unique, used_by-new, used_by-take, used_by-give, used_by-other}
 use Rattle.pool.proofs.Count.{count_below-all}
@@ -65,30 +65,15 @@ found-lowest m lowest row found below free first =
 -- ---- the page below which none is free
 
 -- a page of a row's share gets another mark, and the row another such page
-below-set : (quotas lowest : List ℕ) (taken : List Bool) (row page n : ℕ) (is : Bool) → NoneFreeBelow quotas taken lowest → InShare quotas row page → page < length taken → share_start quotas row ≤ n
-    → ((q : ℕ) → InShare quotas row q → q < n → mark page is (taken_of taken) q ≡ true)
+pub below-set : {quotas lowest : List ℕ} {taken : List Bool} {row page : ℕ} (n : ℕ) (is : Bool) → NoneFreeBelow quotas taken lowest → InShare quotas row page → page < length taken → share_start quotas row ≤ n
+    → ((q : ℕ) → InShare quotas row q → q < n → (if q == page then is else taken_of taken q) ≡ true)
     → NoneFreeBelow quotas (slice_set taken page is) (slice_set lowest row n)
-unfolding mark
-below-set quotas lowest taken row page n is old inside small from right =
+below-set {quotas} {lowest} {taken} {row} {page} n is old inside small from right =
     record {
       rows = length-set lowest row n ∙ old.rows;
       from = λ r below. grind (arith, nat_tests, get_or-set_same lowest row n 0, get_or-set_other lowest row r n 0, old.from r below, old.rows, inside.partition, from);
-      below = λ r q in_share under. rw (taken_of-set taken page is small) (grind (arith, nat_tests, get_or-set_same lowest row n 0, get_or-set_other lowest row r n 0, share_unique quotas r row q in_share, old.below r q in_share, right q, old.rows, inside.partition));
+      below = λ r q in_share under. grind (arith, nat_tests, mark-set taken page q is small, get_or-set_same lowest row n 0, get_or-set_other lowest row r n 0, share_unique quotas r row q in_share, old.below r q in_share, right q, old.rows, inside.partition);
     }
-
--- it is the one behind a page that was the lowest free one, once that is taken
-pub below-take : (quotas lowest : List ℕ) (taken : List Bool) (row page : ℕ) → NoneFreeBelow quotas taken lowest → InShare quotas row page → page < length taken
-    → ((q : ℕ) → InShare quotas row q → q < page → taken_of taken q ≡ true)
-    → NoneFreeBelow quotas (slice_set taken page true) (slice_set lowest row (page + 1))
-unfolding mark
-below-take quotas lowest taken row page old inside small before = below-set quotas lowest taken row page (page + 1) true old inside small (omega (arith, inside.from)) (λ q in_share under. grind (arith, nat_tests, before q in_share))
-
--- and a page that is given back, where that is lower
-pub below-give : (quotas lowest : List ℕ) (taken : List Bool) (row page : ℕ) → NoneFreeBelow quotas taken lowest → InShare quotas row page → page < length taken
-    → NoneFreeBelow quotas (slice_set taken page false) (slice_set lowest row (min (slice_index lowest row) page))
-unfolding mark
-below-give quotas lowest taken row page old inside small =
-    below-set quotas lowest taken row page (min (slice_index lowest row) page) false old inside small (omega (arith, old.from row inside.partition, inside.from)) (λ q in_share under. grind (arith, nat_tests, old.below row q in_share))
 
 -- ---- the pages of a share that are free
 
@@ -97,26 +82,13 @@ pub counts-new : (m : ManifestRows) → CountsFree (quotas_of m.partitions) (new
 counts-new m = grind (arith, common_steps, nat_tests, used_by-new)
 
 -- a page of a row's share gets another mark, and the row another count, which is right
-counts-set : (m : Memory) (free : List ℕ) (row page n : ℕ) (is : Bool) → CountsFree m.quotas m.taken free → InShare m.quotas row page → page < length m.taken
-    → n + used_by (with_mark page is (pages_of m)) row ≡ row_quota m.quotas row
-    → CountsFree m.quotas (slice_set m.taken page is) (slice_set free row n)
-counts-set m free row page n is counts inside below right =
+pub counts-set : {quotas free : List ℕ} {taken : List Bool} {row page : ℕ} (m : Pages) (n : ℕ) (is : Bool) → CountsFree quotas taken free → InShare quotas row page → page < length taken → m.quotas ≡ quotas → m.taken ≡ taken_of taken
+    → n + used_by (with_mark page is m) row ≡ row_quota quotas row → CountsFree quotas (slice_set taken page is) (slice_set free row n)
+counts-set {quotas} {free} {taken} {row} {page} m n is counts inside below same shown right =
     record {
       rows = length-set free row n ∙ counts.rows;
-      each = λ r small. rw (taken_of-set m.taken page is below) (grind (arith, nat_tests, get_or-set_same free row n 0, get_or-set_other free row r n 0, used_by-other (pages_of m) row r page is inside, counts.each r small, counts.rows, inside.partition, right));
+      each = λ r small. rw (taken_of-set taken page is below) (grind (arith, nat_tests, get_or-set_same free row n 0, get_or-set_other free row r n 0, used_by-other m row r page is, counts.each r small, counts.rows, inside.partition, inside, same, shown, right));
     }
-
--- one page less is free, once one is taken
-pub counts-take : (m : Memory) (free : List ℕ) (row page n : ℕ) → CountsFree m.quotas m.taken free → InShare m.quotas row page → page < length m.taken → taken_of m.taken page ≡ false → n + 1 ≡ slice_index free row
-    → CountsFree m.quotas (slice_set m.taken page true) (slice_set free row n)
-counts-take m free row page n counts inside below is_free less =
-    counts-set m free row page n true counts inside below (omega (arith, counts.each row inside.partition, used_by-take (pages_of m) row page inside is_free, less))
-
--- and one more, once one is given back
-pub counts-give : (m : Memory) (free : List ℕ) (row page n : ℕ) → CountsFree m.quotas m.taken free → InShare m.quotas row page → page < length m.taken → taken_of m.taken page ≡ true → n ≡ slice_index free row + 1
-    → CountsFree m.quotas (slice_set m.taken page false) (slice_set free row n)
-counts-give m free row page n counts inside below is_taken more =
-    counts-set m free row page n false counts inside below (omega (arith, counts.each row inside.partition, used_by-give (pages_of m) row page inside is_taken, more))
 
 -- ---- a valid manifest
 

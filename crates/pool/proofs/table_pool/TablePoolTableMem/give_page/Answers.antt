@@ -1,10 +1,10 @@
 use Rattle.pool.proofs.Names.{nat_tests, common_steps}
-use Rattle.std.proofs.Common.{◌≡◌, false, ◌+◌, ◌∙◌, ◌<◌, length, slice_index, arith, ap, min}
+use Rattle.std.proofs.Common.{◌≡◌, refl, false, ◌+◌, ◌∙◌, ◌<◌, length, slice_index, arith, ap, min}
 use Rattle.std.proofs.lemmas.List.{get_or_read}
 use Rattle.std.proofs.Math.ListN.{length-set}
 use Rattle.pool.proofs.Words.{words_of-beyond, mark-set}
-use Rattle.pool.proofs.Shares.{share_inside}
-use Rattle.pool.proofs.Kept.{memory_in, counts-give, below-give}
+use Rattle.pool.proofs.Shares.{share_inside, used_by-give}
+use Rattle.pool.proofs.Kept.{pages_in, counts-set, below-set}
 use Rattle.pool.proofs.table_pool.TablePoolTableMem.give_page.Goals as goal
 
 pub invariant_of-self : goal.invariant_of-self
@@ -22,8 +22,8 @@ invariant_of-self g c =
       ids_whole = old.ids_whole;
       words_whole = old.words_whole;
       taken_whole = rw c.unmark.ensures (length-set old.taken _ _ ∙ old.taken_whole);
-      free_counted = rw c.unmark.ensures (counts-give (memory_in old) old.free.items row page (c.index_mut.result.now + 1) old.free_counted share inside c.requires.taken (omega (arith, here)));
-      none_free_below = rw (c.unmark.ensures, low) (below-give old.quotas.items old.lowest.items old.taken row page old.none_free_below share inside);
+      free_counted = rw c.unmark.ensures (counts-set (pages_in old) (c.index_mut.result.now + 1) false old.free_counted share inside refl refl (omega (arith, here, old.free_counted.each row share.partition, used_by-give (pages_in old) row page share c.requires.taken)));
+      none_free_below = rw c.unmark.ensures (below-set c.min.result false old.none_free_below share inside (omega (arith, low, old.none_free_below.from row share.partition, share.from)) (λ q in_share under. grind (arith, nat_tests, low, old.none_free_below.below row q in_share)));
       nonzero_counted = old.nonzero_counted;
       fits = old.fits;
       roots = rw c.unmark.ensures (λ r below. grind (arith, nat_tests, mark-set old.taken page r false inside, old.roots r below, share.from));

@@ -1,11 +1,11 @@
-use Rattle.std.proofs.Common.{◌≡◌, ℕ, ◌-◌, ◌<◌, ◌∙◌, arith, length, slice_index, get_or, ap, true}
+use Rattle.std.proofs.Common.{◌≡◌, refl, ◌+◌, ℕ, ◌-◌, ◌<◌, ◌∙◌, arith, length, slice_index, get_or, ap, true}
 use Rattle.std.proofs.lemmas.List.{get_or_read}
 use Rattle.std.proofs.Math.ListN.{length-set}
 use Rattle.pool.proofs.Names.{nat_tests, common_steps, HasFree, IsLowestFree, TablePool, IsFirstUnmarked}
 use Rattle.pool.specs.declared.word_store.WordStore.{Ghosts}
 use Rattle.pool.proofs.Words.{mark-set}
-use Rattle.pool.proofs.Shares.{share_inside}
-use Rattle.pool.proofs.Kept.{memory_in, pages_in, some-unmarked, found-lowest, row-within, counts-take, below-take}
+use Rattle.pool.proofs.Shares.{share_inside, used_by-take}
+use Rattle.pool.proofs.Kept.{memory_in, pages_in, some-unmarked, found-lowest, row-within, counts-set, below-set}
 use Rattle.pool.proofs.table_pool.TablePoolTableMem.take_page.Goals as goal
 
 -- the page from which on is looked is that of the row
@@ -27,7 +27,6 @@ returns-clause-lowest g c = found c.args.self.now c.args.row c.index.result.now 
 pub invariant_of-self : goal.invariant_of-self
 invariant_of-self g c =
     let old = c.args.self.now in
-    let memory = memory_in old in
     let lowest = found old c.args.row c.index.result.now c.next_unmarked-page.result c.requires.free c.index.ensures c.next_unmarked-page.ensures in
     let page = c.next_unmarked-page.result in
     let inside : page < length old.taken = omega (arith, old.taken_whole, share_inside old.quotas.items c.args.row page lowest.inside) in
@@ -41,8 +40,8 @@ invariant_of-self g c =
       ids_whole = old.ids_whole;
       words_whole = ap length c.fill.ensures.words ∙ old.words_whole;
       taken_whole = rw c.mark.ensures (length-set old.taken _ _ ∙ old.taken_whole);
-      free_counted = rw c.mark.ensures (counts-take memory old.free.items row page (c.index_mut.result.now - 1) old.free_counted lowest.inside inside lowest.free (omega (arith, here, counted, some)));
-      none_free_below = rw c.mark.ensures (below-take old.quotas.items old.lowest.items old.taken row page old.none_free_below lowest.inside inside lowest.lowest);
+      free_counted = rw c.mark.ensures (counts-set (pages_in old) (c.index_mut.result.now - 1) true old.free_counted lowest.inside inside refl refl (omega (arith, here, counted, some, used_by-take (pages_in old) row page lowest.inside lowest.free)));
+      none_free_below = rw c.mark.ensures (below-set (page + 1) true old.none_free_below lowest.inside inside (omega (arith, lowest.inside.from)) (λ q in_share under. grind (arith, nat_tests, lowest.lowest q in_share)));
       nonzero_counted = rw c.fill.ensures.words old.nonzero_counted;
       fits = old.fits;
       roots = rw c.mark.ensures (λ r below. grind (arith, nat_tests, mark-set old.taken page r true inside, old.roots r below));
