@@ -2,15 +2,11 @@
 use Rattle.pool.proofs.Names.{nat_tests, common_steps, PageRun, in_run, covers}
 use Rattle.std.proofs.Common.{◌≡◌, ℕ, zero, suc, ◌+◌, ◌<◌, ◌≤◌, true, false, ◌||◌, List, [], ◌∷◌, ◌++◌, take, length, get_or, refl, sym, ap, ◌∙◌, arith}
 use Rattle.std.proofs.lemmas.List.{take_more}
+use Rattle.pool.proofs.Gaps.{covers-append}
 use Rattle.std.proofs.Math.Seq.{take-length}
 
-covers-push : (runs : List PageRun) (run : PageRun) (n : ℕ) → covers (runs ++ run ∷ []) n ≡ (covers runs n || in_run run n)
-covers-push [] run n = elim (in_run run n) as (λ b. (b || false) ≡ (false || b)) [ true ↦ refl | false ↦ refl ]
-covers-push (r ∷ runs) run n = grind (arith, common_steps, nat_tests, covers-push runs run n)
-
 pub covers-take : (runs : List PageRun) (i : ℕ) (run : PageRun) (n : ℕ) → i < length runs → run ≡ get_or runs i run → covers (take (i + 1) runs) n ≡ (covers (take i runs) n || in_run run n)
-covers-take runs i run n lt is =
-    ap (λ (rs : List PageRun). covers rs n) (take_more runs i run lt ∙ ap (λ (r : PageRun). take i runs ++ r ∷ []) (sym is)) ∙ covers-push (take i runs) run n
+covers-take runs i run n lt is = grind (arith, common_steps, nat_tests, take_more runs i run lt, covers-append (take i runs) (run ∷ []) n)
 
 pub take-all : (runs : List PageRun) (i : ℕ) → length runs ≤ i → i ≤ length runs → take i runs ≡ runs
 take-all runs i le ge = let same : i ≡ length runs = omega arith in rw same (take-length runs)

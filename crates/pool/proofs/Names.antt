@@ -13,8 +13,8 @@ pub use Rattle.pool.specs.Cells.{AreMarked, IsFilled, IsPageFilled, held}
 unfoldable pub use Rattle.pool.specs.Cells.{with_zeros}
 pub use Rattle.pool.specs.Pool.{CountsFree, CountsNonzero, HasFree, InShare, IsLowestFree, Memory, NoneFreeBelow, Pages, Pool, StandOnce, Words, after_invalidate, after_run, after_set, after_sets, counted, gap, gaps_of, index_from, lies_in, new_memory, pages_of, row_quota, share_start, used_by, with_mark, words_in}
 unfoldable pub use Rattle.pool.specs.Pool.{after_replaces, after_runs, gaps_from, mark, nonzero_in, put, sets_of, taken_of, words_of, words_set}
-pub use Rattle.pool.specs.Shown.{AllDiffer, IsShown}
-pub use Rattle.pool.specs.Writing.{AreThere, Grows, Puts, RecordsAll, TurnRuns, Wrote, indexes_set, log_of, range_set, replaces, runs_set, with_range}
+pub use Rattle.pool.specs.Shown.{IsShown}
+pub use Rattle.pool.specs.Writing.{AreThere, Grows, MayWrite, NoneThere, Puts, RecordsAll, TurnRuns, Wrote, indexes_set, log_of, range_set, replaces, runs_set, with_range, writes_of}
 pub use Rattle.pool.specs.declared.log.Log.{Log}
 pub use Rattle.pool.specs.declared.operation.Op.{Op}
 pub use Rattle.pool.specs.declared.operation.Op.TheVariants.{Set}

@@ -6,10 +6,6 @@ use Rattle.std.proofs.lemmas.List.{length-set, length-replicate, get_or-set_same
 use Rattle.pool.proofs.Count.{count_below-same, count_below-at, count_below-some, count_below-none, count_below-le, count_below-witness}
 use Rattle.pool.proofs.Words.{words_of-set_at, words_of-zeros}
 
-not-one : (b : Bool) → ◌≡◌ {A = ℕ} (cond (not b) 1 0) (cond b 0 1)
-not-one true = refl
-not-one false = refl
-
 -- a word of the page is written
 pub nonzero-put : (words : Words) (page index word : ℕ) → index < 512
     → nonzero_in (put page index word words) page + cond (words page index == 0) 0 1 ≡ nonzero_in words page + cond (word == 0) 0 1

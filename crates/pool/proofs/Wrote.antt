@@ -1,7 +1,7 @@
 -- What is written of a page, step by step.
-use Rattle.pool.proofs.Names.{common_steps, nat_tests, PageRun, covers, Pool, words_of, nonzero_in, counted, after_set, after_run, after_invalidate, index_from, words_in, gap, IsShown, Grows, Wrote, TurnRuns, with_range, range_set, runs_set, indexes_set, Log, Set, TableWords, WordRange}
+use Rattle.pool.proofs.Names.{common_steps, nat_tests, PageRun, covers, Pool, words_of, nonzero_in, counted, after_set, after_run, after_invalidate, index_from, words_in, gap, IsShown, Grows, Wrote, TurnRuns, with_range, range_set, runs_set, indexes_set, Log, Set, TableWords, WordRange, MayWrite, writes_of}
 use Rattle.std.proofs.Common.{◌≡◌, ◌≢◌, ℕ, slice_index, ◌+◌, ◌-◌, ◌*◌, ◌<◌, ◌≤◌, Bool, true, arith, List, [], ◌∷◌, ◌++◌, length, reverse, slice_set, vec_len, vec_capacity, refl, sym, subst, ap, ◌∙◌, inr}
-use Rattle.pool.specs.Writing.{MayWrite, MayWriteRuns, Records, CanWriteRuns, CanWriteIndexes, writes_of}
+use Rattle.pool.specs.Writing.{MayWriteRuns, Records, CanWriteRuns, CanWriteIndexes}
 use Rattle.pool.specs.declared.operation.Op.TheVariants.{Invalidate}
 use Rattle.pool.proofs.Stretches.{words_set-beside, vec_len-made, length-words_set, length-sets_of-part, next-writes, next-set, next-pass}
 use Rattle.pool.proofs.RunWords.{words-in_range, after_runs-none, after_runs-next, after_runs-append, words_in-append}
@@ -26,11 +26,7 @@ wrote-as {new = new} {after = after} wrote more same = grind (arith, common_step
 
 -- a pool that a store's words and a log show
 abbrev pub pool_of : List ℕ → Log → Pool
-pool_of words log = record {
-  memory = record { ids = []; quotas = []; words = words; taken = [] };
-  operations = reverse log.operations.items;
-  made = 0;
-}
+pool_of words log = record { memory = record { ids = []; quotas = []; words = words; taken = [] }; operations = reverse log.operations.items; made = 0 }
 
 pub wrote-is : {f : Pool → Pool} {page a : ℕ} {old new : List ℕ} {before after : Log} → Wrote f page a old new before after → IsShown new after.operations.items (f (pool_of old before))
 wrote-is {old = old} {before = before} wrote = wrote.shown (pool_of old before) (record { words = refl; operations = refl })
