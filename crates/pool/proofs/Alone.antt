@@ -1,10 +1,9 @@
 -- A page alone, whose word stands at an index.
 use Rattle.pool.proofs.Names.{nat_tests, common_steps, sets_of, after_runs, Pool, words_of, after_set, after_sets, words_set, index_from, words_in, runs_set, TableWords}
-use Rattle.std.proofs.Common.{◌≡◌, ◌≢◌, ℕ, ◌+◌, ◌-◌, ◌*◌, ◌<◌, ◌≤◌, ◌⊎◌, arith, [], ◌∷◌, length, slice_index, refl, sym, ap, ◌∙◌, inl, inr}
+use Rattle.std.proofs.Common.{◌≡◌, ◌≢◌, ℕ, ◌+◌, ◌-◌, ◌*◌, ◌<◌, ◌≤◌, ◌⊎◌, arith, [], ◌∷◌, length, slice_index, refl, sym, ◌∙◌}
 use Rattle.pool.specs.Writing.{page_alone}
 use Rattle.pool.proofs.Nonzero.{word-read}
 use Rattle.pool.proofs.Stretches.{set-one, pass-one}
-use Rattle.pool.proofs.Wrote.{alone-run}
 
 -- none of them is its
 pub alone-outside : (with : TableWords) (page : ℕ) → (page < with.start) ⊎ (with.start + 512 ≤ page) → (pool : Pool) → runs_set with (page_alone page ∷ []) pool ≡ pool

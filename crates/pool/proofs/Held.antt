@@ -1,10 +1,9 @@
 -- What places stand for of which some are empty, and which pages are filled.
 use Rattle.pool.proofs.Names.{nat_tests, common_steps, held, with_zeros, IsFilled, IsPageFilled, AreMarked}
-use Rattle.std.proofs.Common.{◌≡◌, ◌≢◌, ℕ, zero, suc, ◌+◌, ◌*◌, ◌/◌, ◌%◌, ◌<◌, ◌≤◌, ◌⊎◌, Bool, true, false, List, ◌∷◌, length, replicate, get_or, slice_index, slice_index_or, unwrap_or, is_some, Option, Some, None, refl, sym, ap, ◌∙◌, arith, inl, inr, add-one, true≢false}
+use Rattle.std.proofs.Common.{◌≡◌, ◌≢◌, ℕ, zero, suc, ◌+◌, ◌*◌, ◌/◌, ◌%◌, ◌<◌, ◌≤◌, ◌⊎◌, Bool, true, false, List, length, replicate, get_or, slice_index, slice_index_or, unwrap_or, is_some, Option, Some, None, refl, ap, ◌∙◌, arith, true≢false}
 use Rattle.std.proofs.Math.ListN.{set, get_or-map}
 use Rattle.std.proofs.Math.Nat.{div-add-mod, mod-lt}
 use Rattle.std.proofs.Math.Seq.{map-set_same}
-use Rattle.std.proofs.lemmas.Bool.{cases_eq, cases_lt}
 use Rattle.std.proofs.lemmas.List.{set-set, map-set, length-map, length-set, get_or-set_same, get_or-set_other}
 use Rattle.pool.specs.Cells.{IsPageEmpty}
 use Rattle.pool.proofs.Contents.{swept}

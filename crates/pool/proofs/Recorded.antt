@@ -1,7 +1,7 @@
 -- The words of a range, put and recorded one by one.
-use Rattle.std.proofs.Common.{◌≡◌, ◌≢◌, ℕ, ◌+◌, ◌-◌, ◌*◌, ◌<◌, ◌≤◌, ◌++◌, ◌∷◌, [], Bool, List, length, reverse, slice_index, slice_set, Vec, sym, ap, ◌∙◌, refl, arith}
+use Rattle.std.proofs.Common.{◌≡◌, ℕ, ◌+◌, ◌-◌, ◌*◌, ◌<◌, ◌≤◌, ◌++◌, ◌∷◌, [], Bool, List, length, slice_set, Vec, sym, ap, ◌∙◌, refl, arith}
 use Rattle.std.proofs.lemmas.List.{reverse-append}
-use Rattle.pool.proofs.Names.{common_steps, words_set, held, IsPageFilled, AreMarked, Grows, Puts, RecordsAll, Op, Set, WordRange}
+use Rattle.pool.proofs.Names.{common_steps, held, IsPageFilled, AreMarked, Grows, Puts, RecordsAll, Op, Set, WordRange}
 use Rattle.std.specs.declared.alloc.Global.{Global}
 use Rattle.pool.specs.declared.cells.Cells.{Cells}
 use Rattle.pool.proofs.Stretches.{first-words, first-writes, next-words, next-writes, next-differs}

@@ -1,10 +1,9 @@
 -- Words that are replaced one after another, and what else is kept.
-use Rattle.pool.proofs.Names.{common_steps, nat_tests, PageRun, Words, Pool, words_of, nonzero_in, words_set, sets_of, after_set, after_sets, after_invalidate, after_replaces}
-use Rattle.std.proofs.Common.{◌≡◌, ◌≢◌, ℕ, zero, suc, ◌+◌, ◌*◌, ◌%◌, ◌^◌, ◌<◌, ◌≤◌, ◌==◌, arith, true, false, length, slice_index, refl, sym, ap, ◌∙◌, inl, inr, add-one}
-use Rattle.std.proofs.lemmas.Bool.{cases_Bool}
+use Rattle.pool.proofs.Names.{common_steps, nat_tests, PageRun, Pool, words_of, nonzero_in, words_set, sets_of, after_set, after_sets, after_invalidate, after_replaces}
+use Rattle.std.proofs.Common.{◌≡◌, ◌≢◌, ℕ, zero, suc, ◌+◌, ◌*◌, ◌%◌, ◌^◌, ◌<◌, ◌≤◌, arith, length, refl, add-one}
 use Rattle.std.proofs.lemmas.List.{length-set}
 use Rattle.pool.specs.Pool.{after_break, after_make}
-use Rattle.pool.proofs.Words.{word-set, words_of-set_at}
+use Rattle.pool.proofs.Words.{word-set}
 use Rattle.pool.proofs.Nonzero.{word-read, nonzero-zeros}
 use Rattle.pool.proofs.Stretches.{words_set-beside}
 

@@ -1,5 +1,5 @@
 -- The row of a partition among the rows of a manifest.
-use Rattle.std.proofs.Common.{◌≡◌, ℕ, suc, ◌+◌, true, false, not, cond, eqb, ltb, List, [], ◌∷◌, length, position, Some, None, refl, arith}
+use Rattle.std.proofs.Common.{◌≡◌, ℕ, eqb, List, [], ◌∷◌, position, refl, arith}
 use Rattle.std.specs.List.{position_or_len}
 use Rattle.std.proofs.lemmas.List.{length-map}
 use Rattle.pool.proofs.Names.{common_steps, nat_tests, PartitionRow, ids_of}

@@ -1,7 +1,6 @@
 -- Rows and their shares, and how many pages of a share are taken.
-use Rattle.std.proofs.Common.{◌≡◌, ◌≢◌, ◌==◌, ℕ, ◌+◌, ◌-◌, ◌<◌, ◌≤◌, List, length, take, drop, sum, arith, Bool, true, false, sym, ◌∙◌, ap, inl, inr, get_or}
+use Rattle.std.proofs.Common.{◌≡◌, ◌≢◌, ◌==◌, ℕ, ◌+◌, ◌-◌, ◌<◌, ◌≤◌, List, length, take, drop, sum, arith, Bool, true, false}
 use Rattle.pool.proofs.Names.{common_steps, nat_tests, ManifestRows, row_of, page_count, Pages, InShare, share_start, row_quota, pages_of, taken_of, mark, with_mark, used_by, new_memory}
-use Rattle.std.proofs.lemmas.Bool.{cases_lt, eqb-true}
 use Rattle.std.proofs.lemmas.List.{get_or_past}
 use Rattle.std.proofs.lemmas.List.Sums.{sum_by-append, sum_by_more, passes_at_first}
 use Rattle.std.proofs.Math.Seq.{take-add}

@@ -1,7 +1,6 @@
 -- Where the operations of a list lie that calls make.
-use Rattle.pool.proofs.Names.{common_steps, list_all, nat_tests, row_of, page_count, PageRun, Pool, lies_in, sets_of, index_from, after_run, after_runs, after_replaces, Op, Set}
-use Rattle.std.proofs.Common.{◌≡◌, ℕ, zero, suc, ◌+◌, ◌-◌, ◌*◌, ◌^◌, ◌<◌, ◌≤◌, true, List, [], ◌∷◌, ◌++◌, length, refl, arith}
-use Rattle.std.proofs.lemmas.List.Folds.{list_all-append}
+use Rattle.pool.proofs.Names.{common_steps, list_all, nat_tests, row_of, page_count, PageRun, Pool, lies_in, sets_of, after_run, after_runs, after_replaces, Op, Set}
+use Rattle.std.proofs.Common.{◌≡◌, ℕ, zero, suc, ◌+◌, ◌*◌, ◌^◌, ◌<◌, ◌≤◌, true, List, [], ◌∷◌, ◌++◌, length, refl, arith}
 use Rattle.pool.proofs.RunWords.{run-within}
 
 pub set-within : (ids quotas : List ℕ) (page index word : ℕ) → page < page_count quotas → index < 512 → lies_in ids quotas (Set page index word) ≡ true

@@ -1,6 +1,6 @@
 -- What is written of a page, step by step.
 use Rattle.pool.proofs.Names.{common_steps, nat_tests, PageRun, covers, Pool, words_of, nonzero_in, counted, after_set, after_run, after_invalidate, index_from, words_in, gap, IsShown, Grows, Wrote, TurnRuns, with_range, range_set, runs_set, indexes_set, Log, Set, TableWords, WordRange, MayWrite, writes_of}
-use Rattle.std.proofs.Common.{◌≡◌, ◌≢◌, ℕ, slice_index, ◌+◌, ◌-◌, ◌*◌, ◌<◌, ◌≤◌, Bool, true, arith, List, [], ◌∷◌, ◌++◌, length, reverse, slice_set, vec_len, vec_capacity, refl, sym, subst, ap, ◌∙◌, inr}
+use Rattle.std.proofs.Common.{◌≡◌, ◌≢◌, ℕ, slice_index, ◌+◌, ◌-◌, ◌*◌, ◌<◌, ◌≤◌, Bool, true, arith, List, [], ◌∷◌, ◌++◌, length, reverse, slice_set, vec_len, vec_capacity, refl, sym, ap, ◌∙◌}
 use Rattle.pool.specs.Writing.{MayWriteRuns, Records, CanWriteRuns, CanWriteIndexes}
 use Rattle.pool.specs.declared.operation.Op.TheVariants.{Invalidate}
 use Rattle.pool.proofs.Stretches.{words_set-beside, vec_len-made, length-words_set, length-sets_of-part, next-writes, next-set, next-pass}

@@ -1,4 +1,4 @@
-use Rattle.std.proofs.Common.{◌+◌, arith}
+use Rattle.std.proofs.Common.{arith}
 use Rattle.pool.proofs.Recorded.{records-none, records-next, puts-none, puts-next}
 use Rattle.pool.proofs.Stretches.{first-word, next-word}
 use Rattle.pool.proofs.block.put_and_record.Goals as goal

@@ -1,4 +1,3 @@
-use Rattle.std.proofs.Common.{◌+◌}
 use Rattle.pool.proofs.Recorded.{puts-none, puts-next}
 use Rattle.pool.proofs.Stretches.{first-word, next-word}
 use Rattle.pool.proofs.block.put_words.Goals as goal

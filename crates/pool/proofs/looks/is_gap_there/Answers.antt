@@ -1,5 +1,4 @@
-use Rattle.std.proofs.Common.{◌≡◌, ◌+◌, ◌-◌, ◌*◌, subst, ◌∙◌, arith}
-use Rattle.pool.proofs.Names.{nat_tests, common_steps, words_of, AreThere, WordRange}
+use Rattle.std.proofs.Common.{◌≡◌, ◌+◌, ◌-◌, ◌∙◌, arith}
 use Rattle.pool.proofs.looks.is_gap_there.Goals as goal
 
 pub returns-clause-yes : goal.returns-clause-yes

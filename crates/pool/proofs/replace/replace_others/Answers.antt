@@ -1,5 +1,4 @@
 use Rattle.std.proofs.Common.{◌≡◌, ◌+◌, ◌-◌, ◌*◌, refl, sym, ◌∙◌, arith}
-use Rattle.pool.proofs.Names.{replaces}
 use Rattle.pool.proofs.Replaced.{replaces-none, replaces-then}
 use Rattle.pool.proofs.Stretches.{first-word, next-word}
 use Rattle.pool.proofs.Wrote.{wrote-none, wrote-then, wrote-as}

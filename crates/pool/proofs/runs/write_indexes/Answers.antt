@@ -1,5 +1,5 @@
 use Rattle.std.proofs.Common.{◌≡◌, ◌-◌, ◌*◌, ◌+◌, arith}
-use Rattle.pool.proofs.Names.{nat_tests, common_steps, indexes_set}
+use Rattle.pool.proofs.Names.{indexes_set}
 use Rattle.pool.proofs.RunWords.{sets-none}
 use Rattle.pool.proofs.Stretches.{length-sets_of-le}
 use Rattle.pool.proofs.Wrote.{wrote-none, may-range}

@@ -1,4 +1,4 @@
-use Rattle.std.proofs.Common.{◌+◌, arith}
+use Rattle.std.proofs.Common.{arith}
 use Rattle.pool.proofs.Recorded.{records-none, records-next}
 use Rattle.pool.proofs.Stretches.{first-word, next-word}
 use Rattle.pool.proofs.stretch.record_all.Goals as goal

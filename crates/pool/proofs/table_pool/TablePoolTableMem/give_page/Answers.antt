@@ -1,4 +1,4 @@
-use Rattle.pool.proofs.Names.{nat_tests, common_steps}
+use Rattle.pool.proofs.Names.{nat_tests}
 use Rattle.std.proofs.Common.{◌≡◌, refl, false, ◌+◌, ◌∙◌, ◌<◌, length, slice_index, arith, ap, min}
 use Rattle.std.proofs.lemmas.List.{get_or_read}
 use Rattle.std.proofs.Math.ListN.{length-set}

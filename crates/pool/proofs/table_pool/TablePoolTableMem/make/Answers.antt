@@ -1,5 +1,5 @@
 use Rattle.std.proofs.Common.{◌≡◌, ◌+◌, ◌*◌, ◌∙◌, ap, arith, true, false, length, replicate, ◌++◌, sum}
-use Rattle.pool.proofs.Names.{nat_tests, common_steps, quotas_of, page_count}
+use Rattle.pool.proofs.Names.{common_steps, quotas_of, page_count}
 use Rattle.std.proofs.lemmas.List.{length-append, length-replicate}
 use Rattle.pool.proofs.Words.{words_of-zeros}
 use Rattle.pool.proofs.Nonzero.{counts_nonzero-new}

@@ -1,5 +1,4 @@
-use Rattle.std.proofs.Common.{arith}
-use Rattle.pool.proofs.Names.{nat_tests, common_steps, gaps_of}
+use Rattle.pool.proofs.Names.{gaps_of}
 use Rattle.pool.proofs.Written.{runs-stay, runs-state}
 use Rattle.pool.proofs.table_pool.TablePoolTableMem.set_gaps.Goals as goal
 

@@ -1,5 +1,3 @@
-use Rattle.std.proofs.Common.{arith}
-use Rattle.pool.proofs.Names.{nat_tests, common_steps}
 use Rattle.pool.proofs.Written.{runs-stay, runs-state}
 use Rattle.pool.proofs.table_pool.TablePoolTableMem.turn_runs.Goals as goal
 
