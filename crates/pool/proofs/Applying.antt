@@ -1,6 +1,5 @@
 -- One operation more on a copy of the words.
-use Rattle.std.proofs.Common.{◌≡◌, ℕ, ◌+◌, ◌*◌, length, slice_set}
-use Rattle.pool.proofs.Names.{Op, Set, words_of}
+use Rattle.pool.proofs.Names.{Op, Set, words_of, ◌≡◌, ℕ, ◌+◌, ◌*◌, length, slice_set}
 use Rattle.pool.specs.Pool.{ImageWords, IsInImage, applied}
 use Rattle.pool.proofs.Words.{words_of-set}
 

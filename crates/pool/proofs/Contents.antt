@@ -1,7 +1,5 @@
 -- The places of a block, while they are emptied one after another.
-use Rattle.std.proofs.Common.{◌≡◌, ℕ, zero, suc, ◌+◌, ◌<◌, List, [], ◌∷◌, ◌++◌, length, replicate, drop, get_or, refl, ap, arith, add-one}
-use Rattle.pool.proofs.Names.{common_steps}
-use Rattle.std.proofs.Math.ListN.{set}
+use Rattle.pool.proofs.Names.{common_steps, set, ◌≡◌, ℕ, zero, suc, ◌+◌, ◌<◌, List, [], ◌∷◌, ◌++◌, length, replicate, drop, get_or, refl, ap, arith, add-one}
 
 -- ---- places that are changed one after another
 

@@ -1,7 +1,5 @@
 -- How many of the first numbers pass a test.
-use Rattle.pool.proofs.Names.{nat_tests, common_steps, count_below}
-use Rattle.std.proofs.Common.{◌≡◌, ◌≢◌, ℕ, zero, suc, ◌+◌, ◌<◌, ◌≤◌, arith, Bool, true, false, cond, refl, inl, inr, add-one}
-use Rattle.std.proofs.lemmas.Bool.{cases_eq}
+use Rattle.pool.proofs.Names.{nat_tests, common_steps, count_below, cases_eq, ◌≡◌, ◌≢◌, ℕ, zero, suc, ◌+◌, ◌<◌, ◌≤◌, arith, Bool, true, false, cond, refl, inl, inr, add-one}
 
 -- tests that agree have the same count
 pub count_below-same : (passes others : ℕ → Bool) (n : ℕ) → ((k : ℕ) → k < n → others k ≡ passes k) → count_below others n ≡ count_below passes n

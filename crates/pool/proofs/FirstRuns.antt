@@ -1,6 +1,5 @@
 -- The pages of the first of some runs.
-use Rattle.pool.proofs.Names.{nat_tests, common_steps, PageRun, in_run, covers}
-use Rattle.std.proofs.Common.{◌≡◌, ℕ, ◌+◌, ◌<◌, ◌≤◌, ◌||◌, List, [], ◌∷◌, take, length, get_or, arith}
+use Rattle.pool.proofs.Names.{nat_tests, common_steps, PageRun, in_run, covers, ◌≡◌, ℕ, ◌+◌, ◌<◌, ◌≤◌, ◌||◌, List, [], ◌∷◌, take, length, get_or, arith}
 use Rattle.std.proofs.lemmas.List.{take_more}
 use Rattle.pool.proofs.Gaps.{covers-append}
 use Rattle.std.proofs.Math.Seq.{take-length}

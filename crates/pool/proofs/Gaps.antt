@@ -1,8 +1,7 @@
 -- The pages beside runs, as runs.
-use Rattle.pool.proofs.Names.{common_steps, nat_tests, PageRun, covers, rise, Pool, after_sets, index_from, words_in, after_runs, gap, gaps_from, gaps_of}
+use Rattle.pool.proofs.Names.{common_steps, nat_tests, PageRun, covers, rise, Pool, after_sets, index_from, words_in, after_runs, gap, gaps_from, gaps_of, at_drop_more, at_drop_all}
 use Rattle.std.proofs.Common.{◌≡◌, ℕ, ◌+◌, ◌-◌, ◌<◌, ◌≤◌, ◌||◌, true, false, max, ◌*◌, List, [], ◌∷◌, ◌++◌, length, drop, get_or, refl, arith}
 use Rattle.base.specs.Pages.{rise_above, are_normal}
-use Rattle.std.proofs.lemmas.List.{at_drop_more, at_drop_all}
 use Rattle.pool.proofs.RunWords.{after_runs-none, after_runs-next, words_in-append, sets-none}
 
 -- ---- one gap

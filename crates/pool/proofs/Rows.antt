@@ -1,8 +1,7 @@
 -- The row of a partition among the rows of a manifest.
 use Rattle.std.proofs.Common.{◌≡◌, ℕ, eqb, List, [], ◌∷◌, position, refl, arith}
 use Rattle.std.specs.List.{position_or_len}
-use Rattle.std.proofs.lemmas.List.{length-map}
-use Rattle.pool.proofs.Names.{common_steps, nat_tests, PartitionRow, ids_of}
+use Rattle.pool.proofs.Names.{common_steps, nat_tests, PartitionRow, ids_of, length-map}
 
 -- it is the row among their identifiers
 pub position_ids : (rows : List PartitionRow) (p : ℕ) → position (λ id. eqb id p) (ids_of rows) ≡ position (λ row. eqb row.id p) rows

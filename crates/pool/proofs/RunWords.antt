@@ -1,7 +1,6 @@
 -- The words for the pages of runs, and what else is kept.
-use Rattle.pool.proofs.Names.{nat_tests, common_steps, PageRun, Pool, words_set, sets_of, after_sets, index_from, words_in, after_run, after_runs}
+use Rattle.pool.proofs.Names.{nat_tests, common_steps, PageRun, Pool, words_set, sets_of, after_sets, index_from, words_in, after_run, after_runs, length-append, at_drop_more}
 use Rattle.std.proofs.Common.{◌≡◌, ℕ, ◌+◌, ◌-◌, ◌*◌, ◌^◌, ◌<◌, ◌≤◌, arith, List, [], ◌∷◌, ◌++◌, length, get_or, drop, refl, sym, ap}
-use Rattle.std.proofs.lemmas.List.{length-append, at_drop_more}
 use Rattle.pool.proofs.Stretches.{length-words_set, words_set-other, counted-length}
 use Rattle.pool.proofs.Replaced.{Keeps, keeps-self, keeps-more}
 

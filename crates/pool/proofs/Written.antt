@@ -1,8 +1,7 @@
 -- What a table memory is, once words of one of its pages are written.
-use Rattle.pool.proofs.Names.{nat_tests, list_all, page_count, PageRun, Pool, words_of, taken_of, lies_in, CountsFree, CountsNonzero, NoneFreeBelow, IsShown, Wrote, log_of, runs_set, Log, TableWords, TablePool}
+use Rattle.pool.proofs.Names.{nat_tests, list_all, page_count, PageRun, Pool, words_of, taken_of, lies_in, CountsFree, CountsNonzero, NoneFreeBelow, IsShown, Wrote, log_of, runs_set, Log, TableWords, TablePool, Ghosts}
 use Rattle.std.proofs.Common.{◌≡◌, ◌≢◌, ℕ, ◌+◌, ◌*◌, ◌%◌, ◌^◌, ◌<◌, ◌≤◌, Bool, true, false, List, length, reverse, slice_set, true≢false, refl, sym, ap, ◌∙◌, arith}
 use Rattle.std.proofs.lemmas.List.{length-reverse}
-use Rattle.pool.specs.declared.word_store.WordStore.{Ghosts}
 use Rattle.pool.proofs.Kept.{memory_in}
 use Rattle.pool.proofs.Nonzero.{counts_nonzero-page}
 use Rattle.pool.proofs.Replaced.{Keeps, pools-same}

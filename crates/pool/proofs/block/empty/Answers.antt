@@ -1,5 +1,4 @@
-use Rattle.pool.proofs.Names.{nat_tests, common_steps}
-use Rattle.std.proofs.Common.{arith}
+use Rattle.pool.proofs.Names.{nat_tests, common_steps, arith}
 use Rattle.pool.proofs.Contents.{swept-here, swept-next}
 use Rattle.pool.proofs.Held.{filled-place, empty-place, swept-empty}
 use Rattle.pool.proofs.block.empty.Goals.{then-is_marked, else-is_marked}

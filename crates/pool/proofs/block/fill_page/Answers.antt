@@ -1,5 +1,4 @@
-use Rattle.pool.proofs.Names.{nat_tests, common_steps}
-use Rattle.std.proofs.Common.{sym, arith, refl}
+use Rattle.pool.proofs.Names.{nat_tests, common_steps, sym, arith, refl}
 use Rattle.pool.proofs.Held.{length-zeros, zeros-none, zeros-next, zeros-beside}
 use Rattle.pool.proofs.block.fill_page.Goals as goal
 

@@ -1,6 +1,5 @@
 -- The places of the page below `index` are filled.
-use Rattle.std.proofs.Common.{◌≡◌}
-use Rattle.pool.proofs.Names.{with_zeros}
+use Rattle.pool.proofs.Names.{with_zeros, ◌≡◌}
 use Rattle.pool.proofs.block.fill_page.Given as goal
 
 abbrev pub invariant-loop-index : goal.invariant-loop-index

@@ -1,5 +1,4 @@
-use Rattle.std.proofs.Common.{◌≡◌, ◌+◌, ◌-◌, ◌*◌}
-use Rattle.pool.proofs.Names.{Puts}
+use Rattle.pool.proofs.Names.{Puts, ◌≡◌, ◌+◌, ◌-◌, ◌*◌}
 use Rattle.pool.proofs.block.put_words.Given as goal
 
 -- the words before this index are written

@@ -1,5 +1,4 @@
-use Rattle.pool.proofs.Names.{nat_tests, common_steps, index_from, gap, gaps_from}
-use Rattle.std.proofs.Common.{◌+◌, drop, max, ap, ◌∙◌, arith, refl}
+use Rattle.pool.proofs.Names.{nat_tests, common_steps, index_from, gap, gaps_from, ◌+◌, drop, max, ap, ◌∙◌, arith, refl}
 use Rattle.pool.proofs.Gaps.{gaps-left, gaps-done, covers-append, gap-at, gap-has}
 use Rattle.pool.proofs.looks.are_gaps_there.Goals as goal
 

@@ -1,5 +1,4 @@
-use Rattle.std.proofs.Common.{◌≡◌, ℕ, ◌+◌, ◌*◌, ◌<◌, ◌≤◌, drop, true, false}
-use Rattle.pool.proofs.Names.{covers, words_of, gaps_from, gaps_of}
+use Rattle.pool.proofs.Names.{covers, words_of, gaps_from, gaps_of, ◌≡◌, ℕ, ◌+◌, ◌*◌, ◌<◌, ◌≤◌, drop, true, false}
 use Rattle.pool.proofs.looks.are_gaps_there.Given as goal
 
 -- the words of all gaps but those that are left are there

@@ -1,5 +1,4 @@
-use Rattle.pool.proofs.Names.{nat_tests}
-use Rattle.std.proofs.Common.{◌≡◌, ◌+◌, ◌-◌, arith, inl, inr}
+use Rattle.pool.proofs.Names.{nat_tests, ◌≡◌, ◌+◌, ◌-◌, arith, inl, inr}
 use Rattle.std.proofs.lemmas.Bool.{cases_Bool}
 use Rattle.pool.proofs.Nonzero.{word-read}
 use Rattle.pool.proofs.Stretches.{next-word}

@@ -1,5 +1,4 @@
-use Rattle.std.proofs.Common.{◌≡◌, ◌+◌, ◌-◌, ◌*◌, true, false}
-use Rattle.pool.proofs.Names.{AreThere}
+use Rattle.pool.proofs.Names.{AreThere, ◌≡◌, ◌+◌, ◌-◌, ◌*◌, true, false}
 use Rattle.pool.specs.Writing.{IsMissing}
 use Rattle.pool.proofs.looks.are_there.Given as goal
 

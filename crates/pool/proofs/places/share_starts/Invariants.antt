@@ -1,6 +1,5 @@
 -- The shares of the rows so far begin where the list says, and the next one begins at `start`.
-use Rattle.std.proofs.Common.{◌≡◌, ℕ, ◌<◌, length, slice_index}
-use Rattle.pool.proofs.Names.{share_start}
+use Rattle.pool.proofs.Names.{share_start, ◌≡◌, ℕ, ◌<◌, length, slice_index}
 use Rattle.pool.proofs.places.share_starts.Given as goal
 
 abbrev pub invariant-loop-quota : goal.invariant-loop-quota

@@ -1,5 +1,4 @@
-use Rattle.pool.proofs.Names.{nat_tests, common_steps}
-use Rattle.std.proofs.Common.{arith}
+use Rattle.pool.proofs.Names.{nat_tests, common_steps, arith}
 use Rattle.pool.proofs.Nonzero.{read-test, word-read}
 use Rattle.pool.proofs.Replaced.{break-none, break-some}
 use Rattle.pool.proofs.Words.{word-set}

@@ -1,5 +1,4 @@
-use Rattle.pool.proofs.Names.{nat_tests, common_steps}
-use Rattle.std.proofs.Common.{arith}
+use Rattle.pool.proofs.Names.{nat_tests, common_steps, arith}
 use Rattle.pool.proofs.Replaced.{replaces-fresh}
 use Rattle.pool.proofs.Turned.{turns-empty}
 use Rattle.pool.proofs.Wrote.{wrote-as}

@@ -1,5 +1,4 @@
-use Rattle.pool.proofs.Names.{nat_tests, common_steps}
-use Rattle.std.proofs.Common.{arith}
+use Rattle.pool.proofs.Names.{nat_tests, common_steps, arith}
 use Rattle.pool.proofs.Replaced.{replaces-one}
 use Rattle.pool.proofs.Wrote.{wrote-then, wrote-as}
 use Rattle.pool.proofs.replace.replace_one.Goals as goal

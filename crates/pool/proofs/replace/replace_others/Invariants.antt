@@ -1,5 +1,4 @@
-use Rattle.std.proofs.Common.{◌≡◌, ◌+◌, ◌-◌, ◌*◌}
-use Rattle.pool.proofs.Names.{Wrote, replaces}
+use Rattle.pool.proofs.Names.{Wrote, replaces, ◌≡◌, ◌+◌, ◌-◌, ◌*◌}
 use Rattle.pool.proofs.replace.replace_others.Given as goal
 
 -- the words before this index are replaced

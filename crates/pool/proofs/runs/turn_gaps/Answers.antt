@@ -1,5 +1,4 @@
-use Rattle.pool.proofs.Names.{nat_tests, common_steps, index_from, gap, gaps_from}
-use Rattle.std.proofs.Common.{◌+◌, ◌≤◌, [], drop, max, refl, ap, ◌∙◌, arith}
+use Rattle.pool.proofs.Names.{nat_tests, common_steps, index_from, gap, gaps_from, ◌+◌, ◌≤◌, [], drop, max, refl, ap, ◌∙◌, arith}
 use Rattle.std.proofs.lemmas.List.{append-nil}
 use Rattle.pool.proofs.Gaps.{gaps-left, gaps-done, gaps-behind}
 use Rattle.pool.proofs.Wrote.{left-can, left-less, left-none, can-gap, wrote-gap, wrote-beside, turned-rest}

@@ -1,5 +1,4 @@
-use Rattle.std.proofs.Common.{◌≡◌, drop, ◌≤◌}
-use Rattle.pool.proofs.Names.{gaps_from, gaps_of, TurnRuns}
+use Rattle.pool.proofs.Names.{gaps_from, gaps_of, TurnRuns, ◌≡◌, drop, ◌≤◌}
 use Rattle.pool.proofs.Wrote.{Left}
 use Rattle.pool.proofs.runs.turn_gaps.Given as goal
 

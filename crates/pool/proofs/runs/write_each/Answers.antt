@@ -1,5 +1,4 @@
-use Rattle.pool.proofs.Names.{nat_tests, common_steps}
-use Rattle.std.proofs.Common.{◌+◌, [], ◌∷◌, drop, ◌∙◌, arith, inl, inr}
+use Rattle.pool.proofs.Names.{nat_tests, common_steps, ◌+◌, [], ◌∷◌, drop, ◌∙◌, arith, inl, inr}
 use Rattle.std.proofs.lemmas.Bool.{cases_lt}
 use Rattle.pool.proofs.Gaps.{above, before-rise, rise-lower, rise-normal}
 use Rattle.pool.proofs.Turned.{runs-left, runs-done}

@@ -1,5 +1,4 @@
-use Rattle.std.proofs.Common.{◌≡◌, ◌==◌, drop, not, true}
-use Rattle.pool.proofs.Names.{rise, TurnRuns}
+use Rattle.pool.proofs.Names.{rise, TurnRuns, ◌≡◌, ◌==◌, drop, not, true}
 use Rattle.pool.proofs.Wrote.{Left}
 use Rattle.pool.proofs.runs.write_each.Given as goal
 

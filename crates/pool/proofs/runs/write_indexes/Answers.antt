@@ -1,5 +1,4 @@
-use Rattle.std.proofs.Common.{◌≡◌, ◌-◌, ◌*◌, ◌+◌, arith}
-use Rattle.pool.proofs.Names.{indexes_set}
+use Rattle.pool.proofs.Names.{indexes_set, ◌≡◌, ◌-◌, ◌*◌, ◌+◌, arith}
 use Rattle.pool.proofs.RunWords.{sets-none}
 use Rattle.pool.proofs.Stretches.{length-sets_of-le}
 use Rattle.pool.proofs.Wrote.{wrote-none, may-range}

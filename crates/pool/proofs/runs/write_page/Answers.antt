@@ -1,5 +1,4 @@
-use Rattle.pool.proofs.Names.{common_steps, nat_tests, words_of}
-use Rattle.std.proofs.Common.{◌≡◌, ◌≢◌, ◌==◌, ℕ, ap, sym, ◌∙◌, arith}
+use Rattle.pool.proofs.Names.{common_steps, nat_tests, words_of, ◌≡◌, ◌≢◌, ◌==◌, ℕ, ap, sym, ◌∙◌, arith}
 use Rattle.pool.proofs.Alone.{alone-outside, alone-words, alone-set, alone-stays}
 use Rattle.pool.proofs.Wrote.{wrote-none, wrote-as}
 use Rattle.pool.proofs.runs.write_page.Goals as goal

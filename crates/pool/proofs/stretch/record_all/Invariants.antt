@@ -1,5 +1,4 @@
-use Rattle.std.proofs.Common.{◌≡◌, ◌+◌, ◌-◌, ◌*◌}
-use Rattle.pool.proofs.Names.{RecordsAll}
+use Rattle.pool.proofs.Names.{RecordsAll, ◌≡◌, ◌+◌, ◌-◌, ◌*◌}
 use Rattle.pool.proofs.stretch.record_all.Given as goal
 
 -- the writes before this index are recorded

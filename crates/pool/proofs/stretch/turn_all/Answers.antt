@@ -1,5 +1,4 @@
-use Rattle.pool.proofs.Names.{words_of}
-use Rattle.std.proofs.Common.{arith}
+use Rattle.pool.proofs.Names.{words_of, arith}
 use Rattle.pool.proofs.Nonzero.{nonzero-le}
 use Rattle.pool.proofs.Turned.{turned-differ, turned-least, turned-counted}
 use Rattle.pool.proofs.Wrote.{wrote-range}

@@ -1,5 +1,4 @@
-use Rattle.pool.proofs.Names.{nat_tests, common_steps}
-use Rattle.std.proofs.Common.{refl, sym, ◌∙◌, arith}
+use Rattle.pool.proofs.Names.{nat_tests, common_steps, refl, sym, ◌∙◌, arith}
 use Rattle.pool.proofs.Nonzero.{read-test}
 use Rattle.pool.proofs.Stretches.{first-word, first-set, next-word}
 use Rattle.pool.proofs.Wrote.{wrote-none, wrote-next, wrote-pass, next-room}

@@ -1,5 +1,4 @@
-use Rattle.std.proofs.Common.{◌≡◌, ◌+◌, ◌-◌, ◌*◌}
-use Rattle.pool.proofs.Names.{Wrote, range_set}
+use Rattle.pool.proofs.Names.{Wrote, range_set, ◌≡◌, ◌+◌, ◌-◌, ◌*◌}
 use Rattle.pool.proofs.stretch.write_others.Given as goal
 
 -- the words before this index are written

@@ -1,5 +1,4 @@
-use Rattle.pool.proofs.Names.{nat_tests, common_steps, log_of}
-use Rattle.std.proofs.Common.{arith}
+use Rattle.pool.proofs.Names.{nat_tests, common_steps, log_of, arith}
 use Rattle.pool.proofs.Nonzero.{nonzero-le, recount-some, recount}
 use Rattle.pool.proofs.Wrote.{wrote-set}
 use Rattle.pool.proofs.stretch.write_word.Goals as goal

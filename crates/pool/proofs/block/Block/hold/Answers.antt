@@ -1,5 +1,4 @@
-use Rattle.pool.proofs.Names.{nat_tests, common_steps}
-use Rattle.std.proofs.Common.{refl, arith, true}
+use Rattle.pool.proofs.Names.{nat_tests, common_steps, refl, arith, true}
 use Rattle.std.proofs.lemmas.List.{get_or_read, length-set}
 use Rattle.pool.proofs.Held.{length-zeros, held-zeros, marked-fill}
 use Rattle.pool.proofs.block.Block.hold.Goals as goal

@@ -1,5 +1,4 @@
-use Rattle.pool.proofs.Names.{nat_tests, common_steps}
-use Rattle.std.proofs.Common.{arith}
+use Rattle.pool.proofs.Names.{nat_tests, common_steps, arith}
 use Rattle.pool.proofs.Held.{filled-place, empty-place, held-none}
 use Rattle.pool.proofs.block.Block.word_at.Goals as goal
 

@@ -1,6 +1,4 @@
-use Rattle.pool.proofs.Names.{nat_tests, common_steps}
-use Rattle.std.proofs.Common.{arith}
-use Rattle.std.proofs.lemmas.List.{get_or_read}
+use Rattle.pool.proofs.Names.{nat_tests, common_steps, arith, get_or_read}
 use Rattle.pool.proofs.Held.{length-held, filled-at, held-none}
 use Rattle.pool.proofs.block.BlockWordStore.word.Goals as goal
 

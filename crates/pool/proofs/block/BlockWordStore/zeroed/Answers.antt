@@ -1,5 +1,4 @@
-use Rattle.std.proofs.Common.{◌∙◌, ap}
-use Rattle.pool.proofs.Names.{held}
+use Rattle.pool.proofs.Names.{held, ◌∙◌, ap}
 use Rattle.pool.proofs.Held.{held-new}
 use Rattle.pool.proofs.block.BlockWordStore.zeroed.Goals as goal
 

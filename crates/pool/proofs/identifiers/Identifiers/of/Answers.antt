@@ -1,6 +1,4 @@
-use Rattle.std.proofs.Common.{ap, sym, subst, ◌∙◌, arith}
-use Rattle.std.proofs.lemmas.List.{length-map}
-use Rattle.pool.proofs.Names.{PartitionRow, ids_of, StandOnce}
+use Rattle.pool.proofs.Names.{PartitionRow, ids_of, StandOnce, length-map, ap, sym, subst, ◌∙◌, arith}
 use Rattle.manifest.proofs.Facts.{facts, row_of-id}
 use Rattle.pool.proofs.identifiers.Identifiers.of.Goals as goal
 

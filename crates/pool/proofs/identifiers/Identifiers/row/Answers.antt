@@ -1,7 +1,6 @@
 use Rattle.std.proofs.Common.{◌≡◌, true, ltb, length, get_or, refl, sym, ap, subst, ◌∙◌, arith}
 use Rattle.std.proofs.lemmas.Bool.{eqb-true}
-use Rattle.pool.proofs.Names.{nat_tests, row_of, StandOnce}
-use Rattle.std.proofs.lemmas.List.{get_or_read}
+use Rattle.pool.proofs.Names.{nat_tests, row_of, StandOnce, get_or_read}
 use Rattle.pool.proofs.identifiers.Identifiers.row.Goals as goal
 
 pub returns-then-eq : goal.returns-then-eq

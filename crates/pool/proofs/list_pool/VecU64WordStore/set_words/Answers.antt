@@ -1,5 +1,4 @@
-use Rattle.pool.proofs.Names.{nat_tests, common_steps}
-use Rattle.std.proofs.Common.{◌+◌, ◌*◌, slice_set, sym, ap, ◌∙◌, arith}
+use Rattle.pool.proofs.Names.{nat_tests, common_steps, ◌+◌, ◌*◌, slice_set, sym, ap, ◌∙◌, arith}
 use Rattle.pool.proofs.Stretches.{length-words_set, first-word, first-words, next-word, next-words}
 use Rattle.pool.proofs.list_pool.VecU64WordStore.set_words.Goals as goal
 

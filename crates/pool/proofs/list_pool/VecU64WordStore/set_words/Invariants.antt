@@ -1,5 +1,4 @@
-use Rattle.std.proofs.Common.{◌≡◌, ◌+◌, ◌-◌, ◌*◌}
-use Rattle.pool.proofs.Names.{with_range}
+use Rattle.pool.proofs.Names.{with_range, ◌≡◌, ◌+◌, ◌-◌, ◌*◌}
 use Rattle.pool.proofs.list_pool.VecU64WordStore.set_words.Given as goal
 
 -- the words before this index are written

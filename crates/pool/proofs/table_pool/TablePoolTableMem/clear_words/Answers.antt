@@ -1,5 +1,4 @@
-use Rattle.pool.proofs.Names.{nat_tests, common_steps}
-use Rattle.std.proofs.Common.{reverse, arith}
+use Rattle.pool.proofs.Names.{nat_tests, common_steps, reverse, arith}
 use Rattle.pool.proofs.RunWords.{keeps-sets}
 use Rattle.pool.proofs.Stretches.{nonzero-sets_of}
 use Rattle.pool.proofs.Within.{within-behind}

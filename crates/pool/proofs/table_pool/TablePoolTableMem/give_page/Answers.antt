@@ -1,6 +1,5 @@
-use Rattle.pool.proofs.Names.{nat_tests}
+use Rattle.pool.proofs.Names.{nat_tests, get_or_read}
 use Rattle.std.proofs.Common.{◌≡◌, refl, false, ◌+◌, ◌∙◌, ◌<◌, length, slice_index, arith, ap, min}
-use Rattle.std.proofs.lemmas.List.{get_or_read}
 use Rattle.std.proofs.Math.ListN.{length-set}
 use Rattle.pool.proofs.Words.{words_of-beyond, mark-set}
 use Rattle.pool.proofs.Shares.{share_inside, used_by-give}

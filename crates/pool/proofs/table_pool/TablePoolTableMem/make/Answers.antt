@@ -1,6 +1,4 @@
-use Rattle.std.proofs.Common.{◌≡◌, ◌+◌, ◌*◌, ◌∙◌, ap, arith, true, false, length, replicate, ◌++◌, sum}
-use Rattle.pool.proofs.Names.{common_steps, quotas_of, page_count}
-use Rattle.std.proofs.lemmas.List.{length-append, length-replicate}
+use Rattle.pool.proofs.Names.{common_steps, quotas_of, page_count, length-append, length-replicate, ◌≡◌, ◌+◌, ◌*◌, ◌∙◌, ap, arith, true, false, length, replicate, ◌++◌, sum}
 use Rattle.pool.proofs.Words.{words_of-zeros}
 use Rattle.pool.proofs.Nonzero.{counts_nonzero-new}
 use Rattle.pool.proofs.Kept.{roots-new, taken_of-new, length-quotas_of, page_count-le, counts-new}

@@ -1,5 +1,4 @@
-use Rattle.pool.proofs.Names.{nat_tests, common_steps}
-use Rattle.std.proofs.Common.{◌+◌, ◌-◌, ◌≤◌, arith}
+use Rattle.pool.proofs.Names.{nat_tests, common_steps, ◌+◌, ◌-◌, ◌≤◌, arith}
 use Rattle.pool.proofs.Replaced.{keeps-replaces}
 use Rattle.pool.proofs.Within.{within-replaces}
 use Rattle.pool.proofs.Written.{stays, state, pool_in}

@@ -1,5 +1,4 @@
-use Rattle.pool.proofs.Names.{nat_tests, common_steps}
-use Rattle.std.proofs.Common.{arith}
+use Rattle.pool.proofs.Names.{nat_tests, common_steps, arith}
 use Rattle.pool.proofs.Nonzero.{read-test}
 use Rattle.pool.proofs.Replaced.{keeps-set}
 use Rattle.pool.proofs.Stretches.{vec_len-made}

@@ -1,8 +1,5 @@
-use Rattle.std.proofs.Common.{◌≡◌, refl, ◌+◌, ℕ, ◌-◌, ◌<◌, ◌∙◌, arith, length, slice_index, get_or, ap, true}
-use Rattle.std.proofs.lemmas.List.{get_or_read}
 use Rattle.std.proofs.Math.ListN.{length-set}
-use Rattle.pool.proofs.Names.{nat_tests, common_steps, HasFree, IsLowestFree, TablePool, IsFirstUnmarked}
-use Rattle.pool.specs.declared.word_store.WordStore.{Ghosts}
+use Rattle.pool.proofs.Names.{nat_tests, common_steps, HasFree, IsLowestFree, TablePool, IsFirstUnmarked, get_or_read, Ghosts, ◌≡◌, refl, ◌+◌, ℕ, ◌-◌, ◌<◌, ◌∙◌, arith, length, slice_index, get_or, ap, true}
 use Rattle.pool.proofs.Words.{mark-set}
 use Rattle.pool.proofs.Shares.{share_inside, used_by-take}
 use Rattle.pool.proofs.Kept.{memory_in, pages_in, some-unmarked, found-lowest, row-within, counts-set, below-set}

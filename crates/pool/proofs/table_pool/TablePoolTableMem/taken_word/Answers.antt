@@ -1,5 +1,4 @@
-use Rattle.std.proofs.Common.{arith}
-use Rattle.pool.proofs.Names.{common_steps, nat_tests, words_of}
+use Rattle.pool.proofs.Names.{common_steps, nat_tests, words_of, arith}
 use Rattle.pool.proofs.table_pool.TablePoolTableMem.taken_word.Goals as goal
 
 pub returns : goal.returns
