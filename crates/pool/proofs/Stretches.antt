@@ -119,11 +119,7 @@ nonzero-cleared words page first (suc n) room small others = grind (arith, nat_t
 -- none of a range is there: the next one is not once the words before it are written
 pub next-differs : (r : WordRange) (i word : ℕ) (words : List ℕ) → r.first ≤ i → word ≡ r.word + r.step * (i - r.first) → i < 512 → 512 * r.page + 512 ≤ length words → NoneThere words (record r { end = i + 1 })
     → slice_index (with_range words (record r { end = i })) (512 * r.page + i) ≢ word
-next-differs r i word words from is small room differ same =
-    let at : r.first + (i - r.first) ≡ i = omega (arith, from) in
-    let beside = words_set-beside words r.page r.first (i - r.first) r.word r.step i room (omega (arith, at, small)) (inr (omega (arith, at))) in
-    let read = word-read (with_range words (record r { end = i })) r.page i (slice_index (with_range words (record r { end = i })) (512 * r.page + i)) small refl in
-    differ (i - r.first) (omega (arith, from)) (rw at (sym beside ∙ sym read ∙ same ∙ is))
+next-differs r i word words from is small room differ same = grind (arith, nat_tests, differ (i - r.first), words_set-beside words r.page r.first (i - r.first) r.word r.step i room, word-read (with_range words (record r { end = i })) r.page i (slice_index (with_range words (record r { end = i })) (512 * r.page + i)) small refl)
 
 -- ---- how many operations they are
 

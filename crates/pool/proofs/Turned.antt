@@ -10,15 +10,15 @@ use Rattle.pool.proofs.Stretches.{nonzero-filled, nonzero-cleared}
 module _ {old : List ℕ} {r : WordRange} (turned : Turns old r) where
   -- where the new words are 0, the old ones are not
   was-other : r.word ≡ 0 → (x : ℕ) → x < r.end - r.first → words_of old r.page (r.first + x) ≢ 0
-  was-other zero x lt = let is = turned.each x lt in grind (arith, nat_tests, zero, is)
+  was-other zero x lt = grind (arith, nat_tests, turned.each x lt)
 
   -- and where they are not, these are
   was-zero : 0 < r.word → (x : ℕ) → x < r.end - r.first → words_of old r.page (r.first + x) ≡ 0
-  was-zero some x lt = let is = turned.each x lt in grind (arith, nat_tests, some, is)
+  was-zero some x lt = grind (arith, nat_tests, turned.each x lt)
 
   -- none is there
   pub turned-differ : NoneThere old r
-  turned-differ x lt same = let is = turned.each x lt in let zeros = turned.zeros in grind (arith, common_steps, nat_tests)
+  turned-differ x lt same = grind (arith, common_steps, nat_tests, turned.each x lt, turned.zeros)
 
   module _ {stands : ℕ → Bool} (may : MayWrite old stands r) where
     small : r.first + (r.end - r.first) ≤ 512
@@ -30,9 +30,7 @@ module _ {old : List ℕ} {r : WordRange} (turned : Turns old r) where
     -- how many are not 0 then
     pub turned-counted : {new : List ℕ} {count after : ℕ} → new ≡ with_range old r → count ≡ nonzero_in (words_of old) r.page
         → (r.word ≡ 0 → after + (r.end - r.first) ≡ count) → (0 < r.word → after ≡ count + (r.end - r.first)) → after ≡ nonzero_in (words_of new) r.page
-    turned-counted written counted less more =
-        let zeros = turned.zeros in
-        grind (arith, nat_tests, nonzero-cleared old r.page r.first (r.end - r.first) may.page_in.inside small, was-other, nonzero-filled old r.page r.first (r.end - r.first) r.word r.step may.page_in.inside small, was-zero)
+    turned-counted written counted less more = let zeros = turned.zeros in grind (arith, nat_tests, nonzero-cleared old r.page r.first (r.end - r.first) may.page_in.inside small, was-other, nonzero-filled old r.page r.first (r.end - r.first) r.word r.step may.page_in.inside small, was-zero)
 
 -- words come in the place of zeros, where all of the page are 0
 pub turns-empty : (words : List ℕ) (range : WordRange) → 0 < range.word → range.end ≤ 512 → nonzero_in (words_of words) range.page ≡ 0 → Turns words range

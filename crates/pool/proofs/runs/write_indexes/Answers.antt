@@ -5,10 +5,7 @@ use Rattle.pool.proofs.Wrote.{wrote-none, may-range}
 use Rattle.pool.proofs.runs.write_indexes.Goals as goal
 
 pub returns-then-first-end-clause-wrote : goal.returns-then-first-end-clause-wrote
-returns-then-first-end-clause-wrote g c =
-    let w = c.args.with in
-    let none : c.args.indexes.end - c.args.indexes.first ≡ 0 = omega (arith, c.if-first-end.true) in
-    wrote-none (indexes_set w c.args.indexes.first c.args.indexes.end) w.page _ (g.S.WordStore.words c.args.store.now) c.args.log c.requires.ready.counted (λ pool _. rw none (sets-none w.page _ _ w.step pool))
+returns-then-first-end-clause-wrote g c = wrote-none _ c.args.with.page _ (g.S.WordStore.words c.args.store.now) c.args.log c.requires.ready.counted (λ pool _. grind (arith, sets-none c.args.with.page))
 
 pub turn_all-requires-clause-may : goal.turn_all-requires-clause-may
 turn_all-requires-clause-may g c = rw c.range-range.ensures (may-range c.args.with c.args.indexes.first c.args.indexes.end c.requires.may c.if-first-end.false c.requires.most)
