@@ -133,26 +133,17 @@ module _ {with : TableWords} {all left : List PageRun} {old mid : List ℕ} {bef
   -- which are written
   pub left-less : {new : List ℕ} {after : Log} (part rest : List PageRun) → left ≡ part ++ rest → Wrote (runs_set with part) with.page (words_in with.start part) mid new log after → Left with all rest old new before after
   left-less part rest parts wrote =
-      let sum = ap (words_in with.start) parts ∙ words_in-append with.start part rest in
       record {
         shown = λ pool shown.
-            let was = so.shown pool shown in (
-              runs_set with part was.0,
-              wrote.shown was.0 was.1,
-              sym (ap (λ rs. runs_set with rs was.0) parts ∙ after_runs-append with.page with.start with.word with.step part rest was.0) ∙ was.2,
-            );
+            let was = so.shown pool shown in
+            (runs_set with part was.0, wrote.shown was.0 was.1, grind (arith, parts, after_runs-append with.page with.start with.word with.step part rest was.0, was.2));
         whole = wrote.whole ∙ so.whole;
         counted = wrote.counted;
         capacity = wrote.grows.capacity ∙ so.capacity;
-        len = omega (arith, so.len, wrote.grows.len, sum);
+        len = grind (arith, so.len, wrote.grows.len, words_in-append with.start part rest, parts);
       }
 
   -- none is left
   pub left-none : left ≡ [] → Wrote (runs_set with all) with.page (words_in with.start all) old mid before log
   left-none none =
-      record {
-        shown = λ pool shown. grind (arith, common_steps, so.shown pool shown, after_runs-none);
-        whole = so.whole;
-        counted = so.counted;
-        grows = record { len = omega (arith, so.len); capacity = so.capacity };
-      }
+      record { shown = λ pool shown. grind (arith, common_steps, so.shown pool shown, after_runs-none); whole = so.whole; counted = so.counted; grows = record { len = omega (arith, so.len); capacity = so.capacity } }

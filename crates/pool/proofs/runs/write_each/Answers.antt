@@ -18,13 +18,11 @@ loop-run-preserved g c =
     let behind = drop (c.loop-run.run-index + 1) c.args.runs.now in
     let parts = runs-left c.args.runs.now c.loop-run.run-index run c.loop-run-test.true c.run-item.is in
     let before = c.loop-run.invariant in
-    let old = g.S.WordStore.words c.loop-run.store in
-    let new = g.S.WordStore.words c.write_run-log.new.store in
     let up = (above run behind 0 (rw parts at before.up)).1 in
     record {
       left = left-less before.left (run ∷ []) behind parts c.write_run-log.ensures.wrote;
       standing = c.write_run-log.ensures.standing ∙ before.standing;
-      turned = λ known. turned-rest old new w (run ∷ []) behind (rw parts at (before.turned known)) (λ i within. elim (cases_lt (w.start + i) (run.first + run.count)) [
+      turned = λ known. turned-rest (g.S.WordStore.words c.loop-run.store) (g.S.WordStore.words c.write_run-log.new.store) w (run ∷ []) behind (rw parts at (before.turned known)) (λ i within. elim (cases_lt (w.start + i) (run.first + run.count)) [
         | inl lt ↦ let none = before-rise behind (run.first + run.count) (w.start + i) up lt in absurd (cc)
         | inr past ↦ run-beside w run i c.write_run-log.ensures.wrote (omega (arith, before.left.whole, c.requires.can.may.page_in.inside)) (omega (arith, past))
       ]);

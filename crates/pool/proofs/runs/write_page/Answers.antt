@@ -8,10 +8,10 @@ returns-then-index-ge-TABLE_WORDS-clause-wrote g c = grind (arith, common_steps,
 
 -- where the word before is the new one, or is not, so is the word that stands there
 is_there : (before word next : ℕ) → (before == next) ≡ (word == next) → before ≡ next → word ≡ next
-is_there before word next same is = grind (arith, nat_tests, same, is)
+is_there before word next same is = grind (arith, nat_tests)
 
 differs : (before word next : ℕ) → (before == next) ≡ (word == next) → before ≢ next → word ≢ next
-differs before word next same other = grind (arith, nat_tests, same, other)
+differs before word next same other = grind (arith, nat_tests)
 
 pub returns-then-before-at-clause-wrote : goal.returns-then-before-at-clause-wrote
 returns-then-before-at-clause-wrote g c = grind (arith, common_steps, nat_tests, is_there, wrote-none, alone-stays)

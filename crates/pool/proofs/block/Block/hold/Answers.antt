@@ -12,7 +12,7 @@ pub invariant_of-self-clause-counted : goal.invariant_of-self-clause-counted
 invariant_of-self-clause-counted c = grind (arith, common_steps, nat_tests, length-zeros)
 
 pub invariant_of-self-clause-sized : goal.invariant_of-self-clause-sized
-invariant_of-self-clause-sized c = grind (arith, length-set c.args.self.now.marks.items c.args.page true, c.args.self.now.sized)
+invariant_of-self-clause-sized c = omega (arith, length-set c.args.self.now.marks.items c.args.page true, c.args.self.now.sized)
 
 pub returns-then-not-index-clause-words : goal.returns-then-not-index-clause-words
 returns-then-not-index-clause-words c = grind (arith, common_steps, nat_tests, get_or_read, held-zeros)

@@ -14,9 +14,7 @@ found : {S : Type 0} {g : Ghosts S} (old : TablePool S g) (row start page : ℕ)
 found old row start page free read first = grind (arith, begins old row start free read, found-lowest (memory_in old) old.lowest.items row page old.none_free_below free)
 
 pub next_unmarked-page-requires : goal.next_unmarked-page-requires
-next_unmarked-page-requires g c =
-    let old = c.args.self.now in
-    rw (begins old c.args.row c.index.result.now c.requires.free c.index.ensures) (some-unmarked (memory_in old) old.lowest.items c.args.row old.none_free_below old.taken_whole c.requires.free)
+next_unmarked-page-requires g c = rw (begins c.args.self.now c.args.row c.index.result.now c.requires.free c.index.ensures) (some-unmarked (memory_in c.args.self.now) c.args.self.now.lowest.items c.args.row c.args.self.now.none_free_below c.args.self.now.taken_whole c.requires.free)
 
 pub returns-clause-lowest : goal.returns-clause-lowest
 returns-clause-lowest g c = found c.args.self.now c.args.row c.index.result.now c.next_unmarked-page.result c.requires.free c.index.ensures c.next_unmarked-page.ensures
