@@ -89,9 +89,6 @@ counts-set {quotas} {free} {taken} {row} {page} m n is counts inside below same 
 
 -- ---- a valid manifest
 
-pub length-quotas_of : (partitions : List PartitionRow) → length (quotas_of partitions) ≡ length partitions
-length-quotas_of partitions = length-map partitions (λ row. row.quota)
-
 -- its pages have numbers below 2 ^ 27
 pub page_count-le : (m : ManifestRows) → IsTrue (is_valid m) → page_count (quotas_of m.partitions) ≤ 2 ^ 27
 page_count-le m valid = grind (arith, nat_tests, valid)

@@ -2,7 +2,7 @@
 pub use Rattle.std.proofs.lemmas.List.{at_drop_all, at_drop_more, get_or_read, length-append, length-map, length-replicate}
 pub use Rattle.std.proofs.lemmas.Bool.{cases_eq}
 pub use Rattle.std.proofs.Math.ListN.{set}
-pub use Rattle.std.proofs.Common.{Bool, List, [], add-one, ap, arith, cond, drop, false, get_or, inl, inr, length, max, not, refl, replicate, reverse, slice_index, slice_set, subst, suc, sum, sym, take, true, zero, ℕ, ◌*◌, ◌++◌, ◌+◌, ◌-◌, ◌<◌, ◌==◌, ◌||◌, ◌∙◌, ◌∷◌, ◌≡◌, ◌≢◌, ◌≤◌}
+pub use Rattle.std.proofs.Common.{Bool, List, [], add-one, ap, arith, cond, drop, false, get_or, inl, inr, length, max, not, refl, replicate, reverse, slice_index, slice_set, subst, suc, sum, sym, take, true, zero, ℕ, ◌*◌, ◌++◌, ◌+◌, ◌-◌, ◌<◌, ◌==◌, ◌||◌, ◌∙◌, ◌∷◌, ◌≡◌, ◌≢◌, ◌≤◌, Vec, ◌⊎◌}
 pub use Rattle.pool.specs.declared.word_store.WordStore.{Ghosts}
 pub use Rattle.std.proofs.lemmas.Bool.Decides.{nat_tests}
 pub use Rattle.std.proofs.lemmas.Grind.{common_steps}

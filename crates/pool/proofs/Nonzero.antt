@@ -1,6 +1,5 @@
 -- How many words of a page are not 0, after a write.
-use Rattle.std.proofs.Common.{◌≡◌, ◌≢◌, ℕ, ◌+◌, ◌*◌, ◌<◌, ◌≤◌, ◌==◌, not, arith, cond, List, length, replicate, slice_index, slice_set, ap, ◌⊎◌}
-use Rattle.pool.proofs.Names.{nat_tests, common_steps, page_count, Words, words_of, put, nonzero_in, CountsNonzero}
+use Rattle.pool.proofs.Names.{nat_tests, common_steps, page_count, Words, words_of, put, nonzero_in, CountsNonzero, ◌≡◌, ◌≢◌, ℕ, ◌+◌, ◌*◌, ◌<◌, ◌≤◌, ◌==◌, not, arith, cond, List, length, replicate, slice_index, slice_set, ap, ◌⊎◌}
 use Rattle.std.proofs.lemmas.List.{length-set, length-replicate, get_or-set_same, get_or-set_other}
 use Rattle.pool.proofs.Count.{count_below-same, count_below-at, count_below-some, count_below-none, count_below-le, count_below-witness}
 use Rattle.pool.proofs.Words.{words_of-set_at, words_of-zeros}

@@ -1,6 +1,5 @@
 -- Words that are turned: none is there, and the old ones are 0 exactly where the new ones are not.
-use Rattle.pool.proofs.Names.{common_steps, nat_tests, PageRun, words_of, nonzero_in, WordRange, with_range, MayWrite, NoneThere, at_drop_more, at_drop_all}
-use Rattle.std.proofs.Common.{◌≡◌, ◌≢◌, ℕ, ◌+◌, ◌<◌, ◌≤◌, Bool, ◌-◌, arith, List, [], ◌∷◌, length, drop, get_or}
+use Rattle.pool.proofs.Names.{common_steps, nat_tests, PageRun, words_of, nonzero_in, WordRange, with_range, MayWrite, NoneThere, at_drop_more, at_drop_all, ◌≡◌, ◌≢◌, ℕ, ◌+◌, ◌<◌, ◌≤◌, Bool, ◌-◌, arith, List, [], ◌∷◌, length, drop, get_or}
 use Rattle.pool.specs.Writing.{Turns}
 use Rattle.pool.proofs.Nonzero.{nonzero-zeros}
 use Rattle.pool.proofs.Stretches.{nonzero-filled, nonzero-cleared}

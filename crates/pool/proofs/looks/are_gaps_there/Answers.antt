@@ -3,14 +3,15 @@ use Rattle.pool.proofs.Gaps.{gaps-left, gaps-done, covers-append, gap-at, gap-ha
 use Rattle.pool.proofs.looks.are_gaps_there.Goals as goal
 
 pub returns-then-not-is_gap_there-clause-no : goal.returns-then-not-is_gap_there-clause-no
-returns-then-not-is_gap_there-clause-no g c = λ _.
+returns-then-not-is_gap_there-clause-no g c =
+    λ _.
     let start = c.args.with.start in
     let end_at = c.index_from-end.ensures ∙ ap (index_from start) (c.number.ensures.same ∙ c.first.ensures.same) in
     let there = gaps-left start c.loop-run.first c.index_from-end.result _ c.loop-run.run-index c.args.runs.now c.run-item.result c.loop-run-test.true c.run-item.is end_at refl in
     let missing = c.is_gap_there.ensures.no c.if-not-is_gap_there.true in
     record {
       index = missing.0;
-      small = (let below = missing.2 in omega (arith, below, c.index_from-end.ensures));
+      small = omega (arith, missing.2, c.index_from-end.ensures);
       gap = c.loop-run.invariant.left (start + missing.0) (grind (arith, nat_tests, there, covers-append, gap-has start c.loop-run.first c.index_from-end.result missing.0 missing.1 missing.2));
       other = missing.3;
     }

@@ -6,12 +6,11 @@ use Rattle.pool.proofs.stretch.turn_all.Goals as goal
 
 pub recounted_all-nonzero-requires : goal.recounted_all-nonzero-requires
 recounted_all-nonzero-requires g c =
-    let may = c.requires.may in
     let counted = c.requires.ready.counted in
     record {
-      least = λ zero. let least = turned-least c.requires.turned may zero in omega (arith, least, counted);
-      most = (let most = nonzero-le (words_of (g.S.WordStore.words c.args.store.now)) c.args.range.page in omega (arith, most, counted));
-      few = omega (arith, may.ordered, may.index_in);
+      least = λ zero. omega (arith, turned-least c.requires.turned c.requires.may zero, counted);
+      most = omega (arith, nonzero-le (words_of (g.S.WordStore.words c.args.store.now)) c.args.range.page, counted);
+      few = omega (arith, c.requires.may.ordered, c.requires.may.index_in);
     }
 
 pub returns-clause-wrote : goal.returns-clause-wrote

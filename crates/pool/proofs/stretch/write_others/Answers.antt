@@ -15,10 +15,7 @@ write_word-requires-clause-may g c = grind (arith, common_steps, nat_tests, read
 pub write_word-requires-clause-ready : goal.write_word-requires-clause-ready
 write_word-requires-clause-ready g c =
     let before = c.loop-index.invariant in
-    record {
-      counted = before.wrote.counted;
-      room = next-room c.args.range c.loop-index.index c.loop-index.word c.loop-index.auto.index before.word before.wrote c.loop-index-test.true (λ is. c.if-before-word.true (c.standing_word-before.ensures ∙ is)) c.requires.ready.room;
-    }
+    record { counted = before.wrote.counted; room = next-room c.args.range c.loop-index.index c.loop-index.word c.loop-index.auto.index before.word before.wrote c.loop-index-test.true (λ is. c.if-before-word.true (c.standing_word-before.ensures ∙ is)) c.requires.ready.room }
 
 pub loop-index-preserved : goal.loop-index-preserved
 loop-index-preserved g c =

@@ -1,7 +1,7 @@
-use Rattle.pool.proofs.Names.{common_steps, quotas_of, page_count, length-append, length-replicate, ◌≡◌, ◌+◌, ◌*◌, ◌∙◌, ap, arith, true, false, length, replicate, ◌++◌, sum}
+use Rattle.pool.proofs.Names.{common_steps, quotas_of, page_count, length-append, length-replicate, ◌≡◌, ◌+◌, ◌*◌, ◌∙◌, ap, arith, true, false, length, replicate, ◌++◌, sum, PartitionRow, length-map}
 use Rattle.pool.proofs.Words.{words_of-zeros}
 use Rattle.pool.proofs.Nonzero.{counts_nonzero-new}
-use Rattle.pool.proofs.Kept.{roots-new, taken_of-new, length-quotas_of, page_count-le, counts-new}
+use Rattle.pool.proofs.Kept.{roots-new, taken_of-new, page_count-le, counts-new}
 use Rattle.pool.proofs.table_pool.TablePoolTableMem.make.Goals as goal
 
 pub invariant_of-result-2 : goal.invariant_of-result-2
@@ -10,7 +10,7 @@ invariant_of-result-2 g c =
     let items = c.in_ok-quotas.quotas.items in
     let quotas : items ≡ quotas_of parts = c.in_ok-quotas.ensures in
     let again : c.in_ok-quotas_of.field-0.items ≡ quotas_of parts = c.in_ok-quotas_of.ensures in
-    let rows : length items ≡ length parts = ap length quotas ∙ length-quotas_of parts in
+    let rows : length items ≡ length parts = ap length quotas ∙ length-map parts (λ (row : PartitionRow). row.quota) in
     let total : c.total-shares.result ≡ sum items = rw c.deref.ensures.value at c.total-shares.ensures in
     let pages : length parts + c.total-shares.result ≡ page_count items = omega (arith, rows, total) in
     let marks : c.in_ok-new.field-0 ≡ replicate (length parts) true ++ replicate (sum (quotas_of parts)) false =
