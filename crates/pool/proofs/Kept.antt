@@ -1,7 +1,7 @@
 -- What a table memory keeps at each write, and what its searches find.
 use Rattle.std.proofs.Common.{◌≡◌, ℕ, ◌+◌, ◌<◌, ◌≤◌, ◌==◌, if◌then◌else◌, ◌^◌, Bool, true, false, List, length, slice_index, slice_set, ◌∙◌, replicate, ◌++◌, arith, IsTrue}
-use Rattle.pool.proofs.Names.{common_steps, nat_tests, PartitionRow, ManifestRows, quotas_of, page_count, Memory, Pages, InShare, HasFree, IsLowestFree, taken_of, with_mark, share_start, row_quota, pages_of, CountsFree, NoneFreeBelow, new_memory, used_by, TablePool, IsFirstUnmarked}
-use Rattle.std.proofs.lemmas.List.{length-map, length-set, get_or-set_same, get_or-set_other}
+use Rattle.pool.proofs.Names.{common_steps, nat_tests, ManifestRows, quotas_of, page_count, Memory, Pages, InShare, HasFree, IsLowestFree, taken_of, with_mark, share_start, row_quota, pages_of, CountsFree, NoneFreeBelow, new_memory, used_by, TablePool, IsFirstUnmarked}
+use Rattle.std.proofs.lemmas.List.{length-set, get_or-set_same, get_or-set_other}
 use Rattle.manifest.specs.Valid.{is_valid}
 use Rattle.pool.specs.declared.word_store.WordStore.{Ghosts}
 use Rattle.marks.specs.Marks.{AllMarkedFrom}

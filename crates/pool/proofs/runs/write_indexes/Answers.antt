@@ -1,4 +1,4 @@
-use Rattle.pool.proofs.Names.{indexes_set, ◌≡◌, ◌-◌, ◌*◌, ◌+◌, arith}
+use Rattle.pool.proofs.Names.{◌-◌, ◌*◌, ◌+◌, arith}
 use Rattle.pool.proofs.RunWords.{sets-none}
 use Rattle.pool.proofs.Stretches.{length-sets_of-le}
 use Rattle.pool.proofs.Wrote.{wrote-none, may-range}
