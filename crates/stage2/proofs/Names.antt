@@ -1,4 +1,8 @@
 -- The words that the proofs of this crate speak with, passed on from one place. It declares nothing.
+pub use Rattle.std.proofs.lemmas.Map.Views.{any-filter_same}
+pub use Rattle.std.proofs.lemmas.List.{get_or_read}
+pub use Rattle.std.proofs.lemmas.Bool.{and_parts, cases_Bool, cases_eq, cases_lt, eqb-true, ltb-true}
+pub use Rattle.std.proofs.Common.{Bool, List, None, Option, Some, [], ap, ap₂, arith, cond, eqb, false, get_or, inl, inr, is_none, is_some, leb, length, ltb, map, max, min, not, position, refl, rules, subst, suc, sym, take, true, zero, ℕ, ◌%◌, ◌&&◌, ◌*◌, ◌++◌, ◌+◌, ◌-◌, ◌/◌, ◌<◌, ◌==◌, ◌^◌, ◌∙◌, ◌∷◌, ◌≡◌, ◌≢◌, ◌≤◌, ◌⊎◌}
 pub use Rattle.std.proofs.lemmas.Bool.Decides.{nat_tests}
 pub use Rattle.std.proofs.lemmas.Grind.{common_steps}
 pub use Rattle.std.specs.List.{flat_map, list_any}

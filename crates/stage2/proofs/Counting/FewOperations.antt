@@ -64,10 +64,7 @@ parts-few c (run ∷ runs) = grind (arith, common_steps, nat_tests, parts-few c 
 
 module _ (runs : List PageRun) (access : View) (v : ℕ → View) (c : ℕ) (below : c < 262144) (only : (x : ℕ) → covers runs x ≡ true → x / 512 ≡ c) where
   apart : (x : ℕ) → (x / 512 ≡ c → ⊥) → covers runs x ≡ false
-  apart x differs = elim (cases_Bool (covers runs x)) [
-    | inl t ↦ absurd (differs (only x t))
-    | inr f ↦ f
-  ]
+  apart x differs = grind (arith, common_steps, nat_tests)
 
   alone : row_operations runs access v ≤ 2 + chunk_operations runs access v c
   alone =
@@ -76,9 +73,8 @@ module _ (runs : List PageRun) (access : View) (v : ℕ → View) (c : ℕ) (bel
       let at : 512 * g + i ≡ c = omega arith in
       let chunks = sum_below-alone (λ x. chunk_operations runs access v (512 * g + x)) 512 i (omega arith)
       (λ k lt differs. ap (λ t. cond t (3 + table_operations runs access v (512 * g + k)) 0) (nowhere runs (512 * g + k) (λ x there. apart x (λ e. differs (omega (arith, e, there, at)))))) in
-      let here = ap (chunk_operations runs access v) at in
       let rows = sum_below-alone (gigabyte_operations runs access v) 512 g (omega (arith, below)) (λ k lt differs. operations-nothing runs access v k (λ x there. apart x (λ e. differs (omega (arith, e, there, at))))) in
-      omega (arith, chunks, here, rows)
+      omega (arith, chunks, ap (chunk_operations runs access v) at, rows)
 
   -- all pages of a chunk without a table
   pub few-filled : chunk_operations runs access v c ≡ 3 → row_operations runs access v ≤ 5
@@ -86,81 +82,41 @@ module _ (runs : List PageRun) (access : View) (v : ℕ → View) (c : ℕ) (bel
 
   module _ (n : ℕ) (enough : pages_in runs c + length runs ≤ n) where
     few : (0 < pages_in runs c → table_operations runs access v c ≤ n) → row_operations runs access v ≤ n + 5
-    few most =
-        let all = alone in
-        elim (cases_lt 0 (pages_in runs c)) [
-          | inl some ↦
-              let chunk : chunk_operations runs access v c ≡ 3 + table_operations runs access v c = ap (λ t. cond t (3 + table_operations runs access v c) 0) (with-pages runs c some) in
-              let table = most some in
-              omega (arith, all, chunk, table)
-          | inr none ↦
-              let chunk : chunk_operations runs access v c ≡ 0 = ap (λ t. cond t (3 + table_operations runs access v c) 0) (without-pages runs c (omega (arith, none))) in
-              omega (arith, all, chunk)
-        ]
+    few most = grind (arith, common_steps, nat_tests, alone, cases_lt, with-pages, without-pages)
 
     -- unmapped, in a table
     pub few-unmapped : is_mixed v c ≡ true → is_some access ≡ false → row_operations runs access v ≤ n + 5
-    few-unmapped was unmaps = few (λ some.
-        let page = page-among (λ i. covers runs (512 * c + i)) some in
-        let lt = page.1 in
-        let either = table-either runs access v c (512 * c + page.0) was (omega (arith, lt)) page.2 in
-        let parts = parts-few c runs in
-        elim either [
-          | inl kept ↦ let k = kept ∙ ap (λ b. pages_in runs c + cond b 0 (part_count c runs)) unmaps in omega (arith, k, parts, enough)
-          | inr gone ↦ let k = gone ∙ ap (λ b. cond b (reached_in v c) (pages_in runs c)) unmaps in omega (arith, k, enough)
-        ])
+    few-unmapped was unmaps = grind (arith, common_steps, nat_tests, few, page-among, table-either, parts-few)
 
     -- mapped, in a table of so many words
     pub few-either : is_mixed v c ≡ true → is_some access ≡ true → reached_in v c ≤ n → row_operations runs access v ≤ n + 5
-    few-either was maps most = few (λ some.
-        let page = page-among (λ i. covers runs (512 * c + i)) some in
-        let lt = page.1 in
-        let either = table-either runs access v c (512 * c + page.0) was (omega (arith, lt)) page.2 in
-        elim either [
-          | inl kept ↦ let k = kept ∙ ap (λ b. pages_in runs c + cond b 0 (part_count c runs)) maps in omega (arith, k, enough)
-          | inr gone ↦ let k = gone ∙ ap (λ b. cond b (reached_in v c) (pages_in runs c)) maps in omega (arith, k, most)
-        ])
+    few-either was maps most = grind (arith, common_steps, nat_tests, few, page-among, table-either)
 
     -- mapped, in a table in which another page is not
     pub few-mapped : is_mixed v c ≡ true → is_some access ≡ true → (y : ℕ) × (y < 512) × (covers runs (512 * c + y) ≡ false) × (v (512 * c + y) ≡ None) → row_operations runs access v ≤ n + 5
     few-mapped was maps other = few (λ some.
         let page = page-among (λ i. covers runs (512 * c + i)) some in
-        let lt = page.1 in
-        let small = other.1 in
         let x = 512 * c + page.0 in
         let y = 512 * c + other.0 in
         let within : edited runs access v x ≡ access = ap (λ b. cond b access (v x)) page.2 in
         let beside : edited runs access v y ≡ None = ap (λ b. cond b access (v y)) other.2 ∙ other.3 in
-        let now = unlike-mixed (edited runs access v) c x y (omega (arith, lt)) (omega (arith, small)) (ap₂ is_alike within beside ∙ unlike access maps) in
+        let now = unlike-mixed (edited runs access v) c x y (omega (arith, page.1)) (omega (arith, other.1)) (ap₂ is_alike within beside ∙ unlike access maps) in
         let table : table_operations runs access v c ≡ pages_in runs c + cond (is_some access) 0 (part_count c runs) = rw (now, was) refl in
-        let k = table ∙ ap (λ b. pages_in runs c + cond b 0 (part_count c runs)) maps in
-        omega (arith, k, enough))
+        omega (arith, table ∙ ap (λ b. pages_in runs c + cond b 0 (part_count c runs)) maps, enough))
       where
         unlike : (a : View) → is_some a ≡ true → is_alike a None ≡ false
-        unlike None e = absurd (cc)
-        unlike (Some a) e = refl
+        unlike a e = grind (arith, common_steps, nat_tests)
 
     -- in a chunk none of whose pages is reached
     pub few-hung : ((i : ℕ) → i < 512 → v (512 * c + i) ≡ None) → row_operations runs access v ≤ n + 5
     unfolding pages_among
-    few-hung none = few (λ some.
-        let was = mixed-none v c none in
-        let fewer = count_below-fewer (λ i. is_some (edited runs access v (512 * c + i))) (λ i. covers runs (512 * c + i)) 512 (λ k lt reached. elim (cases_Bool (covers runs (512 * c + k))) [
-          | inl t ↦ t
-          | inr f ↦ let not : is_some (edited runs access v (512 * c + k)) ≡ false = ap (λ a. is_some a) (ap (λ b. cond b access (v (512 * c + k))) f ∙ none k lt) in absurd (cc)
-        ]) in
-        elim (cases_Bool (is_mixed (edited runs access v) c)) [
-          | inl now ↦ let table : table_operations runs access v c ≡ reached_in (edited runs access v) c = rw (now, was) refl in omega (arith, table, fewer, enough)
-          | inr now ↦ let table : table_operations runs access v c ≡ 0 = rw (now, was) refl in omega (arith, table)
-        ])
+    few-hung none = grind (arith, common_steps, nat_tests, few, mixed-none, count_below-fewer)
 
 -- ---- what a chunk's word tells
 
 -- the chunk's word has a form of its level
 pub entry-known : (layout : Layout) (m : Pages) → IsCanonical layout m → (g i : ℕ) → g < 512 → i < 512 → (row : Option ℕ) → ((r : ℕ) → row ≡ Some r → r < length layout.ids) → (second : Option ℕ) → second_of layout m.words row g ≡ second → entry_in layout m.words second i ≢ Bad
-entry-known layout m canonical g i below small row inside None is bad = cc
-entry-known layout m canonical g i below small None inside (Some j) is bad = cc
-entry-known layout m canonical g i below small (Some r) inside (Some j) is bad = second-known layout m canonical.orderly r g i j (inside r refl) below small is bad
+entry-known layout m canonical g i below small row inside second is bad = grind (arith, common_steps, nat_tests, second-known)
 
 module _ (layout : Layout) (m : Pages) (canonical : IsCanonical layout m) (row : Option ℕ) (inside : (r : ℕ) → row ≡ Some r → r < length layout.ids) (second : Option ℕ) (c : ℕ) (below : c < 262144)
     (hangs : second_of layout m.words row (c / 512) ≡ second) where

@@ -14,8 +14,7 @@ use Rattle.stage2.proofs.Editing.RootLinks.{untabled}
 module _ (layout : Layout) (row g : ℕ) (m : Pages) (canonical : IsCanonical layout m) (inside : row < length layout.ids) (below : g < 512) where
   table_in : (second : Option ℕ) (i : ℕ) → i < 512 → table_at layout m.words (Gigabyte row g) ≡ second → table_at layout m.words (Chunk row (512 * g + i)) ≡ next_page (entry_in layout m.words second i)
   unfolding table_at
-  table_in None i lt e = grind (arith, common_steps, nat_tests)
-  table_in (Some j) i lt e = grind (arith, common_steps, nat_tests)
+  table_in second i lt e = grind (arith, common_steps, nat_tests)
 
   answers_entry : (second : Option ℕ) (i n : ℕ) → i < 512 → table_at layout m.words (Gigabyte row g) ≡ second → n / 512 ≡ 512 * g + i → answers layout m.words row n ≡ answers_at layout m.words (entry_in layout m.words second i) n
   answers_entry None i n lt e at =
@@ -28,9 +27,6 @@ module _ (layout : Layout) (row g : ℕ) (m : Pages) (canonical : IsCanonical la
 
   tabled-reached : is_some (table_at layout m.words (Gigabyte row g)) ≡ is_reached (answers layout m.words row) g
   tabled-reached = canonical.reached row g inside below
-
-  untabled-none : table_at layout m.words (Gigabyte row g) ≡ None → (n : ℕ) → n / 512 / 512 ≡ g → answers layout m.words row n ≡ None
-  untabled-none none n at = ap answer_of (untabled layout m row n canonical.orderly inside (omega (arith, at, below)) (ap (λ x. table_at layout m.words (Gigabyte row x)) at ∙ none))
 
 -- a partition that may have no root
 module _ (layout : Layout) (m : Pages) (canonical : IsCanonical layout m) (g : ℕ) (below : g < 512) where
@@ -52,9 +48,7 @@ module _ (layout : Layout) (m : Pages) (canonical : IsCanonical layout m) (g : �
   -- what the chunk's pages answer, read so
   pub entry-view : (row : Option ℕ) → ((r : ℕ) → row ≡ Some r → r < length layout.ids) → (second : Option ℕ) (i n : ℕ) → i < 512 → second_of layout m.words row g ≡ second → n / 512 ≡ 512 * g + i
       → answers_at layout m.words (entry_in layout m.words second i) n ≡ answers_of layout m.words row n
-  entry-view None inside None i n lt e at = refl
-  entry-view None inside (Some j) i n lt e at = absurd (cc)
-  entry-view (Some row) inside second i n lt e at = sym (answers_entry layout row g m canonical (inside row refl) below second i n lt e at)
+  entry-view row inside second i n lt e at = grind (arith, common_steps, nat_tests, answers_entry)
 
   -- a table hangs there exactly where they are not all alike
   pub view-mixed : (row : Option ℕ) → ((r : ℕ) → row ≡ Some r → r < length layout.ids) → (second : Option ℕ) (i : ℕ) → i < 512 → second_of layout m.words row g ≡ second
@@ -77,21 +71,11 @@ module _ (layout : Layout) (m : Pages) (canonical : IsCanonical layout m) (g : �
       let c = 512 * g + i in
       let same : is_mixed (answers_at layout m.words (entry_in layout m.words second i)) c ≡ is_mixed v c =
       mixed-same v (answers_at layout m.words (entry_in layout m.words second i)) c (λ x small. entry-view row inside second i (512 * c + x) lt e (omega (arith, small))) in
-      let was : is_mixed v c ≡ false = sym same ∙ view-mixed row inside second i lt e ∙ ap (λ o. is_some o) none in
-      let table = plain runs access v c access was (outcome-filled runs access v c filled) in
-      ap₂ (λ t k. cond t (3 + k) 0) (filled-touches runs c filled) table
+      ap₂ (λ t k. cond t (3 + k) 0) (filled-touches runs c filled) (plain runs access v c access (sym same ∙ view-mixed row inside second i lt e ∙ ap (λ o. is_some o) none) (outcome-filled runs access v c filled))
 
   -- where it stands
   site-at : (row : ℕ) → row < length layout.ids → (j i : ℕ) → i < 512 → table_at layout m.words (Gigabyte row g) ≡ Some j → IsSite layout row (512 * g + i) j m
-  site-at row here j i lt e =
-      let q : (512 * g + i) / 512 ≡ g = omega (arith, lt) in
-      let same : linked layout row g j m ≡ m = linked-same layout row g j m canonical here below e in
-      record {
-        orderly = subst (λ k. IsOrderly layout (linked layout row k j m)) (sym q) (subst (λ (x : Pages). IsOrderly layout x) (sym same) canonical.orderly);
-        partition = here;
-        chunk = omega (arith, lt, below);
-        second = subst (λ k. table_at layout (linked layout row k j m).words (Gigabyte row k) ≡ Some j) (sym q) (subst (λ (x : Pages). table_at layout x.words (Gigabyte row g) ≡ Some j) (sym same) e);
-      }
+  site-at row here j i lt e = grind (arith, common_steps, nat_tests, linked-same)
 
   -- and each word of it is the one for its page's answer
   pub view-spelled : (row : Option ℕ) → ((r : ℕ) → row ≡ Some r → r < length layout.ids) → (second : Option ℕ) (i : ℕ) → i < 512 → second_of layout m.words row g ≡ second
@@ -117,16 +101,11 @@ module _ (layout : Layout) (m : Pages) (canonical : IsCanonical layout m) (g : �
   reached-second None inside = let nothing : ℕ → View = answers_of layout m.words None in sym (reached-none nothing g (λ i small. refl))
   reached-second (Some row) inside = tabled-reached layout row g m canonical (inside row refl) below
 
-  nothing-there : (row : Option ℕ) → ((r : ℕ) → row ≡ Some r → r < length layout.ids) → second_of layout m.words row g ≡ None → (n : ℕ) → n / 512 / 512 ≡ g → answers_of layout m.words row n ≡ None
-  nothing-there None inside none n at = refl
-  nothing-there (Some row) inside none n at = untabled-none layout row g m canonical (inside row refl) below none n at
-
   -- the level 2 table is a page of the pool
   pub second-inside : (row : Option ℕ) → ((r : ℕ) → row ≡ Some r → r < length layout.ids) → (j : ℕ) → second_of layout m.words row g ≡ Some j → j < layout.pages
   second-inside None inside j e = absurd (cc)
   second-inside (Some row) inside j e =
-      let within : j < page_count m.quotas = share_inside m.quotas row j (canonical.orderly.owned (Gigabyte row g) j (inside row refl, below) e) in
-      subst (λ x. j < x) (sym canonical.orderly.pages) within
+      subst (λ x. j < x) (sym canonical.orderly.pages) (share_inside m.quotas row j (canonical.orderly.owned (Gigabyte row g) j (inside row refl, below) e))
 
   -- which is taken
   pub second-held : (row : Option ℕ) → ((r : ℕ) → row ≡ Some r → r < length layout.ids) → (j : ℕ) → second_of layout m.words row g ≡ Some j → m.taken j ≡ true
@@ -138,11 +117,6 @@ module _ (layout : Layout) (m : Pages) (canonical : IsCanonical layout m) (g : �
     abbrev before : ℕ → View
     before = answers_of layout m.words row
 
-    -- that has its table, none is taken for itself
-    pub growth-tabled : (access : View) (j : ℕ) → second_of layout m.words row g ≡ Some j
-        → gigabyte_growth (answers_of layout m.words row) (edited runs access (answers_of layout m.words row)) g ≡ count_below (λ x. grows_at (answers_of layout m.words row) (edited runs access (answers_of layout m.words row)) (512 * g + x)) 512
-    growth-tabled access j table = grind (arith, common_steps, nat_tests)
-
     -- that has none, one is taken where pages are mapped
     pub growth-mapped : (access : View) → Touches runs g → second_of layout m.words row g ≡ None → is_some access ≡ true
         → gigabyte_growth (answers_of layout m.words row) (edited runs access (answers_of layout m.words row)) g ≡ count_below (λ x. grows_at (answers_of layout m.words row) (edited runs access (answers_of layout m.words row)) (512 * g + x)) 512 + 1
@@ -151,42 +125,17 @@ module _ (layout : Layout) (m : Pages) (canonical : IsCanonical layout m) (g : �
         let covered : edited runs access before touches.page ≡ access = let c = touches.covered in rw c refl in
         let now : is_reached (edited runs access before) g ≡ true =
         reached-some (edited runs access before) g (touches.page - 262144 * g) (let a = touches.here in omega arith) (ap (λ n. is_some (edited runs access before n)) place ∙ ap (λ a. is_some a) covered ∙ maps) in
-        let was : is_reached before g ≡ false = sym (reached-second row inside) ∙ ap (λ o. is_some o) none in
-        rw (now, was) (omega arith)
+        rw (now, sym (reached-second row inside) ∙ ap (λ o. is_some o) none) (omega arith)
 
     -- and none where pages are unmapped
     pub growth-unmapped : second_of layout m.words row g ≡ None
         → gigabyte_growth (answers_of layout m.words row) (edited runs None (answers_of layout m.words row)) g ≡ count_below (λ x. grows_at (answers_of layout m.words row) (edited runs None (answers_of layout m.words row)) (512 * g + x)) 512
-    growth-unmapped none =
-        let same : is_reached (edited runs None before) g ≡ is_reached before g =
-        reached-same before (edited runs None before) g (λ i small. let n = nothing-there row inside none (262144 * g + i) (omega (arith, small)) in both (covers runs (262144 * g + i)) (before (262144 * g + i)) n) in
-        rw same (off (is_reached before g) (count_below (λ x. grows_at before (edited runs None before) (512 * g + x)) 512))
-      where
-        both : (b : Bool) (a : View) → a ≡ None → cond b None a ≡ a
-        both true a e = sym e
-        both false a e = refl
-
-        off : (b : Bool) (n : ℕ) → cond (b && not b) 1 0 + n ≡ n
-        off true n = omega arith
-        off false n = omega arith
+    growth-unmapped none = grind (arith, common_steps, nat_tests, reached-same, untabled)
 
 -- ---- what the runs leave alone takes nothing
 
-and-not : (b : Bool) → (b && not b) ≡ false
-and-not true = refl
-and-not false = refl
-
 pub grows-nothing : (runs : List PageRun) (access : View) (v : ℕ → View) (c : ℕ) → ((n : ℕ) → n / 512 ≡ c → covers runs n ≡ false) → grows_at v (edited runs access v) c ≡ false
-grows-nothing runs access v c none =
-    let same : is_mixed (edited runs access v) c ≡ is_mixed v c = mixed-same v (edited runs access v) c (λ i small. let f = none (512 * c + i) (omega (arith, small)) in rw f refl) in
-    rw same (and-not (is_mixed v c))
-
-pub reaches-nothing : (runs : List PageRun) (access : View) (v : ℕ → View) (g : ℕ) → ((n : ℕ) → n / 512 / 512 ≡ g → covers runs n ≡ false) → (is_reached (edited runs access v) g && not (is_reached v g)) ≡ false
-reaches-nothing runs access v g none =
-    let same : is_reached (edited runs access v) g ≡ is_reached v g = reached-same v (edited runs access v) g (λ i small. let f = none (262144 * g + i) (omega (arith, small)) in rw f refl) in
-    ap (λ b. b && not (is_reached v g)) same ∙ and-not (is_reached v g)
+grows-nothing runs access v c none = grind (arith, common_steps, nat_tests, mixed-same)
 
 pub growth-nothing : (runs : List PageRun) (access : View) (v : ℕ → View) (g : ℕ) → ((n : ℕ) → n / 512 / 512 ≡ g → covers runs n ≡ false) → gigabyte_growth v (edited runs access v) g ≡ 0
-growth-nothing runs access v g none =
-    let chunks : count_below (λ x. grows_at v (edited runs access v) (512 * g + x)) 512 ≡ 0 = count_below-none (λ x. grows_at v (edited runs access v) (512 * g + x)) 512 (λ x lt. grows-nothing runs access v (512 * g + x) (λ n at. none n (omega (arith, lt, at)))) in
-    ap₂ (λ a b. cond a 1 0 + b) (reaches-nothing runs access v g none) chunks
+growth-nothing runs access v g none = grind (arith, common_steps, nat_tests, count_below-none, grows-nothing, reached-same)

@@ -1,6 +1,5 @@
 -- New views need no more tables than the old ones and what they grow by.
-use Rattle.std.proofs.Common.{ℕ, zero, suc, ◌+◌, ◌≤◌, Bool, true, false, not, ◌&&◌, cond, arith}
-use Rattle.stage2.proofs.Names.{View, count_below, is_mixed, is_reached, need, grow}
+use Rattle.stage2.proofs.Names.{nat_tests, common_steps, View, count_below, is_mixed, is_reached, need, grow, ℕ, zero, suc, ◌+◌, ◌≤◌, Bool, true, false, not, ◌&&◌, cond, arith}
 
 count-most : (f g : ℕ → Bool) (n : ℕ) → count_below g n ≤ count_below f n + count_below (λ k. g k && not (f k)) n
 unfolding count_below
@@ -8,10 +7,7 @@ count-most f g zero = omega arith
 count-most f g (suc n) = let rest = count-most f g n in let here = one (f n) (g n) in omega (arith, rest, here)
   where
     one : (a b : Bool) → cond b 1 0 ≤ cond a 1 0 + cond (b && not a) 1 0
-    one true true = omega arith
-    one true false = omega arith
-    one false true = omega arith
-    one false false = omega arith
+    one a b = grind (arith, common_steps, nat_tests)
 
 -- new views need no more than the old ones and what they grow by
 pub need-grows : (v w : ℕ → View) → need w ≤ need v + grow v w

@@ -1,7 +1,6 @@
 -- What a chunk and a gigabyte need depends on their pages alone.
 use Rattle.std.proofs.Common.{◌≡◌, ℕ, zero, suc, ◌+◌, ◌*◌, ◌/◌, ◌%◌, ◌<◌, Bool, true, false, not, ◌&&◌, ◌||◌, cond, leb, ltb, List, [], ◌∷◌, Some, None, is_some, refl, ap, ap₂, sym, ◌∙◌, arith, inl, inr}
-use Rattle.std.proofs.lemmas.Bool.{cases_Bool}
-use Rattle.stage2.proofs.Names.{nat_tests, View, Access, is_alike, is_mixed, is_reached, PageRun, in_run, covers, edited, touches_run, touches_chunk, covers_chunk, IsOutcome}
+use Rattle.stage2.proofs.Names.{common_steps, nat_tests, View, Access, is_alike, is_mixed, is_reached, PageRun, in_run, covers, edited, touches_run, touches_chunk, covers_chunk, IsOutcome, cases_Bool}
 use Rattle.base.specs.Counts.{any_below}
 use Rattle.manifest.proofs.Tables.{alike-same, alike-refl, any_below-some, any_below-none, any_below-no}
 
@@ -24,21 +23,13 @@ pub reached-same : (v w : ℕ → View) (g : ℕ) → ((i : ℕ) → i < 262144 
 unfolding is_reached
 reached-same v w g same = any_below-same (λ i. is_some (v (262144 * g + i))) (λ i. is_some (w (262144 * g + i))) 262144 (λ i below. ap (λ a. is_some a) (same i below))
 
-pub alike-self : (x : View) (a : Access) → x ≡ Some a → is_alike x (Some a) ≡ true
-alike-self x a e = rw e (alike-refl (Some a))
-
 -- ---- the one answer of a chunk
 
 -- ---- nothing is reached
 
 pub mixed-none : (v : ℕ → View) (c : ℕ) → ((i : ℕ) → i < 512 → v (512 * c + i) ≡ None) → is_mixed v c ≡ false
 unfolding is_mixed
-mixed-none v c none =
-    let first : v (512 * c) ≡ None = ap v (zeroth c) ∙ none 0 (omega arith) in
-    any_below-no (λ i. not (is_alike (v (512 * c + i)) (v (512 * c)))) 512 (λ i below. ap₂ (λ a b. not (is_alike a b)) (none i below) first)
-  where
-    zeroth : (c : ℕ) → 512 * c ≡ 512 * c + 0
-    zeroth c = omega arith
+mixed-none v c none = grind (arith, common_steps, nat_tests, any_below-no)
 
 pub reached-none : (v : ℕ → View) (g : ℕ) → ((i : ℕ) → i < 262144 → v (262144 * g + i) ≡ None) → is_reached v g ≡ false
 unfolding is_reached
@@ -61,8 +52,7 @@ filled-page (run ∷ runs) c n filled at = elim (cases_Bool (leb run.first (512 
     inside first count c n t at = grind (arith, nat_tests)
 
     either : (x : Bool) → (x || true) ≡ true
-    either true = refl
-    either false = refl
+    either x = grind (arith, common_steps, nat_tests)
 
 pub same-unmixed : (answer : ℕ → View) (c : ℕ) (one : View) → ((n : ℕ) → n / 512 ≡ c → answer n ≡ one) → is_mixed answer c ≡ false
 unfolding is_mixed
@@ -71,8 +61,7 @@ same-unmixed answer c one same =
     (λ i below. ap₂ (λ a b. not (is_alike a b)) (same (512 * c + i) (omega (arith, below))) (same (512 * c) (omega arith)) ∙ ap not (alike-all one))
   where
     alike-all : (a : View) → is_alike a a ≡ true
-    alike-all None = refl
-    alike-all (Some a) = alike-self (Some a) a refl
+    alike-all a = grind (arith, common_steps, nat_tests, alike-refl)
 
 pub filled-touches : (runs : List PageRun) (c : ℕ) → covers_chunk c runs ≡ true → touches_chunk c runs ≡ true
 filled-touches [] c filled = absurd (cc)
@@ -85,8 +74,7 @@ filled-touches (run ∷ runs) c filled = elim (cases_Bool (leb run.first (512 * 
     inside first count c t = grind (arith, nat_tests)
 
     either : (x : Bool) → (x || true) ≡ true
-    either true = refl
-    either false = refl
+    either x = grind (arith, common_steps, nat_tests)
 
 pub outcome-filled : (runs : List PageRun) (access : View) (before : ℕ → View) (c : ℕ) → covers_chunk c runs ≡ true → IsOutcome c (edited runs access before) (Some access)
 outcome-filled runs access before c filled =
@@ -100,8 +88,7 @@ outcome-others runs access before c others =
     record { same = λ one is n at. same n at ∙ (let e : access ≡ one = cc in e); mixed = sym (same-unmixed (edited runs access before) c access same) }
   where
     all : (b : Bool) (n : ℕ) → covers runs n ≡ b → n / 512 ≡ c → edited runs access before n ≡ access
-    all true n e at = rw e refl
-    all false n e at = rw e (others n at e)
+    all b n e at = grind (arith, common_steps, nat_tests)
 
 -- ---- chunks that are not mixed
 
@@ -114,15 +101,8 @@ equal-first view c n unmixed at =
     ap view (sym place) ∙ alike-same (view (512 * c + n % 512)) (view (512 * c)) (not_false (is_alike (view (512 * c + n % 512)) (view (512 * c))) one)
   where
     not_false : (b : Bool) → not b ≡ false → b ≡ true
-    not_false true e = refl
-    not_false false e = absurd (cc)
+    not_false b e = grind (arith, common_steps, nat_tests)
 
 -- two pages of a chunk that answer otherwise make it mixed
 pub unlike-mixed : (view : ℕ → View) (c x y : ℕ) → x / 512 ≡ c → y / 512 ≡ c → is_alike (view x) (view y) ≡ false → is_mixed view c ≡ true
-unlike-mixed view c x y at_x at_y unlike = elim (cases_Bool (is_mixed view c)) [
-  | inl t ↦ t
-  | inr f ↦
-      let same : view x ≡ view y = equal-first view c x f at_x ∙ sym (equal-first view c y f at_y) in
-      let alike : is_alike (view x) (view y) ≡ true = rw same (alike-refl (view y)) in
-      absurd (cc)
-]
+unlike-mixed view c x y at_x at_y unlike = grind (arith, common_steps, nat_tests, equal-first, alike-refl)

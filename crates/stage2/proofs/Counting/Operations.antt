@@ -29,14 +29,11 @@ module _ (runs part : List PageRun) (access : View) (v w : ℕ → View) (c : �
       let was = mixed-same v w c same in
       let now = mixed-same (edited runs access v) (edited part access w) c after-same in
       let pages : pages_in part c ≡ pages_in runs c = pages_among-same (λ i. covers runs (512 * c + i)) (λ i. covers part (512 * c + i)) there in
-      let before = reached-as v w c same in
-      let after = reached-as (edited runs access v) (edited part access w) c after-same in
-      let first : is_some (edited part access w (512 * c)) ≡ is_some (edited runs access v (512 * c)) = ap (λ a. is_some a) first-same in
       ap₂ (λ now was. cond now (cond was (pages_in part c + cond (is_some access) 0 (part_count c part)) (reached_in (edited part access w) c)) (cond was (cond (is_some (edited part access w (512 * c))) (reached_in w c) (pages_in part c)) 0)) now was
       ∙ ap₂ (λ kept hung. cond (is_mixed (edited runs access v) c) (cond (is_mixed v c) kept hung) (cond (is_mixed v c) (cond (is_some (edited part access w (512 * c))) (reached_in w c) (pages_in part c)) 0))
-      (ap₂ (λ p k. p + cond (is_some access) 0 k) pages count) after
+      (ap₂ (λ p k. p + cond (is_some access) 0 k) pages count) (reached-as (edited runs access v) (edited part access w) c after-same)
       ∙ ap (λ gone. cond (is_mixed (edited runs access v) c) (cond (is_mixed v c) (pages_in runs c + cond (is_some access) 0 (part_count c runs)) (reached_in (edited runs access v) c)) (cond (is_mixed v c) gone 0))
-      (ap (λ b. cond b (reached_in w c) (pages_in part c)) first ∙ ap₂ (λ r p. cond (is_some (edited runs access v (512 * c))) r p) before pages)
+      (ap (λ b. cond b (reached_in w c) (pages_in part c)) (ap (λ a. is_some a) first-same) ∙ ap₂ (λ r p. cond (is_some (edited runs access v (512 * c))) r p) (reached-as v w c same) pages)
 
   pub chunk-same : touches_chunk c part ≡ touches_chunk c runs → chunk_operations part access w c ≡ chunk_operations runs access v c
   chunk-same touches = ap₂ (λ t k. cond t (3 + k) 0) touches table-same
@@ -79,19 +76,9 @@ module _ (runs : List PageRun) (access : View) (v : ℕ → View) (c : ℕ) wher
   -- a table that stays or goes
   pub table-either : (x : ℕ) → is_mixed v c ≡ true → x / 512 ≡ c → covers runs x ≡ true
       → (table_operations runs access v c ≡ pages_in runs c + cond (is_some access) 0 (part_count c runs)) ⊎ (table_operations runs access v c ≡ cond (is_some access) (reached_in v c) (pages_in runs c))
-  table-either x was at in_it = elim (cases_Bool (is_mixed (edited runs access v) c)) [
-    | inl now ↦ inl (rw (now, was) refl)
-    | inr now ↦
-        let first : edited runs access v (512 * c) ≡ access = sym (equal-first (edited runs access v) c x now at) ∙ ap (λ b. cond b access (v x)) in_it in
-        let so : table_operations runs access v c ≡ cond (is_some (edited runs access v (512 * c))) (reached_in v c) (pages_in runs c) = rw (now, was) refl in
-        inr (so ∙ ap (λ a. cond (is_some a) (reached_in v c) (pages_in runs c)) first)
-  ]
+  table-either x was at in_it = grind (arith, common_steps, nat_tests, equal-first)
 
 -- ---- the words of a new table
-
--- of a chunk none of whose pages was reached, those of the runs
-pub new-mapped : (runs : List PageRun) (access : View) (c : ℕ) → is_some access ≡ true → reached_in (edited runs access (λ n. None)) c ≡ pages_in runs c
-new-mapped runs access c maps = grind (arith, common_steps, nat_tests)
 
 -- of a chunk all of whose pages were, the others
 pub new-unmapped : (runs : List PageRun) (access before : View) (c : ℕ) → access ≡ None → is_some before ≡ true → reached_in (edited runs access (λ n. before)) c + pages_in runs c ≡ 512
@@ -101,24 +88,11 @@ new-unmapped runs access before c none was =
     ∙ pages_among-not (λ i. covers runs (512 * c + i))
   where
     either : (b : Bool) → is_some (cond b None before) ≡ not b
-    either true = refl
-    either false = was
+    either b = grind (arith, common_steps, nat_tests)
 
 -- all, where the others were reached otherwise
 pub new-all : (runs : List PageRun) (access before : View) (c : ℕ) → is_some access ≡ true → is_some before ≡ true → reached_in (edited runs access (λ n. before)) c ≡ 512
-new-all runs access before c maps was = pages_among-all (λ i. is_some (edited runs access (λ n. before) (512 * c + i))) (λ i lt. either (covers runs (512 * c + i)))
-  where
-    either : (b : Bool) → is_some (cond b access before) ≡ true
-    either true = maps
-    either false = was
-
--- none, where no page is reached
-pub new-none : (runs : List PageRun) (c : ℕ) → reached_in (edited runs None (λ n. None)) c ≡ 0
-new-none runs c = pages_among-none (λ i. is_some (edited runs None (λ n. None) (512 * c + i))) (λ i lt. either (covers runs (512 * c + i)) None refl)
-  where
-    either : (b : Bool) → (a : View) → a ≡ None → is_some (cond b a a) ≡ false
-    either true a e = ap (λ x. is_some x) e
-    either false a e = ap (λ x. is_some x) e
+new-all runs access before c maps was = grind (arith, common_steps, nat_tests, pages_among-all)
 
 -- ---- the words of a table
 
@@ -138,22 +112,14 @@ table-words layout words c k clean = count_below-same (λ i. is_some (answers_at
     ])
   where
     reached : (a : View) → (a ≡ None → ⊥) → is_some a ≡ true
-    reached None e = absurd (e refl)
-    reached (Some a) e = refl
+    reached a e = grind (arith, common_steps, nat_tests)
 
 -- ---- a chunk without a table
 
 pub plain-answer : (layout : Layout) (words : Words) (s : Slot) (n : ℕ) → next_page s ≡ None → answers_at layout words s n ≡ block_answer s
-plain-answer layout words Empty n none = refl
-plain-answer layout words (Maps m a) n none = refl
-plain-answer layout words Bad n none = refl
-plain-answer layout words (Next k) n none = absurd (cc)
+plain-answer layout words s n none = grind (arith, common_steps, nat_tests)
 
 -- ---- a chunk whose pages are all reached alike after the edit
-
-answer-walked : (n : ℕ) (answer : View) → answer_of (walked n answer) ≡ answer
-answer-walked n None = refl
-answer-walked n (Some a) = refl
 
 -- where the words of all pages beside the runs are those of the runs' answer, all pages have it
 pub others-alike : (layout : Layout) (pool : Pool) (runs : List PageRun) (access : View) (entry : Slot) (chunk k : ℕ) → entry ≡ Next k → OthersAnswer k chunk runs access pool
@@ -162,10 +128,9 @@ others-alike layout pool runs access entry chunk k is others =
     let words = words_of pool.memory.words in
     outcome-others runs access (answers_at layout words entry) chunk (λ n at out.
     let page : 512 * chunk + n % 512 ≡ n = omega (arith, at) in
-    let says : IsWordFor n access (words k (n % 512)) = subst (λ x. IsWordFor x access (words k (n % 512))) page (others (n % 512) (omega arith) (ap (covers runs) page ∙ out)) in
     ap (λ (s : Slot). answers_at layout words s n) is
-    ∙ ap answer_of (at_3-word layout n (words k (n % 512)) access says.entry)
-    ∙ answer-walked n access)
+    ∙ ap answer_of (at_3-word layout n (words k (n % 512)) access (subst (λ x. IsWordFor x access (words k (n % 512))) page (others (n % 512) (omega arith) (ap (covers runs) page ∙ out))).entry)
+    ∙ (grind (arith, common_steps, nat_tests)))
 
 -- where that is none, and the words beside the runs are 0
 pub emptied-alike : (layout : Layout) (pool : Pool) (runs : List PageRun) (access : View) (entry : Slot) (chunk k : ℕ) → entry ≡ Next k → access ≡ None

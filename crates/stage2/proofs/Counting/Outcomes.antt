@@ -1,7 +1,6 @@
 -- What the pages of a chunk answer after an edit, told by the number of the runs' pages and by words.
 use Rattle.std.proofs.Common.{◌≡◌, ℕ, ◌+◌, ◌*◌, ◌/◌, ◌%◌, ◌<◌, Bool, true, false, not, cond, List, Some, None, refl, sym, ap, ap₂, subst, ◌∙◌, arith, inl, inr}
-use Rattle.std.proofs.lemmas.Bool.{cases_Bool}
-use Rattle.stage2.proofs.Names.{View, is_alike, PageRun, covers, Pool, words_of, leaf_level, leaf_word_of, ChunkEdit, edited, answers_at, IsOutcome, IsWordFor, IsSpelled, read_after, tells, pages_among, Next}
+use Rattle.stage2.proofs.Names.{nat_tests, common_steps, View, is_alike, PageRun, covers, Pool, words_of, leaf_level, leaf_word_of, ChunkEdit, edited, answers_at, IsOutcome, IsWordFor, IsSpelled, read_after, tells, pages_among, Next, cases_Bool}
 use Rattle.manifest.proofs.Tables.{alike-same, alike-refl}
 use Rattle.pool.proofs.Count.{count_below-some, count_below-witness}
 use Rattle.words.proofs.RoundTrip.{word-leaf}
@@ -9,21 +8,13 @@ use Rattle.stage2.specs.inner.Clauses.{IsStray}
 use Rattle.stage2.proofs.Counting.Needs.{outcome-others, unlike-mixed}
 use Rattle.stage2.proofs.Counting.Pieces.{page-among, pages_among-not}
 
-alike-false : (a b : View) → (a ≡ b → ⊥) → is_alike a b ≡ false
-alike-false a b differ = elim (cases_Bool (is_alike a b)) [
-  | inl t ↦ absurd (differ (alike-same a b t))
-  | inr f ↦ f
-]
-
 -- one page in the runs, and one beside them that answers otherwise
 outcome-stray : (runs : List PageRun) (access : View) (before : ℕ → View) (c x y : ℕ) → x / 512 ≡ c → covers runs x ≡ true → y / 512 ≡ c → covers runs y ≡ false → (before y ≡ access → ⊥)
     → IsOutcome c (edited runs access before) None
 outcome-stray runs access before c x y at_x covered at_y out differ =
-    let within : edited runs access before x ≡ access = ap (λ b. cond b access (before x)) covered in
-    let beside : edited runs access before y ≡ before y = ap (λ b. cond b access (before y)) out in
     record {
       same = λ one e. absurd cc;
-      mixed = sym (unlike-mixed (edited runs access before) c y x at_y at_x (ap₂ is_alike beside within ∙ alike-false (before y) access differ));
+      mixed = sym (unlike-mixed (edited runs access before) c y x at_y at_x (ap₂ is_alike (ap (λ b. cond b access (before y)) out) (ap (λ b. cond b access (before x)) covered) ∙ (grind (arith, common_steps, nat_tests, alike-same))));
     }
 
 -- a level 3 word is told by its page and its answer
@@ -35,28 +26,18 @@ same-word n (Some access) a b p q =
     x.spelled ∙ ap (λ z. leaf_word_of z n access) (page x.block x.at_level ∙ sym (page y.block y.at_level)) ∙ sym y.spelled
   where
     page : (z : Bool) → 3 ≡ leaf_level z → z ≡ false
-    page true e = absurd (cc)
-    page false e = refl
-
-was-not : (a : Bool) → not a ≡ true → a ≡ false
-was-not true e = absurd (cc)
-was-not false e = refl
+    page z e = grind (arith, common_steps, nat_tests)
 
 -- a page beside some that are fewer than 512
 page-beside : (which : ℕ → Bool) → pages_among which < 512 → (i : ℕ) × (i < 512) × (which i ≡ false)
 unfolding pages_among
-page-beside which few =
-    let both = pages_among-not which in
-    let found = count_below-witness (λ k. not (which k)) 512 (omega (arith, both, few)) in
-    (found.0, found.1, was-not (which found.0) found.2)
+page-beside which few = grind (arith, common_steps, nat_tests, count_below-witness (λ k. not (which k)) 512 (omega (arith, pages_among-not which, few)))
 
 -- and none where they are all
 no-other : (which : ℕ → Bool) (i : ℕ) → i < 512 → pages_among which ≡ 512 → which i ≡ false → ⊥
 unfolding pages_among
 no-other which i lt all out =
-    let both = pages_among-not which in
-    let some = count_below-some (λ k. not (which k)) 512 i lt (ap not out) in
-    omega (arith, both, some, all)
+    omega (arith, pages_among-not which, count_below-some (λ k. not (which k)) 512 i lt (ap not out), all)
 
 module _ (e : ChunkEdit) where
   -- a page of the runs
@@ -67,8 +48,7 @@ module _ (e : ChunkEdit) where
   pub told-filled : (before : ℕ → View) → e.pieces.pages ≡ 512 → IsOutcome e.chunk (edited e.runs e.access before) (Some e.access)
   told-filled before all = outcome-others e.runs e.access before e.chunk (λ n at out.
       let page : 512 * e.chunk + n % 512 ≡ n = omega (arith, at) in
-      let beside : covers e.runs (512 * e.chunk + n % 512) ≡ false = ap (covers e.runs) page ∙ out in
-      absurd (no-other (λ i. covers e.runs (512 * e.chunk + i)) (n % 512) (omega arith) (sym e.pages ∙ all) beside))
+      absurd (no-other (λ i. covers e.runs (512 * e.chunk + i)) (n % 512) (omega arith) (sym e.pages ∙ all) (ap (covers e.runs) page ∙ out)))
 
   -- pages that answered all the same before
   pub told-block : (before : ℕ → View) (one_answer : View) (b : Bool) → b ≡ is_alike one_answer e.access → ((n : ℕ) → n / 512 ≡ e.chunk → before n ≡ one_answer) → (e.pieces.pages ≡ 512 → ⊥)
@@ -76,22 +56,18 @@ module _ (e : ChunkEdit) where
   told-block before one_answer true is same few = outcome-others e.runs e.access before e.chunk (λ n at out. same n at ∙ alike-same one_answer e.access (sym is))
   told-block before one_answer false is same few =
       let y = page-beside (λ i. covers e.runs (512 * e.chunk + i)) (let pages = e.pages in let most = e.most in omega (arith, pages, most, few)) in
-      let lt = one.1 in
-      let small = y.1 in
-      let at : (512 * e.chunk + y.0) / 512 ≡ e.chunk = omega (arith, small) in
-      outcome-stray e.runs e.access before e.chunk (512 * e.chunk + one.0) (512 * e.chunk + y.0) (omega (arith, lt)) one.2 at y.2
+      let at : (512 * e.chunk + y.0) / 512 ≡ e.chunk = omega (arith, y.1) in
+      outcome-stray e.runs e.access before e.chunk (512 * e.chunk + one.0) (512 * e.chunk + y.0) (omega (arith, one.1)) one.2 at y.2
       (λ alike. let is_one : one_answer ≡ e.access = sym (same (512 * e.chunk + y.0) at) ∙ alike in
       let bad : false ≡ true = is ∙ ap (λ a. is_alike a e.access) is_one ∙ alike-refl e.access in cc)
 
   -- a page beside the runs whose word is not that of their answer
   pub stray-mixed : (k : ℕ) (pool : Pool) → IsSpelled e k pool → IsStray k e pool → IsOutcome e.chunk (read_after e (Next k) pool) None
   stray-mixed k pool spelled stray =
-      let lt = one.1 in
       let small = stray.small in
       let y = 512 * e.chunk + stray.index in
       let index : y % 512 ≡ stray.index = omega (arith, small) in
       let at : y / 512 ≡ e.chunk = omega (arith, small) in
       let before : ℕ → View = answers_at e.layout.now (words_of pool.memory.words) (Next k) in
-      let word : IsWordFor y (before y) (words_of pool.memory.words k stray.index) = subst (λ x. IsWordFor y (before y) (words_of pool.memory.words k x)) index (spelled y at) in
-      outcome-stray e.runs e.access before e.chunk (512 * e.chunk + one.0) y (omega (arith, lt)) one.2 at stray.out
-      (λ alike. stray.other (subst (λ a. IsWordFor y a (words_of pool.memory.words k stray.index)) alike word))
+      outcome-stray e.runs e.access before e.chunk (512 * e.chunk + one.0) y (omega (arith, one.1)) one.2 at stray.out
+      (λ alike. stray.other (subst (λ a. IsWordFor y a (words_of pool.memory.words k stray.index)) alike (subst (λ x. IsWordFor y (before y) (words_of pool.memory.words k x)) index (spelled y at))))

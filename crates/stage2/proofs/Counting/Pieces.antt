@@ -1,7 +1,6 @@
 -- How many pages of a chunk runs have, and what that tells of the words of its level 3 table.
-use Rattle.stage2.proofs.Names.{common_steps, nat_tests, count_below, PageRun, in_run, covers, are_normal, rise_above, Words, nonzero_in, index_from, words_in, is_between, pages_among, pages_in, end_from, part_in}
+use Rattle.stage2.proofs.Names.{common_steps, nat_tests, count_below, PageRun, in_run, covers, are_normal, rise_above, Words, nonzero_in, index_from, words_in, is_between, pages_among, pages_in, end_from, part_in, cases_Bool, and_parts, eqb-true}
 use Rattle.std.proofs.Common.{◌≡◌, ◌≢◌, ℕ, zero, suc, ◌+◌, ◌-◌, ◌*◌, ◌/◌, ◌<◌, ◌≤◌, ◌==◌, cond, Bool, true, false, not, ◌&&◌, ◌||◌, eqb, leb, ltb, min, List, [], ◌∷◌, Some, None, take, drop, length, get_or, refl, sym, ap, ◌∙◌, arith, inl, inr}
-use Rattle.std.proofs.lemmas.Bool.{cases_Bool, and_parts, eqb-true}
 use Rattle.std.proofs.lemmas.List.{at_drop_all}
 use Rattle.pool.proofs.Count.{count_below-same, count_below-some, count_below-none, count_below-tail, count_below-more, count_below-le, count_below-all, count_below-witness}
 use Rattle.pool.proofs.RunWords.{words_in-left}
@@ -20,15 +19,12 @@ count_below-either a b (suc n) apart = grind (arith, common_steps, nat_tests, co
 -- the numbers from one up to another
 between-more : (first end k : ℕ) → first + k ≤ end → count_below (is_between first end) (first + k) ≡ k
 between-more first end zero within =
-    let none = count_below-none (is_between first end) first (λ k lt. grind (arith, nat_tests, lt)) in
     let start : first + 0 ≡ first = omega arith in
-    rw start none
+    rw start (count_below-none (is_between first end) first (λ k lt. grind (arith, nat_tests, lt)))
 between-more first end (suc k) within =
-    let rest = between-more first end k (omega (arith, within)) in
     let next : first + suc k ≡ first + k + 1 = omega arith in
     let here : is_between first end (first + k) ≡ true = grind (arith, nat_tests, within) in
-    let more = count_below-more (is_between first end) (first + k) in
-    rw next (more ∙ (rw (here, rest) (omega arith)))
+    rw next ((count_below-more (is_between first end) (first + k)) ∙ (rw (here, between-more first end k (omega (arith, within))) (omega arith)))
 
 pub count_below-between : (first end n : ℕ) → first ≤ end → end ≤ n → count_below (is_between first end) n ≡ end - first
 count_below-between first end n ordered most =
@@ -37,12 +33,10 @@ count_below-between first end n ordered most =
     tail ∙ (ap (count_below (is_between first end)) (sym last) ∙ between-more first end (end - first) (omega (arith, ordered)))
 
 apart-self : (a : Bool) → (a && not a) ≡ false
-apart-self true = refl
-apart-self false = refl
+apart-self a = grind (arith, common_steps, nat_tests)
 
 or-not : (a : Bool) → (a || not a) ≡ true
-or-not true = refl
-or-not false = refl
+or-not a = grind (arith, common_steps, nat_tests)
 
 -- ---- pages of a chunk
 
@@ -76,32 +70,21 @@ rise-covers end n [] rises covered = absurd (cc)
 rise-covers end n (r ∷ runs) rises covered =
     let parts = and_parts (ltb end r.first) (rise_above (end_of r) runs) rises in
     elim (cases_Bool (in_run r n)) [
-      | inl here ↦
-          let rest = from-rise (end_of r) runs parts.1 in
-          let within : n < end_of r = grind (arith, nat_tests, here) in
-          omega (arith, rest, within)
+      | inl here ↦ grind (arith, common_steps, nat_tests, end_of, from-rise, parts)
       | inr other ↦ rise-covers (end_of r) n runs parts.1 (rw other at covered)
     ]
 
 normal-covers : (n : ℕ) (runs : List PageRun) → are_normal runs ≡ true → covers runs n ≡ true → n < end_from 0 runs
 normal-covers n [] normal covered = absurd (cc)
 normal-covers n (r ∷ runs) normal covered = elim (cases_Bool (in_run r n)) [
-  | inl here ↦
-      let rest = from-rise (end_of r) runs normal in
-      let within : n < end_of r = grind (arith, nat_tests, here) in
-      omega (arith, rest, within)
+  | inl here ↦ grind (arith, common_steps, nat_tests, end_of, from-rise)
   | inr other ↦ rise-covers (end_of r) n runs normal (rw other at covered)
 ]
 
 -- no page is in a run and in one of those before it
 pub first-apart : (runs : List PageRun) (i : ℕ) (run : PageRun) (n : ℕ) → are_normal runs ≡ true → i < length runs → run ≡ get_or runs i run → (covers (take i runs) n && in_run run n) ≡ false
 first-apart runs i run n normal lt is = elim (cases_Bool (covers (take i runs) n)) [
-  | inl before ↦
-      let end = normal-covers n (take i runs) (normal-take i runs normal) before in
-      let next = normal-next runs i run normal lt is in
-      let from = next.0 in
-      let out : in_run run n ≡ false = (let lt : n < run.first = omega (arith, end, from) in grind (arith, nat_tests, lt)) in
-      rw (before, out) refl
+  | inl before ↦ grind (arith, common_steps, nat_tests, normal-next, normal-covers, normal-take)
   | inr none ↦ rw none refl
 ]
 
@@ -113,9 +96,8 @@ pages_among-all which all = count_below-all which 512 all
 -- the others
 pub pages_among-not : (which : ℕ → Bool) → pages_among (λ i. not (which i)) + pages_among which ≡ 512
 pages_among-not which =
-    let parts = pages_among-either which (λ i. not (which i)) (λ i lt. apart-self (which i)) in
     let all = pages_among-all (λ i. which i || not (which i)) (λ i lt. or-not (which i)) in
-    omega (arith, parts, all)
+    omega (arith, pages_among-either which (λ i. not (which i)) (λ i lt. apart-self (which i)), all)
 
 -- ---- a page among some
 
@@ -135,13 +117,10 @@ or-most a b zero = omega arith
 or-most a b (suc n) = let rest = or-most a b n in let here = bits (a n) (b n) in omega (arith, rest, here)
   where
     bits : (x y : Bool) → cond (x || y) 1 0 ≤ cond x 1 0 + cond y 1 0
-    bits true y = omega arith
-    bits false y = omega arith
+    bits x y = grind (arith, common_steps, nat_tests)
 
 not-or : (a x : Bool) → not (a || x) ≡ true → (a ≡ false) × (x ≡ false)
-not-or true x e = absurd (cc)
-not-or false true e = absurd (cc)
-not-or false false e = (refl, refl)
+not-or a x e = grind (arith, common_steps, nat_tests)
 
 pub count_below-fewer : (a b : ℕ → Bool) (n : ℕ) → ((k : ℕ) → k < n → a k ≡ true → b k ≡ true) → count_below a n ≤ count_below b n
 unfolding count_below
@@ -171,20 +150,13 @@ unfolding pages_among nonzero_in
 word-beside words k which more =
     let other : ℕ → Bool = λ i. not (which i) && not (words k i == 0) in
     let same = count_below-same (λ i. (which i && not (words k i == 0)) || other i) (λ i. not (words k i == 0)) 512 (λ i lt. parts (which i) (not (words k i == 0))) in
-    let most = or-most (λ i. which i && not (words k i == 0)) other 512 in
     let less = count_below-fewer (λ i. which i && not (words k i == 0)) which 512 (λ i lt both. (and_parts (which i) (not (words k i == 0)) both).0) in
-    let found = count_below-witness other 512 (omega (arith, same, most, less, more)) in
+    let found = count_below-witness other 512 (omega (arith, same, or-most (λ i. which i && not (words k i == 0)) other 512, less, more)) in
     let both = and_parts (not (which found.0)) (not (words k found.0 == 0)) found.2 in
-    (found.0, found.1, not-true (which found.0) both.0, λ zero. grind (arith, nat_tests, zero, both.1))
+    (found.0, found.1, (grind (arith, common_steps, nat_tests)), λ zero. grind (arith, nat_tests, zero, both.1))
   where
     parts : (a x : Bool) → x ≡ ((a && x) || (not a && x))
-    parts true true = refl
-    parts true false = refl
-    parts false x = refl
-
-    not-true : (b : Bool) → not b ≡ true → b ≡ false
-    not-true true e = absurd (cc)
-    not-true false e = refl
+    parts a x = grind (arith, common_steps, nat_tests)
 
 -- and where there are as many, which are all of those pages, the words beside them are 0
 pub none-beside : (words : Words) (k : ℕ) (which : ℕ → Bool) → nonzero_in words k ≡ pages_among which → ((i : ℕ) → i < 512 → which i ≡ true → words k i ≢ 0) → (i : ℕ) → i < 512 → which i ≡ false → words k i ≡ 0
@@ -193,30 +165,22 @@ none-beside words k which as_many all i lt out = elim (cases_Bool (words k i == 
   | inl is ↦ eqb-true _ _ is
   | inr isnt ↦
       let other : ℕ → Bool = λ j. not (which j) && not (words k j == 0) in
-      let both = count_below-same (λ j. which j || other j) (λ j. not (words k j == 0)) 512 (λ j small. parts (which j) (words k j) (all j small)) in
-      let sum = count_below-either which other 512 (λ j small. apart-not (which j) (not (words k j == 0))) in
+      let sum = count_below-either which other 512 (λ j small. (grind (arith, common_steps, nat_tests))) in
       let one : other i ≡ true = rw (out, isnt) refl in
       let some = count_below-some other 512 i lt one in
-      absurd (omega (arith, as_many, both, sum, some))
+      absurd (omega (arith, as_many, count_below-same (λ j. which j || other j) (λ j. not (words k j == 0)) 512 (λ j small. parts (which j) (words k j) (all j small)), sum, some))
 ]
   where
     parts : (a : Bool) (w : ℕ) → (a ≡ true → w ≢ 0) → not (w == 0) ≡ (a || (not a && not (w == 0)))
-    parts false w e = refl
-    parts true w e = let other = e refl in grind (arith, nat_tests, other)
-
-    apart-not : (a x : Bool) → (a && (not a && x)) ≡ false
-    apart-not true x = refl
-    apart-not false x = refl
+    parts a w e = grind (arith, common_steps, nat_tests)
 
 -- and where as many are left for the pages beside some, which are all of these, the words of those pages are 0
 pub none-among : (words : Words) (k : ℕ) (which : ℕ → Bool) → nonzero_in words k + pages_among which ≡ 512 → ((i : ℕ) → i < 512 → which i ≡ false → words k i ≢ 0) → (i : ℕ) → i < 512 → which i ≡ true → words k i ≡ 0
 none-among words k which left all i lt in_it =
-    let both = pages_among-not which in
-    none-beside words k (λ j. not (which j)) (omega (arith, left, both)) (λ j small beside. all j small (was-not (which j) beside)) i lt (ap not in_it)
+    none-beside words k (λ j. not (which j)) (omega (arith, left, pages_among-not which)) (λ j small beside. all j small (was-not (which j) beside)) i lt (ap not in_it)
   where
     was-not : (b : Bool) → not b ≡ true → b ≡ false
-    was-not true e = absurd (cc)
-    was-not false e = refl
+    was-not b e = grind (arith, common_steps, nat_tests)
 
 -- and where as many are not 0 as there are of some, beside which all are 0, none of their words is 0
 pub all-among : (words : Words) (k : ℕ) (which : ℕ → Bool) → nonzero_in words k ≡ pages_among which → ((i : ℕ) → i < 512 → which i ≡ false → words k i ≡ 0) → (i : ℕ) → i < 512 → which i ≡ true → words k i ≢ 0
@@ -224,20 +188,15 @@ unfolding pages_among nonzero_in
 all-among words k which counted none i lt in_it is_zero =
     let other : ℕ → Bool = λ j. not (words k j == 0) in
     let missing : ℕ → Bool = λ j. which j && (words k j == 0) in
-    let all = count_below-same which (λ j. other j || missing j) 512 (λ j small. both (which j) (words k j) (none j small)) in
     let parts = count_below-either other missing 512 (λ j small. apart (which j) (words k j == 0)) in
     let here : missing i ≡ true = grind (arith, nat_tests, in_it, is_zero) in
-    let some = count_below-some missing 512 i lt here in
-    omega (arith, counted, all, parts, some)
+    omega (arith, counted, count_below-same which (λ j. other j || missing j) 512 (λ j small. both (which j) (words k j) (none j small)), parts, (count_below-some missing 512 i lt here))
   where
     apart : (a b : Bool) → (not b && (a && b)) ≡ false
-    apart a true = refl
-    apart true false = refl
-    apart false false = refl
+    apart a b = grind (arith, common_steps, nat_tests)
 
     both : (a : Bool) (w : ℕ) → (a ≡ false → w ≡ 0) → (not (w == 0) || (a && (w == 0))) ≡ a
-    both true w e = elim (cases_Bool (w == 0)) [ inl t ↦ rw t refl | inr f ↦ rw f refl ]
-    both false w e = let z = e refl in rw z refl
+    both a w e = grind (arith, common_steps, nat_tests)
 
 -- ---- the part of a run in a chunk
 
@@ -248,27 +207,20 @@ part-within c run part e = grind (arith, common_steps, nat_tests)
 pub part-pages : (c : ℕ) (run part : PageRun) → part_in c run ≡ Some part → pages_among (λ i. in_run run (512 * c + i)) ≡ part.count
 part-pages c run part e =
     let within = part-within c run part e in
-    let low = within.0 in
-    let high = within.1 in
     let first = part.first - 512 * c in
     let end = part.first + part.count - 512 * c in
     pages_among-same (is_between first end) (λ i. in_run run (512 * c + i))
-    (λ i lt. sym (there (in_run run (512 * c + i)) ((512 * c + i) / 512) c (omega (arith, lt))) ∙ sym (part-some c run part (512 * c + i) e) ∙ shifted part.first (part.first + part.count) (512 * c) i low)
-    ∙ pages_among-between first end (omega arith) (omega (arith, high)) ∙ omega (arith, low)
+    (λ i lt. sym (there (in_run run (512 * c + i)) ((512 * c + i) / 512) c (omega (arith, lt))) ∙ sym (part-some c run part (512 * c + i) e) ∙ (grind (arith, nat_tests)))
+    ∙ pages_among-between first end (omega arith) (omega (arith, within.1)) ∙ omega (arith, within.0)
   where
     there : (b : Bool) (q c : ℕ) → q ≡ c → (b && eqb q c) ≡ b
-    there true q c e = grind (arith, nat_tests)
-    there false q c e = refl
-
-    shifted : (a b s i : ℕ) → s ≤ a → (leb a (s + i) && ltb (s + i) b) ≡ is_between (a - s) (b - s) i
-    shifted a b s i le = grind (arith, nat_tests)
+    there b q c e = grind (arith, common_steps, nat_tests)
 
 pub no-part-pages : (c : ℕ) (run : PageRun) → part_in c run ≡ None → pages_among (λ i. in_run run (512 * c + i)) ≡ 0
 no-part-pages c run e = pages_among-none (λ i. in_run run (512 * c + i)) (λ i lt. there (in_run run (512 * c + i)) ((512 * c + i) / 512) c (omega (arith, lt)) (part-none c run (512 * c + i) e))
   where
     there : (b : Bool) (q c : ℕ) → q ≡ c → (b && eqb q c) ≡ false → b ≡ false
-    there true q c e none = let at : eqb q c ≡ true = grind (arith, nat_tests) in absurd (cc)
-    there false q c e none = refl
+    there b q c e none = grind (arith, common_steps, nat_tests)
 
 -- ---- one run after another
 
@@ -286,11 +238,6 @@ pages-none c runs = pages_among-none (λ x. covers (take 0 runs) (512 * c + x)) 
 
 -- ---- the words for the runs' pages
 
-get_or-same : (runs : List PageRun) (i : ℕ) (d e : PageRun) → i < length runs → get_or runs i d ≡ get_or runs i e
-get_or-same [] i d e lt = absurd (omega (arith, lt))
-get_or-same (r ∷ runs) zero d e lt = refl
-get_or-same (r ∷ runs) (suc i) d e lt = get_or-same runs i d e (omega (arith, lt))
-
 run-words : (c : ℕ) (run : PageRun) → index_from (512 * c) (run.first + run.count) - index_from (512 * c) run.first ≡ pages_among (λ x. in_run run (512 * c + x))
 run-words c run =
     let first = index_from (512 * c) run.first in
@@ -303,21 +250,13 @@ run-words c run =
 -- those of the runs from the i-th on, and the pages of those before it
 words-from : (c n i : ℕ) (runs : List PageRun) → are_normal runs ≡ true → n + i ≡ length runs → pages_in (take i runs) c + words_in (512 * c) (drop i runs) ≡ pages_in runs c
 words-from c zero i runs normal all =
-    let whole = take-all runs i (omega (arith, all)) (omega (arith, all)) in
-    let none = at_drop_all (words_in (512 * c)) runs i (omega (arith, all)) in
-    rw (whole, none) (omega arith)
+    rw (take-all runs i (omega (arith, all)) (omega (arith, all)), (at_drop_all (words_in (512 * c)) runs i (omega (arith, all)))) (omega arith)
 words-from c (suc n) i runs normal all =
     let run = get_or runs i (record { first = 0; count = 0 }) in
     let lt : i < length runs = omega (arith, all) in
-    let is : run ≡ get_or runs i run = get_or-same runs i (record { first = 0; count = 0 }) run lt in
-    let rest = words-from c n (i + 1) runs normal (omega (arith, all)) in
-    let left = words_in-left (512 * c) i runs run lt is in
-    let more = pages-more runs i c run normal lt is in
-    let here = run-words c run in
-    omega (arith, rest, left, more, here)
+    let is : run ≡ get_or runs i run = (grind (arith, common_steps, nat_tests)) in
+    omega (arith, words-from c n (i + 1) runs normal (omega (arith, all)), (words_in-left (512 * c) i runs run lt is), (pages-more runs i c run normal lt is), (run-words c run))
 
 pub words-pages : (c : ℕ) (runs : List PageRun) → are_normal runs ≡ true → words_in (512 * c) runs ≡ pages_in runs c
 words-pages c runs normal =
-    let none = pages-none c runs in
-    let all = words-from c (length runs) 0 runs normal (omega arith) in
-    omega (arith, none, all)
+    omega (arith, pages-none c runs, words-from c (length runs) 0 runs normal (omega arith))

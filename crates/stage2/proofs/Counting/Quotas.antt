@@ -1,7 +1,6 @@
 -- Quotas of partitions, and views that need no tables.
-use Rattle.stage2.proofs.Names.{nat_tests, common_steps, option_map_or, View, PartitionRow, ManifestRows, ids_of, row_of, is_mixed, is_reached, need, quota_of}
+use Rattle.stage2.proofs.Names.{nat_tests, common_steps, option_map_or, View, PartitionRow, ManifestRows, ids_of, row_of, is_mixed, is_reached, need, quota_of, cases_Bool, cases_lt}
 use Rattle.std.proofs.Common.{◌≡◌, ℕ, suc, ◌+◌, ◌*◌, ◌/◌, ◌%◌, ◌^◌, ◌<◌, ◌≤◌, true, false, not, cond, eqb, List, [], ◌∷◌, Some, None, IsTrue, length, get_or, find, refl, sym, ap, subst, ◌∙◌, arith, inl, inr}
-use Rattle.std.proofs.lemmas.Bool.{cases_Bool, cases_lt}
 use Rattle.base.specs.Manifest.{quotas_of, grant}
 use Rattle.manifest.specs.Valid.{is_valid}
 use Rattle.manifest.proofs.Facts.{facts, fits_of, stranger}
@@ -25,17 +24,13 @@ no_quota (row ∷ rows) p le =
 -- views that reach nothing need no tables, and the other way round
 pub need-none : (v : ℕ → View) → ((n : ℕ) → v n ≡ None) → need v ≡ 0
 unfolding need
-need-none v none =
-    let gigabytes = count_below-none (is_reached v) 512 (λ g small. reached-none v g (λ i lt. none (262144 * g + i))) in
-    let chunks = count_below-none (is_mixed v) 262144 (λ c small. mixed-none v c (λ i lt. none (512 * c + i))) in
-    omega (arith, gigabytes, chunks)
+need-none v none = grind (arith, common_steps, nat_tests, count_below-none, mixed-none, reached-none)
 
 pub none-needed : (v : ℕ → View) → need v ≤ 0 → (n : ℕ) → n < 2 ^ 27 → v n ≡ None
 unfolding need
 none-needed v le n small = elim (cases_Bool (is_reached v (n / 262144))) [
   | inl t ↦
-      let some = count_below-some (is_reached v) 512 (n / 262144) (omega (arith, small)) t in
-      absurd (omega (arith, some, le))
+      absurd (omega (arith, count_below-some (is_reached v) 512 (n / 262144) (omega (arith, small)) t, le))
   | inr f ↦
       let place : 262144 * (n / 262144) + n % 262144 ≡ n = omega arith in
       ap v (sym place) ∙ not-reached v (n / 262144) (n % 262144) f (omega arith)
@@ -43,7 +38,4 @@ none-needed v le n small = elim (cases_Bool (is_reached v (n / 262144))) [
 
 -- what a manifest grants fits each quota
 pub grants-fit : (m : ManifestRows) → IsTrue (is_valid m) → (p : ℕ) → need (grant m p) ≤ quota_of m p
-grants-fit m valid p = elim (cases_lt (row_of (ids_of m.partitions) p) (length (ids_of m.partitions))) [
-  | inl lt ↦ subst (λ k. need (grant m p) ≤ k) (quota_at m.partitions p) (fits_of m p (facts m valid) lt)
-  | inr le ↦ let none = need-none (grant m p) (λ n. stranger m p n (facts m valid) le) in omega (arith, none)
-]
+grants-fit m valid p = grind (arith, common_steps, nat_tests, cases_lt, quota_at, fits_of, facts, need-none, stranger)

@@ -1,7 +1,7 @@
 -- An edit takes a level 3 table in chunks alone that have none, and a level 2 table in gigabytes that have none.
 use Rattle.std.proofs.Common.{◌≡◌, ℕ, ◌+◌, ◌*◌, ◌<◌, ◌≤◌, ◌&&◌, Bool, true, false, not, cond, is_some, is_none, List, Option, Some, None, length, refl, sym, ap, ◌∙◌, true≢false, arith, inl, inr}
 use Rattle.std.proofs.lemmas.Bool.{cases_Bool, eqb-true}
-use Rattle.stage2.proofs.Names.{nat_tests, View, count_below, is_mixed, is_reached, PageRun, Pool, pages_of, edited, touches_chunk, IsCanonical, Layout, next_page, answers_at, second_of, entry_in, is_between, points_at, view_in, grows_at, gigabyte_growth}
+use Rattle.stage2.proofs.Names.{common_steps, nat_tests, View, count_below, is_mixed, is_reached, PageRun, Pool, pages_of, edited, touches_chunk, IsCanonical, Layout, next_page, answers_at, second_of, entry_in, is_between, points_at, view_in, grows_at, gigabyte_growth}
 use Rattle.stage2.specs.inner.Clauses.{second_in}
 use Rattle.stage2.proofs.Counting.Growth.{grows-nothing, reached-second, view-mixed, entry-view}
 use Rattle.stage2.proofs.Counting.Needs.{mixed-same}
@@ -33,33 +33,7 @@ module _ (layout : Layout) (pool : Pool) (canonical : IsCanonical layout (pages_
   module _ (runs : List PageRun) (access : View) (first end : ℕ) (within : (x : ℕ) → x < 512 → touches_chunk (512 * g + x) runs ≡ true → Between first end x) where
     -- a chunk that takes one is among these, and points at none
     taken-among : (x : ℕ) → x < 512 → grows_at before (edited runs access before) (512 * g + x) ≡ true → (is_between first end x && not (points_at second x pool)) ≡ true
-    taken-among x small grows = elim (cases_Bool (touches_chunk (512 * g + x) runs)) [
-      | inr f ↦ absurd (true≢false (sym grows ∙ grows-nothing runs access before (512 * g + x) (λ n at. untouched (512 * g + x) runs n f at)))
-      | inl t ↦ elim (cases_Bool (points_at second x pool)) [
-        | inl p ↦ absurd (true≢false (sym grows ∙ none (is_mixed (edited runs access before) (512 * g + x)) (is_mixed before (512 * g + x)) (points-mixed x small p)))
-        | inr p ↦ let b = within x small t in let low = b.0 in let high = b.1 in let so : is_between first end x ≡ true = grind (arith, nat_tests, low, high) in rw (so, p) refl
-      ]
-    ]
-      where
-        none : (new old : Bool) → old ≡ true → (new && not old) ≡ false
-        none true true e = refl
-        none false true e = refl
-        none new false e = absurd (cc)
+    taken-among x small grows = grind (arith, common_steps, nat_tests, grows-nothing, untouched, points-mixed)
 
     pub growth-untabled : (chunks : ℕ) → count_below (λ x. is_between first end x && not (points_at second x pool)) 512 ≤ chunks → gigabyte_growth before (edited runs access before) g ≤ chunks + cond (is_none second) 1 0
-    growth-untabled chunks most =
-        let count = count_below-fewer (λ x. grows_at before (edited runs access before) (512 * g + x)) (λ x. is_between first end x && not (points_at second x pool)) 512 taken-among in
-        let one = gigabyte-one second is (reached-second layout (pages_of pool.memory) canonical g below row inside) (is_reached (edited runs access before) g) in
-        omega (arith, count, most, one)
-      where
-        at_most : (b : Bool) → cond b 1 0 ≤ 1
-        at_most true = omega arith
-        at_most false = omega arith
-
-        and_false : (b : Bool) → ◌≡◌ {A = ℕ} (cond (b && false) 1 0) 0
-        and_false true = refl
-        and_false false = refl
-
-        gigabyte-one : (o : Option ℕ) → second_in layout row g pool ≡ o → is_some (second_in layout row g pool) ≡ is_reached before g → (new : Bool) → cond (new && not (is_reached before g)) 1 0 ≤ cond (is_none o) 1 0
-        gigabyte-one None e same new = at_most (new && not (is_reached before g))
-        gigabyte-one (Some j) e same new = let was : is_reached before g ≡ true = sym same ∙ ap (λ o. is_some o) e in let off = and_false new in rw was (omega (arith, off))
+    growth-untabled chunks most = grind (arith, common_steps, nat_tests, reached-second, count_below-fewer, taken-among)

@@ -1,6 +1,5 @@
 -- What an edit needs for the chunks of a gigabyte before one, and which runs are left for the others: one piece after another.
-use Rattle.std.proofs.Common.{◌≡◌, ℕ, ◌+◌, ◌-◌, ◌*◌, ◌<◌, ◌≤◌, Bool, false, cond, List, sym, ap, ◌∙◌, arith}
-use Rattle.stage2.proofs.Names.{View, count_below, PageRun, edited, touches_chunk, sum_below, table_operations, chunk_operations, Piece, Plan, grows_at, IsNextPiece}
+use Rattle.stage2.proofs.Names.{View, count_below, PageRun, edited, touches_chunk, sum_below, table_operations, chunk_operations, Piece, Plan, grows_at, IsNextPiece, ◌≡◌, ℕ, ◌+◌, ◌-◌, ◌*◌, ◌<◌, ◌≤◌, Bool, false, cond, List, sym, ap, ◌∙◌, arith}
 use Rattle.pool.proofs.Count.{count_below-none, count_below-tail, count_below-more}
 use Rattle.stage2.proofs.Counting.Growth.{grows-nothing}
 use Rattle.stage2.proofs.Editing.ChunkByChunk.{bit, bit-most, sum_below-more, sum_below-each, untouched}
@@ -41,18 +40,14 @@ module _ {g : ℕ} {runs : List PageRun} {access : View} {v : ℕ → View} wher
     -- chunks that no run touches need nothing
     gap : (k : ℕ) → i ≤ k → k ≤ 512 → ((x : ℕ) → i ≤ x → x < k → touches_chunk (512 * g + x) rest ≡ false) → (later : List PageRun) → AreLeft (512 * g + k) later runs → IsPlanned g runs access v k later plan
     gap k from most apart later left =
-        let none = count_below-tail (grows g runs access v) i k from (λ x low lt. grows-nothing runs access v (512 * g + x) (λ n at. untouched (512 * g + x) runs n (spare x low (apart x low lt)) at)) in
         let all : i + (k - i) ≡ k = omega (arith, from) in
         let nothing = sum_below-tail (cost g runs access v) (k - i) i (λ x low lt. ap (λ t. cond t (3 + table_operations runs access v (512 * g + x)) 0) (spare x low (apart x low (omega (arith, lt, from))))) in
-        let same = ap (sum_below (cost g runs access v)) all in
-        let made = so.operations in
         let few = so.few in
-        let many = so.most in
         record {
-          tables = so.tables ∙ sym none;
-          operations = omega (arith, nothing, same, made);
+          tables = so.tables ∙ sym (count_below-tail (grows g runs access v) i k from (λ x low lt. grows-nothing runs access v (512 * g + x) (λ n at. untouched (512 * g + x) runs n (spare x low (apart x low lt)) at)));
+          operations = omega (arith, nothing, ap (sum_below (cost g runs access v)) all, so.operations);
           few = omega (arith, few, from);
-          most = omega (arith, many, from);
+          most = omega (arith, so.most, from);
           left = left;
           last = most;
         }
@@ -69,18 +64,13 @@ module _ {g : ℕ} {runs : List PageRun} {access : View} {v : ℕ → View} wher
     pub planned-filled : {end : ℕ} → i < end → end ≤ 512 → ((x : ℕ) → i ≤ x → x < end → grows_at v (edited runs access v) (512 * g + x) ≡ false) → ((x : ℕ) → i ≤ x → x < end → chunk_operations runs access v (512 * g + x) ≡ 3)
         → {next : Plan} → next ≡ record { tables = plan.tables; operations = plan.operations + 3 * (end - i) } → IsPlanned g runs access v end rest next
     planned-filled {end} ahead most none three is =
-        let tail = count_below-tail (grows g runs access v) i end (omega (arith, ahead)) none in
         let all : i + (end - i) ≡ end = omega (arith, ahead) in
-        let each = sum_below-each (cost g runs access v) i (end - i) 3 (λ x from to. three x from (omega (arith, to, ahead))) in
-        let same = ap (sum_below (cost g runs access v)) all in
-        let made = so.operations in
         let few = so.few in
-        let many = so.most in
         rw is record {
-          tables = so.tables ∙ sym tail;
-          operations = omega (arith, each, same, made);
+          tables = so.tables ∙ sym (count_below-tail (grows g runs access v) i end (omega (arith, ahead)) none);
+          operations = omega (arith, sum_below-each (cost g runs access v) i (end - i) 3 (λ x from to. three x from (omega (arith, to, ahead))), (ap (sum_below (cost g runs access v)) all), so.operations);
           few = omega (arith, few, ahead);
-          most = omega (arith, many, ahead);
+          most = omega (arith, so.most, ahead);
           left = left-later (512 * g + i) (512 * g + end) rest runs (omega (arith, ahead)) so.left;
           last = most;
         }
@@ -94,11 +84,10 @@ module _ {g : ℕ} {runs : List PageRun} {access : View} {v : ℕ → View} wher
         let made = left-operations (512 * g + i) rest runs left access v in
         let count = count_below-more (grows g runs access v) i in
         let sum = sum_below-more (cost g runs access v) i in
-        let bit_most = bit-most (grows g runs access v i) in
         rw is record {
           tables = up plan.tables one.tables (bit (grows g runs access v i)) (count_below (grows g runs access v) i) (count_below (grows g runs access v) (i + 1)) so.tables grown count;
           operations = up_to (sum_below (cost g runs access v) i) plan.operations (chunk_operations rest access v (512 * g + i)) (cost g runs access v i) one.operations (sum_below (cost g runs access v) (i + 1)) so.operations made operations sum;
-          few = let few = so.few in omega (arith, few, grown, bit_most);
+          few = let few = so.few in omega (arith, few, grown, bit-most (grows g runs access v i));
           most = let many = so.most in omega (arith, many, most);
           left = left-later (512 * g + i) (512 * g + (i + 1)) rest runs (omega arith) so.left;
           last = omega (arith, lt);

@@ -22,9 +22,7 @@ count_below-at f g zero x below same = absurd (omega arith)
 count_below-at f g (suc n) x below same = elim (cases_eq n x) [
   | inl is ↦ grind (arith, common_steps, nat_tests, count_below-same)
   | inr other ↦
-      let rest = count_below-at f g n x (omega arith) (λ k lt differs. same k (omega arith) differs) in
-      let here : g n ≡ f n = same n (omega arith) other in
-      rw here (omega (arith, rest))
+      rw (same n (omega arith) other) (omega (arith, count_below-at f g n x (omega arith) (λ k lt differs. same k (omega arith) differs)))
 ]
 
 pub count_below-up : (f : ℕ → Bool) (n m : ℕ) → n ≤ m → count_below f n ≤ count_below f m
@@ -64,9 +62,7 @@ redoes-used layout row c answer old new inside below orderly h =
     let was : bit (is_some (table_at layout old.words (Chunk row c))) ≡ bit (is_mixed (answers layout old.words row) c) = ap bit (orderly.mixed row c inside below) in
     let same : is_mixed (answers layout new.words row) c ≡ is_mixed answer c = mixed-same answer (answers layout new.words row) c (λ i small. ap answer_of (h.walks row (512 * c + i) (omega arith) ∙ chosen c i small) ∙ answer-walked (512 * c + i) (answer (512 * c + i))) in
     let now : bit (is_some (table_at layout new.words (Chunk row c))) ≡ bit (is_mixed answer c) = ap bit (h.orderly.mixed row c inside below ∙ same) in
-    let used_old = orderly.used row inside in
-    let used_new = h.orderly.used row inside in
-    omega (arith, at, gigabytes, was, now, used_old, used_new)
+    omega (arith, at, gigabytes, was, now, orderly.used row inside, h.orderly.used row inside)
   where
     chosen : (c i : ℕ) → i < 512 → cond (eqb row row && eqb ((512 * c + i) / 512) c) (walked (512 * c + i) (answer (512 * c + i))) (walk layout old.words row (512 * c + i)) ≡ walked (512 * c + i) (answer (512 * c + i))
     chosen c i small = let q : (512 * c + i) / 512 ≡ c = omega arith in grind (arith, nat_tests)
@@ -79,9 +75,6 @@ module _ (layout : Layout) (row g j : ℕ) (runs : List PageRun) (access : View)
 
   abbrev pub after : ℕ → View
   after = edited runs access (answers layout (linked layout row g j old).words row)
-
-  pub underway-start : IsOrderly layout (linked layout row g j old) → table_at layout (linked layout row g j old).words (Gigabyte row g) ≡ Some j → IsUnderway layout row g j 0 after old old
-  underway-start orderly second = grind (arith, common_steps, nat_tests)
 
   module _ (i : ℕ) (lt : i < 512) (mid : Pages) (h : IsUnderway layout row g j i after old mid) where
     pub quotient : (512 * g + i) / 512 ≡ g
@@ -107,14 +100,9 @@ module _ (layout : Layout) (row g j : ℕ) (runs : List PageRun) (access : View)
     pub has-free : used_by old row + count_below (λ x. grows_at before after (512 * g + x)) 512 ≤ row_quota old.quotas row → IsGrowing (answers_in layout row (512 * g + i) j mid) (edited runs access (answers_in layout row (512 * g + i) j mid)) (512 * g + i)
         → used_by mid row < row_quota mid.quotas row
     has-free fits grows =
-        let now : is_mixed after (512 * g + i) ≡ true = sym now-mixed ∙ grows.now in
-        let was : is_mixed before (512 * g + i) ≡ false = sym still-mixed ∙ grows.was in
-        let one : grows_at before after (512 * g + i) ≡ true = rw (now, was) refl in
-        let more = count_below-more (λ x. grows_at before after (512 * g + x)) i in
-        let here : bit (grows_at before after (512 * g + i)) ≡ 1 = ap bit one in
+        let one : grows_at before after (512 * g + i) ≡ true = rw (sym now-mixed ∙ grows.now, sym still-mixed ∙ grows.was) refl in
         let up = count_below-up (λ x. grows_at before after (512 * g + x)) (i + 1) 512 (omega arith) in
-        let quota : row_quota mid.quotas row ≡ row_quota old.quotas row = ap (λ q. row_quota q row) h.quotas in
-        omega (arith, more, here, up, quota, fits, h.used)
+        omega (arith, count_below-more (λ x. grows_at before after (512 * g + x)) i, (ap bit one), up, (ap (λ q. row_quota q row) h.quotas), fits, h.used)
 
     -- the pages of the next chunk are not in the runs
     pub underway-skip : ((n : ℕ) → n < 2 ^ 27 → n / 512 ≡ 512 * g + i → covers runs n ≡ false) → IsUnderway layout row g j (i + 1) after old mid
@@ -135,26 +123,22 @@ module _ (layout : Layout) (row g j : ℕ) (runs : List PageRun) (access : View)
             | inl at ↦ elim (cases_eq q row) [
               | inl f ↦ rw f (here n (walked n (edited runs access (answers_in layout row (512 * g + i) j mid) n)) (walk layout (linked layout row g j mid).words row n) at
                   ∙ ap (walked n) (ap (λ a. cond (covers runs n) access a) (still-answers n small at)) ∙ chosen n (walked n (after n)) (walk layout (linked layout row g j old).words row n) at)
-              | inr f ↦ off q n f (walked n (edited runs access (answers_in layout row (512 * g + i) j mid) n)) (walk layout (linked layout row g j mid).words q n) ∙ h.walks q n small
-                  ∙ off2 q n f (walked n (after n)) (walk layout (linked layout row g j old).words q n)
+              | inr f ↦ (let no : eqb q row ≡ false = grind (arith, nat_tests, f) in rw no refl) ∙ h.walks q n small
+                  ∙ (let no : eqb q row ≡ false = grind (arith, nat_tests, f) in rw no refl)
             ]
             | inr at ↦ elsewhere q n at (walked n (edited runs access (answers_in layout row (512 * g + i) j mid) n)) (walk layout (linked layout row g j mid).words q n) ∙ h.walks q n small
-                ∙ later q n at (walked n (after n)) (walk layout (linked layout row g j old).words q n)
+                ∙ (let same : ltb (n / 512) (512 * g + i) ≡ ltb (n / 512) (512 * g + (i + 1)) = grind (arith, nat_tests, at) in rw same refl)
           ];
           others = λ s x in_s lt_x. r.tables (Gigabyte s x) (in_s, lt_x) (λ f. cc) ∙ h.others s x in_s lt_x;
           used =
               let one = redoes-used layout row (512 * g + i) (edited runs access (answers_in layout row (512 * g + i) j mid)) (linked layout row g j mid) (linked layout row g j new) inside (omega (arith, lt, below)) h.orderly r in
               let was : bit (is_mixed (answers layout (linked layout row g j mid).words row) (512 * g + i)) ≡ bit (is_mixed before (512 * g + i)) = ap bit (ap (λ x. is_mixed (answers layout (linked layout row x j mid).words row) (512 * g + i)) (sym quotient) ∙ still-mixed) in
               let now : bit (is_mixed (edited runs access (answers_in layout row (512 * g + i) j mid)) (512 * g + i)) ≡ bit (is_mixed after (512 * g + i)) = ap bit now-mixed in
-              let more = count_below-more (λ x. grows_at before after (512 * g + x)) i in
-              let bits = grown (is_mixed after (512 * g + i)) (is_mixed before (512 * g + i)) in
-              omega (arith, one, was, now, more, bits, h.used);
+              omega (arith, one, was, now, count_below-more (λ x. grows_at before after (512 * g + x)) i, (grown (is_mixed after (512 * g + i)) (is_mixed before (512 * g + i))), h.used);
         }
       where
         grown : (now was : Bool) → bit now ≤ bit was + bit (now && not was)
-        grown true true = omega arith
-        grown true false = omega arith
-        grown false was = omega arith
+        grown now was = grind (arith, common_steps, nat_tests)
 
         here : (n : ℕ) (a b : Walked) → n / 512 ≡ 512 * g + i → cond (eqb row row && eqb (n / 512) (512 * g + i)) a b ≡ a
         here n a b at = grind (arith, nat_tests)
@@ -162,21 +146,8 @@ module _ (layout : Layout) (row g j : ℕ) (runs : List PageRun) (access : View)
         chosen : (n : ℕ) (a b : Walked) → n / 512 ≡ 512 * g + i → a ≡ cond (eqb row row && (eqb (n / 512 / 512) g && ltb (n / 512) (512 * g + (i + 1)))) a b
         chosen n a b at = let q : n / 512 / 512 ≡ g = omega (arith, at, lt) in grind (arith, nat_tests)
 
-        off : (q n : ℕ) → q ≢ row → (a b : Walked) → cond (eqb q row && eqb (n / 512) (512 * g + i)) a b ≡ b
-        off q n e a b = let no : eqb q row ≡ false = grind (arith, nat_tests, e) in rw no refl
-
-        off2 : (q n : ℕ) → q ≢ row → (a b : Walked) → cond (eqb q row && (eqb (n / 512 / 512) g && ltb (n / 512) (512 * g + i))) a b ≡ cond (eqb q row && (eqb (n / 512 / 512) g && ltb (n / 512) (512 * g + (i + 1)))) a b
-        off2 q n e a b = let no : eqb q row ≡ false = grind (arith, nat_tests, e) in rw no refl
-
         elsewhere : (q n : ℕ) → n / 512 ≢ 512 * g + i → (a b : Walked) → cond (eqb q row && eqb (n / 512) (512 * g + i)) a b ≡ b
-        elsewhere q n at a b = let no : eqb (n / 512) (512 * g + i) ≡ false = grind (arith, nat_tests, at) in rw no (both (eqb q row))
-          where
-            both : (x : Bool) → cond (x && false) a b ≡ b
-            both true = refl
-            both false = refl
-
-        later : (q n : ℕ) → n / 512 ≢ 512 * g + i → (a b : Walked) → cond (eqb q row && (eqb (n / 512 / 512) g && ltb (n / 512) (512 * g + i))) a b ≡ cond (eqb q row && (eqb (n / 512 / 512) g && ltb (n / 512) (512 * g + (i + 1)))) a b
-        later q n at a b = let same : ltb (n / 512) (512 * g + i) ≡ ltb (n / 512) (512 * g + (i + 1)) = grind (arith, nat_tests, at) in rw same refl
+        elsewhere q n at a b = grind (arith, common_steps, nat_tests)
 
 -- ---- chunks that the runs leave alone
 

@@ -1,6 +1,5 @@
 -- An edit of one chunk: the level 2 word of the chunk, its level 3 table, and pages that hang nowhere.
-use Rattle.std.proofs.Common.{◌≡◌, ◌≢◌, ℕ, ◌/◌, ◌%◌, ◌^◌, ◌<◌, Some, length, arith, ap, ◌∙◌}
-use Rattle.stage2.proofs.Names.{Words, Layout, slot, index_1, index_3, at_2, walk, walk_across, Place, Root, Gigabyte, Chunk, next_page, table_at, IsPlace, IsForest, nat_tests, common_steps}
+use Rattle.stage2.proofs.Names.{Words, Layout, slot, index_1, index_3, at_2, walk, walk_across, Place, Root, Gigabyte, Chunk, next_page, table_at, IsPlace, IsForest, nat_tests, common_steps, ◌≡◌, ◌≢◌, ℕ, ◌/◌, ◌%◌, ◌^◌, ◌<◌, Some, length, arith, ap, ◌∙◌}
 use Rattle.stage2.proofs.Tree.WalkFrame.{walk-same, walk-gigabyte, table_at-gigabyte, table_at-chunk, table_at-chunk_in, table_at-root}
 
 -- the tables of all other places keep their words, but for the chunk's own word in its level 2 table j

@@ -9,9 +9,6 @@ use Rattle.stage2.proofs.Editing.Trades.{Trade, IsTrade, trade-forest, trade-tak
 pub in_chunk : (row c r n : ℕ) → ((r ≡ row) × (n / 512 ≡ c)) ⊎ (r ≡ row → n / 512 ≡ c → ⊥)
 in_chunk row c r n = grind (arith, common_steps, nat_tests)
 
-pub tidy-walked : (n : ℕ) (a : View) → IsTidy n (walked n a)
-tidy-walked n a = grind (arith, common_steps, nat_tests)
-
 pub answer-walked : (n : ℕ) (a : View) → answer_of (walked n a) ≡ a
 answer-walked n a = grind (arith, common_steps, nat_tests)
 
@@ -32,7 +29,7 @@ module _ (layout : Layout) (row c j : ℕ) (answer : ℕ → View) (old new : Pa
   apart = walk-apart layout row c j old.words new.words new.words new.words h.edit h.edit h.edit
 
   tidy : (r n : ℕ) → r < length layout.ids → n < 2 ^ 27 → IsTidy n (walk layout new.words r n)
-  tidy r n inside small = grind (arith, common_steps, nat_tests, in_chunk, tidy-walked, apart)
+  tidy r n inside small = grind (arith, common_steps, nat_tests, in_chunk, apart)
 
   mixed_other : (r d : ℕ) → r < length layout.ids → d < 262144 → Chunk r d ≢ Chunk row c → is_some (table_at layout new.words (Chunk r d)) ≡ is_mixed (answers layout new.words r) d
   mixed_other r d inside below differs =
@@ -57,8 +54,7 @@ module _ (layout : Layout) (row c j : ℕ) (answer : ℕ → View) (old new : Pa
         let was : table_at layout old.words a ≡ Some q = sym (table-other layout row c j old.words new.words h.edit a inside f) ∙ at in
         elim (is_entry q i) [
           | inl e ↦
-              let here : a ≡ Gigabyte row (c / 512) = h.orderly.forest a (Gigabyte row (c / 512)) j inside (h.edit.partition, omega (arith, h.edit.chunk)) (was ∙ ap Some e.0) h.edit.second in
-              rw (e.0, e.1) (h.clean_entry (rw (here, e.0, e.1) at none))
+              rw (e.0, e.1) (h.clean_entry (rw (h.orderly.forest a (Gigabyte row (c / 512)) j inside (h.edit.partition, omega (arith, h.edit.chunk)) (was ∙ ap Some e.0) h.edit.second, e.0, e.1) at none))
           | inr e ↦
               let same : new.words q i ≡ old.words q i = h.edit.same a q i inside f was e in
               same ∙ h.orderly.clean a q i inside was below (rw same at none)

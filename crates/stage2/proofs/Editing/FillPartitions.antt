@@ -1,21 +1,11 @@
 -- The tables of all partitions, filled one after another.
 use Rattle.std.proofs.Common.{◌≡◌, ◌≢◌, ℕ, ◌+◌, ◌^◌, ◌<◌, ◌≤◌, true, false, ltb, List, length, get_or, zero, suc, [], ◌∷◌, refl, sym, ap, subst, ◌∙◌, arith, inl, inr}
-use Rattle.std.proofs.lemmas.Bool.{cases_lt, cases_eq}
-use Rattle.stage2.proofs.Names.{nat_tests, View, PartitionRow, ManifestRows, ids_of, row_of, need, quota_of, KeepsOthers, IsFilled, AreFilled, layout_of, walk_in, AreCanonical, walked, common_steps, Unmapped}
+use Rattle.stage2.proofs.Names.{nat_tests, View, PartitionRow, ManifestRows, ids_of, row_of, need, quota_of, KeepsOthers, IsFilled, AreFilled, layout_of, walk_in, AreCanonical, walked, common_steps, Unmapped, cases_lt, cases_eq}
 use Rattle.std.proofs.lemmas.List.{length-map}
 use Rattle.manifest.proofs.Facts.{Facts, row_of-id}
 use Rattle.pool.proofs.Shares.{row_of-injective}
 use Rattle.stage2.specs.Tables.{TablesView}
 use Rattle.stage2.proofs.Counting.Quotas.{no_quota, none-needed}
-
-id-at : (rows : List PartitionRow) (i : ℕ) (row : PartitionRow) → i < length rows → row ≡ get_or rows i row → get_or (ids_of rows) i 0 ≡ row.id
-id-at [] i row lt is = absurd (omega arith)
-id-at (r ∷ rows) zero row lt is = ap (λ (x : PartitionRow). x.id) (sym is)
-id-at (r ∷ rows) (suc i) row lt is = id-at rows i row (omega arith) is
-
--- the row of the partition that stands at a place
-row-at : (m : ManifestRows) (i : ℕ) (row : PartitionRow) → Facts m → i < length m.partitions → row ≡ get_or m.partitions i row → row_of (ids_of m.partitions) row.id ≡ i
-row-at m i row h lt is = ap (row_of (ids_of m.partitions)) (sym (id-at m.partitions i row lt is)) ∙ row_of-id 0 m.partitions i h.rise lt
 
 count-ids : (m : ManifestRows) → length (ids_of m.partitions) ≡ length m.partitions
 count-ids m = length-map m.partitions (λ (row : PartitionRow). row.id)
@@ -32,13 +22,12 @@ module _ (m : ManifestRows) (view : ℕ → ℕ → View) where
   -- the partition that is to be mapped next
   module _ (i id : ℕ) (item : PartitionRow) (f : Facts m) (lt : i < length m.partitions) (is : item ≡ get_or m.partitions i item) (same : id ≡ item.id) where
     here : row_of (ids_of m.partitions) id ≡ i
-    here = ap (row_of (ids_of m.partitions)) same ∙ row-at m i item f lt is
+    here = ap (row_of (ids_of m.partitions)) same ∙ (ap (row_of (ids_of m.partitions)) (sym (grind (arith, common_steps, nat_tests))) ∙ row_of-id 0 m.partitions i f.rise lt)
 
     -- nothing of it is mapped yet
     pub not-filled : (t : TablesView) → AreFilled (layout_of m) view i t → (n : ℕ) → n < 2 ^ 27 → walk_in t id n ≡ Unmapped
     not-filled t so n small =
-        let at = here in
-        let off : ltb (row_of (ids_of m.partitions) id) i ≡ false = grind (arith, nat_tests, at) in
+        let off : ltb (row_of (ids_of m.partitions) id) i ≡ false = grind (arith, nat_tests, here) in
         so.walks id n small ∙ rw off refl
 
     pub filled-more : (old new : TablesView) → AreFilled (layout_of m) view i old → new.layout ≡ layout_of m → AreCanonical new → KeepsOthers id old new → IsFilled (view id) id new → AreFilled (layout_of m) view (i + 1) new
@@ -46,10 +35,7 @@ module _ (m : ManifestRows) (view : ℕ → ℕ → View) where
       placed = placed;
       canonical = canonical;
       walks = λ p n small. elim (cases_eq p id) [
-        | inl at ↦
-            let mine : row_of (ids_of m.partitions) p ≡ i = ap (row_of (ids_of m.partitions)) at ∙ here in
-            let on : ltb (row_of (ids_of m.partitions) p) (i + 1) ≡ true = grind (arith, nat_tests, mine) in
-            rw on (ap (λ x. walk_in new x n) at ∙ filled.walks n small ∙ ap (λ x. walked n (view x n)) (sym at))
+        | inl at ↦ grind (arith, common_steps, nat_tests, here)
         | inr other ↦ grind (arith, common_steps, nat_tests, apart m p id i lt here other, keeps.walks p n small other, so.walks p n small)
       ];
     }
@@ -59,8 +45,6 @@ module _ (m : ManifestRows) (view : ℕ → ℕ → View) where
   filled-all fits i t end so p n small = so.walks p n small ∙ elim (cases_lt (row_of (ids_of m.partitions) p) i) [
     | inl lt ↦ let inside : ltb (row_of (ids_of m.partitions) p) i ≡ true = grind (arith, nat_tests) in rw inside refl
     | inr le ↦
-        let count = count-ids m in
         let outside : ltb (row_of (ids_of m.partitions) p) i ≡ false = grind (arith, nat_tests) in
-        let none : quota_of m p ≡ 0 = no_quota m.partitions p (omega (arith, le, end, count)) in
-        rw outside (ap (walked n) (sym (none-needed (view p) (subst (λ k. need (view p) ≤ k) none (fits p)) n small)))
+        rw outside (ap (walked n) (sym (none-needed (view p) (subst (λ k. need (view p) ≤ k) (no_quota m.partitions p (omega (arith, le, end, count-ids m))) (fits p)) n small)))
   ]

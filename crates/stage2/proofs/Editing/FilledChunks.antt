@@ -13,7 +13,7 @@ use Rattle.stage2.proofs.Editing.FourChunkEdits.{does-set}
 use Rattle.stage2.proofs.Tree.PutTwice.{with_put-there, with_put-twice}
 use Rattle.stage2.proofs.Walkers.ChunkSteps.{march-edit, march-seated}
 use Rattle.stage2.proofs.Walkers.Disturbed.{stays-whole, unmixed-after}
-use Rattle.stage2.proofs.Walkers.Histories.{made-none, made-set, made-more}
+use Rattle.stage2.proofs.Walkers.Histories.{made-none}
 use Rattle.stage2.proofs.Walkers.SeatedChunks.{hung-seen, gives-block, block-no-table}
 use Rattle.stage2.proofs.Walkers.StepLists.{stays-replaced}
 
@@ -45,14 +45,13 @@ module _ (p j i word c : ℕ) (s : Pool) (whole : IsWhole s.memory) (inside : j 
   pub replace-pages : pages_of (after_make j i word mid).memory ≡ with_put j i word (pages_of s.memory)
   replace-pages = elim (cases_Bool (word == 0)) [
     | inl is ↦
-        let zero : word ≡ 0 = eqb-true _ _ is in
-        rw is (break-pages ∙ ap (λ w. with_put j i w (pages_of s.memory)) (sym zero))
+        rw is (break-pages ∙ ap (λ w. with_put j i w (pages_of s.memory)) (sym (eqb-true _ _ is)))
     | inr isnt ↦
         rw isnt (pages_of-set mid.memory j i word whole-mid inside-mid below ∙ ap (with_put j i word) break-pages ∙ with_put-twice (pages_of s.memory) j i 0 word)
   ]
 
   pub replace-made : c % 512 ≡ i → Made (replaced p j c (words_of s.memory.words j i) word) s (after_make j i word mid)
-  replace-made index = grind (arith, common_steps, nat_tests, made-none, made-more, made-set, pages_of-set, whole-mid, inside-mid)
+  replace-made index = grind (arith, common_steps, nat_tests, made-none, pages_of-set, whole-mid, inside-mid)
 
 -- ---- the words of chunks that follow one another
 
@@ -68,9 +67,7 @@ block-entry c x word a small leaf true is = grind (arith, common_steps, nat_test
 pub blocks-small : (c word n : ℕ) (answer : View) → 512 * c < 2 ^ 27 → n ≤ 512 → IsEntryFor c answer word → word + block_step answer * n < 2 ^ 64
 blocks-small c word n None small few is = let none = is.zero refl in omega (arith, none)
 blocks-small c word n (Some a) small few is =
-    let leaf = word-leaf 2 word (512 * c) a is.entry in
-    let most = word-small 2 (512 * c) word a small leaf in
-    omega (arith, most, few)
+    omega (arith, word-small 2 (512 * c) word a small (word-leaf 2 word (512 * c) a is.entry), few)
 
 pub block-further : (c x word : ℕ) (answer : View) → 512 * (c + x) < 2 ^ 27 → IsEntryFor c answer word → IsEntryFor (c + x) answer (word + block_step answer * x)
 block-further c x word None small is = grind (arith, common_steps, nat_tests, is.zero refl, entry-zero 2)
@@ -151,14 +148,11 @@ module _ (layout : Layout) (row g j : ℕ) (runs : List PageRun) (access : View)
       inside-n : j < page_count (Filled n).memory.quotas
       inside-n = grind (arith, common_steps, nat_tests, keeps-replaces, space)
 
-      index-n : (512 * g + (first + n)) % 512 ≡ first + n
-      index-n = omega (arith, lt)
-
       puts-n : Puts j (first + n) (word + block_step access * n) (Filled n) (Filled (n + 1))
       puts-n = rw (filled-next n) (replace-pages p j (first + n) (word + block_step access * n) (512 * g + (first + n)) (Filled n) whole-n inside-n lt)
 
       made-n : Made (replaced p j (512 * g + (first + n)) (words_of (Filled n).memory.words j (first + n)) (word + block_step access * n)) (Filled n) (Filled (n + 1))
-      made-n = rw (filled-next n) (replace-made p j (first + n) (word + block_step access * n) (512 * g + (first + n)) (Filled n) whole-n inside-n lt index-n)
+      made-n = rw (filled-next n) (replace-made p j (first + n) (word + block_step access * n) (512 * g + (first + n)) (Filled n) whole-n inside-n lt (omega (arith, lt)))
 
       is-n : IsEntryFor (512 * g + (first + n)) access (word + block_step access * n)
       is-n =

@@ -196,20 +196,14 @@ module _ (layout : Layout) (row c j : ℕ) (m : Pages) (h : IsSite layout row c 
   third-apart : (k : ℕ) → entry ≡ Next k → j ≢ k
   third-apart k e = not-third k e (Gigabyte row (c / 512)) j in_gigabyte (λ f. cc) h.second
 
-  empty-slot : (s : Slot) → at_3 s ≡ Unmapped → s ≡ Empty
-  empty-slot s e = grind (arith, common_steps, nat_tests)
-
   -- the word of a page of the chunk's table that is not reached is 0
   unreached-zero : (k n : ℕ) → entry ≡ Next k → n / 512 ≡ c → answers layout old row n ≡ None → m.words k (n % 512) ≡ 0
   unreached-zero k n is_table chunk none =
-      let below : c < 262144 = h.chunk in
       let i = n % 512 in
       let small : i < 512 = omega arith in
-      let here : table_at layout old (Chunk row (n / 512)) ≡ Some k = ap (λ x. table_at layout old (Chunk row x)) chunk ∙ third-at k is_table in
-      let was : walk layout old row n ≡ at_3 (slot layout 3 (old k i)) = walk-chunk layout old row n k h.partition here in
-      let tidy : IsTidy n (walk layout old row n) = h.orderly.tidy row n h.partition (omega (arith, chunk, below)) in
-      let unmapped : walk layout old row n ≡ Unmapped = tidy-answer n (walk layout old row n) tidy ∙ ap (walked n) none in
-      sym (third-seen k i (third-at k is_table)) ∙ h.orderly.clean (Chunk row c) k i in_chunk (third-at k is_table) small (empty-slot (slot layout 3 (old k i)) (sym was ∙ unmapped))
+      let was : walk layout old row n ≡ at_3 (slot layout 3 (old k i)) = walk-chunk layout old row n k h.partition (ap (λ x. table_at layout old (Chunk row x)) chunk ∙ third-at k is_table) in
+      let unmapped : walk layout old row n ≡ Unmapped = tidy-answer n (walk layout old row n) (h.orderly.tidy row n h.partition (omega (arith, chunk, h.chunk))) ∙ ap (walked n) none in
+      sym (third-seen k i (third-at k is_table)) ∙ h.orderly.clean (Chunk row c) k i in_chunk (third-at k is_table) small (grind (arith, common_steps, nat_tests))
 
   pub clean-words : (read : Slot) (k : ℕ) → read ≡ entry → read ≡ Next k → (n : ℕ) → n / 512 ≡ c → answers_at layout m.words (Next k) n ≡ None → m.words k (n % 512) ≡ 0
   clean-words read k is next n chunk none = grind (arith, common_steps, nat_tests, unreached-zero, answers-entry)
@@ -278,14 +272,12 @@ module _ (layout : Layout) (row c j : ℕ) (m : Pages) (h : IsSite layout row c 
           (at_3-word layout (512 * c + i) (new.words k i) access is.entry ∙ rw e refl, λ empty. is.zero (answer-none layout (512 * c + i) access (sym (slot-word layout 3 (512 * c + i) (new.words k i) access is.entry) ∙ empty)))
       stands i small false e =
           let n = 512 * c + i in
-          let below : c < 262144 = h.chunk in
           let chunk : n / 512 ≡ c = omega (arith, small) in
           let index : n % 512 ≡ i = omega (arith, small) in
           let read : new.words k i ≡ old k i = writes.stays i small (rw e refl) ∙ sym (third-seen k i (third-at k is_table)) in
           let here : table_at layout old (Chunk row (n / 512)) ≡ Some k = ap (λ x. table_at layout old (Chunk row x)) chunk ∙ third-at k is_table in
-          let was : walk layout old row n ≡ at_3 (slot layout 3 (old k i)) = walk-chunk layout old row n k h.partition here ∙ ap (λ x. at_3 (slot layout 3 (old k x))) index in
-          let tidy : IsTidy n (walk layout old row n) = h.orderly.tidy row n h.partition (omega (arith, small, below)) in (
-            ap (λ w. at_3 (slot layout 3 w)) read ∙ sym was ∙ tidy-answer n (walk layout old row n) tidy ∙ rw e refl,
+          let tidy : IsTidy n (walk layout old row n) = h.orderly.tidy row n h.partition (omega (arith, small, h.chunk)) in (
+            ap (λ w. at_3 (slot layout 3 w)) read ∙ sym (walk-chunk layout old row n k h.partition here ∙ ap (λ x. at_3 (slot layout 3 (old k x))) index) ∙ tidy-answer n (walk layout old row n) tidy ∙ rw e refl,
             λ empty. read ∙ h.orderly.clean (Chunk row c) k i in_chunk (third-at k is_table) small (sym (ap (slot layout 3) read) ∙ empty),
           )
 
@@ -324,13 +316,8 @@ module _ (layout : Layout) (row c j : ℕ) (m : Pages) (h : IsSite layout row c 
 
   -- ---- what the code reads
 
-  -- the answer of a chunk, read from its word on, is that of its pages
-  outcome-entry : (runs : List PageRun) (access : View) (o : Option View) → IsOutcome c (edited runs access (answers_at layout m.words entry)) o → IsOutcome c (edited runs access (answers layout old row)) o
-  outcome-entry runs access o outcome = grind (arith, common_steps, nat_tests, answers-entry, mixed-same)
-
   pub outcome-read : (runs : List PageRun) (access : View) (read : Slot) (o found : Option View) → read ≡ entry → o ≡ found → IsOutcome c (edited runs access (answers_at layout m.words read)) o → IsOutcome c (edited runs access (answers layout old row)) found
-  outcome-read runs access read o found is e outcome =
-      subst (IsOutcome c (edited runs access (answers layout old row))) e (outcome-entry runs access o (subst (λ (s : Slot). IsOutcome c (edited runs access (answers_at layout m.words s)) o) is outcome))
+  outcome-read runs access read o found is e outcome = grind (arith, common_steps, nat_tests, answers-entry, mixed-same)
 
   pub growing : (new : ℕ → View) → next_page entry ≡ None → IsOutcome c new None → IsGrowing (answers layout old row) new c
   growing new none outcome = grind (arith, common_steps, nat_tests, table-entry)

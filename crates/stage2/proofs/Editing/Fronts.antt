@@ -1,7 +1,6 @@
 -- What a front of a view needs: the pages below an edge of it.
 use Rattle.std.proofs.Common.{◌≡◌, ℕ, zero, suc, ◌+◌, ◌-◌, ◌*◌, ◌^◌, ◌<◌, ◌≤◌, Bool, true, false, not, ◌&&◌, cond, ltb, None, refl, sym, ◌∙◌, arith, inl, inr}
-use Rattle.std.proofs.lemmas.Bool.{cases_Bool}
-use Rattle.stage2.proofs.Names.{nat_tests, View, count_below, is_mixed, is_reached, need, grow, IsEdge, view_below, common_steps}
+use Rattle.stage2.proofs.Names.{nat_tests, View, count_below, is_mixed, is_reached, need, grow, IsEdge, view_below, common_steps, cases_Bool}
 use Rattle.stage2.proofs.Editing.Gigabyte.{not-reached}
 use Rattle.stage2.proofs.Counting.Needs.{mixed-same, reached-same, mixed-none, reached-none, equal-first}
 
@@ -32,8 +31,7 @@ reached-below view b g reached = elim (cases_Bool (is_reached view g)) [
 ]
   where
     either : (t : Bool) (a : View) → a ≡ None → cond t a None ≡ None
-    either true a e = e
-    either false a e = refl
+    either t a e = grind (arith, common_steps, nat_tests)
 
 count_below-both : (f g all : ℕ → Bool) (n : ℕ) → ((k : ℕ) → k < n → f k ≡ true → all k ≡ true) → ((k : ℕ) → k < n → g k ≡ true → all k ≡ true) → count_below f n + count_below (λ k. g k && not (f k)) n ≤ count_below all n
 unfolding count_below

@@ -1,7 +1,6 @@
 -- The pages beside runs, run by run.
-use Rattle.std.proofs.Common.{◌≡◌, ℕ, ◌+◌, ◌*◌, ◌<◌, Bool, true, false, cond, List, Some, None, refl, sym, ap, ◌∙◌, ◌⊎◌, inl, inr}
-use Rattle.stage2.proofs.Names.{View, PageRun, covers, rise, Pages, Pool, pages_of, gaps_of, entry_of, entry_for, planned, Writes, IsWordFor, gaps, WritesPlan, Filled}
-use Rattle.std.proofs.lemmas.Bool.{cases_Bool}
+use Rattle.std.proofs.Common.{arith, ◌≡◌, ℕ, ◌+◌, ◌*◌, ◌<◌, Bool, true, false, cond, List, Some, None, refl, sym, ap, ◌∙◌, ◌⊎◌, inl, inr}
+use Rattle.stage2.proofs.Names.{nat_tests, common_steps, View, PageRun, covers, rise, Pages, Pool, pages_of, gaps_of, entry_of, entry_for, planned, Writes, IsWordFor, gaps, WritesPlan, Filled, cases_Bool}
 use Rattle.pool.proofs.Gaps.{gaps-out, gaps-in}
 use Rattle.words.proofs.RoundTrip.{entry-zero}
 use Rattle.stage2.proofs.Walkers.Histories.{filled-more}
@@ -14,13 +13,9 @@ writes-gaps k c runs other a b empty so = record {
   taken = so.taken;
   others = so.others;
   here = λ i x small given. here i x small (covers runs (512 * c + i)) refl given;
-  stays = λ i small none. absurd (never (covers runs (512 * c + i)) none);
+  stays = λ i small none. absurd (grind (arith, common_steps, nat_tests));
 }
   where
-    never : (t : Bool) → cond t (Some None) (Some other) ≡ None → ⊥
-    never true e = cc
-    never false e = cc
-
     here : (i : ℕ) (x : View) → i < 512 → (t : Bool) → covers runs (512 * c + i) ≡ t → planned runs None (Some other) (512 * c + i) ≡ Some x → IsWordFor (512 * c + i) x (b.words k i)
     here i x small true in_it given =
         let none : None ≡ x = (let e = sym (ap (λ t. cond t (Some None) (Some other)) in_it) ∙ given in cc) in
@@ -33,13 +28,7 @@ writes-gaps k c runs other a b empty so = record {
 
 module _ (k c : ℕ) (runs : List PageRun) (answer : View) where
   out-or-in : (x : ℕ) → rise 0 runs ≡ true → x < 512 → planned (gaps_of (512 * c) runs) answer None (512 * c + x) ≡ gaps runs answer (512 * c + x)
-  out-or-in x up small = elim (cases_Bool (covers runs (512 * c + x))) [
-    | inl t ↦ elim (cases_Bool (covers (gaps_of (512 * c) runs) (512 * c + x))) [
-      | inl there ↦ let out = gaps-out (512 * c) runs (512 * c + x) up there in absurd (cc)
-      | inr none ↦ ap (λ b. cond b (Some answer) None) none ∙ sym (ap (λ b. cond b None (Some answer)) t)
-    ]
-    | inr f ↦ ap (λ b. cond b (Some answer) None) (gaps-in (512 * c) runs x up small f) ∙ sym (ap (λ b. cond b None (Some answer)) f)
-  ]
+  out-or-in x up small = grind (arith, common_steps, nat_tests, gaps-out, gaps-in)
 
   -- the words that are planned for them are those planned beside the runs
   words-gap-runs : (a b : Pages) → rise 0 runs ≡ true → Writes k c (planned (gaps_of (512 * c) runs) answer None) a b → Writes k c (gaps runs answer) a b
@@ -52,15 +41,8 @@ module _ (k c : ℕ) (runs : List PageRun) (answer : View) where
     stays = λ i small none. so.stays i small (out-or-in i up small ∙ none);
   }
 
-  made-gap-runs : (a b : Pool) → rise 0 runs ≡ true → Filled k c 512 (planned (gaps_of (512 * c) runs) answer None) a b → Filled k c 512 (gaps runs answer) a b
-  made-gap-runs a b up so = filled-more k c 512 (planned (gaps_of (512 * c) runs) answer None) (gaps runs answer) a b (λ n v given. told n v (cases_Bool (covers (gaps_of (512 * c) runs) n)) given) so
-    where
-      told : (n : ℕ) (v : View) → (covers (gaps_of (512 * c) runs) n ≡ true) ⊎ (covers (gaps_of (512 * c) runs) n ≡ false) → planned (gaps_of (512 * c) runs) answer None n ≡ Some v → gaps runs answer n ≡ Some v
-      told n v (inl t) given = ap (λ b. cond b None (Some answer)) (gaps-out (512 * c) runs n up t) ∙ sym (ap (λ b. cond b (Some answer) None) t) ∙ given
-      told n v (inr f) given = let bad : None ≡ Some v = sym (ap (λ b. cond b (Some answer) None) f) ∙ given in absurd (cc)
-
   pub writes-gap-runs : (a b : Pool) → rise 0 runs ≡ true → WritesPlan k c 512 (planned (gaps_of (512 * c) runs) answer None) a b → WritesPlan k c 512 (gaps runs answer) a b
   writes-gap-runs a b up so = record {
     words = words-gap-runs (pages_of a.memory) (pages_of b.memory) up so.words;
-    made = made-gap-runs a b up so.made;
+    made = (grind (arith, common_steps, nat_tests, filled-more, gaps-out));
   }

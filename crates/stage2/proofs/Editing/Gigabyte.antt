@@ -19,15 +19,9 @@ use Rattle.stage2.proofs.Editing.FourChunkEdits.{is-next}
 
 -- ---- a table word
 
-table-entry : (layout : Layout) (k : ℕ) (e : Entry) → slot_from layout e ≡ Next k → (page : ℕ) × (e ≡ Table page) × (page ≡ layout.base + k)
-table-entry layout k Invalid e = absurd (cc)
-table-entry layout k (Table page) e = grind (arith, common_steps, nat_tests)
-table-entry layout k (Leaf page a) e = absurd (cc)
-table-entry layout k WrongWord e = absurd (cc)
-
 pub table-word : (layout : Layout) (level word k : ℕ) → slot layout level word ≡ Next k → word ≡ table_word_of (layout.base + k)
 unfolding slot
-table-word layout level word k e = grind (arith, common_steps, nat_tests, table-entry, word-table)
+table-word layout level word k e = grind (arith, common_steps, nat_tests, word-table)
 
 -- ---- canonical again
 
@@ -47,10 +41,7 @@ canonical-from layout row g old new canonical orderly others apart here = record
     quotient x i small = omega arith
 
     which : (r x : ℕ) → ((r ≡ row) × (x ≡ g)) ⊎ (r ≡ row → x ≡ g → ⊥)
-    which r x = elim (cases_eq r row) [
-      | inl e ↦ elim (cases_eq x g) [ inl f ↦ inl (e, f) | inr f ↦ inr (λ _ h. f h) ]
-      | inr e ↦ inr (λ h _. e h)
-    ]
+    which r x = grind (arith, common_steps, nat_tests, r)
 
 -- ---- after the last chunk
 
@@ -74,8 +65,7 @@ module _ (layout : Layout) (row g j : ℕ) (answer : ℕ → View) (old new : Pa
   ]
     where
       both : (x : Bool) → walk layout (linked layout row g j old).words q n ≡ cond (x && false) (walked n (answer n)) (walk layout (linked layout row g j old).words q n)
-      both true = refl
-      both false = refl
+      both x = grind (arith, common_steps, nat_tests)
 
 pub is-none : (a : View) → is_some a ≡ false → a ≡ None
 is-none a e = grind (arith, common_steps, nat_tests)
@@ -162,13 +152,12 @@ module _ (layout : Layout) (row g k : ℕ) (m : Pages) (canonical : IsCanonical 
 
   pub finish-zero : (answer : ℕ → View) (mid new : Pages) → IsUnderway layout row g k 512 answer m mid → ((i : ℕ) → i < 512 → mid.words k i ≡ 0) → new ≡ with_mark k false (with_put row g 0 mid) → EditsGigabyte layout row g answer m new
   finish-zero answer mid new u empty is =
-      let differs = second-no-root mid u.orderly u.second in
       let h : IsUnlink layout row g k (linked layout row g k mid) = record {
         orderly = u.orderly;
         partition = inside;
         gigabyte = below;
         table = u.second;
-        zero = λ i lt. put-other mid.words row g (table_word_of (layout.base + k)) k i (λ e _. differs e) ∙ empty i lt;
+        zero = λ i lt. put-other mid.words row g (table_word_of (layout.base + k)) k i (λ e _. (second-no-root mid u.orderly u.second) e) ∙ empty i lt;
       } in
       let to : Pages = with_mark k false (with_put row g 0 (linked layout row g k mid)) in
       let r : IsRooted layout row g 0 (linked layout row g k mid) to = unlink-rooted layout row g k (linked layout row g k mid) h in
@@ -185,9 +174,8 @@ module _ (layout : Layout) (row g k : ℕ) (m : Pages) (canonical : IsCanonical 
             same-walk layout row g 0 (linked layout row g k mid) to r q n small ∙ done-walks layout row g k answer m mid below u q n small
             ∙ ap (λ (z : Pages). cond (eqb q row && eqb (n / 512 / 512) g) (walked n (answer n)) (walk layout z.words q n)) linked-same;
         used =
-            let used = subst (λ (z : Pages). used_by mid row ≤ used_by m row + count_below (λ x. grows_at (answers layout z.words row) answer (512 * g + x)) 512) linked-same u.used in
             let less = used_by-give mid row k (u.orderly.owned (Gigabyte row g) k (inside, below) u.second) (u.orderly.taken (Gigabyte row g) k (inside, below) u.second) in
-            omega (arith, used, less);
+            omega (arith, subst (λ (z : Pages). used_by mid row ≤ used_by m row + count_below (λ x. grows_at (answers layout z.words row) answer (512 * g + x)) 512) linked-same u.used, less);
       } in
       subst (λ (z : Pages). EditsGigabyte layout row g answer m z) same made
     where
@@ -218,11 +206,8 @@ module _ (layout : Layout) (row g k : ℕ) (runs : List PageRun) (access : View)
   pub link-chunks : (new : Pages) → new ≡ with_mark k true m → chunks_operations runs access (answers layout (linked layout row g k new).words row) g ≡ chunks_operations runs access (answers layout m.words row) g
   link-chunks new is = grind (arith, common_steps, nat_tests, chunks-same, same-answers)
 
-  page-place : 262144 * g + (touches.page - 262144 * g) ≡ touches.page
-  page-place = let a = touches.here in omega arith
-
   reaches : (v : ℕ → View) → v touches.page ≡ access → is_reached v g ≡ true
-  reaches v e = reached-some v g (touches.page - 262144 * g) (let a = touches.here in omega arith) (ap (λ n. is_some (v n)) page-place ∙ ap (λ a. is_some a) e ∙ maps)
+  reaches v e = reached-some v g (touches.page - 262144 * g) (let a = touches.here in omega arith) (ap (λ n. is_some (v n)) (let a = touches.here in omega arith) ∙ ap (λ a. is_some a) e ∙ maps)
 
   covered-page : edited runs access (answers layout m.words row) touches.page ≡ access
   covered-page = let c = touches.covered in rw c refl
@@ -278,7 +263,3 @@ link-has-free layout row g runs access m canonical inside below none touches map
     let growth : gigabyte_growth (answers layout m.words row) (edited runs access (answers layout m.words row)) g
     ≡ 1 + count_below (λ x. grows_at (answers layout m.words row) (edited runs access (answers layout m.words row)) (512 * g + x)) 512 = rw (now, was) refl in
     omega (arith, growth, fits)
-
-pub fits-tabled : (layout : Layout) (row g k : ℕ) (m : Pages) → IsCanonical layout m → row < length layout.ids → g < 512 → table_at layout m.words (Gigabyte row g) ≡ Some k
-    → (runs : List PageRun) (access : View) → FitsGigabyte layout row g runs access m → Fits layout row g k runs access m
-fits-tabled layout row g k m canonical inside below table runs access h = grind (arith, common_steps, nat_tests, h.fits, linked-same layout row g k m canonical inside below table)

@@ -21,8 +21,7 @@ unfolding count_below
 count_below-add f a zero = let e : a + 0 ≡ a = omega arith in rw e (omega arith)
 count_below-add f a (suc b) =
     let e : a + suc b ≡ suc (a + b) = omega arith in
-    let rest = count_below-add f a b in
-    rw (e, rest) (omega arith)
+    rw (e, count_below-add f a b) (omega arith)
 
 sum-none : (v w : ℕ → View) → sum_below (gigabyte_growth v w) 0 ≡ count_below (λ x. is_reached w x && not (is_reached v x)) 0 + count_below (grows_at v w) (512 * 0)
 unfolding sum_below count_below
@@ -58,18 +57,12 @@ module _ (layout : Layout) (row : ℕ) (runs : List PageRun) (access : View) (ol
   abbrev after : ℕ → View
   after = edited runs access (answers layout old.words row)
 
-  pub past-none : IsCanonical layout old → IsPast layout row 0 (edited runs access (answers layout old.words row)) old old
-  past-none canonical = grind (arith, common_steps, nat_tests)
-
   module _ (g : ℕ) (lt : g < 512) (mid : Pages) (h : IsPast layout row g (edited runs access (answers layout old.words row)) old mid) where
     still : (n : ℕ) → n < 2 ^ 27 → n / 512 / 512 ≡ g → walk layout mid.words row n ≡ walk layout old.words row n
     still n small at = grind (arith, common_steps, nat_tests)
 
-    below : (n : ℕ) → n / 512 / 512 ≡ g → n < 2 ^ 27
-    below n at = omega (arith, lt, at)
-
     pub still-answers : (n : ℕ) → n / 512 / 512 ≡ g → answers layout mid.words row n ≡ before n
-    still-answers n at = ap answer_of (still n (below n at) at)
+    still-answers n at = ap answer_of (still n (omega (arith, lt, at)) at)
 
     pub still-edited : (n : ℕ) → n / 512 / 512 ≡ g → edited runs access (answers layout mid.words row) n ≡ after n
     still-edited n at = ap (λ a. cond (covers runs n) access a) (still-answers n at)
@@ -84,12 +77,8 @@ module _ (layout : Layout) (row : ℕ) (runs : List PageRun) (access : View) (ol
     pub past-fits : IsCanonical layout old → FitsRow layout row runs access old → FitsGigabyte layout row g runs access mid
     past-fits canonical f = record {
       fits =
-          let need_is = used-need layout old row canonical inside in
-          let all = grow-sum before after in
-          let more = sum_below-more (gigabyte_growth before after) g in
           let up = sum_below-up (gigabyte_growth before after) (g + 1) 512 (omega (arith, lt)) in
-          let quota : row_quota mid.quotas row ≡ row_quota old.quotas row = ap (λ q. row_quota q row) h.quotas in
-          omega (arith, need_is, all, more, up, quota, h.used, f.fits, growth);
+          omega (arith, used-need layout old row canonical inside, grow-sum before after, sum_below-more (gigabyte_growth before after) g, up, ap (λ q. row_quota q row) h.quotas, h.used, f.fits, growth);
     }
 
     pub past-skip : ((n : ℕ) → n / 512 / 512 ≡ g → covers runs n ≡ false) → IsPast layout row (g + 1) (edited runs access (answers layout old.words row)) old mid
@@ -104,9 +93,7 @@ module _ (layout : Layout) (row : ℕ) (runs : List PageRun) (access : View) (ol
 -- ---- the gigabytes that runs touch
 
 pub covers-at : (runs : List PageRun) (i n : ℕ) (run : PageRun) → i < length runs → run ≡ get_or runs i run → in_run run n ≡ true → covers runs n ≡ true
-covers-at [] i n run lt is here = absurd (omega arith)
-covers-at (r ∷ runs) zero n run lt is here = rw (sym is, here) refl
-covers-at (r ∷ runs) (suc i) n run lt is here = grind (arith, common_steps, nat_tests)
+covers-at runs i n run lt is here = grind (arith, common_steps, nat_tests)
 
 pub touched : (runs : List PageRun) (i g : ℕ) (run : PageRun) → i < length runs → run ≡ get_or runs i run → IsRun run → run.first / 512 / 512 ≤ g → g < ((run.first + run.count + 511) / 512 + 511) / 512 → Touches runs g
 touched runs i g run lt is some from to =

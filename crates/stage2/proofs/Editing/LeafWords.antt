@@ -1,6 +1,5 @@
 -- How large the words of blocks and pages are.
-use Rattle.std.proofs.Common.{ℕ, ◌^◌, ◌<◌, Bool, arith}
-use Rattle.stage2.proofs.Names.{Access, Rights, MemoryKind, leaf_fields, leaf_word_of, IsLeafWord, nat_tests, common_steps}
+use Rattle.stage2.proofs.Names.{Access, Rights, MemoryKind, leaf_fields, leaf_word_of, IsLeafWord, nat_tests, common_steps, ℕ, ◌^◌, ◌<◌, Bool, arith}
 
 fields-small : (block : Bool) (r : Rights) (x : Bool) (k : MemoryKind) → leaf_fields block (record { rights = r; exec = x; kind = k }) < 2 ^ 55
 unfolding leaf_fields

@@ -1,7 +1,5 @@
 -- The words of one level 3 table, one after another.
-use Rattle.std.proofs.Common.{◌≡◌, ℕ, ◌+◌, ◌*◌, ◌<◌, ◌≤◌, Bool, true, false, ltb, List, [], Option, Some, None, refl, arith, sym, ◌∙◌, inl, inr}
-use Rattle.std.proofs.lemmas.Bool.{cases_Bool}
-use Rattle.stage2.proofs.Names.{nat_tests, View, Pages, PageRun, covers, planned, Writes, IsWordFor, below, common_steps}
+use Rattle.stage2.proofs.Names.{nat_tests, View, Pages, PageRun, covers, planned, Writes, IsWordFor, below, common_steps, cases_Bool, ◌≡◌, ℕ, ◌+◌, ◌*◌, ◌<◌, ◌≤◌, Bool, true, false, ltb, List, [], Option, Some, None, refl, arith, sym, ◌∙◌, inl, inr}
 use Rattle.words.proofs.RoundTrip.{entry-zero}
 
 before-at : (plan : ℕ → Option View) (m n : ℕ) (x : View) → below m plan n ≡ Some x → (n < m) × (plan n ≡ Some x)
@@ -13,9 +11,6 @@ writes-none k c i plan m none = grind (arith, common_steps, nat_tests, before-at
 
 below-in : (plan : ℕ → Option View) (m n : ℕ) → n < m → below m plan n ≡ plan n
 below-in plan m n lt = let t : ltb n m ≡ true = grind (arith, nat_tests) in rw t refl
-
-below-out : (plan : ℕ → Option View) (m n : ℕ) → m ≤ n → below m plan n ≡ None
-below-out plan m n from = let f : ltb n m ≡ false = grind (arith, nat_tests) in rw f refl
 
 -- after the pages before the i-th, those up to the j-th, as they are planned
 pub writes-over : (k c i j : ℕ) (plan part : ℕ → Option View) (a b e : Pages) → i ≤ j → ((x : ℕ) → x < i → part (512 * c + x) ≡ None) → ((x : ℕ) → i ≤ x → x < j → plan (512 * c + x) ≡ part (512 * c + x)) → ((x : ℕ) → j ≤ x → part (512 * c + x) ≡ None)
@@ -30,19 +25,11 @@ writes-over k c i j plan part a b e le before same after so next = record {
       elim (cases_Bool (ltb x i)) [
         | inl t ↦
             let lt : x < i = grind (arith, nat_tests, t) in
-            let was : IsWordFor (512 * c + x) v (b.words k x) = so.here x v small (below-in plan (512 * c + i) (512 * c + x) (omega (arith, lt)) ∙ f.1) in
-            let stays : e.words k x ≡ b.words k x = next.stays x small (before x lt) in
-            rw stays was
+            rw (next.stays x small (before x lt)) (so.here x v small (below-in plan (512 * c + i) (512 * c + x) (omega (arith, lt)) ∙ f.1))
         | inr t ↦ next.here x v small (sym (same x (grind (arith, nat_tests, t)) (omega (arith, f.0))) ∙ f.1)
       ];
-  stays = λ x small none. grind (arith, common_steps, nat_tests, next.stays, so.stays, below-in, unplanned, below-out);
+  stays = λ x small none. grind (arith, common_steps, nat_tests, next.stays, so.stays, below-in);
 }
-  where
-    unplanned : (x : ℕ) → i ≤ x → below (512 * c + j) plan (512 * c + x) ≡ None → part (512 * c + x) ≡ None
-    unplanned x from none = elim (cases_Bool (ltb x j)) [
-      | inl t ↦ let lt : x < j = grind (arith, nat_tests, t) in sym (same x from lt) ∙ sym (below-in plan (512 * c + j) (512 * c + x) (omega (arith, lt))) ∙ none
-      | inr t ↦ after x (grind (arith, nat_tests, t))
-    ]
 
 -- pages from the i-th up to the j-th, for which nothing is planned
 pub writes-pass : (k c i j : ℕ) (plan : ℕ → Option View) (a b : Pages) → i ≤ j → ((x : ℕ) → i ≤ x → x < j → plan (512 * c + x) ≡ None)
@@ -65,10 +52,7 @@ writes-all k c i plan a b none so = record {
 }
   where
     below-none : (plan : ℕ → Option View) (m n : ℕ) → plan n ≡ None → below m plan n ≡ None
-    below-none plan m n none = elim (cases_Bool (ltb n m)) [
-      | inl t ↦ rw t none
-      | inr f ↦ rw f refl
-    ]
+    below-none plan m n none = grind (arith, common_steps, nat_tests)
 
 -- ---- plans of the same words
 
@@ -81,13 +65,9 @@ writes-rest k c runs access a b left so = record {
   taken = so.taken;
   others = so.others;
   here = λ i x small at. here i x small (covers runs (512 * c + i)) refl at;
-  stays = λ i small none. absurd (never runs access (512 * c + i) (covers runs (512 * c + i)) refl none);
+  stays = λ i small none. absurd (grind (arith, common_steps, nat_tests));
 }
   where
-    never : (runs : List PageRun) (access : View) (n : ℕ) (t : Bool) → covers runs n ≡ t → planned runs access (Some None) n ≡ None → ⊥
-    never runs access n true e none = let bad : Some access ≡ None = rw e at none in cc
-    never runs access n false e none = let bad : Some None ≡ None = rw e at none in cc
-
     here : (i : ℕ) (x : View) → i < 512 → (t : Bool) → covers runs (512 * c + i) ≡ t → planned runs access (Some None) (512 * c + i) ≡ Some x → IsWordFor (512 * c + i) x (b.words k i)
     here i x small true e given = so.here i x small (rw e (rw e at given))
     here i x small false e given = grind (arith, common_steps, nat_tests, so.stays, entry-zero 3)
@@ -104,5 +84,4 @@ writes-zero k c runs a b so = record {
 }
   where
     all : (runs : List PageRun) (n : ℕ) (t : Bool) → covers runs n ≡ t → planned runs None (Some None) n ≡ Some None
-    all runs n true e = rw e refl
-    all runs n false e = rw e refl
+    all runs n t e = grind (arith, common_steps, nat_tests)

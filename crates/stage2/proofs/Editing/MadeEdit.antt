@@ -11,9 +11,6 @@ module _ (s : Site) (h : ChunkEdit) (layout : Layout) (c : ℕ) (access : View) 
   pub site-made : IsSite layout s.row c s.second (pages_of old.memory) → IsAt s h old
   site-made so = rw (l, at) so
 
-  pub turned-made : (h.turns ≡ true → Turns (λ n. eqb (n / 512) c) h.runs access (answers_in layout s.row c s.second (pages_of old.memory))) → TurnsChunk h (chunk_view s h old)
-  turned-made so = rw (l, at, a) so
-
   pub grows-made : GrowsChunk s h old → IsGrowing (answers_in layout s.row c s.second (pages_of old.memory)) (edited h.runs access (answers_in layout s.row c s.second (pages_of old.memory))) c
   grows-made so = rw (l, at, a) at so
 

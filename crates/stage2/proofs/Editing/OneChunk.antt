@@ -6,7 +6,7 @@ use Rattle.stage2.proofs.Editing.ChunkRoom.{dropped-words, kept-words, hung-word
 use Rattle.stage2.proofs.Editing.FourChunkEdits.{outcome-read, others-before, third-inside, third-taken, growing, before-block}
 use Rattle.stage2.proofs.Editing.Spelled.{spelled-words}
 use Rattle.stage2.proofs.Editing.TurnedRuns.{turned-read}
-use Rattle.stage2.proofs.Walkers.Disturbed.{stays-whole, unmixed-after, unmixed-before}
+use Rattle.stage2.proofs.Walkers.Disturbed.{stays-whole, unmixed-after}
 
 module _ (s : Site) (e : ChunkEdit) (pool : Pool) (at : IsAt s e pool) where
   -- by the word that was read
@@ -45,9 +45,7 @@ module _ (s : Site) (e : ChunkEdit) (pool : Pool) (at : IsAt s e pool) where
         let n = 512 * e.chunk + i in
         let here : n / 512 ≡ e.chunk = omega (arith, small) in
         let index : n % 512 ≡ i = omega (arith, small) in
-        let answer = others-before e.layout.now s.row e.chunk s.second (pages_of pool.memory) at e.runs e.access k table alike n here out in
-        let word = spelled n here in
-        rw (answer, index) at word
+        rw (others-before e.layout.now s.row e.chunk s.second (pages_of pool.memory) at e.runs e.access k table alike n here out, index) at (spelled n here)
 
     pub dropped : BecomesAlike s e pool → operations_in_table s e pool ≡ words_left k e pool
     dropped alike = dropped-words e.layout.now s.row e.chunk s.second (pages_of pool.memory) at e.runs e.access e.access k table alike
@@ -62,7 +60,7 @@ module _ (s : Site) (e : ChunkEdit) (pool : Pool) (at : IsAt s e pool) where
 
     pub in-step-hung : {new : Pool} → (IsSeatedAt s e pool → StaysAtChunk e.layout.now s.row e.chunk (chunk_after s e pool) pool new) → ChunkInStep s e pool new
     in-step-hung {new} stays seated free =
-        stays-whole e.layout.now s.row e.chunk e.runs e.access (chunk_view s e pool) pool new (unmixed-before e.chunk (chunk_view s e pool) (chunk_after s e pool) grows.was) (stays seated)
+        stays-whole e.layout.now s.row e.chunk e.runs e.access (chunk_view s e pool) pool new (rw grows.was refl) (stays seated)
 
     module _ {before : View} (all : AnswersAll s e before pool) where
       pub some-hung : (is_some before || is_some e.access) ≡ true

@@ -1,6 +1,5 @@
 -- The words of a level 3 table as they are planned: one page's, by its chunk and index.
-use Rattle.std.proofs.Common.{◌≡◌, ℕ, ◌+◌, ◌*◌, ◌<◌, ◌≤◌, true, false, ◌&&◌, leb, ltb, Option, Some, None, refl, sym, ◌∙◌, arith}
-use Rattle.stage2.proofs.Names.{nat_tests, View, Pool, Pages, Writes, below, some_pages, Filled, common_steps}
+use Rattle.stage2.proofs.Names.{nat_tests, View, Pool, Pages, Writes, below, some_pages, Filled, common_steps, ◌≡◌, ℕ, ◌+◌, ◌*◌, ◌<◌, ◌≤◌, true, false, ◌&&◌, leb, ltb, Option, Some, None, refl, sym, ◌∙◌, arith}
 use Rattle.stage2.proofs.Walkers.Histories.{filled-over}
 use Rattle.stage2.proofs.Editing.Level3Words.{writes-over}
 

@@ -5,7 +5,7 @@ use Rattle.pool.proofs.Shares.{share_inside}
 use Rattle.stage2.proofs.Tree.WalkFrame.{put-other, put-same, walk-gigabyte, table_at-root, IsUnheld}
 use Rattle.stage2.proofs.Tree.RootWrites.{IsRootWrite, is_gigabyte, table_at-root_write, table_at-root_write-gigabyte, table_at-root_write-chunk, table_at-root_write-below, walk-root_write}
 use Rattle.stage2.proofs.Walkers.Level3Write.{slot-zero}
-use Rattle.stage2.proofs.Tree.LinkTable.{slot-table, walk-inside, untabled_1}
+use Rattle.stage2.proofs.Tree.LinkTable.{slot-table, walk-inside}
 use Rattle.stage2.proofs.Counting.Needs.{mixed-same, mixed-none}
 use Rattle.stage2.proofs.Editing.Trades.{Trade, Hang, Drop, IsTrade, trade-forest, trade-taken, trade-owned, trade-hangs, trade-used}
 
@@ -23,11 +23,8 @@ module _ (layout : Layout) (row g word : ℕ) (old new : Pages) (h : IsRooted la
   pub same-walk : (r n : ℕ) → n < 2 ^ 27 → walk layout new.words r n ≡ walk layout old.words r n
   same-walk r n small = ap (λ w. walk layout w r n) h.words ∙ walk-root_write layout old.words row g word h.write r n small
 
-  kept_put : (b : Place) → IsPlace layout b → b ≢ Gigabyte row g → table_at layout (put row g word old.words) b ≡ table_at layout old.words b
-  kept_put b inside other = grind (arith, common_steps, nat_tests, table_at-root, table_at-root_write-gigabyte, table_at-root_write-below, mixed-none, table_at-root_write-chunk)
-
   pub kept : (b : Place) → IsPlace layout b → b ≢ Gigabyte row g → table_at layout new.words b ≡ table_at layout old.words b
-  kept b inside other = ap (λ w. table_at layout w b) h.words ∙ kept_put b inside other
+  kept b inside other = ap (λ w. table_at layout w b) h.words ∙ (grind (arith, common_steps, nat_tests, table_at-root, table_at-root_write-gigabyte, table_at-root_write-below, mixed-none, table_at-root_write-chunk))
 
   is_trade : IsTrade layout row (Gigabyte row g) old new
   is_trade = record {
@@ -78,7 +75,7 @@ module _ (layout : Layout) (row g word : ℕ) (old new : Pages) (h : IsRooted la
 -- nothing is mapped in a gigabyte without a table
 pub untabled : (layout : Layout) (m : Pages) (row n : ℕ) → IsOrderly layout m → row < length layout.ids → n < 2 ^ 27 → table_at layout m.words (Gigabyte row (n / 512 / 512)) ≡ None → walk layout m.words row n ≡ Unmapped
 unfolding table_at
-untabled layout m row n orderly inside small none = grind (arith, common_steps, nat_tests, read, walk-inside, untabled_1)
+untabled layout m row n orderly inside small none = grind (arith, common_steps, nat_tests, read, walk-inside)
 
 pub record IsLink (layout : Layout) (row g k : ℕ) (m : Pages) : Type 0 where
   pub orderly : IsOrderly layout m

@@ -1,7 +1,6 @@
 -- The edit of a row is one of its partition.
 use Rattle.std.proofs.Common.{◌≡◌, ℕ, ◌+◌, ◌-◌, ◌^◌, ◌<◌, ◌≤◌, true, false, ◌&&◌, cond, eqb, List, length, ap, ◌∙◌, arith, inl, inr}
-use Rattle.std.proofs.lemmas.Bool.{cases_Bool}
-use Rattle.stage2.proofs.Names.{PageRun, covers, View, page_count, Pages, InShare, used_by, share_start, row_quota, Layout, walked, translation, IsOrderly, IsCanonical, answers, edited, EditsRow, nat_tests, common_steps}
+use Rattle.stage2.proofs.Names.{PageRun, covers, View, page_count, Pages, InShare, used_by, share_start, row_quota, Layout, walked, translation, IsOrderly, IsCanonical, answers, edited, EditsRow, nat_tests, common_steps, cases_Bool}
 use Rattle.pool.proofs.Count.{count_below-none, count_below-some}
 use Rattle.stage2.proofs.Tree.Rows.{IsRow, same_row}
 use Rattle.stage2.proofs.Editing.FourChunkEdits.{tidy-answer}
@@ -23,7 +22,6 @@ pub not-taken : (m : Pages) (row q : ℕ) → InShare m.quotas row q → used_by
 not-taken m row q inside none = elim (cases_Bool (m.taken q)) [
   | inl t ↦
       let at : share_start m.quotas row + (q - share_start m.quotas row) ≡ q = omega (arith, inside.from) in
-      let some = count_below-some (λ k. m.taken (share_start m.quotas row + k)) (row_quota m.quotas row) (q - share_start m.quotas row) (omega (arith, inside.from, inside.to)) (ap m.taken at ∙ t) in
-      absurd (omega (arith, some, none))
+      absurd (omega (arith, count_below-some (λ k. m.taken (share_start m.quotas row + k)) (row_quota m.quotas row) (q - share_start m.quotas row) (omega (arith, inside.from, inside.to)) (ap m.taken at ∙ t), none))
   | inr f ↦ f
 ]

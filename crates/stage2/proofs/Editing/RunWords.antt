@@ -1,7 +1,6 @@
 -- The words for the pages of runs in a table, written at once.
 use Rattle.std.proofs.Common.{◌≡◌, ℕ, ◌+◌, ◌-◌, ◌*◌, ◌<◌, ◌≤◌, leb, true, false, List, [], ◌∷◌, Option, Some, None, refl, subst, arith}
-use Rattle.std.proofs.lemmas.Bool.{and_parts}
-use Rattle.stage2.proofs.Names.{nat_tests, View, page_count, PageRun, in_run, rise, Pool, IsWhole, pages_of, index_from, planned, below, Writes, IsWordFor, WritesPlan, some_pages, Filled, common_steps}
+use Rattle.stage2.proofs.Names.{nat_tests, View, page_count, PageRun, in_run, rise, Pool, IsWhole, pages_of, index_from, planned, below, Writes, IsWordFor, WritesPlan, some_pages, Filled, common_steps, and_parts}
 use Rattle.pool.specs.Pool.{after_run, after_runs}
 use Rattle.pool.proofs.Stretches.{length-words_set}
 use Rattle.pool.proofs.Gaps.{before-rise}

@@ -1,6 +1,5 @@
 -- Each word of a level 3 table is the one for its page's answer.
-use Rattle.std.proofs.Common.{◌≡◌, ℕ, ◌/◌, ◌%◌, arith}
-use Rattle.stage2.proofs.Names.{Pages, answers_at, IsSite, IsWordFor, answer_of, Layout, Empty, Next, slot, IsTidy, at_3, nat_tests, common_steps}
+use Rattle.stage2.proofs.Names.{Pages, answers_at, IsSite, IsWordFor, answer_of, Layout, Empty, Next, slot, IsTidy, at_3, nat_tests, common_steps, ◌≡◌, ℕ, ◌/◌, ◌%◌, arith}
 use Rattle.words.proofs.RoundTrip.{word-table}
 use Rattle.stage2.proofs.Editing.FourChunkEdits.{walk-entry, at_2-seen, table-entry, clean-words}
 

@@ -38,14 +38,7 @@ word-some n answer w some is = grind (arith, common_steps, nat_tests, entry-zero
 pub stretch-small : (p word n : ℕ) (answer : View) → p < 2 ^ 27 → n ≤ 512 → entry_of 3 word ≡ entry_for p answer → (answer ≡ None → word ≡ 0) → word + step_for answer * n < 2 ^ 64
 stretch-small p word n None small few read is_zero = let none = is_zero refl in omega (arith, none)
 stretch-small p word n (Some a) small few read is_zero =
-    let leaf = word-leaf 3 word p a read in
-    let most = word-small 3 p word a small leaf in
-    omega (arith, most, few)
-
--- and each is its page's
-pub stretch-words : (c first n word : ℕ) (answer : View) → 512 * c + (first + n) ≤ 2 ^ 27 → entry_of 3 word ≡ entry_for (512 * c + first) answer → (answer ≡ None → word ≡ 0)
-    → (x : ℕ) → x < n → IsWordFor (512 * c + (first + x)) answer (word + step_for answer * x)
-stretch-words c first n word answer small read is_zero x lt = grind (arith, common_steps, nat_tests, word-zero, word-further)
+    omega (arith, word-small 3 p word a small (word-leaf 3 word p a read), few)
 
 -- ---- the operations
 
@@ -67,11 +60,10 @@ unfolding sets_of
 sets-change words k first zero word step whole small = tt
 sets-change words k first (suc n) word step whole small =
     let set = words_set words k first n word step in
-    let next = word + step * n in
     let index : first + n < 512 = omega (arith, small) in
     let before = after-sets words k first n word step whole (omega (arith, small)) in
     let rest = sets-change words k first n word step whole (omega (arith, small)) in
-    elim (cases_eq (slice_index set (512 * k + (first + n))) next) [
+    elim (cases_eq (slice_index set (512 * k + (first + n))) (word + step * n)) [
       | inl same ↦ grind (arith, common_steps, nat_tests)
       | inr differs ↦ grind (arith, common_steps, nat_tests, word-in set k (first + n) index)
     ]
@@ -108,9 +100,8 @@ module _ (k c first end word step : ℕ) (answer : View) (s : Pool) (whole : IsW
             let within : i - first < end - first = omega (arith, from, lt) in
             let word_at : words_of (words_set s.memory.words k first (end - first) word step) k i ≡ word + step * (i - first) =
             ap (words_of (words_set s.memory.words k first (end - first) word step) k) (sym index) ∙ words_set-at s.memory.words k first (end - first) word step (i - first) room small within in
-            let right : IsWordFor (512 * c + i) answer (word + step * (i - first)) = subst (λ j. IsWordFor (512 * c + j) answer (word + step * (i - first))) index (is (i - first) within) in
             let answers : answer ≡ a = cc in
-            rw (word_at, ← answers) right
+            rw (word_at, ← answers) (subst (λ j. IsWordFor (512 * c + j) answer (word + step * (i - first))) index (is (i - first) within))
         | inr behind ↦ let bad : None ≡ Some a = sym (some-after c first end answer i behind) ∙ given in absurd (cc)
       ]
     ];

@@ -3,7 +3,7 @@ use Rattle.std.proofs.Common.{◌≡◌, ℕ, ◌+◌, ◌/◌, ◌<◌, ◌≤�
 use Rattle.stage2.proofs.Names.{row_of, page_count, PageRun, Pages, Pool, pages_of, edited, disturbed, answers, linked, walked, Gigabyte, RowEdit, Walked, second_at, row_view, row_after, CanEditChunks, AreChunksEdited, CanEditGigabyte, IsGigabyteEdited, GigabyteInStep, operations_in_chunks, operations_in_gigabyte, IsUnderway, nat_tests, common_steps}
 use Rattle.pool.proofs.Shares.{share_inside}
 use Rattle.stage2.specs.inner.Clauses.{IsEmpty, HasWord, CanUnlink, Unlinks, UnlinksInStep}
-use Rattle.stage2.proofs.Editing.Gigabyte.{touched-below, linked-same, tabled-chunks, finish-kept, finish-zero, fits-tabled}
+use Rattle.stage2.proofs.Editing.Gigabyte.{touched-below, linked-same, tabled-chunks, finish-kept, finish-zero}
 use Rattle.stage2.proofs.Runs.ChunkCounts.{touched-operations}
 use Rattle.stage2.proofs.Walkers.RootWrites.{stays-tabled, zero-unmapped, seated-linked}
 use Rattle.stage2.proofs.Walkers.ZeroedTables.{stays-after}
@@ -20,7 +20,7 @@ module _ {e : RowEdit} {j g : ℕ} {runs : List PageRun} {first : Pool} {r0 : �
   costs = grind (arith, common_steps, nat_tests, touched-operations runs e.access (row_view e.layout.now e.row first) g can.touched, tabled-chunks e.layout.now e.row g j (pages_of first.memory) can.canonical e.inside below table runs e.access)
 
   pub tabled-can : CanEditChunks e g j runs first r0
-  tabled-can = grind (arith, common_steps, nat_tests, same, fits-tabled, below, costs)
+  tabled-can = grind (arith, common_steps, nat_tests, same, linked-same, below, costs)
 
   module _ {mid : Pool} {r1 : ℕ} (chunks : AreChunksEdited e g j runs first r0 mid r1) where
     under : IsUnderway e.layout.now e.row g j 512 (row_after e runs first) (pages_of first.memory) (pages_of mid.memory)

@@ -1,7 +1,6 @@
 -- A table is hung at one place, or given back there, or stays: the tables of all other places stay.
 use Rattle.std.proofs.Common.{◌≡◌, ◌≢◌, ℕ, ◌+◌, ◌<◌, Bool, true, false, is_some, Some, None, length, arith, ap, ap₂, sym, subst, ◌∙◌, ◌⊎◌, inl, inr}
-use Rattle.std.proofs.lemmas.Bool.{cases_eq}
-use Rattle.stage2.proofs.Names.{Words, Pages, InShare, mark, with_mark, used_by, count_below, Layout, Place, Gigabyte, Chunk, table_at, IsPlace, IsForest, IsOrderly, nat_tests, common_steps}
+use Rattle.stage2.proofs.Names.{Words, Pages, InShare, mark, with_mark, used_by, count_below, Layout, Place, Gigabyte, Chunk, table_at, IsPlace, IsForest, IsOrderly, nat_tests, common_steps, cases_eq}
 use Rattle.pool.proofs.Words.{mark-same, mark-other, mark-kept}
 use Rattle.pool.proofs.Count.{count_below-same, count_below-one}
 use Rattle.pool.proofs.Shares.{used_by-take, used_by-give, used_by-other}
@@ -86,14 +85,8 @@ module _ (layout : Layout) (row : ℕ) (x : Place) (old new : Pages) (h : IsTrad
     | inr f ↦ taken-other h.trade b q inside f (sym (h.kept b inside f) ∙ now)
   ]
 
-  own : (q : ℕ) → InShare old.quotas row q → Owns old.quotas x q
-  own q share = elim h.of_row [ inl f ↦ rw f.1 share | inr f ↦ rw f.1 share ]
-
-  share : (q : ℕ) → Owns old.quotas x q → InShare old.quotas row q
-  share q owns = elim h.of_row [ inl f ↦ subst (λ (y : Place). Owns old.quotas y q) f.1 owns | inr f ↦ subst (λ (y : Place). Owns old.quotas y q) f.1 owns ]
-
   pub trade-owned : (b : Place) (q : ℕ) → IsPlace layout b → table_at layout new.words b ≡ Some q → Owns new.quotas b q
-  trade-owned b q inside now = grind (arith, common_steps, nat_tests, own)
+  trade-owned b q inside now = grind (arith, common_steps, nat_tests)
 
   hangs_in : Trade layout row x old new → (r q : ℕ) → InShare old.quotas r q → new.taken q ≡ true → Hangs layout new.words q
   hangs_in (Stay t) r q inside held =
@@ -143,33 +136,27 @@ module _ (layout : Layout) (row : ℕ) (x : Place) (old new : Pages) (h : IsTrad
   hung-one : (a b : Words) → ((y : Place) → IsPlace layout y → y ≢ x → hangs_at b y ≡ hangs_at a y) → hangs_at a x ≡ false → hangs_at b x ≡ true → hung layout b row ≡ hung layout a row + 1
   hung-one a b same off on = elim h.of_row [
     | inl f ↦
-        let inside : IsPlace layout (Gigabyte row f.0) = subst (IsPlace layout) f.1 h.at in
-        let one = count_below-one (λ g. hangs_at a (Gigabyte row g)) (λ g. hangs_at b (Gigabyte row g)) 512 f.0 inside.1 (ap (hangs_at a) (sym f.1) ∙ off) (ap (hangs_at b) (sym f.1) ∙ on)
+        let one = count_below-one (λ g. hangs_at a (Gigabyte row g)) (λ g. hangs_at b (Gigabyte row g)) 512 f.0 (subst (IsPlace layout) f.1 h.at).1 (ap (hangs_at a) (sym f.1) ∙ off) (ap (hangs_at b) (sym f.1) ∙ on)
         (λ g below differs. same (Gigabyte row g) (h.partition, below) (λ e. differs (let z = f.1 in cc))) in
-        let rest = count_below-same (λ c. hangs_at a (Chunk row c)) (λ c. hangs_at b (Chunk row c)) 262144 (λ c below. same (Chunk row c) (h.partition, below) (λ e. let z = f.1 in absurd (cc))) in
-        omega (arith, one, rest)
+        omega (arith, one, count_below-same (λ c. hangs_at a (Chunk row c)) (λ c. hangs_at b (Chunk row c)) 262144 (λ c below. same (Chunk row c) (h.partition, below) (λ e. let z = f.1 in absurd (cc))))
     | inr f ↦
-        let inside : IsPlace layout (Chunk row f.0) = subst (IsPlace layout) f.1 h.at in
-        let one = count_below-one (λ c. hangs_at a (Chunk row c)) (λ c. hangs_at b (Chunk row c)) 262144 f.0 inside.1 (ap (hangs_at a) (sym f.1) ∙ off) (ap (hangs_at b) (sym f.1) ∙ on)
+        let one = count_below-one (λ c. hangs_at a (Chunk row c)) (λ c. hangs_at b (Chunk row c)) 262144 f.0 (subst (IsPlace layout) f.1 h.at).1 (ap (hangs_at a) (sym f.1) ∙ off) (ap (hangs_at b) (sym f.1) ∙ on)
         (λ c below differs. same (Chunk row c) (h.partition, below) (λ e. differs (let z = f.1 in cc))) in
-        let rest = count_below-same (λ g. hangs_at a (Gigabyte row g)) (λ g. hangs_at b (Gigabyte row g)) 512 (λ g below. same (Gigabyte row g) (h.partition, below) (λ e. let z = f.1 in absurd (cc))) in
-        omega (arith, one, rest)
+        omega (arith, one, count_below-same (λ g. hangs_at a (Gigabyte row g)) (λ g. hangs_at b (Gigabyte row g)) 512 (λ g below. same (Gigabyte row g) (h.partition, below) (λ e. let z = f.1 in absurd (cc))))
   ]
 
   used_in : Trade layout row x old new → (r : ℕ) → r < length layout.ids → used_by new r ≡ hung layout new.words r
   used_in (Stay t) r inside = used_by-same old new r t.taken h.quotas ∙ h.orderly.used r inside ∙ sym (hung-kept r inside (λ _. t.table))
   used_in (Hang k t) r inside =
-      let now = used_by-same (with_mark k true old) new r t.taken h.quotas in
       elim (cases_eq r row) [
         | inl same ↦ grind (arith, common_steps, nat_tests, hung-one, h.kept, used_by-take old row k t.inside t.free, h.orderly.used row h.partition)
-        | inr differs ↦ now ∙ used_by-other old row r k true t.inside differs ∙ h.orderly.used r inside ∙ sym (hung-kept r inside (λ same. absurd (differs same)))
+        | inr differs ↦ (used_by-same (with_mark k true old) new r t.taken h.quotas) ∙ used_by-other old row r k true t.inside differs ∙ h.orderly.used r inside ∙ sym (hung-kept r inside (λ same. absurd (differs same)))
       ]
   used_in (Drop k t) r inside =
-      let now = used_by-same (with_mark k false old) new r t.taken h.quotas in
-      let owns : InShare old.quotas row k = share k (h.orderly.owned x k h.at t.was) in
+      let owns : InShare old.quotas row k = (elim h.of_row [ inl f ↦ subst (λ (y : Place). Owns old.quotas y k) f.1 (h.orderly.owned x k h.at t.was) | inr f ↦ subst (λ (y : Place). Owns old.quotas y k) f.1 (h.orderly.owned x k h.at t.was) ]) in
       elim (cases_eq r row) [
         | inl same ↦ grind (arith, common_steps, nat_tests, used_by-give old row k owns (h.orderly.taken x k h.at t.was), hung-one, h.kept, h.orderly.used row h.partition)
-        | inr differs ↦ now ∙ used_by-other old row r k false owns differs ∙ h.orderly.used r inside ∙ sym (hung-kept r inside (λ same. absurd (differs same)))
+        | inr differs ↦ (used_by-same (with_mark k false old) new r t.taken h.quotas) ∙ used_by-other old row r k false owns differs ∙ h.orderly.used r inside ∙ sym (hung-kept r inside (λ same. absurd (differs same)))
       ]
 
   pub trade-used : (r : ℕ) → r < length layout.ids → used_by new r ≡ hung layout new.words r

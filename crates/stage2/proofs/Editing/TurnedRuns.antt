@@ -1,6 +1,5 @@
 -- Where pages are turned, so are their words.
-use Rattle.std.proofs.Common.{◌≡◌, ℕ, ◌/◌, sym, ap, ◌∙◌, arith}
-use Rattle.stage2.proofs.Names.{nat_tests, View, Pool, pages_of, words_of, ChunkEdit, Site, answers_at, IsAt, IsSpelled, TurnsChunk, slot_at, chunk_view, Slot, Next, common_steps}
+use Rattle.stage2.proofs.Names.{nat_tests, View, Pool, pages_of, words_of, ChunkEdit, Site, answers_at, IsAt, IsSpelled, TurnsChunk, slot_at, chunk_view, Slot, Next, common_steps, ◌≡◌, ℕ, ◌/◌, sym, ap, ◌∙◌, arith}
 use Rattle.stage2.specs.inner.Clauses.{TurnsRuns}
 use Rattle.stage2.proofs.Editing.FourChunkEdits.{answers-entry}
 use Rattle.stage2.proofs.Editing.Stretches.{word-some}

@@ -1,20 +1,21 @@
 -- The chunks of a gigabyte before one are edited, and these runs are left for the others: one piece after another.
 use Rattle.std.proofs.Common.{◌≡◌, ◌≢◌, ℕ, zero, suc, ◌+◌, ◌-◌, ◌*◌, ◌/◌, ◌%◌, ◌<◌, ◌≤◌, eqb, true, false, cond, None, List, sym, ap, subst, ◌∙◌, arith}
-use Rattle.stage2.proofs.Names.{View, page_count, row_of, PageRun, covers, Pool, IsWhole, pages_of, words_of, taken_of, after_replaces, edited, touches_chunk, AreFree, StaysInStep, chunk_runs, sum_below, table_operations, chunk_operations, Layout, slot, walked, next_page, Piece, ChunkEdit, RowEdit, Site, block_step, answers_in, covers_chunk, IsAt, TurnsChunk, chunk_view, GrowsChunk, HasFree, CanEditChunks, AreChunksEdited, operations_in_table, IsUnderway, IsNextPiece, IsSeated, disturbed_below, nat_tests, common_steps}
+use Rattle.stage2.proofs.Names.{View, page_count, row_of, PageRun, covers, Pool, IsWhole, pages_of, words_of, taken_of, after_replaces, edited, touches_chunk, AreFree, StaysInStep, chunk_runs, sum_below, table_operations, chunk_operations, Layout, slot, walked, next_page, Piece, ChunkEdit, RowEdit, Site, block_step, answers_in, covers_chunk, IsAt, TurnsChunk, chunk_view, GrowsChunk, HasFree, CanEditChunks, AreChunksEdited, operations_in_table, IsUnderway, IsNextPiece, IsSeated, disturbed_below, nat_tests, common_steps, part_count}
 use Rattle.stage2.specs.inner.Clauses.{CanEditChunk, IsChunkEdited, ReplacesBlocks, linked_view}
 use Rattle.stage2.proofs.Counting.Needs.{filled-touches}
 use Rattle.stage2.proofs.Counting.Operations.{chunk-same}
-use Rattle.stage2.proofs.Editing.ChunkByChunk.{underway-start, underway-edit, still-answers, has-free, sum_below-more, sum_below-up, site}
+use Rattle.stage2.proofs.Editing.ChunkByChunk.{underway-edit, still-answers, has-free, sum_below-more, sum_below-up, site}
 use Rattle.stage2.proofs.Editing.FilledChunks.{edited-many, stays-many}
 use Rattle.stage2.proofs.Editing.Gigabyte.{touched-below}
 use Rattle.stage2.proofs.Editing.FourChunkEdits.{second-inside, second-taken}
-use Rattle.stage2.proofs.Editing.MadeEdit.{touches-made, site-made, turned-made, grows-made, room-made, edits-made, step-made}
+use Rattle.stage2.proofs.Editing.MadeEdit.{touches-made, site-made, grows-made, room-made, edits-made, step-made}
 use Rattle.stage2.proofs.Runs.Between.{AreLeft, left-all, left-later, left-past}
 use Rattle.stage2.proofs.Runs.Left.{left-touches}
-use Rattle.stage2.proofs.Runs.OwnRuns.{AreOwn, own-chunk, own-all, chunk-growing, chunk-redoes, chunk-free, chunk-turns, chunk-stays}
+use Rattle.stage2.proofs.Runs.OwnRuns.{AreOwn, own-chunk, chunk-growing, chunk-redoes, chunk-free, chunk-stays}
 use Rattle.stage2.proofs.Runs.Spans.{underway-gap, stays-gap}
-use Rattle.stage2.proofs.Walkers.ChunkSteps.{march-edit, march-seated, march-free, march-turns}
+use Rattle.stage2.proofs.Walkers.ChunkSteps.{march-edit, march-seated, march-free}
 use Rattle.stage2.proofs.Walkers.ZeroedTables.{stays-none}
+use Rattle.std.proofs.lemmas.Bool.{eqb-true}
 
 -- the answers after the edit
 abbrev pub after : RowEdit → ℕ → ℕ → List PageRun → Pool → ℕ → View
@@ -39,7 +40,7 @@ module _ {e : RowEdit} {j g : ℕ} {runs : List PageRun} {first : Pool} {r0 : �
   seat = record { p = e.p; row = e.row; second = j }
 
   pub at-start : IsUpTo e j g runs first r0 0 runs first r0
-  at-start = grind (arith, common_steps, nat_tests, underway-start, below, stays-none, left-all)
+  at-start = grind (arith, common_steps, nat_tests, below, stays-none, left-all)
 
   module _ {i : ℕ} {rest : List PageRun} {now : Pool} {r : ℕ} (so : IsUpTo e j g runs first r0 i rest now r) where
     -- a chunk that these runs leave alone all leave alone
@@ -51,7 +52,6 @@ module _ {e : RowEdit} {j g : ℕ} {runs : List PageRun} {first : Pool} {r0 : �
     gap k from most apart later left =
         let all : i + (k - i) ≡ k = omega (arith, from) in
         let none : (x : ℕ) → i ≤ x → x < i + (k - i) → touches_chunk (512 * g + x) runs ≡ false = λ x low lt. alone x low (apart x low (omega (arith, lt, from))) in
-        let up = sum_below-up (cost e j g runs first) i k from in
         let room = so.room in
         record {
           underway = subst (λ n. IsUnderway e.layout.now e.row g j n (after e j g runs first) (pages_of first.memory) (pages_of now.memory)) all
@@ -60,7 +60,7 @@ module _ {e : RowEdit} {j g : ℕ} {runs : List PageRun} {first : Pool} {r0 : �
               (stays-gap e.layout.now e.row g j runs e.access (pages_of first.memory) (pages_of now.memory) e.inside below first now (k - i) i (omega (arith, from, most)) none so.underway (so.in_step seated free));
           left = left;
           last = most;
-          room = omega (arith, up, room);
+          room = omega (arith, sum_below-up (cost e j g runs first) i k from, room);
         }
 
     pub at-piece : {piece : Piece} → IsNextPiece g i rest piece → IsUpTo e j g runs first r0 piece.first piece.runs now r
@@ -108,24 +108,16 @@ module _ {e : RowEdit} {j g : ℕ} {runs : List PageRun} {first : Pool} {r0 : �
           sym (ap (λ t. cond t (3 + table_operations h.runs e.access v (512 * g + i)) 0) (sym touched) ∙ same)
           ∙ ap (λ n. 3 + n) (sym (room-made seat h e.layout.now (512 * g + i) e.access layout at access now now))
 
-      here-turned : TurnsChunk h (chunk_view seat h now)
-      here-turned = grind (arith, common_steps, nat_tests, turned-made, at, chunk-turns, march-turns, below)
-
       here-room : 3 + operations_in_table seat h now ≤ r
       here-room =
-          let more = sum_below-more (cost e j g runs first) i in
-          let up = sum_below-up (cost e j g runs first) (i + 1) 512 (omega (arith, lt)) in
-          let one = here-cost in
-          omega (arith, more, up, so.room, one, can.room)
+          omega (arith, sum_below-more (cost e j g runs first) i, sum_below-up (cost e j g runs first) (i + 1) 512 (omega (arith, lt)), so.room, here-cost, can.room)
 
       pub here-can : CanEditChunk seat h now r
-      here-can = record { site = here-site; turned = here-turned; row = ap (λ (l : Layout). row_of l.ids e.p) layout ∙ e.own; free = here-free; room = here-room }
+      here-can = record { site = here-site; turned = (grind (arith, common_steps, nat_tests, at, eqb-true, still-answers, below)); row = ap (λ (l : Layout). row_of l.ids e.p) layout ∙ e.own; free = here-free; room = here-room }
 
       pub here-next : {new : Pool} {r2 : ℕ} → IsChunkEdited seat h now r new r2 → IsUpTo e j g runs first r0 (i + 1) rest new r2
       here-next {new} done =
-          let more = sum_below-more (cost e j g runs first) i in
           let room = so.room in
-          let one = here-cost in
           record {
             underway = underway-edit e.layout.now e.row g j runs e.access (pages_of first.memory) e.inside below i lt (pages_of now.memory) so.underway (pages_of new.memory)
                 (chunk-redoes e.layout.now e.row (512 * g + i) runs h.runs e.access own.covered j v (pages_of now.memory) (pages_of new.memory)
@@ -139,7 +131,7 @@ module _ {e : RowEdit} {j g : ℕ} {runs : List PageRun} {first : Pool} {r0 : �
                 (march-free e.layout.now e.row g j runs e.access (pages_of first.memory) e.inside below i lt (pages_of now.memory) so.underway free))));
             left = left-later (512 * g + i) (512 * g + (i + 1)) rest runs (omega arith) so.left;
             last = omega (arith, lt);
-            room = omega (arith, more, room, one, done.room);
+            room = omega (arith, sum_below-more (cost e j g runs first) i, room, here-cost, done.room);
           }
 
     -- its level 2 table
@@ -170,7 +162,6 @@ module _ {e : RowEdit} {j g : ℕ} {runs : List PageRun} {first : Pool} {r0 : �
       blocks-next whole none {new} blocks less =
           let all : i + (end - i) ≡ end = omega (arith, ahead) in
           let room = so.room in
-          let costs = spent in
           record {
             underway = subst (λ (t : Pool). IsUnderway e.layout.now e.row g j end (after e j g runs first) (pages_of first.memory) (pages_of t.memory)) (sym blocks.state)
                 (subst (λ n. IsUnderway e.layout.now e.row g j n (after e j g runs first) (pages_of first.memory) (pages_of (after_replaces e.p j i (end - i) blocks.word (block_step e.access) (512 * (512 * g + i)) now).memory)) all
@@ -180,7 +171,7 @@ module _ {e : RowEdit} {j g : ℕ} {runs : List PageRun} {first : Pool} {r0 : �
                 (stays-many e.layout.now e.row g j runs e.access (pages_of first.memory) e.inside below e.p e.own first i blocks.word now whole (table-inside (omega (arith, ahead, most))) blocks.block end most fills none so.underway (end - i) (omega (arith, all)) seated (so.in_step seated free)));
             left = left-later (512 * g + i) (512 * g + end) rest runs (omega (arith, ahead)) so.left;
             last = most;
-            room = omega (arith, room, costs, less, ahead);
+            room = omega (arith, room, spent, less, ahead);
           }
 
 -- ---- a chunk that is the only one that runs touch
@@ -197,7 +188,7 @@ module _ {e : RowEdit} {j g : ℕ} {runs : List PageRun} {first : Pool} {r0 : �
     apart x differs = others (512 * g + x) (λ same. differs (omega (arith, same, at)))
 
     owns : AreOwn (512 * g + h.chunk % 512) h.runs runs
-    owns = own-all (512 * g + h.chunk % 512) runs h.runs own
+    owns = record { covered = λ n at. ap (λ rs. covers rs n) own; count = ap (part_count (512 * g + h.chunk % 512)) own; touches = ap (touches_chunk (512 * g + h.chunk % 512)) own }
 
     under : IsUpTo e j g runs first r0 (h.chunk % 512) runs first r0
     under = gap can below (at-start can below) (h.chunk % 512) (omega arith) (omega arith) (λ x from to. apart x (λ same. omega (arith, same, to))) runs (left-all (512 * g + h.chunk % 512) runs)

@@ -4,7 +4,7 @@ use Rattle.stage2.proofs.Names.{PageRun, covers, Pool, pages_of, AreFree, StaysI
 use Rattle.stage2.specs.inner.Clauses.{CanEditRow, IsRowEdited}
 use Rattle.stage2.specs.inner.Gigabytes.{LieInGigabyte}
 use Rattle.stage2.proofs.Editing.ChunkByChunk.{sum_below-more, sum_below-up}
-use Rattle.stage2.proofs.Editing.GigabyteByGigabyte.{past-none, past-fits, past-operations, past-edit, past-all}
+use Rattle.stage2.proofs.Editing.GigabyteByGigabyte.{past-fits, past-operations, past-edit, past-all}
 use Rattle.stage2.proofs.Runs.OwnRuns.{gigabyte-covers, gigabyte-operations, gigabyte-fits, gigabyte-edits, gigabyte-free, gigabyte-turns, gigabyte-stays}
 use Rattle.stage2.proofs.Runs.Spans.{past-gap, cross-gap}
 use Rattle.stage2.proofs.Walkers.GigabyteSteps.{disturbed_before, cross-edit, cross-free, cross-turns, cross-all}
@@ -23,21 +23,20 @@ pub record IsRowUpTo (e : RowEdit) (runs : List PageRun) (first : Pool) (room_fi
 
 module _ {e : RowEdit} {runs : List PageRun} {first : Pool} {r0 : ℕ} where
   pub row-start : IsCanonical e.layout.now (pages_of first.memory) → IsRowUpTo e runs first r0 0 first r0
-  row-start canonical = grind (arith, common_steps, nat_tests, past-none, stays-none, disturbed_before)
+  row-start canonical = grind (arith, common_steps, nat_tests, stays-none, disturbed_before)
 
   module _ {i : ℕ} {now : Pool} {r : ℕ} (so : IsRowUpTo e runs first r0 i now r) where
     -- gigabytes that the runs leave alone
     pub row-ahead : (k : ℕ) → i ≤ k → k ≤ 512 → ((n : ℕ) → i ≤ n / 512 / 512 → n / 512 / 512 < k → covers runs n ≡ false) → IsRowUpTo e runs first r0 k now r
     row-ahead k from most none =
         let all : i + (k - i) ≡ k = omega (arith, from) in
-        let up = sum_below-up (cost e runs first) i k from in
         let room = so.room in
         record {
           past = subst (λ n. IsPast e.layout.now e.row n (row_after e runs first) (pages_of first.memory) (pages_of now.memory)) all
               (past-gap e.layout.now e.row runs e.access (pages_of first.memory) (pages_of now.memory) e.inside (k - i) i (omega (arith, from, most)) (λ n low high. none n low (omega (arith, high, from))) so.past);
           in_step = λ free. subst (λ n. StaysInStep e.layout.now e.row (disturbed_before n runs (row_view e.layout.now e.row first) (row_after e runs first)) (λ n. walked n (row_after e runs first n)) first now) all
               (cross-gap e.layout.now e.row runs (row_view e.layout.now e.row first) (row_after e runs first) first now (k - i) i (so.in_step free));
-          room = omega (arith, up, room);
+          room = omega (arith, sum_below-up (cost e runs first) i k from, room);
         }
 
     -- no page is left
@@ -64,23 +63,18 @@ module _ {e : RowEdit} {runs : List PageRun} {first : Pool} {r0 : ℕ} where
         turned = λ turns. cross-turns e.layout.now e.row runs e.access (pages_of first.memory) e.inside i lt (pages_of now.memory) so.past (can.turned turns);
         fits = past-fits e.layout.now e.row runs e.access (pages_of first.memory) e.inside i lt (pages_of now.memory) so.past can.canonical can.fits;
         room =
-            let more = sum_below-more (cost e runs first) i in
-            let up = sum_below-up (cost e runs first) (i + 1) 512 (omega (arith, lt)) in
-            let one = same-cost in
-            omega (arith, more, up, so.room, one, can.room);
+            omega (arith, sum_below-more (cost e runs first) i, sum_below-up (cost e runs first) (i + 1) 512 (omega (arith, lt)), so.room, same-cost, can.room);
       }
 
       pub row-next : {new : Pool} {r2 : ℕ} → IsGigabyteEdited e i runs now r new r2 → IsRowUpTo e runs first r0 (i + 1) new r2
       row-next {new} done =
-          let more = sum_below-more (cost e runs first) i in
           let room = so.room in
-          let one = same-cost in
           record {
             past = past-edit e.layout.now e.row runs e.access (pages_of first.memory) e.inside i lt (pages_of now.memory) so.past (pages_of new.memory) done.edits;
             in_step = λ free.
                 cross-edit e.layout.now e.row runs e.access (pages_of first.memory) e.inside i lt (pages_of now.memory) so.past first now new (so.in_step free)
                 (done.in_step (cross-free e.layout.now e.row runs e.access (pages_of first.memory) e.inside i lt (pages_of now.memory) so.past free));
-            room = omega (arith, more, room, one, done.room);
+            room = omega (arith, sum_below-more (cost e runs first) i, room, same-cost, done.room);
           }
 
 -- those of the runs that have pages in a gigabyte edit it as all do

@@ -43,15 +43,10 @@ need-none : (v : ℕ → View) → ((n : ℕ) → v n ≡ None) → need v ≡ 0
 unfolding need
 need-none v none = grind (arith, common_steps, nat_tests, count_below-none, reached-none, mixed-none)
 
--- the same views grow alike
-grow-same : (v w : ℕ → View) (runs : List PageRun) (access : View) → ((n : ℕ) → w n ≡ v n) → grow w (edited runs access w) ≡ grow v (edited runs access v)
-unfolding grow
-grow-same v w runs access same = grind (arith, common_steps, nat_tests, count_below-same, reached-same, mixed-same)
-
 -- the views of a partition, whether it has a root or not
 pub grow-found : (t : TablesView) (p : ℕ) (runs : List PageRun) (access : View) (row : Option ℕ) → row ≡ position (λ id. eqb id p) t.layout.ids
     → grow (answers_of t.layout (words_of t.pool.memory.words) row) (edited runs access (answers_of t.layout (words_of t.pool.memory.words) row)) ≡ grow (view_of t p) (edited runs access (view_of t p))
-grow-found t p runs access row e = grind (arith, common_steps, nat_tests, grow-same, rootless, found-none, row-found)
+grow-found t p runs access row e = grind (arith, common_steps, nat_tests, count_below-same, reached-same, mixed-same, rootless, found-none, row-found)
 
 pub rootless-need : (t : TablesView) (p : ℕ) → has_root t p ≡ false → need (view_of t p) ≡ 0
 rootless-need t p none = need-none (view_of t p) (λ n. ap answer_of (rootless t p n none))
@@ -62,23 +57,14 @@ unfolding grow
 grow-some v w n small none some =
     let place : 262144 * (n / 262144) + n % 262144 ≡ n = omega arith in
     let now : is_reached w (n / 262144) ≡ true = reached-some w (n / 262144) (n % 262144) (omega arith) (ap (λ x. is_some (w x)) place ∙ some) in
-    let was : is_reached v (n / 262144) ≡ false = reached-none v (n / 262144) (λ i _. none (262144 * (n / 262144) + i)) in
-    let one = count_below-some (λ g. is_reached w g && not (is_reached v g)) 512 (n / 262144) (omega (arith, small)) (rw (now, was) refl) in
-    omega (arith, one)
-
-nothing-there : (t : TablesView) (p n : ℕ) → has_root t p ≡ false → view_of t p n ≡ None
-nothing-there t p n none = ap answer_of (rootless t p n none)
-
-no-quota : (t : TablesView) (p : ℕ) → length t.layout.ids ≡ length t.pool.memory.quotas → has_root t p ≡ false → row_quota t.pool.memory.quotas (row_of t.layout.ids p) ≡ 0
-no-quota t p rows none = row_quota-none t.pool.memory.quotas (row_of t.layout.ids p) (grind (arith, nat_tests, none, rows))
+    omega (arith, count_below-some (λ g. is_reached w g && not (is_reached v g)) 512 (n / 262144) (omega (arith, small)) (rw (now, reached-none v (n / 262144) (λ i _. none (262144 * (n / 262144) + i))) refl))
 
 -- so a map that fits has no page
 rootless-map : (t : TablesView) (p n : ℕ) (runs : List PageRun) (a : Access) → length t.layout.ids ≡ length t.pool.memory.quotas → has_root t p ≡ false → Fits p runs (Some a) t → n < 2 ^ 27 → covers runs n ≡ false
 rootless-map t p n runs a rows none fits small = elim (cases_Bool (covers runs n)) [
   | inl t' ↦
-      let some = grow-some (view_of t p) (edited runs (Some a) (view_of t p)) n small (λ x. nothing-there t p x none) (rw t' refl) in
-      let quota = no-quota t p rows none in
-      absurd (omega (arith, some, quota, fits))
+      let quota = (row_quota-none t.pool.memory.quotas (row_of t.layout.ids p) (grind (arith, nat_tests, none, rows))) in
+      absurd (omega (arith, grow-some (view_of t p) (edited runs (Some a) (view_of t p)) n small (λ x. (ap answer_of (rootless t p x none))) (rw t' refl), quota, fits))
   | inr f ↦ f
 ]
 
@@ -92,9 +78,6 @@ StaysOut p runs access = (n : ℕ) → n < 2 ^ 27 → covers runs n ≡ true →
 pub rootless-edit : (t : TablesView) (p : ℕ) (runs : List PageRun) (access : View) → length t.layout.ids ≡ length t.pool.memory.quotas → has_root t p ≡ false → Fits p runs access t → StaysOut p runs access
 rootless-edit t p runs access rows none fits n small covered = grind (arith, common_steps, nat_tests, rootless-map)
 
-pub rootless-walks : (t : TablesView) (p : ℕ) (runs : List PageRun) (access : View) → has_root t p ≡ false → StaysOut p runs access → ReachSo p runs access t t
-rootless-walks t p runs access none out q n small = grind (arith, common_steps, nat_tests, both, rootless)
-
 view-none : (n : ℕ) (a : View) → walked n a ≡ Unmapped → a ≡ None
 view-none n a e = grind (arith, common_steps, nat_tests)
 
@@ -103,8 +86,7 @@ rootless-moments t p runs access none out begun before starts free =
     moments-none t.layout t.pool t.pool before (with_pages p runs access before) starts
     (λ q n small. starts q n small ∙ ap (walked n) (kept-view (eqb q p && covers runs n) access (before q n)
     (λ e. let both = both (eqb q p) (covers runs n) e in
-    let same : q ≡ p = eqb-true _ _ both.0 in
-    out n small both.1 ∙ sym (view-none n (before q n) (sym (starts q n small) ∙ ap (λ x. walk_in t x n) same ∙ rootless t p n none)))))
+    out n small both.1 ∙ sym (view-none n (before q n) (sym (starts q n small) ∙ ap (λ x. walk_in t x n) (eqb-true _ _ both.0) ∙ rootless t p n none)))))
     refl begun refl
 
 -- ---- an edit
@@ -156,7 +138,7 @@ edited-rooted layout old new room left p row runs access is canonical edits stay
     below-root ids p row is = let a = is.is in let b = is.inside in grind (arith, nat_tests)
 
 pub edited-rootless : (t : TablesView) (p : ℕ) (runs : List PageRun) (access : View) → has_root t p ≡ false → StaysOut p runs access → AreCanonical t → AreEdited p runs access t t
-edited-rootless t p runs access none out canonical = grind (arith, common_steps, nat_tests, rootless-walks t p runs access none out, rootless-moments t p runs access none out, stays-none)
+edited-rootless t p runs access none out canonical = grind (arith, common_steps, nat_tests, both, rootless, rootless-moments t p runs access none out, stays-none)
 
 -- ---- a clear
 
@@ -169,36 +151,21 @@ cleared-in_step t run new left is none e same o = record {
 
 -- ---- how many pages are taken
 
--- the quota of a partition that has a root
-pub quota-found : (layout : Layout) (p quota : ℕ) → option_map (row_quota layout.quotas) (position (λ id. eqb id p) layout.ids) ≡ Some quota → quota ≡ row_quota layout.quotas (row_of layout.ids p)
-quota-found layout p quota found = grind (arith, common_steps, nat_tests)
-
-pub quota-none : (layout : Layout) (p : ℕ) → option_map (row_quota layout.quotas) (position (λ id. eqb id p) layout.ids) ≡ None → ltb (row_of layout.ids p) (length layout.ids) ≡ false
-quota-none layout p found = grind (arith, common_steps, nat_tests)
-
--- a partition that has no root has no free page
-pub free-none : (t : TablesView) (p : ℕ) → IsCanonical t.layout (pages_of t.pool.memory) → has_root t p ≡ false → free_of (pages_of t.pool.memory) (row_of t.layout.ids p) ≡ 0
-free-none t p h none = grind (arith, common_steps, nat_tests, row_quota-none)
-
 -- what a partition's tables may still take, and what they take, is its quota
 pub free-and-need : (t : TablesView) (p : ℕ) → IsCanonical t.layout (pages_of t.pool.memory) → free_of (pages_of t.pool.memory) (row_of t.layout.ids p) + need (view_of t p) ≡ row_quota t.layout.quotas (row_of t.layout.ids p)
 free-and-need t p h =
     let m = pages_of t.pool.memory in
     let row = row_of t.layout.ids p in
     let quota : row_quota m.quotas row ≡ row_quota t.layout.quotas row = ap (λ (q : List ℕ). row_quota q row) (sym h.orderly.quotas) in
-    let most = used_by-le m row in
     elim (cases_Bool (ltb row (length t.layout.ids))) [
       | inl rooted ↦
           let used : used_by m row ≡ need (view_of t p) = used-need t.layout m row h (ltb-true _ _ rooted) in
-          numbers (row_quota m.quotas row) (used_by m row) (need (view_of t p)) (row_quota t.layout.quotas row) most used quota
-      | inr none ↦ grind (arith, common_steps, nat_tests, outside row (length t.layout.ids) (length m.quotas) none h.orderly.rows, row_quota-none, rootless-need t p none, numbers)
+          numbers (row_quota m.quotas row) (used_by m row) (need (view_of t p)) (row_quota t.layout.quotas row) (used_by-le m row) used quota
+      | inr none ↦ grind (arith, common_steps, nat_tests, row_quota-none, rootless-need t p none, numbers)
     ]
   where
     numbers : (all used needs quota : ℕ) → used ≤ all → used ≡ needs → all ≡ quota → all - used + needs ≡ quota
     numbers all used needs quota a b c = omega arith
-
-    outside : (row ids quotas : ℕ) → ltb row ids ≡ false → ids ≡ quotas → quotas ≤ row
-    outside row ids quotas e f = grind (arith, nat_tests, e, f)
 
 -- ---- what an edit asks
 
@@ -210,12 +177,6 @@ turned-found t p runs access row e turned = grind (arith, common_steps, nat_test
 -- it is said of the layout and the words alone
 pub turned-same : (p : ℕ) (runs : List PageRun) (access : View) (t u : TablesView) → u.layout ≡ t.layout → u.pool.memory ≡ t.pool.memory → AreTurnedFor p runs access t → AreTurnedFor p runs access u
 turned-same p runs access t u layout memory turned = grind (arith, common_steps, nat_tests)
-
-pub fits-row : (t : TablesView) (p row : ℕ) (runs : List PageRun) (access : View) → IsRow t.layout.ids p row → Fits p runs access t → FitsRow t.layout row runs access (pages_of t.pool.memory)
-fits-row t p row runs access is fits = grind (arith, common_steps, nat_tests)
-
-pub room-row : (t : TablesView) (p row : ℕ) (runs : List PageRun) (access : View) → IsRow t.layout.ids p row → edit_operations p runs access t ≤ t.room → row_operations runs access (answers t.layout (words_of t.pool.memory.words) row) ≤ t.room
-room-row t p row runs access is ready = grind (arith, common_steps, nat_tests)
 
 -- it is at most what is told of the row that was found
 pub room-found : (t : TablesView) (p : ℕ) (runs : List PageRun) (access : View) (row : Option ℕ) → row ≡ position (λ id. eqb id p) t.layout.ids

@@ -1,7 +1,6 @@
 -- A table that is read word by word.
 use Rattle.std.proofs.Common.{◌≡◌, ℕ, zero, suc, ◌+◌, ◌-◌, ◌*◌, ◌%◌, ◌<◌, ◌≤◌, Bool, not, cond, eqb, [], ◌∷◌, ◌++◌, refl, sym, ap, ap₂, ◌∙◌, append_assoc, arith, inl, inr, eq-eqb, List}
-use Rattle.std.proofs.lemmas.Bool.{cases_Bool, eqb-true}
-use Rattle.stage2.proofs.Names.{count_below, Words, nonzero_in, Cursor, Level, TableEntry, pages_at, entry_at, entries_from, entry_row, left_in, IsCursor, PassTheSame, next_first, nat_tests, common_steps}
+use Rattle.stage2.proofs.Names.{count_below, Words, nonzero_in, Cursor, Level, TableEntry, pages_at, entry_at, entries_from, entry_row, left_in, IsCursor, PassTheSame, next_first, nat_tests, common_steps, cases_Bool, eqb-true}
 use Rattle.pool.proofs.Count.{count_below-more}
 
 module _ (level : Level) (first : ℕ) (word : ℕ → ℕ) where
@@ -30,13 +29,10 @@ module _ (level : Level) (first : ℕ) (word : ℕ → ℕ) where
   none-left zero i all le = refl
   none-left (suc n) i all le = elim (cases_Bool (eqb (word i) 0)) [
     | inl is ↦
-        let none : word i ≡ 0 = eqb-true (word i) 0 is in
-        let even : word i % 2 ≡ 0 = omega (arith, none) in
-        let same : count_below some_word (i + 1) ≡ 0 + count_below some_word i = count_below-more some_word i ∙ ap (λ b. cond (not b) 1 0 + count_below some_word i) is in
+        let even : word i % 2 ≡ 0 = omega (arith, eqb-true (word i) 0 is) in
         let next : suc i ≡ i + 1 = omega arith in
-        let e = ap (λ k. count_below some_word k) next in
         ap (λ b. cond b [] (record { level = level; first = first + pages_at level * i; word = word i } ∷ []) ++ entries_from level first word (suc i) n) (eq-eqb (word i % 2) 0 even)
-        ∙ none-left n (suc i) (omega (arith, all)) (omega (arith, le, same, e))
+        ∙ none-left n (suc i) (omega (arith, all)) (omega (arith, le, count_below-more some_word i ∙ ap (λ b. cond (not b) 1 0 + count_below some_word i) is, ap (λ k. count_below some_word k) next))
     | inr some ↦ grind (arith, common_steps, nat_tests, count_below-more some_word i, count-grows (i + 1) n)
   ]
 
@@ -117,9 +113,6 @@ row-step pages words level old c w n word is at index small odd so place row =
     in-row words level old c (record c { index = c.index + 1; left = c.left - 1 }) e (next_first level old) w n row next
     (ap₂ (λ (f x : ℕ). record { level = level; first = f; word = x }) first place)
 
-pub step-more : (level : Level) (w pages next n : ℕ) → pages ≡ pages_at level → next ≡ w + 4096 * pages * n → next + 4096 * pages ≡ w + 4096 * pages * (n + 1)
-step-more level w pages next n is so = grind (arith, common_steps, nat_tests, steps-suc)
-
 -- ---- words that are the same in two tables
 
 module _ (level : Level) (first : ℕ) where
@@ -151,10 +144,9 @@ further pages words level c is inside = grind (arith, common_steps, nat_tests, c
 pub same-more : (pages counts : ℕ) (words others : Words) (level : Level) (old c other d : Cursor) → IsCursor pages words level c → IsCursor counts others level d → PassTheSame (left_in words old) (left_in words c) (left_in others other) (left_in others d) → c.first ≡ d.first → c.index ≡ d.index → c.index + 64 ≤ 512 → ((x : ℕ) → c.index ≤ x → x < c.index + 64 → words c.table x ≡ others d.table x) → PassTheSame (left_in words old) (left_in words (record c { index = c.index + 64 })) (left_in others other) (left_in others (record d { index = d.index + 64 }))
 same-more pages counts words others level old c other d is also so first index inside same =
     let run = entries_from c.level c.first (words c.table) c.index 64 in
-    let levels : c.level ≡ d.level = is.at ∙ sym also.at in
     let there : run ≡ entries_from d.level d.first (others d.table) d.index 64 =
     from-same c.level c.first (words c.table) (others d.table) 64 c.index same
-    ∙ ap (λ l. entries_from l c.first (others d.table) c.index 64) levels
+    ∙ ap (λ l. entries_from l c.first (others d.table) c.index 64) (is.at ∙ sym also.at)
     ∙ ap₂ (λ (f i : ℕ). entries_from d.level f (others d.table) i 64) first index in
     record {
       passed = so.passed ++ run;

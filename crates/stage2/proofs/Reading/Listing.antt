@@ -42,12 +42,6 @@ odd-table : (layout : Layout) (level word k : ℕ) → next_page (slot layout le
 unfolding slot
 odd-table layout level word k is even = grind (arith, common_steps, nat_tests, entry-invalid)
 
-page-entry : (layout : Layout) (e : Entry) → answer_of (at_3 (slot_from layout e)) ≡ access_of e
-page-entry layout e = grind (arith, common_steps, nat_tests)
-
-block-entry : (layout : Layout) (words : Words) (n : ℕ) (e : Entry) → next_page (slot_from layout e) ≡ None → answer_of (at_2 layout words n (slot_from layout e)) ≡ access_of e
-block-entry layout words n e none = grind (arith, common_steps, nat_tests)
-
 -- ---- one word
 
 odd-at : {A : Type 0} (w : TableEntry → List A) (level : Level) (first word : ℕ) → (word % 2 ≡ 0 → ⊥) → flat_map w (entry_at level first word) ≡ w (record { level = level; first = first; word = word })
@@ -87,7 +81,7 @@ module _ {A : Type 0} (f : TableEntry → List A) (v : Listed → List A) (agree
         let chunk : n / 512 ≡ c = omega (arith, small) in
         let index : n % 512 ≡ i = omega (arith, small) in
         let there : table_at t.layout words (Chunk row (n / 512)) ≡ Some k = ap (λ x. table_at t.layout words (Chunk row x)) chunk ∙ hangs in
-        sym (ap answer_of (walk-chunk t.layout words row n k here there ∙ ap (λ x. at_3 (slot t.layout 3 (words k x))) index) ∙ page-entry t.layout (entry_of 3 (words k i)))
+        sym (ap answer_of (walk-chunk t.layout words row n k here there ∙ ap (λ x. at_3 (slot t.layout 3 (words k x))) index) ∙ (grind (arith, common_steps, nat_tests)))
 
     -- the pages of a level 3 table
     pages-listed : (c k : ℕ) → c < 262144 → table_at t.layout words (Chunk row c) ≡ Some k → flat_map f (table_entries Third (512 * c) (words k)) ≡ flat_map v (page_entries view c)
@@ -108,7 +102,7 @@ module _ {A : Type 0} (f : TableEntry → List A) (v : Listed → List A) (agree
         let chunk : n / 512 ≡ c = omega arith in
         let there : table_at t.layout words (Gigabyte row (n / 512 / 512)) ≡ Some j = ap (λ x. table_at t.layout words (Gigabyte row (x / 512))) chunk ∙ hangs in
         sym (ap answer_of (walk-gigabyte t.layout words row n j here there ∙ ap (λ x. at_2 t.layout words n (slot t.layout 2 (words j (x % 512)))) chunk)
-        ∙ block-entry t.layout words n (entry_of 2 (words j (c % 512))) none)
+        ∙ (grind (arith, common_steps, nat_tests)))
 
     -- a word of a level 2 table, and the table below it
     chunk-listed : (c j : ℕ) → c < 262144 → table_at t.layout words (Gigabyte row (c / 512)) ≡ Some j → flat_map with_pages_of (entry_at Second (512 * c) (words j (c % 512))) ≡ flat_map v (chunk_entries view c)
@@ -160,8 +154,7 @@ module _ {A : Type 0} (f : TableEntry → List A) (v : Listed → List A) (agree
         go : (o : Option ℕ) → table_at t.layout words (Gigabyte row g) ≡ o → flat_map with_chunks_of (entry_at First (262144 * g) (words row g)) ≡ flat_map v (gigabyte_entries view g)
         go None is =
             let unreached : is_reached view g ≡ false = sym (canonical.trees.reached row g here small) ∙ ap (λ (o : Option ℕ). is_some o) is in
-            let holds : words row g ≡ 0 = canonical.words (Root row) row g here refl small ∙ ap (λ (o : Option ℕ). entry_for_table t.layout o 0) is in
-            even-at with_chunks_of First (262144 * g) (words row g) (omega (arith, holds))
+            even-at with_chunks_of First (262144 * g) (words row g) (omega (arith, canonical.words (Root row) row g here refl small ∙ ap (λ (o : Option ℕ). entry_for_table t.layout o 0) is))
             ∙ ap (λ b. flat_map v (cond b (table_entry 1 (262144 * g) ∷ each_below (λ i. chunk_entries view (512 * g + i)) 512) [])) (sym unreached)
         go (Some j) is =
             let reached : is_reached view g ≡ true = sym (canonical.trees.reached row g here small) ∙ ap (λ (o : Option ℕ). is_some o) is in
@@ -193,8 +186,7 @@ pub listed : {A : Type 0} (f : TableEntry → List A) (v : Listed → List A) (t
 listed f v t p agree canonical = grind (arith, common_steps, nat_tests, tree-listed, none-listed, no-row)
 
 each-map : {A B : Type 0} (h : A → B) (xs : List A) → flat_map (λ x. h x ∷ []) xs ≡ map h xs
-each-map h [] = refl
-each-map h (x ∷ xs) = ap (λ ys. h x ∷ ys) (each-map h xs)
+each-map h xs = grind (arith, common_steps, nat_tests)
 
 -- the entries show what the views need
 pub all-shown : (t : TablesView) (p : ℕ) → AreCanonical t → map shown (entries_of (reading_of t) p) ≡ entries (view_of t p)

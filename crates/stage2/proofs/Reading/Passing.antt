@@ -11,9 +11,6 @@ passed-more old new e none so = record {
   follow = so.follow ∙ sym (append_assoc so.tables (e ∷ []) new);
 }
 
-pub passed-nothing : (e : TableEntry) (entry : Entry) → entry_of (number_of e.level) e.word ≡ entry → ((page : ℕ) (a : Access) → entry ≡ Leaf page a → ⊥) → access_by e ≡ None
-passed-nothing e entry is never = grind (arith, common_steps, nat_tests)
-
 -- the next pages that are reached
 pub next-pages : (old mid new : List TableEntry) (e : TableEntry) (a : Access) (more : ℕ) (pages : AlikePages) → ArePassed old (e ∷ mid) → StandInRow e a more mid new → pages.pages ≡ record { first = e.first; count = pages_at e.level * (more + 1) } → pages.access ≡ a → pages.word ≡ e.word → AreNext old pages new
 unfolding entry_row

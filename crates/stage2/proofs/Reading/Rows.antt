@@ -75,11 +75,7 @@ pub leaf-small : (level : Level) (word page : ℕ) (a : Access) → entry_of (nu
 unfolding leaf_word_of
 leaf-small level word page a leaf =
     let w = word-leaf (number_of level) word page a leaf in
-    let small = fields-small w.block a.rights a.exec a.kind in
-    omega (arith, small, w.spelled, w.in_range)
-
-pub leaf-odd : (level : Level) (word page : ℕ) (a : Access) → entry_of (number_of level) word ≡ Leaf page a → word % 2 ≡ 1
-leaf-odd level word page a leaf = grind (arith, common_steps, nat_tests, word-leaf (number_of level) word page a leaf, odd-leaf)
+    omega (arith, fields-small w.block a.rights a.exec a.kind, w.spelled, w.in_range)
 
 pub leaf-block : (word page : ℕ) (a : Access) → entry_of 2 word ≡ Leaf page a → word % 4 ≡ 1
 leaf-block word page a leaf = grind (arith, common_steps, nat_tests, word-leaf 2 word page a leaf, type-leaf, second-leaf)
@@ -93,14 +89,11 @@ none-behind e entries range = record { entries = refl; range = (let one : pages_
 pub stand-behind : (e : TableEntry) (level : Level) (first word count : ℕ) (old new : List TableEntry) → e.level ≡ level → first ≡ e.first + pages_at level → first + pages_at level * count ≤ 2 ^ 27 → word ≡ e.word → old ≡ entry_row level first (word + 4096 * pages_at level) count ++ new → StandBehind e count old new
 stand-behind e level first word count old new at from range is so = grind (arith, common_steps, nat_tests, pages-suc)
 
-same-page : (page first : ℕ) (b : Bool) → b ≡ not (eqb page first) → b ≡ false → page ≡ first
-same-page page first b is other = grind (arith, common_steps, nat_tests)
-
 -- they are reached as it is, where it is mapped to itself
 pub in-row-behind : (e : TableEntry) (page count first : ℕ) (a : Access) (differ : Bool) (old new : List TableEntry) → entry_of (number_of e.level) e.word ≡ Leaf page a → first ≡ e.first → differ ≡ not (eqb page first) → differ ≡ false → StandBehind e count old new → StandInRow e a count old new
 in-row-behind e page count first a differ old new leaf at is other behind = record {
   behind = behind;
-  alike = row-alike e.level e.first e.word page count a leaf (same-page page first differ is other ∙ at) behind.range;
+  alike = row-alike e.level e.first e.word page count a leaf ((grind (arith, common_steps, nat_tests)) ∙ at) behind.range;
 }
 
 -- and itself

@@ -1,6 +1,5 @@
 -- Views that are alike on all pages have the same entries, and need as many tables.
-use Rattle.std.proofs.Common.{◌≡◌, ℕ, zero, suc, ◌^◌, ◌<◌, List, ◌++◌, refl, ap₂, arith}
-use Rattle.stage2.proofs.Names.{View, need, each_below, page_entries, chunk_entries, gigabyte_entries, entries, nat_tests, common_steps}
+use Rattle.stage2.proofs.Names.{View, need, each_below, page_entries, chunk_entries, gigabyte_entries, entries, nat_tests, common_steps, ◌≡◌, ℕ, zero, suc, ◌^◌, ◌<◌, List, ◌++◌, refl, ap₂, arith}
 use Rattle.pool.proofs.Count.{count_below-same}
 use Rattle.stage2.proofs.Counting.Needs.{mixed-same, reached-same}
 

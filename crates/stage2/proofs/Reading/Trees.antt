@@ -1,42 +1,24 @@
 -- The entries of a tree of tables, one after another.
-use Rattle.std.proofs.Common.{◌≡◌, ℕ, List, [], ◌∷◌, ◌++◌, Option, Some, None, refl, sym, ap, ◌∙◌, append_assoc}
-use Rattle.stage2.proofs.Names.{flat_map, option_map_or, entry_of, Words, Cursor, First, TableEntry, table_entries, table_in, with_chunks, tree_entries, left_in, left_of}
+use Rattle.std.proofs.Common.{arith, ◌≡◌, ℕ, List, [], ◌∷◌, ◌++◌, Option, Some, None, refl, sym, ap, ◌∙◌, append_assoc}
+use Rattle.stage2.proofs.Names.{nat_tests, common_steps, flat_map, option_map_or, entry_of, Words, Cursor, First, TableEntry, table_entries, table_in, with_chunks, tree_entries, left_in, left_of}
 use Rattle.stage2.specs.declared.table_page.Level.TheVariants.{Second, Third}
 use Rattle.stage2.specs.Reading.{with_pages}
-
-through : (f : TableEntry → List TableEntry) (below : ℕ → List TableEntry) (table : Option ℕ) → option_map_or (λ j. flat_map f (below j)) table [] ≡ flat_map f (option_map_or below table [])
-through f below None = refl
-through f below (Some j) = refl
 
 module _ (base pages : ℕ) (words : Words) (root second third : Cursor) where
   -- a page
   pub third-next : (e : TableEntry) (new : Cursor) → left_in words third ≡ e ∷ left_in words new → left_of base pages words root second third ≡ e ∷ left_of base pages words root second new
   unfolding left_of
-  third-next e new next =
-      ap (λ (xs : List TableEntry). xs ++ (flat_map (with_pages base pages words) (left_in words second) ++ flat_map (with_chunks base pages words) (left_in words root))) next
+  third-next e new next = grind (arith, common_steps, nat_tests)
 
   -- an entry of a level 2 table, with the table below it
   pub second-next : (e : TableEntry) (new below : Cursor) → left_in words third ≡ [] → left_in words second ≡ e ∷ left_in words new → left_in words below ≡ option_map_or (λ k. table_entries Third e.first (words k)) (table_in base pages (entry_of 2 e.word)) [] → left_of base pages words root second third ≡ e ∷ left_of base pages words root new below
   unfolding left_of with_pages
-  second-next e new below none next so =
-      let f = with_pages base pages words in
-      let rest = flat_map (with_chunks base pages words) (left_in words root) in
-      ap (λ (xs : List TableEntry). xs ++ (flat_map f (left_in words second) ++ rest)) none
-      ∙ ap (λ (xs : List TableEntry). flat_map f xs ++ rest) next
-      ∙ ap (λ (xs : List TableEntry). e ∷ (xs ++ flat_map f (left_in words new) ++ rest)) (sym so)
-      ∙ ap (λ (xs : List TableEntry). e ∷ xs) (append_assoc (left_in words below) (flat_map f (left_in words new)) rest)
+  second-next e new below none next so = grind (arith, common_steps, nat_tests)
 
   -- and one of a root
   pub root-next : (e : TableEntry) (new below ended : Cursor) → left_in words third ≡ [] → left_in words second ≡ [] → left_in words root ≡ e ∷ left_in words new → left_in words ended ≡ [] → left_in words below ≡ option_map_or (λ j. table_entries Second e.first (words j)) (table_in base pages (entry_of 1 e.word)) [] → left_of base pages words root second third ≡ e ∷ left_of base pages words new below ended
   unfolding left_of with_chunks
-  root-next e new below ended none empty next over so =
-      let f = with_pages base pages words in
-      let g = with_chunks base pages words in
-      ap (λ (xs : List TableEntry). xs ++ (flat_map f (left_in words second) ++ flat_map g (left_in words root))) none
-      ∙ ap (λ (xs : List TableEntry). flat_map f xs ++ flat_map g (left_in words root)) empty
-      ∙ ap (λ (xs : List TableEntry). flat_map g xs) next
-      ∙ ap (λ (xs : List TableEntry). e ∷ (xs ++ flat_map g (left_in words new))) (through f (λ j. table_entries Second e.first (words j)) (table_in base pages (entry_of 1 e.word)) ∙ ap (λ (xs : List TableEntry). flat_map f xs) (sym so))
-      ∙ ap (λ (xs : List TableEntry). e ∷ (xs ++ (flat_map f (left_in words below) ++ flat_map g (left_in words new)))) (sym over)
+  root-next e new below ended none empty next over so = grind (arith, common_steps, nat_tests)
 
   -- none
   pub none-next : left_in words third ≡ [] → left_in words second ≡ [] → left_in words root ≡ [] → left_of base pages words root second third ≡ []
@@ -46,9 +28,4 @@ module _ (base pages : ℕ) (words : Words) (root second third : Cursor) where
   -- before the first
   pub all-left : (top : Option ℕ) → left_in words third ≡ [] → left_in words second ≡ [] → left_in words root ≡ option_map_or (λ r. table_entries First 0 (words r)) top [] → left_of base pages words root second third ≡ option_map_or (λ r. tree_entries base pages words r) top []
   unfolding left_of tree_entries
-  all-left top none empty is =
-      let g = with_chunks base pages words in
-      ap (λ (xs : List TableEntry). xs ++ (flat_map (with_pages base pages words) (left_in words second) ++ flat_map g (left_in words root))) none
-      ∙ ap (λ (xs : List TableEntry). flat_map (with_pages base pages words) xs ++ flat_map g (left_in words root)) empty
-      ∙ ap (λ (xs : List TableEntry). flat_map g xs) is
-      ∙ sym (through g (λ r. table_entries First 0 (words r)) top)
+  all-left top none empty is = grind (arith, common_steps, nat_tests)

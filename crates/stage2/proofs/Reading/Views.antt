@@ -1,6 +1,5 @@
 -- What the words of canonical tables say of the views.
-use Rattle.std.proofs.Common.{◌≡◌, ◌⊎◌, List, ◌≤◌, ℕ, ◌/◌, arith, Some, ap}
-use Rattle.stage2.proofs.Names.{Access, entry_of, Layout, slot, slot_from, words_of, walk_in, view_of, AreCanonical, walk_across, walked, at_1, Walked, nat_tests, common_steps, Unmapped, Mapped}
+use Rattle.stage2.proofs.Names.{Access, entry_of, Layout, slot, slot_from, words_of, walk_in, view_of, AreCanonical, walk_across, walked, at_1, Walked, nat_tests, common_steps, Unmapped, Mapped, ◌≡◌, ◌⊎◌, List, ◌≤◌, ℕ, ◌/◌, arith, Some, ap}
 use Rattle.stage2.specs.Tables.{TablesView}
 use Rattle.stage2.specs.declared.walked.Walked.TheVariants.{Wrong}
 use Rattle.stage2.proofs.Editing.FourChunkEdits.{tidy-answer}

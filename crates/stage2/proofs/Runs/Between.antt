@@ -1,8 +1,6 @@
 -- The runs with pages from one up to another are found by two halvings, as runs stand upward.
 use Rattle.std.proofs.Common.{◌≡◌, ℕ, zero, suc, ◌+◌, ◌*◌, ◌<◌, ◌≤◌, true, false, ◌&&◌, ◌||◌, Bool, leb, ltb, List, [], ◌∷◌, get_or, length, take, drop, refl, arith, ap, ◌∙◌, inl, inr}
-use Rattle.std.proofs.lemmas.Bool.{cases_Bool, ltb-true, and_parts}
-use Rattle.stage2.proofs.Names.{nat_tests, list_any, PageRun, in_run, covers, rise_above, are_normal, runs_past, runs_before, runs_between, chunk_runs, covers_chunk}
-use Rattle.std.proofs.lemmas.Map.Views.{any-filter_same}
+use Rattle.stage2.proofs.Names.{common_steps, nat_tests, list_any, PageRun, in_run, covers, rise_above, are_normal, runs_past, runs_before, runs_between, chunk_runs, covers_chunk, any-filter_same, cases_Bool, ltb-true, and_parts}
 use Rattle.stage2.proofs.Runs.Normal.{end_of, first_of}
 
 -- those that end behind a page are all from the n-th on, where those before it end too early, and no other does
@@ -25,8 +23,7 @@ pub before-halved : (end : ℕ) (runs : List PageRun) (n : ℕ) → ((k : ℕ) (
 before-halved end [] zero early late = refl
 before-halved end [] (suc n) early late = refl
 before-halved end (r ∷ runs) zero early late =
-    let here : ltb r.first end ≡ false = late 0 r (omega arith) (omega arith) in
-    rw here (before-halved end runs zero (λ k d lt _. absurd (omega arith)) (λ k d _ lt. late (suc k) d (omega arith) (omega (arith, lt))))
+    rw (late 0 r (omega arith) (omega arith)) (before-halved end runs zero (λ k d lt _. absurd (omega arith)) (λ k d _ lt. late (suc k) d (omega arith) (omega (arith, lt))))
 before-halved end (r ∷ runs) (suc n) early late =
     let here : ltb r.first end ≡ true = early 0 r (omega arith) (omega arith) in
     rw here (ap (λ rest. r ∷ rest) (before-halved end runs n (λ k d lt small. early (suc k) d (omega (arith, lt)) (omega (arith, small))) (λ k d le lt. late (suc k) d (omega (arith, le)) (omega (arith, lt)))))
@@ -111,29 +108,14 @@ pub before-all : (end : ℕ) (runs : List PageRun) (n : ℕ) → rise_above end 
 before-all end [] n rises le = refl
 before-all end (r ∷ runs) n rises le =
     let both = and_parts (ltb end r.first) (rise_above (end_of r) runs) rises in
-    let above = ltb-true _ _ both.0 in
     let out : in_run r n ≡ false = grind (arith, nat_tests) in
-    rw out (before-all (end_of r) runs n both.1 (omega (arith, above, le)))
-
-pub first-tells : (runs : List PageRun) (run : PageRun) (n : ℕ) → are_normal runs ≡ true → 0 < length runs → run ≡ get_or runs 0 run → n < end_of run → covers runs n ≡ leb run.first n
-first-tells [] run n normal some is lt = absurd (omega arith)
-first-tells (r ∷ runs) run n normal some is lt =
-    let early : n < end_of r = rw is at lt in
-    let rest : covers runs n ≡ false = before-all (end_of r) runs n normal (omega (arith, early)) in
-    rw (is, rest) (inside r.first r.count n early)
-  where
-    inside : (first count n : ℕ) → n < first + count → ((leb first n && ltb n (first + count)) || false) ≡ leb first n
-    inside first count n lt = grind (arith, nat_tests)
+    rw out (before-all (end_of r) runs n both.1 (omega (arith, ltb-true _ _ both.0, le)))
 
 -- what a run is known to be that is the first of those with pages from one up to another
 pub record IsFirstBetween (first end : ℕ) (run : PageRun) (runs : List PageRun) : Type 0 where
   pub reaches : first < end_of run
   pub begins : run.first < end
   pub one_of : (p : PageRun → Bool) → p run ≡ true → list_any p runs ≡ true
-
-or_right : (a b : Bool) → b ≡ true → (a || b) ≡ true
-or_right true b e = refl
-or_right false b e = e
 
 pub between-first : (first end : ℕ) (runs : List PageRun) (run : PageRun) → 0 < length (runs_between first end runs) → run ≡ get_or (runs_between first end runs) 0 run → IsFirstBetween first end run runs
 between-first first end [] run some is = absurd (omega arith)
@@ -144,5 +126,5 @@ between-first first end (r ∷ runs) run some is = elim (cases_Bool (ltb first (
       rw here (record { reaches = ltb-true _ _ two.0; begins = ltb-true _ _ two.1; one_of = λ p holds. rw holds refl })
   | inr out ↦
       let rest = between-first first end runs run (rw out at some) (rw out at is) in
-      record { reaches = rest.reaches; begins = rest.begins; one_of = λ p holds. or_right (p r) (list_any p runs) (rest.one_of p holds) }
+      record { reaches = rest.reaches; begins = rest.begins; one_of = λ p holds. (grind (arith, common_steps, nat_tests)) }
 ]

@@ -18,8 +18,7 @@ unfolding sum_below
 sum_below-add f a zero = let e : a + 0 ≡ a = omega arith in rw e (omega arith)
 sum_below-add f a (suc b) =
     let e : a + suc b ≡ suc (a + b) = omega arith in
-    let rest = sum_below-add f a b in
-    rw (e, rest) (omega arith)
+    rw (e, sum_below-add f a b) (omega arith)
 
 pub sum_below-le : (f g : ℕ → ℕ) (n : ℕ) → ((k : ℕ) → f k ≤ g k) → sum_below f n ≤ sum_below g n
 unfolding sum_below
@@ -43,19 +42,15 @@ parts-behind : (c e : ℕ) (runs : List PageRun) → rise_above e runs ≡ true 
 parts-behind c e [] rises = omega arith
 parts-behind c e (run ∷ runs) rises =
     let parts = and_parts (ltb e run.first) (rise_above (end_of run) runs) rises in
-    let above = ltb-true _ _ parts.0 in
-    let rest = parts-behind c (end_of run) runs parts.1 in
-    let all = parts-with c run (min (e + 1 - 512 * c) 513) (words_in (512 * c) runs + part_count c runs) (omega (arith, above)) (omega arith) rest in
+    let all = parts-with c run (min (e + 1 - 512 * c) 513) (words_in (512 * c) runs + part_count c runs) (omega (arith, ltb-true _ _ parts.0)) (omega arith) (parts-behind c (end_of run) runs parts.1) in
     rw (sum_by-cons (λ (r : PageRun). option_map_or (λ (part : PageRun). 1) (part_in c r) 0) run runs) (omega (arith, all))
 
 -- their pages in a chunk and their pieces there are no more than the pages of a chunk, and one
 pieces-most : (c : ℕ) (runs : List PageRun) → are_normal runs ≡ true → pages_in runs c + part_count c runs ≤ 513
 pieces-most c [] normal = let none = words-pages c [] normal in omega (arith, none)
 pieces-most c (run ∷ runs) normal =
-    let rest = parts-behind c (end_of run) runs normal in
-    let all = parts-with c run 0 (words_in (512 * c) runs + part_count c runs) (omega arith) (omega arith) rest in
-    let pages = words-pages c (run ∷ runs) normal in
-    rw (sum_by-cons (λ (r : PageRun). option_map_or (λ (part : PageRun). 1) (part_in c r) 0) run runs) (omega (arith, all, pages))
+    let all = parts-with c run 0 (words_in (512 * c) runs + part_count c runs) (omega arith) (omega arith) (parts-behind c (end_of run) runs normal) in
+    rw (sum_by-cons (λ (r : PageRun). option_map_or (λ (part : PageRun). 1) (part_in c r) 0) run runs) (omega (arith, all, words-pages c (run ∷ runs) normal))
 
 -- ---- the operations that the edit of a chunk takes at most
 
@@ -66,27 +61,9 @@ touched runs c = cond (touches_chunk c runs) 1 0
 chunk_most : List PageRun → ℕ → ℕ
 chunk_most runs c = 516 * touched runs c
 
-table-most : (runs : List PageRun) (access : View) (v : ℕ → View) (c : ℕ) → are_normal runs ≡ true → table_operations runs access v c ≤ 513
-table-most runs access v c normal =
-    let pages = pieces-most c runs normal in
-    let before = pages_among-le (λ i. is_some (v (512 * c + i))) in
-    let after = pages_among-le (λ i. is_some (edited runs access v (512 * c + i))) in
-    each (is_mixed (edited runs access v) c) (is_mixed v c) (is_some access) (is_some (edited runs access v (512 * c))) (pages_in runs c) (reached_in v c) (reached_in (edited runs access v) c) (part_count c runs) pages before after
-  where
-    each : (now was maps some : Bool) (p r q k : ℕ) → p + k ≤ 513 → r ≤ 512 → q ≤ 512 → cond now (cond was (p + cond maps 0 k) q) (cond was (cond some r p) 0) ≤ 513
-    each true true true some p r q k a b d = omega (arith, a)
-    each true true false some p r q k a b d = omega (arith, a)
-    each true false maps some p r q k a b d = omega (arith, d)
-    each false true maps true p r q k a b d = omega (arith, b)
-    each false true maps false p r q k a b d = omega (arith, a)
-    each false false maps some p r q k a b d = omega arith
-
 chunk-within : (runs : List PageRun) (access : View) (v : ℕ → View) (c : ℕ) → are_normal runs ≡ true → chunk_operations runs access v c ≤ chunk_most runs c
 unfolding chunk_most touched
-chunk-within runs access v c normal = elim (cases_Bool (touches_chunk c runs)) [
-  | inl t ↦ let table = table-most runs access v c normal in rw t (omega (arith, table))
-  | inr f ↦ rw f (omega arith)
-]
+chunk-within runs access v c normal = grind (arith, common_steps, nat_tests, pieces-most, pages_among-le)
 
 sums : (runs : List PageRun) (n : ℕ) → sum_below (chunk_most runs) n ≡ 516 * sum_below (touched runs) n
 unfolding sum_below chunk_most
@@ -108,13 +85,11 @@ rows-step : (f h : ℕ → ℕ) (g : ℕ) → ((k : ℕ) → min 2 (f k) ≤ h k
     → sum_below (of_gigabyte f) (g + 1) ≤ sum_below f (512 * (g + 1)) + sum_below h (512 * (g + 1))
 unfolding of_gigabyte
 rows-step f h g le rest =
-    let more = sum_below-more (λ x. of_gigabyte f x) g in
     let e : 512 * (g + 1) ≡ 512 * g + 512 = omega arith in
     let all : sum_below f (512 * (g + 1)) ≡ sum_below f (512 * g) + sum_below (λ y. f (512 * g + y)) 512 = ap (sum_below f) e ∙ sum_below-add f (512 * g) 512 in
     let others : sum_below h (512 * (g + 1)) ≡ sum_below h (512 * g) + sum_below (λ y. h (512 * g + y)) 512 = ap (sum_below h) e ∙ sum_below-add h (512 * g) 512 in
-    let here = few (λ y. f (512 * g + y)) (λ y. h (512 * g + y)) 512 (λ y. le (512 * g + y)) in
     numbers (sum_below (λ x. of_gigabyte f x) (g + 1)) (sum_below (λ x. of_gigabyte f x) g) (sum_below (λ y. f (512 * g + y)) 512) (sum_below (λ y. h (512 * g + y)) 512) (sum_below f (512 * g)) (sum_below h (512 * g)) (sum_below f (512 * (g + 1))) (sum_below h (512 * (g + 1)))
-    more here rest all others
+    (sum_below-more (λ x. of_gigabyte f x) g) (few (λ y. f (512 * g + y)) (λ y. h (512 * g + y)) 512 (λ y. le (512 * g + y))) rest all others
   where
     numbers : (next so one two f h fs hs : ℕ) → next ≡ (one + min 2 one) + so → min 2 one ≤ two → so ≤ f + h → fs ≡ f + one → hs ≡ h + two → next ≤ fs + hs
     numbers next so one two f h fs hs a b c d e = omega arith
@@ -146,39 +121,23 @@ sum-between first end (suc n) = grind (arith, common_steps, nat_tests, sum-betwe
 module _ (runs : List PageRun) (first end : ℕ) (within : lie_within first end runs ≡ true) where
   one-between : (c : ℕ) → touched runs c ≤ cond (between (first / 512) ((end + 511) / 512) c) 1 0
   unfolding touched between
-  one-between c = elim (cases_Bool (touches_chunk c runs)) [
-    | inr f ↦ rw f (omega arith)
-    | inl t ↦
-        let run = any-within (touches_run c) first end runs t within in
-        let is : (leb (first / 512) c && ltb c ((end + 511) / 512)) ≡ true = there run.0.first run.0.count c run.1 run.2 run.3 in
-        rw (t, is) (omega arith)
-  ]
-    where
-      there : (a n c : ℕ) → (ltb 0 n && (leb (a / 512) c && ltb c ((a + n + 511) / 512))) ≡ true → first ≤ a → a + n ≤ end → (leb (first / 512) c && ltb c ((end + 511) / 512)) ≡ true
-      there a n c t low high = grind (arith, nat_tests, t, low, high)
+  one-between c = grind (arith, common_steps, nat_tests, touched, between, any-within)
 
   together : (n : ℕ) → sum_below (touched runs) n ≤ (end + 511) / 512 - first / 512
   together n =
-      let each = sum_below-le (touched runs) (λ c. cond (between (first / 512) ((end + 511) / 512) c) 1 0) n one-between in
-      let all = sum-between (first / 512) ((end + 511) / 512) n in
-      omega (arith, each, all)
+      omega (arith, sum_below-le (touched runs) (λ c. cond (between (first / 512) ((end + 511) / 512) c) 1 0) n one-between, (sum-between (first / 512) ((end + 511) / 512) n))
 
   all-most : sum_below (of_gigabyte (chunk_most runs)) 512 ≤ 518 * ((end + 511) / 512 - first / 512)
   unfolding of_gigabyte
   all-most =
-      let all = rows (chunk_most runs) (λ c. 2 * touched runs c) 512 (two runs) in
-      let pairs = twice runs (512 * 512) in
-      let most = sums runs (512 * 512) in
-      let so = together (512 * 512) in
-      omega (arith, all, pairs, most, so)
+      omega (arith, rows (chunk_most runs) (λ c. 2 * touched runs c) 512 (two runs), twice runs (512 * 512), sums runs (512 * 512), together (512 * 512))
 
   pub row-operations : (access : View) (v : ℕ → View) → are_normal runs ≡ true → row_operations runs access v ≤ 518 * ((end + 511) / 512 - first / 512)
   unfolding of_gigabyte
   row-operations access v normal =
       let each = sum_below-le (gigabyte_operations runs access v) (of_gigabyte (chunk_most runs)) 512
       (λ g. twos (chunks_operations runs access v g) (sum_below (λ y. chunk_most runs (512 * g + y)) 512) (sum_below-le (λ x. chunk_operations runs access v (512 * g + x)) (λ x. chunk_most runs (512 * g + x)) 512 (λ x. chunk-within runs access v (512 * g + x) normal))) in
-      let most = all-most in
-      omega (arith, most, each)
+      omega (arith, all-most, each)
     where
       twos : (a b : ℕ) → a ≤ b → a + min 2 a ≤ b + min 2 b
       twos a b le = omega (arith, le)
@@ -204,17 +163,12 @@ touched-operations runs access v g h =
     let n = h.page in
     let x = n / 512 % 512 in
     let at : n / 512 ≡ 512 * g + x = omega (arith, h.here) in
-    let t : touches_chunk (512 * g + x) runs ≡ true = subst (λ c. touches_chunk c runs ≡ true) at (covered-touched runs n h.covered) in
-    let here : 3 ≤ chunk_operations runs access v (512 * g + x) = rw t (omega arith) in
-    let all = member (λ y. chunk_operations runs access v (512 * g + y)) 512 x (omega arith) in
-    omega (arith, here, all)
+    let here : 3 ≤ chunk_operations runs access v (512 * g + x) = rw (subst (λ c. touches_chunk c runs ≡ true) at (covered-touched runs n h.covered)) (omega arith) in
+    omega (arith, here, member (λ y. chunk_operations runs access v (512 * g + y)) 512 x (omega arith))
 
 -- runs without a page of a chunk don't touch it
 pub nowhere : (runs : List PageRun) (c : ℕ) → ((n : ℕ) → n / 512 ≡ c → covers runs n ≡ false) → touches_chunk c runs ≡ false
-nowhere runs c none = elim (cases_Bool (touches_chunk c runs)) [
-  | inl t ↦ let page = covered-page c runs t in let out = none page.0 page.1 in let within = page.2 in let bad : true ≡ false = sym within ∙ out in absurd (cc)
-  | inr f ↦ f
-]
+nowhere runs c none = grind (arith, common_steps, nat_tests, covered-page)
 
 -- which their pages there tell
 pub without-pages : (runs : List PageRun) (c : ℕ) → pages_in runs c ≡ 0 → touches_chunk c runs ≡ false
@@ -229,12 +183,9 @@ without-pages runs c none = nowhere runs c (λ n at.
 pub with-pages : (runs : List PageRun) (c : ℕ) → 0 < pages_in runs c → touches_chunk c runs ≡ true
 with-pages runs c some =
     let page = page-among (λ i. covers runs (512 * c + i)) some in
-    let lt = page.1 in
-    let at : (512 * c + page.0) / 512 ≡ c = omega (arith, lt) in
+    let at : (512 * c + page.0) / 512 ≡ c = omega (arith, page.1) in
     subst (λ x. touches_chunk x runs ≡ true) at (covered-touched runs (512 * c + page.0) page.2)
 
 -- a gigabyte that they leave alone takes none
 pub operations-nothing : (runs : List PageRun) (access : View) (v : ℕ → View) (g : ℕ) → ((n : ℕ) → n / 512 / 512 ≡ g → covers runs n ≡ false) → gigabyte_operations runs access v g ≡ 0
-operations-nothing runs access v g none =
-    ap (λ k. k + min 2 k) (sum_below-none (λ x. chunk_operations runs access v (512 * g + x)) 512
-    (λ x lt. ap (λ t. cond t (3 + table_operations runs access v (512 * g + x)) 0) (nowhere runs (512 * g + x) (λ n at. none n (omega (arith, at, lt))))))
+operations-nothing runs access v g none = grind (arith, common_steps, nat_tests, sum_below-none, nowhere)

@@ -1,8 +1,7 @@
 -- Maximal runs, which stand upward: how many there are, and how many chunks they touch.
 use Rattle.std.proofs.Common.{◌≡◌, ℕ, zero, suc, ◌+◌, ◌-◌, ◌<◌, ◌≤◌, true, Bool, leb, ltb, ◌&&◌, List, [], ◌∷◌, get_or, length, take, drop, inl, inr, refl, arith, ap, ◌∙◌}
-use Rattle.stage2.proofs.Names.{list_any, nat_tests, end_from, lie_within, PageRun, rise_above, are_normal}
+use Rattle.stage2.proofs.Names.{common_steps, list_any, nat_tests, end_from, lie_within, PageRun, rise_above, are_normal, cases_Bool, cases_eq, ltb-true, and_parts}
 use Rattle.std.specs.List.Sorted.{IsNonDecreasingBy}
-use Rattle.std.proofs.lemmas.Bool.{cases_Bool, cases_eq, ltb-true, and_parts}
 
 abbrev pub end_of : PageRun → ℕ
 end_of run = run.first + run.count
@@ -46,8 +45,7 @@ firsts-rise runs e i j d le below = elim (cases_eq i j) [
 ]
 
 pub rise-normal : (end : ℕ) (runs : List PageRun) → rise_above end runs ≡ true → are_normal runs ≡ true
-rise-normal end [] e = refl
-rise-normal end (r ∷ runs) e = (rise-parts end r runs e).1
+rise-normal end runs e = grind (arith, common_steps, nat_tests, rise-parts)
 
 pub normal-drop : (n : ℕ) (runs : List PageRun) → are_normal runs ≡ true → are_normal (drop n runs) ≡ true
 normal-drop zero runs e = e
@@ -76,10 +74,7 @@ pub normal-next : (runs : List PageRun) (i : ℕ) (run : PageRun) → are_normal
     → (end_from 0 (take i runs) ≤ run.first) × (end_from 0 (take (suc i) runs) ≡ end_of run)
 normal-next [] i run normal lt is = absurd (omega arith)
 normal-next (r ∷ runs) zero run normal lt is = (omega arith, rw is refl)
-normal-next (r ∷ runs) (suc i) run normal lt is =
-    let next = rise-next (end_of r) runs i run normal (omega arith) is in
-    let before = next.0 in
-    (omega (arith, before), next.1)
+normal-next (r ∷ runs) (suc i) run normal lt is = grind (arith, common_steps, nat_tests, rise-next (end_of r) runs i run normal (omega arith) is)
 
 -- ---- where they begin and end
 
@@ -87,9 +82,7 @@ pub from-rise : (end : ℕ) (runs : List PageRun) → rise_above end runs ≡ tr
 from-rise end [] rises = omega arith
 from-rise end (r ∷ runs) rises =
     let parts = and_parts (ltb end r.first) (rise_above (end_of r) runs) rises in
-    let first = ltb-true _ _ parts.0 in
-    let rest = from-rise (end_of r) runs parts.1 in
-    omega (arith, first, rest)
+    omega (arith, ltb-true _ _ parts.0, from-rise (end_of r) runs parts.1)
 
 rise-within : (low end high : ℕ) (runs : List PageRun) → rise_above end runs ≡ true → low ≤ end → end_from end runs ≤ high → lie_within low high runs ≡ true
 rise-within low end high [] rises least most = refl
@@ -98,16 +91,13 @@ rise-within low end high (r ∷ runs) rises least most =
     let above = parts.0 in
     let behind = from-rise (end_of r) runs parts.1 in
     let here : (leb low r.first && leb (end_of r) high) ≡ true = (let begins : low ≤ r.first = omega (arith, least, above) in let ends : end_of r ≤ high = omega (arith, behind, most) in grind (arith, nat_tests, begins, ends)) in
-    let rest = rise-within low (end_of r) high runs parts.1 (omega (arith, least, above)) most in
-    rw (here, rest) refl
+    rw (here, rise-within low (end_of r) high runs parts.1 (omega (arith, least, above)) most) refl
 
 pub normal-within : (runs : List PageRun) (run : PageRun) (high : ℕ) → are_normal runs ≡ true → 0 < length runs → run ≡ get_or runs 0 run → end_from 0 runs ≤ high → lie_within run.first high runs ≡ true
 normal-within [] run high normal some is most = absurd (omega arith)
 normal-within (r ∷ runs) run high normal some is most =
-    let behind = from-rise (end_of r) runs normal in
-    let here : (leb run.first r.first && leb (end_of r) high) ≡ true = (let ends : end_of r ≤ high = omega (arith, behind, most) in rw is (grind (arith, nat_tests, ends))) in
-    let rest = rise-within run.first (end_of r) high runs normal (rw is (omega arith)) most in
-    rw (here, rest) refl
+    let here : (leb run.first r.first && leb (end_of r) high) ≡ true = (let ends : end_of r ≤ high = omega (arith, from-rise (end_of r) runs normal, most) in rw is (grind (arith, nat_tests, ends))) in
+    rw (here, rise-within run.first (end_of r) high runs normal (rw is (omega arith)) most) refl
 
 rise-few : (end : ℕ) (runs : List PageRun) → rise_above end runs ≡ true → end + length runs ≤ end_from end runs
 rise-few end [] rises = omega arith
@@ -115,15 +105,11 @@ rise-few end (r ∷ runs) rises = let parts = rise-parts end r runs rises in let
 
 -- there are no more than pages
 pub normal-few : (runs : List PageRun) → are_normal runs ≡ true → length runs ≤ end_from 0 runs + 1
-normal-few [] normal = omega arith
-normal-few (r ∷ runs) normal = let rest = rise-few (end_of r) runs normal in omega (arith, rest)
+normal-few runs normal = grind (arith, common_steps, nat_tests, rise-few)
 
 -- the first begins before the last ends
 pub normal-first : (runs : List PageRun) (run : PageRun) → are_normal runs ≡ true → 0 < length runs → run ≡ get_or runs 0 run → run.first ≤ end_from 0 runs
-normal-first [] run normal some is = absurd (omega arith)
-normal-first (r ∷ runs) run normal some is =
-    let behind = from-rise (end_of r) runs normal in
-    rw is (omega (arith, behind))
+normal-first runs run normal some is = grind (arith, common_steps, nat_tests, from-rise)
 
 -- the last one's end
 last-end : (end : ℕ) (runs : List PageRun) (run : PageRun) → 0 < length runs → run ≡ get_or runs (length runs - 1) run → end_from end runs ≡ end_of run

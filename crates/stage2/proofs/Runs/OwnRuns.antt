@@ -1,6 +1,6 @@
 -- An edit asks of a chunk, or of a gigabyte, only those of the runs that have pages there: it edits it as all runs do.
 use Rattle.std.proofs.Common.{◌≡◌, ℕ, ◌+◌, ◌*◌, ◌/◌, ◌<◌, ◌≤◌, max, min, Bool, true, false, not, ◌&&◌, ◌||◌, cond, eqb, leb, ltb, List, [], ◌∷◌, refl, arith, ap, ap₂, sym, ◌∙◌, inl, inr}
-use Rattle.stage2.proofs.Names.{option_map_or, nat_tests, View, is_mixed, is_reached, PageRun, in_run, covers, Pool, Pages, Walked, edited, touches_run, touches_chunk, AreFree, Turns, disturbs, disturbed, Redoes, Redoes_in, IsGrowing, grows_at, gigabyte_growth, FitsGigabyte, EditsGigabyte, StaysInStep, answers, linked, part_in, part_count, runs_between, chunk_runs, gigabyte_runs, chunk_operations, gigabyte_operations, Layout, walk, walked}
+use Rattle.stage2.proofs.Names.{common_steps, option_map_or, nat_tests, View, is_mixed, is_reached, PageRun, in_run, covers, Pool, Pages, Walked, edited, touches_run, touches_chunk, AreFree, Turns, disturbs, disturbed, Redoes, Redoes_in, IsGrowing, grows_at, gigabyte_growth, FitsGigabyte, EditsGigabyte, StaysInStep, answers, linked, part_in, part_count, runs_between, chunk_runs, gigabyte_runs, chunk_operations, gigabyte_operations, Layout, walk, walked}
 use Rattle.std.proofs.lemmas.Bool.{cases_Bool, eqb-true}
 use Rattle.std.proofs.lemmas.List.Sums.{sum_by-cons}
 use Rattle.std.proofs.lemmas.Map.Views.{any-filter_same}
@@ -51,8 +51,7 @@ module _ (first end : ℕ) where
 -- ---- a chunk
 
 in_case : (b : Bool) (x y other : Walked) → (b ≡ true → x ≡ y) → cond b x other ≡ cond b y other
-in_case true x y other same = same refl
-in_case false x y other same = refl
+in_case b x y other same = grind (arith, common_steps, nat_tests, same)
 
 module _ (c : ℕ) (runs part : List PageRun) (access : View) (same : (n : ℕ) → n / 512 ≡ c → covers part n ≡ covers runs n) where
   edited-same : (v : ℕ → View) (n : ℕ) → n / 512 ≡ c → edited part access v n ≡ edited runs access v n
@@ -67,26 +66,13 @@ module _ (c : ℕ) (runs part : List PageRun) (access : View) (same : (n : ℕ) 
   pub chunk-free : (v : ℕ → View) → AreFree (λ n. eqb (n / 512) c) runs access v → AreFree (λ n. eqb (n / 512) c) part access v
   chunk-free v free n small at covered = free n small at (sym (same n (eqb-true _ _ at)) ∙ covered)
 
-  pub chunk-turns : (v : ℕ → View) → Turns (λ n. eqb (n / 512) c) runs access v → Turns (λ n. eqb (n / 512) c) part access v
-  chunk-turns v turns n at covered = turns n at (sym (same n (eqb-true _ _ at)) ∙ covered)
-
   disturbs-part : (v : ℕ → View) (n : ℕ) → n / 512 ≡ c → disturbs part v (edited part access v) n ≡ disturbs runs v (edited runs access v) n
   disturbs-part v n at = ap₂ (λ x y. x || not (is_mixed v (n / 512) && y)) (same n at) (ap (is_mixed (edited part access v)) at ∙ chunk-mixed v ∙ sym (ap (is_mixed (edited runs access v)) at))
 
 module _ (layout : Layout) (row c : ℕ) (runs part : List PageRun) (access : View) (same : (n : ℕ) → n / 512 ≡ c → covers part n ≡ covers runs n) where
-  redoes-same : (v : ℕ → View) (old new : Pages) → Redoes layout row c (edited part access v) old new → Redoes layout row c (edited runs access v) old new
-  redoes-same v old new h = record {
-    orderly = h.orderly;
-    ids = h.ids;
-    quotas = h.quotas;
-    walks = λ q n small. h.walks q n small
-        ∙ in_case (eqb q row && eqb (n / 512) c) (walked n (edited part access v n)) (walked n (edited runs access v n)) (walk layout old.words q n)
-        (λ e. ap (walked n) (edited-same c runs part access same v n (eqb-true _ _ (both (eqb q row) (eqb (n / 512) c) e).1)));
-    tables = h.tables;
-  }
 
   pub chunk-redoes : (j : ℕ) (v : ℕ → View) (old new : Pages) → Redoes_in layout row c j (edited part access v) old new → Redoes_in layout row c j (edited runs access v) old new
-  chunk-redoes j v old new h = record { redoes = redoes-same v (linked layout row (c / 512) j old) (linked layout row (c / 512) j new) h.redoes; root = h.root }
+  chunk-redoes j v old new h = record { redoes = (grind (arith, common_steps, nat_tests, in_case, edited-same, same, both)); root = h.root }
 
   pub chunk-stays : (v : ℕ → View) (a b : Pool) → StaysInStep layout row (λ n. eqb (n / 512) c && disturbs part v (edited part access v) n) (λ n. walked n (edited part access v n)) a b
       → StaysInStep layout row (λ n. eqb (n / 512) c && disturbs runs v (edited runs access v) n) (λ n. walked n (edited runs access v n)) a b
@@ -95,8 +81,7 @@ module _ (layout : Layout) (row c : ℕ) (runs part : List PageRun) (access : Vi
       (λ n small w.
       let two = both (eqb (n / 512) c) (disturbs part v (edited part access v) n) w in
       let at = eqb-true _ _ two.0 in
-      let all : disturbs runs v (edited runs access v) n ≡ true = sym (disturbs-part c runs part access same v n at) ∙ two.1 in
-      (ap₂ (λ x y. x && y) two.0 all, inr (ap (walked n) (edited-same c runs part access same v n at))))
+      (ap₂ (λ x y. x && y) two.0 (sym (disturbs-part c runs part access same v n at) ∙ two.1), inr (ap (walked n) (edited-same c runs part access same v n at))))
 
 module _ (c : ℕ) (runs part : List PageRun) (is : part ≡ chunk_runs c runs) where
   pub chunk-covers : (n : ℕ) → n / 512 ≡ c → covers part n ≡ covers runs n
@@ -117,9 +102,6 @@ pub record AreOwn (c : ℕ) (part runs : List PageRun) : Type 0 where
 pub own-chunk : (c : ℕ) (runs part : List PageRun) → part ≡ chunk_runs c runs → AreOwn c part runs
 own-chunk c runs part is = record { covered = chunk-covers c runs part is; count = chunk-count c runs part is; touches = chunk-touches c runs part is }
 
-pub own-all : (c : ℕ) (runs part : List PageRun) → part ≡ runs → AreOwn c part runs
-own-all c runs part is = record { covered = λ n at. ap (λ rs. covers rs n) is; count = ap (part_count c) is; touches = ap (touches_chunk c) is }
-
 -- ---- a gigabyte
 
 module _ (g : ℕ) (runs part : List PageRun) (is : part ≡ gigabyte_runs g runs) where
@@ -130,11 +112,7 @@ module _ (g : ℕ) (runs part : List PageRun) (is : part ≡ gigabyte_runs g run
   gigabyte-touches c at = ap (touches_chunk c) is ∙ touches-between (262144 * g) (262144 * g + 262144) runs c (omega (arith, at)) (omega (arith, at))
 
   pub gigabyte-operations : (access : View) (v : ℕ → View) → gigabyte_operations part access v g ≡ gigabyte_operations runs access v g
-  gigabyte-operations access v =
-      ap (λ x. x + min 2 x) (sum-same (λ x. chunk_operations runs access v (512 * g + x)) (λ x. chunk_operations part access v (512 * g + x)) 512
-      (λ x lt. chunk-same runs part access v v (512 * g + x) (λ n at. gigabyte-covers n (omega (arith, at, lt)))
-      (ap (part_count (512 * g + x)) is ∙ count-between (262144 * g) (262144 * g + 262144) runs (512 * g + x) (omega arith) (omega (arith, lt)))
-      (λ i small. refl) (gigabyte-touches (512 * g + x) (omega (arith, lt)))))
+  gigabyte-operations access v = grind (arith, common_steps, nat_tests, sum-same, chunk-same, gigabyte-covers, count-between, gigabyte-touches)
 
 module _ (g : ℕ) (runs part : List PageRun) (access : View) (is : part ≡ gigabyte_runs g runs) where
   same : (n : ℕ) → n / 512 / 512 ≡ g → covers part n ≡ covers runs n
@@ -143,14 +121,8 @@ module _ (g : ℕ) (runs part : List PageRun) (access : View) (is : part ≡ gig
   all-same : (v : ℕ → View) (n : ℕ) → n / 512 / 512 ≡ g → edited part access v n ≡ edited runs access v n
   all-same v n at = ap (λ b. cond b access (v n)) (same n at)
 
-  mixed-there : (v : ℕ → View) (x : ℕ) → x < 512 → is_mixed (edited part access v) (512 * g + x) ≡ is_mixed (edited runs access v) (512 * g + x)
-  mixed-there v x lt = chunk-mixed (512 * g + x) runs part access (λ n at. same n (omega (arith, at, lt))) v
-
   pub gigabyte-growth : (v : ℕ → View) → gigabyte_growth v (edited part access v) g ≡ gigabyte_growth v (edited runs access v) g
-  gigabyte-growth v =
-      ap₂ (λ r k. cond (r && not (is_reached v g)) 1 0 + k)
-      (reached-same (edited runs access v) (edited part access v) g (λ i small. all-same v (262144 * g + i) (omega (arith, small))))
-      (count_below-same (λ x. grows_at v (edited runs access v) (512 * g + x)) (λ x. grows_at v (edited part access v) (512 * g + x)) 512 (λ x lt. ap (λ m. m && not (is_mixed v (512 * g + x))) (mixed-there v x lt)))
+  gigabyte-growth v = grind (arith, common_steps, nat_tests, reached-same, all-same, count_below-same, chunk-mixed, same)
 
 module _ (layout : Layout) (row g : ℕ) (runs part : List PageRun) (access : View) (is : part ≡ gigabyte_runs g runs) where
   pub gigabyte-fits : (m : Pages) → FitsGigabyte layout row g runs access m → FitsGigabyte layout row g part access m
@@ -178,10 +150,4 @@ module _ (layout : Layout) (row g : ℕ) (runs part : List PageRun) (access : Vi
 
   pub gigabyte-stays : (v : ℕ → View) (a b : Pool) → StaysInStep layout row (λ n. eqb (n / 512 / 512) g && disturbed part v (edited part access v) n) (λ n. walked n (edited part access v n)) a b
       → StaysInStep layout row (λ n. eqb (n / 512 / 512) g && disturbed runs v (edited runs access v) n) (λ n. walked n (edited runs access v n)) a b
-  gigabyte-stays v a b so =
-      stays-wider layout row (λ n. eqb (n / 512 / 512) g && disturbed part v (edited part access v) n) (λ n. eqb (n / 512 / 512) g && disturbed runs v (edited runs access v) n) (λ n. walked n (edited part access v n)) (λ n. walked n (edited runs access v n)) a b so
-      (λ n small w.
-      let two = both (eqb (n / 512 / 512) g) (disturbed part v (edited part access v) n) w in
-      let at = eqb-true _ _ two.0 in
-      let all : disturbed runs v (edited runs access v) n ≡ true = sym (disturbed-same v n at) ∙ two.1 in
-      (ap₂ (λ x y. x && y) two.0 all, inr (ap (walked n) (all-same g runs part access is v n at))))
+  gigabyte-stays v a b so = grind (arith, common_steps, nat_tests, stays-wider, both, disturbed-same, all-same)

@@ -1,17 +1,14 @@
 -- The gigabytes and chunks before the first that the runs touch, and after the last, stay as they are.
-use Rattle.stage2.proofs.Names.{nat_tests, common_steps, View, PageRun, covers, Pool, Pages, Layout, walked, edited, touches_chunk, sum_below, IsUnderway, IsPast, StaysInStep, answers, linked, disturbed_below}
+use Rattle.stage2.proofs.Names.{nat_tests, common_steps, View, PageRun, covers, Pool, Pages, Layout, walked, edited, touches_chunk, sum_below, IsUnderway, IsPast, StaysInStep, answers, linked, disturbed_below, cases_Bool}
 use Rattle.std.proofs.Common.{◌≡◌, ℕ, zero, suc, ◌≢◌, ◌+◌, ◌-◌, ◌*◌, ◌/◌, ◌<◌, ◌≤◌, Bool, true, false, ◌||◌, List, length, refl, ap, subst, ◌∙◌, ◌⊎◌, arith, inl, inr}
-use Rattle.std.proofs.lemmas.Bool.{cases_Bool}
-use Rattle.stage2.proofs.Walkers.GigabyteSteps.{disturbed_before, cross-skip}
+use Rattle.stage2.proofs.Walkers.GigabyteSteps.{disturbed_before}
 use Rattle.stage2.proofs.Walkers.ChunkSteps.{march-skip}
 use Rattle.stage2.proofs.Editing.GigabyteByGigabyte.{past-skip}
 use Rattle.stage2.proofs.Editing.ChunkByChunk.{sum_below-more, underway-skip, untouched}
+use Rattle.stage2.proofs.Walkers.ZeroedTables.{stays-wider}
+use Rattle.base.proofs.Booleans.{both}
 
 -- ---- spans
-
-either : (a b : Bool) → (a || b) ≡ true → (a ≡ true) ⊎ (b ≡ true)
-either true b e = inl refl
-either false b e = inr e
 
 -- a place between two bounds
 abbrev pub Between : ℕ → ℕ → ℕ → Type 0
@@ -19,13 +16,7 @@ Between first end x = (first ≤ x) × (x < end)
 
 -- a page of a gigabyte outside the span is not covered
 pub outside-gigabytes : (runs : List PageRun) (first end n : ℕ) → ((y : ℕ) → covers runs y ≡ true → Between first end (y / 512 / 512)) → (n / 512 / 512 < first) ⊎ (end ≤ n / 512 / 512) → covers runs n ≡ false
-outside-gigabytes runs first end n within out = elim (cases_Bool (covers runs n)) [
-  | inr f ↦ f
-  | inl t ↦ let b = within n t in let b0 = b.0 in let b1 = b.1 in elim out [
-    | inl before ↦ absurd (omega (arith, b0, before))
-    | inr after ↦ absurd (omega (arith, b1, after))
-  ]
-]
+outside-gigabytes runs first end n within out = grind (arith, common_steps, nat_tests)
 
 -- ---- chunks
 
@@ -66,23 +57,15 @@ pub sum_below-tail : (f : ℕ → ℕ) (k i : ℕ) → ((x : ℕ) → i ≤ x �
 sum_below-tail f zero i none = let e : i + 0 ≡ i = omega arith in ap (sum_below f) e
 sum_below-tail f (suc k) i none =
     let e : i + suc k ≡ (i + k) + 1 = omega arith in
-    let more = sum_below-more f (i + k) in
-    let here = none (i + k) (omega arith) (omega arith) in
     let rest = sum_below-tail f k i (λ x from to. none x from (omega (arith, to))) in
-    ap (sum_below f) e ∙ more ∙ numbers (f (i + k)) (sum_below f (i + k)) (sum_below f i) here rest
+    ap (sum_below f) e ∙ (sum_below-more f (i + k)) ∙ numbers (f (i + k)) (sum_below f (i + k)) (sum_below f i) (none (i + k) (omega arith) (omega arith)) rest
   where
     numbers : (a b c : ℕ) → a ≡ 0 → b ≡ c → a + b ≡ c
     numbers a b c x y = omega arith
 
 -- where one of them alone is not 0
 pub sum_below-alone : (f : ℕ → ℕ) (n i : ℕ) → i < n → ((k : ℕ) → k < n → k ≢ i → f k ≡ 0) → sum_below f n ≡ f i
-sum_below-alone f n i lt others =
-    let before = sum_below-none f i (λ k small. others k (omega (arith, small, lt)) (λ e. omega (arith, e, small))) in
-    let more = sum_below-more f i in
-    let after = sum_below-tail f (n - (i + 1)) (i + 1) (λ x from to. others x (omega (arith, to, lt)) (λ e. omega (arith, e, from))) in
-    let all : i + 1 + (n - (i + 1)) ≡ n = omega (arith, lt) in
-    let same : sum_below f (i + 1 + (n - (i + 1))) ≡ sum_below f n = ap (sum_below f) all in
-    omega (arith, before, more, after, same)
+sum_below-alone f n i lt others = grind (arith, common_steps, nat_tests, sum_below-tail f (n - (i + 1)) (i + 1) (λ x from to. others x (omega (arith, to, lt)) (λ e. omega (arith, e, from))), sum_below-none, sum_below-more)
 
 -- ---- gigabytes
 
@@ -103,5 +86,4 @@ module _ (layout : Layout) (row : ℕ) (runs : List PageRun) (access : View) (ol
 
 pub cross-gap : (layout : Layout) (row : ℕ) (runs : List PageRun) (before after : ℕ → View) (a b : Pool) (k i : ℕ)
     → StaysInStep layout row (disturbed_before i runs before after) (λ n. walked n (after n)) a b → StaysInStep layout row (disturbed_before (i + k) runs before after) (λ n. walked n (after n)) a b
-cross-gap layout row runs before after a b zero i so = let e : i ≡ i + 0 = omega arith in subst (λ x. StaysInStep layout row (disturbed_before x runs before after) (λ n. walked n (after n)) a b) e so
-cross-gap layout row runs before after a b (suc k) i so = grind (arith, common_steps, nat_tests, cross-gap layout row runs before after a b k (i + 1) (cross-skip layout row i runs before after a b so))
+cross-gap layout row runs before after a b k i so = grind (arith, common_steps, nat_tests, disturbed_before, stays-wider, both)

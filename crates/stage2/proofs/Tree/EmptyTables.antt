@@ -1,6 +1,5 @@
 -- Tables of words that are all 0: nothing hangs but the roots, and nothing is mapped.
-use Rattle.std.proofs.Common.{◌≡◌, ℕ, ◌+◌, ◌/◌, ◌^◌, ◌<◌, ◌≤◌, true, Some, None, length, ap, ◌∙◌, arith}
-use Rattle.stage2.proofs.Names.{nat_tests, page_count, Pages, Layout, slot, walk, walk_across, Place, Root, Gigabyte, Chunk, next_page, chunk_table, table_at, common_steps, Unmapped}
+use Rattle.stage2.proofs.Names.{nat_tests, page_count, Pages, Layout, slot, walk, walk_across, Place, Root, Gigabyte, Chunk, next_page, chunk_table, table_at, common_steps, Unmapped, ◌≡◌, ℕ, ◌+◌, ◌/◌, ◌^◌, ◌<◌, ◌≤◌, true, Some, None, length, ap, ◌∙◌, arith}
 use Rattle.stage2.specs.Sound.{IsSound}
 use Rattle.stage2.proofs.Walkers.Level3Write.{slot-zero}
 

@@ -10,29 +10,23 @@ use Rattle.stage2.proofs.Editing.Gigabyte.{table-word}
 leaf-entry : (layout : Layout) (n : ℕ) (a : Access) (e : Entry) → slot_from layout e ≡ Maps n a → e ≡ Leaf n a
 leaf-entry layout n a e is = grind (arith, common_steps, nat_tests)
 
-level-block : (block : Bool) → 2 ≡ leaf_level block → block ≡ true
-level-block block e = grind (arith, common_steps, nat_tests)
-
-level-page : (block : Bool) → 3 ≡ leaf_level block → block ≡ false
-level-page block e = grind (arith, common_steps, nat_tests)
-
 block-word : (layout : Layout) (n word : ℕ) (a : Access) → slot layout 2 word ≡ Maps n a → word ≡ leaf_word_of true n a
 unfolding slot
-block-word layout n word a is = grind (arith, common_steps, nat_tests, word-leaf 2 word n a (leaf-entry layout n a (entry_of 2 word) is), leaf-entry layout n a (entry_of 2 word) is, level-block)
+block-word layout n word a is = grind (arith, common_steps, nat_tests, word-leaf 2 word n a (leaf-entry layout n a (entry_of 2 word) is), leaf-entry layout n a (entry_of 2 word) is)
 
 -- which is none of a table
 block-points : (layout : Layout) (n word : ℕ) (a : Access) → slot layout 2 word ≡ Maps n a → word % 4 ≡ 3 → ⊥
 unfolding slot
-block-points layout n word a is points = grind (arith, common_steps, nat_tests, word-leaf 2 word n a (leaf-entry layout n a (entry_of 2 word) is), leaf-entry layout n a (entry_of 2 word) is, level-block, type-leaf)
+block-points layout n word a is points = grind (arith, common_steps, nat_tests, word-leaf 2 word n a (leaf-entry layout n a (entry_of 2 word) is), leaf-entry layout n a (entry_of 2 word) is, type-leaf)
 
 -- a block begins at a multiple of 512
 pub block-page : (layout : Layout) (n word : ℕ) (a : Access) → slot layout 2 word ≡ Maps n a → (x : ℕ) → n + x % 512 < 2 ^ 27
 unfolding slot
-block-page layout n word a is x = grind (arith, common_steps, nat_tests, word-leaf 2 word n a (leaf-entry layout n a (entry_of 2 word) is), leaf-entry layout n a (entry_of 2 word) is, level-block)
+block-page layout n word a is x = grind (arith, common_steps, nat_tests, word-leaf 2 word n a (leaf-entry layout n a (entry_of 2 word) is), leaf-entry layout n a (entry_of 2 word) is)
 
 page-word : (layout : Layout) (n word : ℕ) (a : Access) → slot layout 3 word ≡ Maps n a → word ≡ leaf_word_of false n a
 unfolding slot
-page-word layout n word a is = grind (arith, common_steps, nat_tests, word-leaf 3 word n a (leaf-entry layout n a (entry_of 3 word) is), leaf-entry layout n a (entry_of 3 word) is, level-page)
+page-word layout n word a is = grind (arith, common_steps, nat_tests, word-leaf 3 word n a (leaf-entry layout n a (entry_of 3 word) is), leaf-entry layout n a (entry_of 3 word) is)
 
 module _ (layout : Layout) (m : Pages) (h : IsOrderly layout m) where
   -- ---- a root

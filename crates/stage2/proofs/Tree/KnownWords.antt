@@ -1,6 +1,5 @@
 -- The words of a root and of a level 2 table that hang have a form of their level.
-use Rattle.std.proofs.Common.{◌≡◌, ◌≢◌, ℕ, ◌+◌, ◌*◌, ◌/◌, ◌%◌, ◌<◌, Some, length, refl, arith, ap, ◌∙◌}
-use Rattle.stage2.proofs.Names.{Pages, Layout, Slot, Bad, slot, at_1, at_2, walk, Gigabyte, table_at, IsOrderly, nat_tests, common_steps}
+use Rattle.stage2.proofs.Names.{Pages, Layout, Slot, Bad, slot, at_1, at_2, walk, Gigabyte, table_at, IsOrderly, nat_tests, common_steps, ◌≡◌, ◌≢◌, ℕ, ◌+◌, ◌*◌, ◌/◌, ◌%◌, ◌<◌, Some, length, refl, arith, ap, ◌∙◌}
 use Rattle.stage2.specs.declared.walked.Walked.TheVariants.{Wrong}
 use Rattle.stage2.proofs.Tree.WalkFrame.{walk-gigabyte}
 use Rattle.stage2.proofs.Tree.LinkTable.{walk-inside}

@@ -1,6 +1,5 @@
 -- The word of a table, and walks that begin at a root.
-use Rattle.std.proofs.Common.{◌≡◌, ℕ, ◌+◌, ◌^◌, ◌≤◌, ◌<◌, None, length, arith, ap, ◌∙◌}
-use Rattle.stage2.proofs.Names.{nat_tests, table_word_of, Words, Layout, Slot, Next, slot, slot_from, index_1, at_1, walk, walk_across, next_page, IsTidy, common_steps, Unmapped}
+use Rattle.stage2.proofs.Names.{nat_tests, table_word_of, Words, Layout, Slot, Next, slot, slot_from, index_1, at_1, walk, walk_across, next_page, IsTidy, common_steps, Unmapped, ◌≡◌, ℕ, ◌+◌, ◌^◌, ◌≤◌, ◌<◌, None, length, arith, ap, ◌∙◌}
 use Rattle.words.proofs.RoundTrip.{entry-table}
 
 -- a word that points at a page of the pool
@@ -13,6 +12,3 @@ slot-table layout level k low inside fits = ap (slot_from layout) (entry-table l
 pub walk-inside : (layout : Layout) (words : Words) (row n : ℕ) → row < length layout.ids → walk layout words row n ≡ at_1 layout words words n (slot layout 1 (words row (index_1 n)))
 unfolding walk_across
 walk-inside layout words row n inside = grind (arith, nat_tests)
-
-pub untabled_1 : (layout : Layout) (words : Words) (n : ℕ) (s : Slot) → next_page s ≡ None → IsTidy n (at_1 layout words words n s) → at_1 layout words words n s ≡ Unmapped
-untabled_1 layout words n s e h = grind (arith, common_steps, nat_tests)

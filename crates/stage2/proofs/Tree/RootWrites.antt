@@ -1,7 +1,6 @@
 -- A word of a root is written: which tables hang, and what walks give.
 use Rattle.std.proofs.Common.{◌≡◌, ◌≢◌, ℕ, ◌/◌, ◌^◌, ◌<◌, Option, Some, None, length, refl, arith, ap, sym, ◌∙◌, ◌⊎◌, inl, inr}
-use Rattle.std.proofs.lemmas.Bool.{cases_eq}
-use Rattle.stage2.proofs.Names.{nat_tests, Words, put, Layout, Empty, Next, slot, index_1, index_2, index_3, at_1, walk, walk_across, Place, Root, Gigabyte, Chunk, next_page, chunk_table, table_at, IsPlace, IsForest, common_steps, Unmapped}
+use Rattle.stage2.proofs.Names.{nat_tests, Words, put, Layout, Empty, Next, slot, index_1, index_2, index_3, at_1, walk, walk_across, Place, Root, Gigabyte, Chunk, next_page, chunk_table, table_at, IsPlace, IsForest, common_steps, Unmapped, cases_eq}
 use Rattle.stage2.proofs.Tree.WalkFrame.{put-other, put-same, walk-same, other_table, table_at-gigabyte, table_at-chunk, table_at-root, IsUnheld, IsLevel2Write, table_at-level_2, table_at-level_2-other}
 
 -- whether a place is this chunk's
@@ -11,16 +10,8 @@ is_chunk a p c = grind (arith, common_steps, nat_tests)
 pub is_gigabyte : (a : Place) (p g : ℕ) → (a ≡ Gigabyte p g) ⊎ (a ≢ Gigabyte p g)
 is_gigabyte a p c = grind (arith, common_steps, nat_tests)
 
--- no table hangs at two places where one place alone has changed, to a table that hung nowhere
-pub forest_at : (layout : Layout) (words new : Words) (x : Place) → IsForest layout words
-    → ((b : Place) → IsPlace layout b → (b ≡ x) ⊎ (b ≢ x))
-    → ((b : Place) → IsPlace layout b → b ≢ x → (q : ℕ) → table_at layout new b ≡ Some q → table_at layout words b ≡ Some q)
-    → ((q : ℕ) → table_at layout new x ≡ Some q → IsUnheld layout words q)
-    → IsForest layout new
-forest_at layout words new x forest is_x kept fresh a b q in_a in_b at_a at_b = grind (arith, common_steps, nat_tests)
-
 pub forest-level_2 : (layout : Layout) (words : Words) (p g j i word : ℕ) → IsLevel2Write layout words p g j i word → IsForest layout (put j i word words)
-forest-level_2 layout words p g j i word h = grind (arith, common_steps, nat_tests, forest_at, is_chunk, table_at-level_2-other, table_at-level_2)
+forest-level_2 layout words p g j i word h = grind (arith, common_steps, nat_tests, is_chunk, table_at-level_2-other, table_at-level_2)
 
 -- ---- a write into a root
 

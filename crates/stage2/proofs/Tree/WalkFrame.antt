@@ -90,14 +90,11 @@ pub walk-chunk : (layout : Layout) (words : Words) (p n q : ℕ) → p < length 
 unfolding walk_across table_at
 walk-chunk layout words p n q inside table = grind (arith, common_steps, nat_tests)
 
-pub at_1-gigabyte : (layout : Layout) (words : Words) (n j : ℕ) (s : Slot) → next_page s ≡ Some j → at_1 layout words words n s ≡ at_2 layout words n (slot layout 2 (words j (index_2 n)))
-at_1-gigabyte layout words n j s e = grind (arith, common_steps, nat_tests)
-
 -- a walk through the table of its gigabyte
 pub walk-gigabyte : (layout : Layout) (words : Words) (p n j : ℕ) → p < length layout.ids → table_at layout words (Gigabyte p (index_1 n)) ≡ Some j
     → walk layout words p n ≡ at_2 layout words n (slot layout 2 (words j (index_2 n)))
 unfolding walk_across table_at
-walk-gigabyte layout words p n j inside table = grind (arith, common_steps, nat_tests, at_1-gigabyte)
+walk-gigabyte layout words p n j inside table = grind (arith, common_steps, nat_tests)
 
 -- the page itself is translated as the new word says
 pub walk-level_3 : (layout : Layout) (words : Words) (p c q i word : ℕ) → IsLevel3Write layout words p c q → i < 512
@@ -108,9 +105,6 @@ walk-level_3 layout words p c q i word h small =
     let index : (512 * c + i) % 512 ≡ i = omega arith in
     let here : table_at layout new (Chunk p ((512 * c + i) / 512)) ≡ Some q = rw chunk (table_at-level_3 layout words p c q i word h (Chunk p c) (h.partition, h.chunk) ∙ h.table) in
     walk-chunk layout new p (512 * c + i) q h.partition here ∙ ap (λ w. at_3 (slot layout 3 w)) (ap (new q) index ∙ put-same words q i word)
-
-pub forest-level_3 : (layout : Layout) (words : Words) (p c q i word : ℕ) → IsLevel3Write layout words p c q → IsForest layout (put q i word words)
-forest-level_3 layout words p c q i word h a b r in_a in_b at_a at_b = grind (arith, common_steps, nat_tests, table_at-level_3)
 
 -- ---- a write into a page where no table hangs
 
@@ -166,12 +160,9 @@ pub table_at-level_2-other : (layout : Layout) (words : Words) (p g j i word : �
     → table_at layout (put j i word words) b ≡ table_at layout words b
 table_at-level_2-other layout words p g j i word h b inside other = grind (arith, common_steps, nat_tests, table_at-root, table_at-gigabyte, level_2-root, table_at-chunk, level_2-second)
 
-chunk_table-Some : (layout : Layout) (words : Words) (c j : ℕ) (o : Option ℕ) → o ≡ Some j → chunk_table layout words c o ≡ next_page (slot layout 2 (words j (c % 512)))
-chunk_table-Some layout words c j o e = ap (chunk_table layout words c) e
-
 pub table_at-chunk_in : (layout : Layout) (words : Words) (p c j : ℕ) → table_at layout words (Gigabyte p (c / 512)) ≡ Some j → table_at layout words (Chunk p c) ≡ next_page (slot layout 2 (words j (c % 512)))
 unfolding table_at
-table_at-chunk_in layout words p c j e = chunk_table-Some layout words c j (next_page (slot layout 1 (words p (c / 512)))) e
+table_at-chunk_in layout words p c j e = ap (chunk_table layout words c) e
 
 -- the table of the chunk is the one that the new word points at
 pub table_at-level_2 : (layout : Layout) (words : Words) (p g j i word : ℕ) → IsLevel2Write layout words p g j i word

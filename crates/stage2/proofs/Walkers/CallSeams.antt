@@ -23,8 +23,7 @@ next_call layout old new before after h ends p n inside small (Ends a) u = elim 
   | inl none ↦ inl (ap Ends none)
   | inr is ↦
       let there = under_way-now layout (words_of new.memory.words) (row_of layout.ids p) n [] [] inside (now []) in
-      let same : walk layout (words_of new.memory.words) (row_of layout.ids p) n ≡ a = ends p n small ∙ sym is in
-      inr (subst (λ (x : Walked). UnderWay layout (words_of new.memory.words) (row_of layout.ids p) n [] (Ends x)) same there)
+      inr (subst (λ (x : Walked). UnderWay layout (words_of new.memory.words) (row_of layout.ids p) n [] (Ends x)) (ends p n small ∙ sym is) there)
 ]
 
 -- ---- tables below a root's word that is still 0
@@ -84,10 +83,9 @@ pub stale-refused : (layout : Layout) (old new : Pool) (before after : ℕ → �
     → before p n ≡ Some x → after p n ≡ None → NeverInvalidated layout (row_of layout.ids p) n new.operations → ⊥
 stale-refused layout old new before after p n x h starts inside small was is never =
     let row = row_of layout.ids p in
-    let cached = under_way-now layout (words_of old.memory.words) row n [] new.operations inside (since-entry layout row n new.operations never) in
     let mapped : walk layout (words_of old.memory.words) row n ≡ Mapped n x = starts p n small ∙ ap (walked n) was in
     let gone : walked n (after p n) ≡ Unmapped = ap (walked n) is in
-    elim (h.fresh p n (walk layout (words_of old.memory.words) row n) (inside, small, cached)) [
+    elim (h.fresh p n (walk layout (words_of old.memory.words) row n) (inside, small, (under_way-now layout (words_of old.memory.words) row n [] new.operations inside (since-entry layout row n new.operations never)))) [
       | inl none ↦ cc
       | inr same ↦ cc
     ]

@@ -4,19 +4,15 @@ use Rattle.std.proofs.lemmas.Bool.{cases_Bool, eqb-true}
 use Rattle.stage2.proofs.Names.{nat_tests, PageRun, covers, View, Pool, Pages, Layout, walked, answers, linked, edited, touches_chunk, AreFree, Turns, disturbs, disturbed, answers_in, IsUnderway, StaysInStep, IsSeated, disturbed_below, common_steps}
 use Rattle.stage2.proofs.Editing.ChunkByChunk.{quotient, still-answers, still-mixed, now-mixed}
 use Rattle.stage2.proofs.Walkers.ZeroedTables.{stays-wider, stays-more, stays-as}
-use Rattle.stage2.proofs.Walkers.SeatedChunks.{seated-after}
 use Rattle.stage2.proofs.Walkers.Disturbed.{below-more, disturbs-same}
 use Rattle.base.proofs.Booleans.{both}
 
 module _ (layout : Layout) (row g j : ℕ) (runs : List PageRun) (access : View) (old : Pages) (inside : row < length layout.ids) (below : g < 512) (i : ℕ) (lt : i < 512) (mid : Pages) (h : IsUnderway layout row g j i (edited runs access (answers layout (linked layout row g j old).words row)) old mid) where
   pub march-seated : IsSeated layout row g j old → IsSeated layout row ((512 * g + i) / 512) j mid
-  march-seated s = rw (quotient layout row g j runs access old inside below i lt mid h) (seated-after layout row g j old mid s (h.root g))
+  march-seated s = rw (quotient layout row g j runs access old inside below i lt mid h) (grind (arith, common_steps, nat_tests))
 
   pub march-free : AreFree (λ n. eqb (n / 512 / 512) g) runs access (answers layout (linked layout row g j old).words row) → AreFree (λ n. eqb (n / 512) (512 * g + i)) runs access (answers_in layout row (512 * g + i) j mid)
   march-free free n small at covered = grind (arith, common_steps, nat_tests, still-answers)
-
-  pub march-turns : Turns (λ n. eqb (n / 512 / 512) g) runs access (answers layout (linked layout row g j old).words row) → Turns (λ n. eqb (n / 512) (512 * g + i)) runs access (answers_in layout row (512 * g + i) j mid)
-  march-turns turns n at covered = grind (arith, common_steps, nat_tests, still-answers)
 
   pub march-edit : (a b c : Pool) → touches_chunk (512 * g + i) runs ≡ true
       → StaysInStep layout row (disturbed_below g i runs (answers layout (linked layout row g j old).words row) (edited runs access (answers layout (linked layout row g j old).words row))) (λ n. walked n (edited runs access (answers layout (linked layout row g j old).words row) n)) a b
@@ -48,11 +44,4 @@ module _ (layout : Layout) (row g j : ℕ) (runs : List PageRun) (access : View)
       (λ n small. below-more g i runs v w n lt ∙ none (disturbed_below g i runs v w n) (n / 512) (512 * g + i) (disturbs runs v w n) untouched)
     where
       none : (d : Bool) (x c : ℕ) (e : Bool) → touches_chunk c runs ≡ false → (d || (eqb x c && (touches_chunk x runs && e))) ≡ d
-      none d x c e free = elim (cases_Bool (eqb x c)) [
-        | inl t ↦ let off : touches_chunk x runs ≡ false = ap (λ y. touches_chunk y runs) (eqb-true _ _ t) ∙ free in rw (t, off) (or_false d)
-        | inr f ↦ rw f (or_false d)
-      ]
-        where
-          or_false : (d : Bool) → (d || false) ≡ d
-          or_false true = refl
-          or_false false = refl
+      none d x c e free = grind (arith, common_steps, nat_tests)

@@ -1,18 +1,14 @@
 -- Which pages an edit may disturb: chunk by chunk.
 use Rattle.std.proofs.Common.{◌≡◌, ℕ, ◌+◌, ◌*◌, ◌/◌, ◌<◌, Bool, true, false, not, ◌&&◌, ◌||◌, eqb, ltb, List, Some, refl, arith, ap, ap₂, sym, ◌∙◌}
-use Rattle.std.proofs.lemmas.Bool.{eqb-true}
-use Rattle.stage2.proofs.Names.{nat_tests, PageRun, covers, View, Pool, Walked, Layout, walked, is_mixed, edited, disturbs, disturbed, IsOutcome, StaysInStep, disturbed_below, common_steps}
+use Rattle.stage2.proofs.Names.{nat_tests, PageRun, covers, View, Pool, Walked, Layout, walked, is_mixed, edited, disturbs, disturbed, IsOutcome, StaysInStep, disturbed_below, common_steps, eqb-true}
 use Rattle.stage2.proofs.Walkers.ZeroedTables.{stays-wider}
 use Rattle.base.proofs.Booleans.{both}
-
-at_chunk : (x c : ℕ) (b : Bool) → eqb x c ≡ true → (x ≡ c → b ≡ true) → (eqb x c && b) ≡ true
-at_chunk x c b e f = rw (e, f (eqb-true x c e)) refl
 
 -- a chunk that has no table, before or after
 pub stays-whole : (layout : Layout) (row c : ℕ) (runs : List PageRun) (access : View) (view : ℕ → View) (old new : Pool) → (is_mixed view c && is_mixed (edited runs access view) c) ≡ false
     → StaysInStep layout row (λ n. eqb (n / 512) c) (λ n. walked n (edited runs access view n)) old new
     → StaysInStep layout row (λ n. eqb (n / 512) c && disturbs runs view (edited runs access view) n) (λ n. walked n (edited runs access view n)) old new
-stays-whole layout row c runs access view old new one stays = grind (arith, common_steps, nat_tests, stays-wider, at_chunk)
+stays-whole layout row c runs access view old new one stays = grind (arith, common_steps, nat_tests, stays-wider, eqb-true)
 
 -- pages of a table
 pub stays-covered : (layout : Layout) (row c : ℕ) (runs : List PageRun) (access : View) (view : ℕ → View) (answer : ℕ → Walked) (old new : Pool) → ((n : ℕ) → answer n ≡ walked n access)
@@ -23,17 +19,11 @@ stays-covered layout row c runs access view answer old new is stays = grind (ari
 pub unmixed-after : (c : ℕ) (before after : ℕ → View) (one : View) → IsOutcome c after (Some one) → (is_mixed before c && is_mixed after c) ≡ false
 unmixed-after c before after one outcome = grind (arith, common_steps, nat_tests)
 
-pub unmixed-before : (c : ℕ) (before after : ℕ → View) → is_mixed before c ≡ false → (is_mixed before c && is_mixed after c) ≡ false
-unmixed-before c before after e = rw e refl
-
 -- ---- chunk after chunk of a gigabyte
-
-one-more : (g i x q : ℕ) (d : Bool) → i < 512 → q ≡ x / 512 → ((eqb q g && ltb x (512 * g + (i + 1))) && d) ≡ (((eqb q g && ltb x (512 * g + i)) && d) || (eqb x (512 * g + i) && d))
-one-more g i x q d lt e = grind (arith, common_steps, nat_tests)
 
 pub below-more : (g i : ℕ) (runs : List PageRun) (before after : ℕ → View) (n : ℕ) → i < 512
     → disturbed_below g (i + 1) runs before after n ≡ (disturbed_below g i runs before after n || (eqb (n / 512) (512 * g + i) && disturbed runs before after n))
-below-more g i runs before after n lt = one-more g i (n / 512) (n / 512 / 512) (disturbed runs before after n) lt refl
+below-more g i runs before after n lt = grind (arith, common_steps, nat_tests)
 
 pub below-all : (g : ℕ) (runs : List PageRun) (before after : ℕ → View) (n : ℕ) → disturbed_below g 512 runs before after n ≡ (eqb (n / 512 / 512) g && disturbed runs before after n)
 below-all g runs before after n = grind (arith, common_steps, nat_tests)

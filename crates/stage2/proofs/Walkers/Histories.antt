@@ -16,12 +16,6 @@ counted-append (op ∷ b) a n = ap (λ x. (x + 1) % 2 ^ 64) (counted-append b a 
 pub made-none : (s : Pool) → Made [] s s
 made-none s = record { operations = refl; count = refl; words = refl }
 
-pub made-set : (x y : Pool) (page index word : ℕ) → y ≡ after_set page index word x → words_of y.memory.words ≡ put page index word (words_of x.memory.words) → Made (Set page index word ∷ []) x y
-made-set x y page index word e words = grind (arith, common_steps, nat_tests)
-
-pub made-more : (a b : List Op) (x y z : Pool) → Made a x y → Made b y z → Made (b ++ a) x z
-made-more a b x y z so here = grind (arith, common_steps, nat_tests, counted-append, after-append)
-
 pub sets-wider : (k c i b : ℕ) (plan : ℕ → Option View) (ops : List Op) → i ≤ b → AreSets k c plan i ops → AreSets k c plan b ops
 sets-wider k c i b plan [] le s = tt
 sets-wider k c i b plan (Set q x w ∷ ops) le s = let lt = s.1 in (s.0, omega arith, s.2, s.3)
@@ -52,7 +46,7 @@ sets-over k c i b plan part (Clear r ∷ ops) so le over h below = absurd h
 
 -- after the pages before the i-th, some up to the j-th, as they are planned
 pub filled-over : (k c i j : ℕ) (plan part : ℕ → Option View) (a b e : Pool) → i ≤ j → ((x : ℕ) (v : View) → part (512 * c + x) ≡ Some v → (i ≤ x) × (plan (512 * c + x) ≡ Some v)) → Filled k c i plan a b → Filled k c j part b e → Filled k c j plan a e
-filled-over k c i j plan part a b e le over so next = grind (arith, common_steps, nat_tests, next.ops, so.ops, made-more so.ops next.ops a b e so.made next.made, sets-over k c i j plan part next.ops so.ops le over next.sets so.sets, changes-append)
+filled-over k c i j plan part a b e le over so next = grind (arith, common_steps, nat_tests, next.ops, so.ops, counted-append, after-append, sets-over k c i j plan part next.ops so.ops le over next.sets so.sets, changes-append)
 
 pub filled-wider : (k c i b : ℕ) (plan : ℕ → Option View) (a e : Pool) → i ≤ b → Filled k c i plan a e → Filled k c b plan a e
 filled-wider k c i b plan a e le h = record { ops = h.ops; made = h.made; sets = sets-wider k c i b plan h.ops le h.sets; changes = h.changes }

@@ -51,11 +51,8 @@ fits-goes_on e words due q n inside may (Ends a) h = h
 
 -- ---- at the entry
 
-may-entry : (e : OpenCall) (q n : ℕ) → MayGive e q n (walk e.layout e.entry q n)
-may-entry e q n = inl refl
-
 fits-start : (e : OpenCall) (due : Bool) (q n : ℕ) → q < length e.layout.ids → (w : Walker) → UnderWay e.layout e.entry q n [] w → Fits e e.entry due q n w
-fits-start e due q n inside w u = at_start e.layout e.entry q n (Fits e e.entry due q n) tt (fits-goes_on e e.entry due q n inside (may-entry e q n)) w u
+fits-start e due q n inside w u = at_start e.layout e.entry q n (Fits e e.entry due q n) tt (fits-goes_on e e.entry due q n inside (inl refl)) w u
 
 -- before the first operation
 pub orderly-start : (e : OpenCall) (due : ℕ → Bool) → e.cleared ≡ [] → IsInStep e due e.entry []
@@ -143,9 +140,8 @@ orderly-invalidate e due more words past who run h is fewer =
     orderly-more e more words past (Invalidate who run) h.gives h.exact h.breaks h.clears h.cleared
     (λ q n inside small.
     let one = eqb q e.row && more n in
-    let may : MayGive e q n (walk e.layout words q n) = may-now e due words past h q n inside small in
     after_op e.layout e.entry q n (Invalidate who run) past (Fits e words one q n) tt
-    (λ w fits. subst (λ (x : Words). Fits e words one q n (goes_on e.layout x q n w)) h.exact (fits-goes_on e words one q n inside may w fits))
+    (λ w fits. subst (λ (x : Words). Fits e words one q n (goes_on e.layout x q n w)) h.exact (fits-goes_on e words one q n inside (may-now e due words past h q n inside small) w fits))
     (λ w free u. fits-due e (eqb q e.row && due n) one words q n (still-due e.row q (row_of e.layout.ids who) (due n) (more n) (in_run run n) is free (fewer n small)) w (orderly-fits e due words past h q n inside small w u)))
 
 -- pages are cleared that no partition reaches, while nothing is due
@@ -169,8 +165,7 @@ orderly-clearing e words past run h none =
     (λ w free u. orderly-fits e nothing words past h q n inside small w u))
   where
     due_nothing : (b : Bool) → (b && false) ≡ false
-    due_nothing true = refl
-    due_nothing false = refl
+    due_nothing b = grind (arith, common_steps, nat_tests)
 
 -- invalidations of more pages may be thought due
 pub orderly-weaker : (e : OpenCall) (due more : ℕ → Bool) (words : Words) (past : List Op) → IsInStep e due words past → ((n : ℕ) → n < 2 ^ 27 → more n ≡ false → due n ≡ false) → IsInStep e more words past
@@ -203,9 +198,6 @@ cut-goes_on e words new q n inside may cut (Third k) h = elim h [
   | inr fresh ↦ inr (fits-goes_on e new true q n inside cut.may (Third k) fresh)
 ]
 cut-goes_on e words new q n inside may cut (Ends a) h = h
-
-either-gives : (e : OpenCall) (words new : Words) (q n : ℕ) (a : Walked) → FitsEither e words new q n (Ends a) → MayGive e q n a
-either-gives e words new q n a h = elim h [ inl old ↦ old.0 | inr fresh ↦ fresh.0 ]
 
 -- a word is set to 0 and pages are invalidated: each page either keeps its tables, or is below the word and invalidated
 pub orderly-cut : (e : OpenCall) (due : ℕ → Bool) (words : Words) (past : List Op) (page index who : ℕ) (run : PageRun) → IsInStep e due words past
@@ -241,16 +233,7 @@ orderly-cut e due words past page index who run h each breaks =
     ]) in
     record {
       exact = exact;
-      gives = (
-        λ q n inside small a u. (fits q n inside small (Ends a) u).0,
-        (
-          λ q n inside small a u. elim (each q n inside small) [
-            | inl fine ↦ (kept q n inside small fine (Ends a) u).0
-            | inr cut ↦ either-gives e words new q n a (between q n inside small cut.1 (Ends a) u)
-          ],
-          h.gives,
-        ),
-      );
+      gives = grind (arith, common_steps, nat_tests);
       breaks = (λ a inside at. breaks a inside (ap (λ (x : Words). table_at e.layout x a) h.exact ∙ at), h.breaks);
       clears = h.clears;
       cleared = h.cleared;

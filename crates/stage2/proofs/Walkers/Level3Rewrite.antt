@@ -1,7 +1,7 @@
 -- Words of a level 3 table that hangs are written, and what walks under way see of it.
 use Rattle.std.proofs.Common.{◌≡◌, ℕ, ◌+◌, ◌*◌, ◌/◌, ◌%◌, ◌<◌, ◌≤◌, Bool, true, false, ◌&&◌, ◌||◌, eqb, List, [], ◌∷◌, ◌++◌, Option, Some, None, refl, arith, ap, sym, subst, ◌∙◌, inl, inr}
 use Rattle.stage2.proofs.Names.{nat_tests, PageRun, covers, View, Pool, Words, words_of, put, Op, Set, Invalidate, Clear, Walked, Layout, slot, index_1, at_3, walk, walked, Gigabyte, Chunk, table_at, planned, AreSets, Filled, words_after, IsInvalid, OpenCall, MayGive, IsInStep, nothing, LeavesDue, StaysInStep, common_steps, Unmapped}
-use Rattle.stage2.proofs.Tree.WalkFrame.{put-other, IsUnheld, IsLevel3Write, table_at-level_3, walk-level_3, walk-level_3-other, forest-level_3, walk-chunk}
+use Rattle.stage2.proofs.Tree.WalkFrame.{put-other, IsUnheld, IsLevel3Write, table_at-level_3, walk-level_3, walk-level_3-other, walk-chunk}
 use Rattle.stage2.proofs.Walkers.Level3Write.{slot-zero, at_3-word, which_page}
 use Rattle.stage2.proofs.Walkers.InStep.{may-now, orderly-set, orderly-weaker}
 use Rattle.stage2.proofs.Walkers.BreakBeforeMake.{invalid-empty}
@@ -20,9 +20,6 @@ module _ (layout : Layout) (words : Words) (row c k i : ℕ) (h : IsLevel3Write 
       let chunk : n / 512 ≡ c = omega (arith, small) in
       let index : n % 512 ≡ i = omega (arith, small) in
       walk-chunk layout words row n k h.partition (ap (λ x. table_at layout words (Chunk row x)) chunk ∙ h.table) ∙ ap (λ x. at_3 (slot layout 3 (words k x))) index
-
-level_3-put : (layout : Layout) (words : Words) (row c k i word : ℕ) → IsLevel3Write layout words row c k → IsLevel3Write layout (put k i word words) row c k
-level_3-put layout words row c k i word h = grind (arith, common_steps, nat_tests, forest-level_3, table_at-level_3)
 
 -- an invalid word becomes valid
 make-word : (e : OpenCall) (words : Words) (past : List Op) (c k i word : ℕ) → IsLevel3Write e.layout words e.row c k → i < 512 → IsInvalid (words k i) → MayGive e e.row (512 * c + i) (at_3 (slot e.layout 3 word)) → IsInStep e nothing words past
@@ -61,7 +58,7 @@ clear-word e due words past c k i word h small is_zero is_due may o =
 
 sets-level_3 : (layout : Layout) (words : Words) (row c k b : ℕ) (plan : ℕ → Option View) (ops : List Op) → AreSets k c plan b ops → IsLevel3Write layout words row c k → IsLevel3Write layout (words_after ops words) row c k
 sets-level_3 layout words row c k b plan [] s h = h
-sets-level_3 layout words row c k b plan (Set q i word ∷ ops) s h = grind (arith, common_steps, nat_tests, level_3-put layout (words_after ops words) row c k i word (sets-level_3 layout words row c k i plan ops s.3 h), sets-level_3 layout words row c k i plan ops s.3 h)
+sets-level_3 layout words row c k b plan (Set q i word ∷ ops) s h = grind (arith, common_steps, nat_tests, table_at-level_3, sets-level_3 layout words row c k i plan ops s.3 h)
 sets-level_3 layout words row c k b plan (Invalidate p run ∷ ops) s h = absurd s
 sets-level_3 layout words row c k b plan (Clear run ∷ ops) s h = absurd s
 
@@ -100,8 +97,7 @@ sets-cleared e due words past k c b plan which (Set q i word ∷ ops) s le only 
     let is = only i s.2.0 small s.2.1 in
     let one = each i small is.1 in
     let before = sets-cleared e due words past k c i plan which ops s.3 (omega arith) only h each o in
-    let table = sets-level_3 e.layout words e.row c k i plan ops s.3 h in
-    let done = clear-word e due (words_after ops words) (ops ++ past) c k i word table small (s.2.2.zero is.0) one.0 one.1 before in
+    let done = clear-word e due (words_after ops words) (ops ++ past) c k i word (sets-level_3 e.layout words e.row c k i plan ops s.3 h) small (s.2.2.zero is.0) one.0 one.1 before in
     subst (λ x. IsInStep e due (put x i word (words_after ops words)) (Set x i word ∷ (ops ++ past))) (sym s.0) done
 sets-cleared e due words past k c b plan which (Invalidate p run ∷ ops) s le only h each o = absurd s
 sets-cleared e due words past k c b plan which (Clear run ∷ ops) s le only h each o = absurd s
@@ -124,12 +120,10 @@ clears-made layout row k c plan which old new f only h e due allows o =
     (sets-cleared e more (words_of old.memory.words) old.operations k c 512 plan which f.ops f.sets (omega arith) only here (λ i small w. (right (due (512 * c + i)) (which (512 * c + i)) w, (allows.may (512 * c + i) (omega arith) w).0)) weak)
   where
     left : (a b : Bool) → (a || b) ≡ false → a ≡ false
-    left true b e = e
-    left false b e = refl
+    left a b e = grind (arith, common_steps, nat_tests)
 
     right : (a b : Bool) → b ≡ true → (a || b) ≡ true
-    right true b e = refl
-    right false b e = e
+    right a b e = grind (arith, common_steps, nat_tests)
 
 pub clears-filled : (layout : Layout) (row k c b : ℕ) (plan : ℕ → Option View) (which : ℕ → Bool) (old new : Pool) → Filled k c b plan old new → IsUnheld layout (words_of old.memory.words) k → LeavesDue layout row which old new
 clears-filled layout row k c b plan which old new f h e due allows o = filled-unheld e (λ n. due n || which n) layout k c b plan old new f allows.same_layout h (clears-none layout row which old e due allows o)

@@ -144,6 +144,5 @@ pub stays-linked : (layout : Layout) (row g k : ℕ) (runs : List PageRun) (acce
     → AreFree (λ n. eqb (n / 512 / 512) g) runs access (answers layout m.words row)
     → StaysInStep layout row (λ n. eqb (n / 512 / 512) g && disturbed runs (answers layout m.words row) (edited runs access (answers layout m.words row)) n) (λ n. walked n (edited runs access (answers layout m.words row) n)) a b
 stays-linked layout row g k runs access m canonical below h a b same stays free =
-    let seated : IsSeated layout row g k (with_mark k true m) = inr (root-zero layout m row g canonical.orderly h.partition below h.none) in
     stays-taken-view layout row g k runs access m h below a b same
-    (stays seated (λ n small at covered. elim (free n small at covered) [ inl none ↦ inl none | inr none ↦ inr (same n small ∙ none) ]))
+    (stays (inr (root-zero layout m row g canonical.orderly h.partition below h.none)) (λ n small at covered. elim (free n small at covered) [ inl none ↦ inl none | inr none ↦ inr (same n small ∙ none) ]))

@@ -9,10 +9,6 @@ use Rattle.stage2.proofs.Walkers.CallSeams.{hangs-linked, unheld-gigabyte, unhel
 use Rattle.stage2.proofs.Editing.FourChunkEdits.{old, entry, table-entry, walk-entry, at_2-seen, third-at, slot-word, no-table, at_2-block, tidy-answer}
 use Rattle.stage2.proofs.Walkers.StepLists.{IsHung}
 
--- the root's words stay
-pub seated-after : (layout : Layout) (row g j : ℕ) (m new : Pages) → IsSeated layout row g j m → new.words row g ≡ m.words row g → IsSeated layout row g j new
-seated-after layout row g j m new seated e = grind (arith, common_steps, nat_tests)
-
 module _ (layout : Layout) (row c j : ℕ) (m : Pages) (h : IsSite layout row c j m) where
   -- the words as they are, where the link is written, and where it is not
   same-words : m.words row (c / 512) ≡ table_word_of (layout.base + j) → old layout row c j m h ≡ m.words
@@ -85,17 +81,13 @@ block-no-table layout c word one is = ap next_page (slot-word layout 2 (512 * c)
 
 -- ---- words of pages that are not mapped
 
-unmapped-at : (layout : Layout) (words : Words) (n k : ℕ) (s : Slot) → s ≡ Next k → at_2 layout words n s ≡ Unmapped → slot layout 3 (words k (n % 512)) ≡ Empty
-unmapped-at layout words n k s e none = unmapped_3 (slot layout 3 (words k (n % 512))) (ap (at_2 layout words n) (sym e) ∙ none)
-
 pub invalid-word : (layout : Layout) (row c j : ℕ) (m : Pages) (h : IsSite layout row c j m) (k i : ℕ) → entry layout row c j m h ≡ Next k → i < 512 → answers layout (old layout row c j m h) row (512 * c + i) ≡ None → IsInvalid (m.words k i)
 invalid-word layout row c j m h k i is small none =
     let n = 512 * c + i in
     let chunk : n / 512 ≡ c = omega (arith, small) in
     let index : n % 512 ≡ i = omega (arith, small) in
-    let tidy = h.orderly.tidy row n h.partition (omega (arith, small, h.chunk)) in
-    let gone : walk layout (old layout row c j m h) row n ≡ Unmapped = tidy-answer n (walk layout (old layout row c j m h) row n) tidy ∙ ap (walked n) none in
-    let empty : slot layout 3 (m.words k (n % 512)) ≡ Empty = unmapped-at layout m.words n k (entry layout row c j m h) is (sym (gives-entry layout row c j m h n chunk) ∙ gone) in
+    let gone : walk layout (old layout row c j m h) row n ≡ Unmapped = tidy-answer n (walk layout (old layout row c j m h) row n) (h.orderly.tidy row n h.partition (omega (arith, small, h.chunk))) ∙ ap (walked n) none in
+    let empty : slot layout 3 (m.words k (n % 512)) ≡ Empty = (unmapped_3 (slot layout 3 (m.words k (n % 512))) (ap (at_2 layout m.words n) (sym is) ∙ (sym (gives-entry layout row c j m h n chunk) ∙ gone))) in
     empty-invalid layout 3 (m.words k i) (ap (λ x. slot layout 3 (m.words k x)) (sym index) ∙ empty)
 
 -- the table of the chunk hangs

@@ -1,7 +1,6 @@
 -- Pages that an edit disturbs, and that keep their answers, have none.
 use Rattle.std.proofs.Common.{◌≡◌, ◌≢◌, ℕ, ◌+◌, ◌*◌, ◌/◌, ◌^◌, ◌<◌, ◌≤◌, Bool, true, ◌&&◌, ◌||◌, leb, ltb, List, [], ◌∷◌, None, refl, arith, ◌⊎◌, inl, inr}
-use Rattle.std.proofs.lemmas.Bool.{cases_Bool, cases_eq}
-use Rattle.stage2.proofs.Names.{nat_tests, PageRun, in_run, covers, View, is_mixed, edited, touches_run, touches_chunk, AreFree, disturbed, common_steps}
+use Rattle.stage2.proofs.Names.{nat_tests, PageRun, in_run, covers, View, is_mixed, edited, touches_run, touches_chunk, AreFree, disturbed, common_steps, cases_Bool, cases_eq}
 use Rattle.stage2.proofs.Counting.Needs.{mixed-same, equal-first}
 use Rattle.base.proofs.Booleans.{both}
 

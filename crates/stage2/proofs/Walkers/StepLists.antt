@@ -24,12 +24,9 @@ made-in-step e due more ops old new made o done = grind (arith, common_steps, na
 
 -- ---- a page that hangs nowhere is filled, or set to 0
 
-unheld-put : (layout : Layout) (words : Words) (k i word : ℕ) → IsUnheld layout words k → IsUnheld layout (put k i word words) k
-unheld-put layout words k i word h a inside at = h a inside (sym (table_at-unheld layout words k i word h a inside) ∙ at)
-
 unheld-sets : (layout : Layout) (words : Words) (k c b : ℕ) (plan : ℕ → Option View) (ops : List Op) → AreSets k c plan b ops → IsUnheld layout words k → IsUnheld layout (words_after ops words) k
 unheld-sets layout words k c b plan [] s h = h
-unheld-sets layout words k c b plan (Set q i word ∷ ops) s h = grind (arith, common_steps, nat_tests, unheld-put layout (words_after ops words) k i word (unheld-sets layout words k c i plan ops s.3 h), unheld-sets layout words k c i plan ops s.3 h)
+unheld-sets layout words k c b plan (Set q i word ∷ ops) s h = grind (arith, common_steps, nat_tests, table_at-unheld, unheld-sets layout words k c i plan ops s.3 h)
 unheld-sets layout words k c b plan (Invalidate p run ∷ ops) s h = absurd s
 unheld-sets layout words k c b plan (Clear run ∷ ops) s h = absurd s
 
@@ -60,17 +57,15 @@ level_2-write layout words row c j word partition small forest table fresh = rec
 
 -- the word becomes 0
 pub hung-cut : (layout : Layout) (words : Words) (row c j : ℕ) → row < length layout.ids → c < 262144 → IsHung layout words row c j → IsHung layout (put j (c % 512) 0 words) row c j
-hung-cut layout words row c j partition small hung = grind (arith, common_steps, nat_tests, level_2-zero, forest-level_2, table_at-level_2-other, unheld-put)
+hung-cut layout words row c j partition small hung = grind (arith, common_steps, nat_tests, level_2-zero, forest-level_2, table_at-level_2-other, table_at-unheld)
 
 cut-step : (e : OpenCall) (words : Words) (past : List Op) (p c j : ℕ) → e.row < length e.layout.ids → c < 262144 → IsHung e.layout words e.row c j → row_of e.layout.ids p ≡ e.row
     → ((x : ℕ) → x < 2 ^ 27 → x / 512 ≡ c → MayGive e e.row x Unmapped) → IsInStep e nothing words past
     → IsInStep e nothing (put j (c % 512) 0 words) (Invalidate p (record { first = 512 * c; count = 512 }) ∷ Set j (c % 512) 0 ∷ past)
 cut-step e words past p c j partition small (inl h) is may o =
     let whole : 512 * (c / 512) + c % 512 ≡ c = omega arith in
-    let write = level_2-zero e.layout words e.row c j h.0 partition small h.1 in
-    let done = orderly-cut_chunk e nothing words past (c / 512) j (c % 512) p write is (λ x below at. may x below (at ∙ whole)) o in
     let O : ℕ → Type 0 = λ x. IsInStep e nothing (put j (c % 512) 0 words) (Invalidate p (record { first = 512 * x; count = 512 }) ∷ Set j (c % 512) 0 ∷ past) in
-    subst O whole done
+    subst O whole (orderly-cut_chunk e nothing words past (c / 512) j (c % 512) p (level_2-zero e.layout words e.row c j h.0 partition small h.1) is (λ x below at. may x below (at ∙ whole)) o)
 cut-step e words past p c j partition small (inr h) is may o =
     orderly-invalidate e nothing nothing (put j (c % 512) 0 words) (Set j (c % 512) 0 ∷ past) p (record { first = 512 * c; count = 512 }) (orderly-unheld e nothing words past j (c % 512) 0 h o) is (λ n below f g. refl)
 
@@ -106,15 +101,13 @@ replace-step e words past p c j word partition small hung is none fresh may o =
     let b = broken p j c (words j (c % 512)) in
     let first = broken-step e words past p c j partition small hung is none o in
     let cut : IsInStep e nothing (put j (c % 512) 0 words) (b ++ past) = subst (λ (w : Words). IsInStep e nothing w (b ++ past)) (broken-words words p c j) first in
-    let twice = put-twice words j (c % 512) 0 word in
     let second : IsInStep e nothing (put j (c % 512) word (put j (c % 512) 0 words)) (Set j (c % 512) word ∷ (b ++ past)) =
     make-step e (put j (c % 512) 0 words) (b ++ past) c j word partition small (hung-cut e.layout words e.row c j partition small hung) (ap (λ x. x % 2) (put-same words j (c % 512) 0))
     (λ k next. unheld-cut e.layout words e.row c j k partition small hung (fresh k next))
-    (λ x below at. subst (λ (w : Words). MayGive e e.row x (at_2 e.layout w x (slot e.layout 2 word))) (sym twice) (may x below at)) cut in
-    let made : IsInStep e nothing (put j (c % 512) word (words_after b words)) (Set j (c % 512) word ∷ (b ++ past)) = subst (λ (w : Words). IsInStep e nothing (put j (c % 512) word w) (Set j (c % 512) word ∷ (b ++ past))) (sym (broken-words words p c j)) second in
+    (λ x below at. subst (λ (w : Words). MayGive e e.row x (at_2 e.layout w x (slot e.layout 2 word))) (sym (put-twice words j (c % 512) 0 word)) (may x below at)) cut in
     elim (cases_Bool (eqb word 0)) [
       | inl t ↦ rw t first
-      | inr f ↦ rw f made
+      | inr f ↦ rw f (subst (λ (w : Words). IsInStep e nothing (put j (c % 512) word w) (Set j (c % 512) word ∷ (b ++ past))) (sym (broken-words words p c j)) second)
     ]
 
 pub stays-replaced : (layout : Layout) (row p c j word : ℕ) (answer : ℕ → Walked) (old new : Pool) → row < length layout.ids → c < 262144 → IsHung layout (words_of old.memory.words) row c j → row_of layout.ids p ≡ row
@@ -125,9 +118,8 @@ stays-replaced layout row p c j word answer old new partition small hung is fres
     let words = words_of old.memory.words in
     let at_c : (x : ℕ) → x / 512 ≡ c → eqb (x / 512) c ≡ true = λ x at. grind (arith, nat_tests) in
     let hung_here : IsHung e.layout words e.row c j = rw (allows.same_layout, allows.same_row) hung in
-    let fresh_here : (k : ℕ) → next_page (slot e.layout 2 word) ≡ Some k → IsUnheld e.layout words k = subst (λ (l : Layout). (k : ℕ) → next_page (slot l 2 word) ≡ Some k → IsUnheld l words k) (sym allows.same_layout) fresh in
     made-in-step e nothing nothing (replaced p j c (words j (c % 512)) word) old new made o
     (replace-step e words old.operations p c j word (rw (allows.same_layout, allows.same_row) partition) small hung_here (rw (allows.same_layout, allows.same_row) is)
-    (λ x below at. (allows.may x below (at_c x at)).0) fresh_here
+    (λ x below at. (allows.may x below (at_c x at)).0) (subst (λ (l : Layout). (k : ℕ) → next_page (slot l 2 word) ≡ Some k → IsUnheld l words k) (sym allows.same_layout) fresh)
     (λ x below at. let told : at_2 e.layout (put j (c % 512) word words) x (slot e.layout 2 word) ≡ answer x = rw allows.same_layout (gives x below at) in
     subst (λ (a : Walked). MayGive e e.row x a) (sym told) (allows.may x below (at_c x at)).1) o.orderly)

@@ -16,10 +16,6 @@ pub fine-same : (e : OpenCall) (due : Bool) (words new : Words) (q n : ℕ)
     → walk e.layout new q n ≡ walk e.layout words q n → MayGive e q n (walk e.layout words q n) → IsFine e due due words new q n
 fine-same e due words new q n gigabyte chunk same may = grind (arith, common_steps, nat_tests)
 
--- nothing is due
-due_nothing : (b : Bool) → (b && false) ≡ false
-due_nothing b = grind (arith, common_steps, nat_tests)
-
 -- a page that was not mapped, on whose way a table may be new
 pub fine-made : (e : OpenCall) (words new : Words) (q n : ℕ)
     → ((j : ℕ) → table_at e.layout words (Gigabyte q (index_1 n)) ≡ Some j → table_at e.layout new (Gigabyte q (index_1 n)) ≡ Some j)
@@ -32,7 +28,7 @@ pub breaks-invalid : (e : OpenCall) (words : Words) (past : List Op) (page index
     → (a : Place) → IsPlace e.layout a → table_at e.layout words a ≡ Some page → BreaksFirst e.layout e.entry past page index word
 breaks-invalid e words past page index word o invalid a inside at = record {
   breaks = λ valid. absurd (valid (ap (λ (w : Words). w page index % 2) (sym o.exact) ∙ invalid));
-  makes = λ valid row n moment stood. none-stood e nothing words past o stood.place page index stood.inside invalid row n stood.small stood.stands (due_nothing (eqb row e.row)) moment stood.since stood.hung;
+  makes = λ valid row n moment stood. none-stood e nothing words past o stood.place page index stood.inside invalid row n stood.small stood.stands (grind (arith, common_steps, nat_tests)) moment stood.since stood.hung;
 }
 
 -- ---- a page that hangs nowhere is filled, or set to 0
@@ -149,12 +145,7 @@ orderly-root e words past g word forest partition invalid may o =
     let new = put e.row g word words in
     orderly-set e nothing nothing words past e.row g word o
     (λ q x inside small. elim (in_gigabyte e.row g q x) [
-      | inl at ↦
-          let empty : slot e.layout 1 (words q (index_1 x)) ≡ Empty = rw (at.0, at.1) (invalid-empty e.layout 1 (words e.row g) invalid) in
-          let nowhere : table_at e.layout words (Gigabyte q (index_1 x)) ≡ None = gigabyte-now e.layout words q (index_1 x) ∙ ap next_page empty in
-          let none : walk e.layout words q x ≡ Unmapped = walk-inside e.layout words q x inside ∙ ap (at_1 e.layout words words x) empty in
-          let gives : MayGive e q x (walk e.layout new q x) = rw at.0 (may x small at.1) in
-          fine-made e words new q x (λ j f. absurd (cc)) (λ k f. let nothing_below = no-table-below e.layout words q (x / 512) nowhere in absurd (cc)) none gives
+      | inl at ↦ grind (arith, common_steps, nat_tests, invalid-empty, gigabyte-now, walk-inside, fine-made, no-table-below)
       | inr other ↦ fine-root-other e words g word forest partition nothing past q x o inside small other
     ])
     (breaks-invalid e words past e.row g word o invalid)

@@ -57,7 +57,6 @@ module _ (entry : TablesView) (before : ℕ → ℕ → View) (p : ℕ) (runs : 
       let v : ℕ → View = view_of entry p in
       let w : ℕ → View = edited runs access v in
       let are_free = free-views entry before p runs access starts free in
-      let kept : v n ≡ w n = told q n small at ∙ steady.kept ∙ sym (told-after q n small at) in
       let below : (x : ℕ) → x / 512 ≡ n / 512 → x < 2 ^ 27 = λ x e. omega (arith, e, small) in
       let chunk : ((x : ℕ) → x / 512 ≡ n / 512 → v x ≡ w x) ⊎ ((is_mixed v (n / 512) ≡ true) × (is_mixed w (n / 512) ≡ true)) = elim steady.chunk [
         | inl all ↦ inl (λ x e. told q x (below x e) at ∙ all x e ∙ sym (told-after q x (below x e) at))
@@ -66,7 +65,7 @@ module _ (entry : TablesView) (before : ℕ → ℕ → View) (p : ℕ) (runs : 
           differ-mixed runs access v are_free w (n / 512) both.1.0 both.1.1 both.1.2 both.1.3 (λ e. both.1.4 (sym (told-after q both.1.0 (below both.1.0 both.1.2) at) ∙ e ∙ told-after q both.1.1 (below both.1.1 both.1.3) at)),
         )
       ] in
-      none-steady runs access v are_free n small t kept chunk
+      none-steady runs access v are_free n small t (told q n small at ∙ steady.kept ∙ sym (told-after q n small at)) chunk
 
 -- a call ends in step, and its pages are reached as the edit says
 pub call-ended : (entry now : TablesView) (before : ℕ → ℕ → View) (p : ℕ) (runs : List PageRun) (access : View) (cleared : List PageRun) → has_root entry p ≡ true → now.layout ≡ entry.layout

@@ -1,7 +1,6 @@
 -- What walkers see of a whole edit.
 use Rattle.std.proofs.Common.{◌≡◌, ℕ, ◌^◌, ◌<◌, Bool, true, ◌&&◌, eqb, List, [], ◌∷◌, refl, arith}
-use Rattle.std.proofs.lemmas.Bool.{eqb-true}
-use Rattle.stage2.proofs.Names.{View, PageRun, row_of, Pool, words_of, all_lie_in, Op, Walked, Layout, walked, Agrees, AtEachMoment, OpenCall, IsInStepIn, nothing, IsSteady, Moments, nat_tests, common_steps, Unmapped}
+use Rattle.stage2.proofs.Names.{View, PageRun, row_of, Pool, words_of, all_lie_in, Op, Walked, Layout, walked, Agrees, AtEachMoment, OpenCall, IsInStepIn, nothing, IsSteady, Moments, nat_tests, common_steps, Unmapped, eqb-true}
 use Rattle.stage2.proofs.Walkers.InStep.{orderly-start}
 use Rattle.base.proofs.Booleans.{both}
 
@@ -18,12 +17,9 @@ module _ (layout : Layout) (old new : Pool) (before after : ℕ → ℕ → View
     (starts : Agrees layout (words_of old.memory.words) before) (ends : Agrees layout (words_of new.memory.words) after)
     (changed : (q n : ℕ) → n < 2 ^ 27 → row_of layout.ids q ≡ row → which n ≡ true → answer n ≡ walked n (after q n))
     (kept : (q n : ℕ) → n < 2 ^ 27 → row_of layout.ids q ≡ row → which n ≡ true → IsSteady before after q n → Unmapped ≡ walked n (before q n)) where
-  -- whose page it is
-  at_row : (q n : ℕ) → (eqb (row_of layout.ids q) row && which n) ≡ true → (row_of layout.ids q ≡ row) × (which n ≡ true)
-  at_row q n e = let h = both (eqb (row_of layout.ids q) row) (which n) e in (eqb-true _ _ h.0, h.1)
 
   pub moments-of : Moments layout old new before after
-  moments-of = grind (arith, common_steps, nat_tests, at_each, at_row)
+  moments-of = grind (arith, common_steps, nat_tests, at_each, eqb-true)
 
 -- before the first operation
 pub orderly-begun : (layout : Layout) (old new : Pool) (row : ℕ) (which : ℕ → Bool) (answer : ℕ → Walked) → new.memory ≡ old.memory → new.operations ≡ [] → new.made ≡ old.made → IsInStepIn (edit_of layout old row which answer []) nothing new

@@ -24,46 +24,31 @@ weaker e due more pool h fewer = record { orderly = orderly-weaker e due more (w
 fewer-pages : (e : OpenCall) (layout : Layout) (row : ℕ) (which all : ℕ → Bool) (answer : ℕ → Walked) → ((n : ℕ) → n < 2 ^ 27 → which n ≡ true → all n ≡ true) → Allows e layout row all answer → Allows e layout row which answer
 fewer-pages e layout row which all answer within h = record { same_layout = h.same_layout; same_row = h.same_row; may = λ n small w. h.may n small (within n small w) }
 
-due_left : (due all : Bool) → (due || all) ≡ false → due ≡ false
-due_left due all f = grind (arith, common_steps, nat_tests)
-
 pub clears-none : (layout : Layout) (row : ℕ) (which : ℕ → Bool) (a : Pool) → LeavesDue layout row which a a
-clears-none layout row which a e due allows o = weaker e due (λ n. due n || which n) a o (λ n small f. due_left (due n) (which n) f)
+clears-none layout row which a e due allows o = weaker e due (λ n. due n || which n) a o (λ n small f. (grind (arith, common_steps, nat_tests)))
 
 -- ---- invalidations
-
-and_not : (due which : Bool) → (due && not which) ≡ false → which ≡ false → due ≡ false
-and_not due which e f = grind (arith, common_steps, nat_tests)
 
 pub settles-one : (who : ℕ) (run : PageRun) (a b : Pool) → b.memory ≡ a.memory → IsLogged (Invalidate who run) a b → Settles who (λ n. in_run run n) a b
 settles-one who run a b same is e due row o =
     let more : ℕ → Bool = λ n. due n && not (in_run run n) in
-    let done = orderly-invalidate e due more (words_of a.memory.words) a.operations who run o.orderly row (λ n small f g. and_not (due n) (in_run run n) f g) in
     record {
-      orderly = rw (same, is.operations) done;
+      orderly = rw (same, is.operations) (orderly-invalidate e due more (words_of a.memory.words) a.operations who run o.orderly row (λ n small f g. (grind (arith, common_steps, nat_tests))));
       counted = counted-op e (Invalidate who run) a b is o.counted;
     }
 
-settled_twice : (due all which more : Bool) → all ≡ (which || more) → (due && not all) ≡ false → ((due && not which) && not more) ≡ false
-settled_twice due all which more e f = grind (arith, common_steps, nat_tests)
-
 pub settles-more : (who : ℕ) (which more all : ℕ → Bool) (a b c : Pool) → Settles who which a b → Settles who more b c → ((n : ℕ) → n < 2 ^ 27 → all n ≡ (which n || more n)) → Settles who all a c
-settles-more who which more all a b c so here is e due row o =
-    let second = here e (λ n. due n && not (which n)) row (so e due row o) in
-    weaker e (λ n. (due n && not (which n)) && not (more n)) (λ n. due n && not (all n)) c second (λ n small f. settled_twice (due n) (all n) (which n) (more n) (is n small) f)
+settles-more who which more all a b c so here is e due row o = grind (arith, common_steps, nat_tests, here e (λ n. due n && not (which n)) row (so e due row o), weaker)
 
 pub settles-as : (who : ℕ) (which all : ℕ → Bool) (a b : Pool) → Settles who which a b → ((n : ℕ) → n < 2 ^ 27 → all n ≡ which n) → Settles who all a b
 settles-as who which all a b so is e due row o = weaker e (λ n. due n && not (which n)) (λ n. due n && not (all n)) b (so e due row o) (λ n small f. rw (is n small) at f)
 
 -- ---- edits after which nothing is due
 
-due_of : (which : Bool) → ((false || which) && not which) ≡ false
-due_of which = grind (arith, common_steps, nat_tests)
-
 pub stays-cleared : (layout : Layout) (row who : ℕ) (which : ℕ → Bool) (a b c : Pool) → row_of layout.ids who ≡ row → LeavesDue layout row which a b → Settles who which b c → StaysInStep layout row which (λ n. Unmapped) a c
 stays-cleared layout row who which a b c is clears settles e allows o =
     let here : row_of e.layout.ids who ≡ e.row = rw (allows.same_layout, allows.same_row) is in
-    weaker e (λ n. (false || which n) && not (which n)) nothing c (settles e (λ n. false || which n) here (clears e nothing allows o)) (λ n small f. due_of (which n))
+    weaker e (λ n. (false || which n) && not (which n)) nothing c (settles e (λ n. false || which n) here (clears e nothing allows o)) (λ n small f. (grind (arith, common_steps, nat_tests)))
 
 pub stays-none : (layout : Layout) (row : ℕ) (which : ℕ → Bool) (answer : ℕ → Walked) (a : Pool) → StaysInStep layout row which answer a a
 stays-none layout row which answer a e allows o = o

@@ -1,9 +1,8 @@
-use Rattle.std.proofs.Common.{arith}
 use Rattle.pool.proofs.FirstRuns.{take-all}
 use Rattle.stage2.proofs.Counting.FewOperations.{run-pages}
 use Rattle.stage2.proofs.Counting.Pieces.{pages_among-le, pages-none, pages-more}
 use Rattle.stage2.proofs.bound.count_pages.Goals as goal
-use Rattle.stage2.proofs.Names.{nat_tests, common_steps}
+use Rattle.stage2.proofs.Names.{nat_tests, common_steps, arith}
 
 pub loop-run-init : goal.loop-run-init
 loop-run-init c = record { pages = λ chunk. let none = pages-none chunk c.list-list.result.now in omega (arith, none) }

@@ -1,5 +1,4 @@
-use Rattle.std.proofs.Common.{ℕ, ◌≤◌, take}
-use Rattle.stage2.proofs.Names.{pages_in}
+use Rattle.stage2.proofs.Names.{pages_in, ℕ, ◌≤◌, take}
 use Rattle.stage2.proofs.bound.count_pages.Given as goal
 
 -- the pages of the first runs are counted

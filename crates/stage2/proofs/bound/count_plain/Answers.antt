@@ -1,5 +1,4 @@
-use Rattle.std.proofs.Common.{◌≡◌, ℕ, ◌&&◌, not, Bool, false, Some, refl, arith}
-use Rattle.stage2.proofs.Names.{nat_tests, Pool, is_between, points_at, common_steps}
+use Rattle.stage2.proofs.Names.{nat_tests, Pool, is_between, points_at, common_steps, ◌≡◌, ℕ, ◌&&◌, not, Bool, false, Some, refl, arith}
 use Rattle.pool.proofs.Count.{count_below-none, count_below-tail, count_below-more}
 use Rattle.stage2.proofs.bound.count_plain.Goals as goal
 

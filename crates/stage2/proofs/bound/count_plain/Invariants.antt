@@ -1,5 +1,4 @@
-use Rattle.std.proofs.Common.{◌+◌, ◌≤◌, ◌&&◌, not, Some}
-use Rattle.stage2.proofs.Names.{count_below, is_between, points_at}
+use Rattle.stage2.proofs.Names.{count_below, is_between, points_at, ◌+◌, ◌≤◌, ◌&&◌, not, Some}
 use Rattle.stage2.proofs.bound.count_plain.Given as goal
 
 -- the chunks before this one are counted

@@ -1,7 +1,6 @@
-use Rattle.std.proofs.Common.{arith}
 use Rattle.stage2.proofs.Counting.Pieces.{count_below-between, count_below-fewer}
 use Rattle.stage2.proofs.bound.count_untabled.Goals as goal
-use Rattle.stage2.proofs.Names.{nat_tests, common_steps}
+use Rattle.stage2.proofs.Names.{nat_tests, common_steps, arith}
 
 pub returns-in-None-clause-counts : goal.returns-in-None-clause-counts
 returns-in-None-clause-counts g c =

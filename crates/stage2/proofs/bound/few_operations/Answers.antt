@@ -1,5 +1,4 @@
-use Rattle.std.proofs.Common.{◌≡◌, ℕ, ◌+◌, ◌*◌, ◌/◌, ◌%◌, ◌≤◌, false, is_some, length, None, sym, ap, ◌∙◌, arith}
-use Rattle.stage2.proofs.Names.{View, covers, pages_of, nonzero_in, answers_of, second_of, block_answer, next_page, pages_in, nat_tests, common_steps}
+use Rattle.stage2.proofs.Names.{View, covers, pages_of, nonzero_in, answers_of, second_of, block_answer, next_page, pages_in, nat_tests, common_steps, ◌≡◌, ℕ, ◌+◌, ◌*◌, ◌/◌, ◌%◌, ◌≤◌, false, is_some, length, None, sym, ap, ◌∙◌, arith}
 use Rattle.stage2.proofs.Counting.Bounds.{in-chunk}
 use Rattle.stage2.proofs.Counting.FewOperations.{few-unmapped, few-mapped, few-either, few-hung, few-filled, entry-known, entry-mixed, entry-plain, entry-words, entry-beside, entry-filled}
 use Rattle.stage2.proofs.Counting.Growth.{second-inside, second-held}
@@ -60,8 +59,7 @@ returns-clause-bound g c =
     let read = ap next_page (sym c.entry_at-entry.ensures.same) ∙ sym c.table_of.ensures in
     let mixed = entry-mixed e.layout.now m c.requires.canonical e.row e.inside c.second_at-second.result chunk here.1 hangs in
     let pages = c.count_pages-pages.ensures chunk in
-    let many = ap length c.list.ensures.same in
-    let enough : pages_in runs chunk + length runs ≤ length c.list.result.now + c.count_pages-pages.result = omega (arith, pages, many) in
+    let enough : pages_in runs chunk + length runs ≤ length c.list.result.now + c.count_pages-pages.result = omega (arith, pages, ap length c.list.ensures.same) in
     elim c.match-table_of.branch [
       | in-Some+then-is_some+then-pages-nonzero w ↦
           let next = read ∙ w.in-Some.is in
@@ -76,11 +74,9 @@ returns-clause-bound g c =
             | else-is_some-via-then-is_some+else-pages-nonzero v ↦
                 let nonzero : w.nonzero-nonzero.result ≡ nonzero_in m.words w.in-Some.third = w.nonzero-nonzero.ensures ∙ ap (nonzero_in m.words) w.number.ensures in
                 let beside = entry-beside e.layout.now m c.requires.canonical e.row e.inside c.second_at-second.result chunk here.1 hangs w.in-Some.third (is-next _ _ next) (λ i. covers runs (512 * chunk + i)) (omega (arith, v.if-pages-nonzero.false, pages, nonzero)) in
-                let most = few-mapped runs access before chunk here.1 only _ enough was (sym w.is_some.ensures ∙ v.if-is_some.true) beside in
-                omega (arith, most, w.words-is)
+                omega (arith, few-mapped runs access before chunk here.1 only _ enough was (sym w.is_some.ensures ∙ v.if-is_some.true) beside, w.words-is)
             | else-is_some-via-else-is_some v ↦
-                let most = few-unmapped runs access before chunk here.1 only _ enough was (sym w.is_some.ensures ∙ v.if-is_some.false) in
-                omega (arith, most, w.words-is)
+                omega (arith, few-unmapped runs access before chunk here.1 only _ enough was (sym w.is_some.ensures ∙ v.if-is_some.false), w.words-is)
           ]
       | in-None+else-is_filled+else-is_some-2 w ↦
           let none = nothing _ (ap (λ o. is_some o) (ap block_answer (sym c.entry_at-entry.ensures.same) ∙ sym w.block_of.ensures) ∙ sym w.is_some-in-None.ensures ∙ w.if-is_some-2.false) in

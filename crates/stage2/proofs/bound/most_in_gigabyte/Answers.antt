@@ -1,6 +1,4 @@
-use Rattle.std.proofs.Common.{◌≡◌, ℕ, ◌≤◌, Bool, true, false, cond, is_some, is_none, Option, Some, None, sym, ◌∙◌, refl, arith, inl, inr}
-use Rattle.std.proofs.lemmas.Bool.{cases_Bool}
-use Rattle.stage2.proofs.Names.{pages_of, nat_tests, common_steps}
+use Rattle.stage2.proofs.Names.{pages_of, nat_tests, common_steps, cases_Bool, ◌≡◌, ℕ, ◌≤◌, Bool, true, false, cond, is_some, is_none, Option, Some, None, sym, ◌∙◌, refl, arith, inl, inr}
 use Rattle.stage2.proofs.Counting.Growth.{second-inside}
 use Rattle.stage2.proofs.Counting.Untabled.{growth-untabled}
 use Rattle.stage2.proofs.bound.most_in_gigabyte.Goals as goal
@@ -17,14 +15,6 @@ returns g c =
     let most = growth-untabled c.args.edit.now.layout.now pool c.requires.canonical c.args.edit.now.row c.args.edit.now.inside c.args.gigabyte c.chunk_span.ensures.in_range c.second_at-second.result (sym c.second_at-second.ensures)
     c.args.runs.now c.args.edit.now.access c.chunk_span.result.first c.chunk_span.result.end c.chunk_span.ensures.within c.count_untabled-chunks.result c.count_untabled-chunks.ensures.counts in
     elim (cases_Bool c.is_none.result) [
-      | inl t ↦ grind (arith, common_steps, nat_tests, at_most_one (is_none c.second_at-second.result))
-      | inr f ↦ grind (arith, common_steps, nat_tests, no_one)
+      | inl t ↦ grind (arith, common_steps, nat_tests)
+      | inr f ↦ grind (arith, common_steps, nat_tests)
     ]
-  where
-    at_most_one : (b : Bool) → cond b 1 0 ≤ 1
-    at_most_one true = omega arith
-    at_most_one false = omega arith
-
-    no_one : (o : Option ℕ) → is_some o ≡ true → ◌≡◌ {A = ℕ} (cond (is_none o) 1 0) 0
-    no_one None e = absurd (cc)
-    no_one (Some x) e = refl

@@ -1,5 +1,4 @@
-use Rattle.std.proofs.Common.{◌≡◌, ℕ, ◌+◌, ◌-◌, ◌≤◌, inr, ap, arith}
-use Rattle.stage2.proofs.Names.{View, edited, sum_below, view_in, gigabyte_growth, nat_tests, common_steps}
+use Rattle.stage2.proofs.Names.{View, edited, sum_below, view_in, gigabyte_growth, nat_tests, common_steps, ◌≡◌, ℕ, ◌+◌, ◌-◌, ◌≤◌, inr, ap, arith}
 use Rattle.stage2.proofs.Counting.Growth.{growth-nothing}
 use Rattle.stage2.proofs.Editing.ChunkByChunk.{sum_below-more}
 use Rattle.stage2.proofs.Editing.GigabyteByGigabyte.{grow-sum}
@@ -20,9 +19,6 @@ returns g c =
     let grows : ℕ → ℕ = gigabyte_growth before (edited runs access before) in
     let span = c.gigabyte_span-span.result in
     let i = c.loop-number.number in
-    let last : i ≤ span.end = c.loop-number.auto.number-end c.gigabyte_span-span.ensures.ordered in
-    let all : i + (512 - i) ≡ 512 = omega (arith, c.gigabyte_span-span.ensures.most, last) in
+    let all : i + (512 - i) ≡ 512 = omega (arith, c.gigabyte_span-span.ensures.most, c.loop-number.auto.number-end c.gigabyte_span-span.ensures.ordered) in
     let tail = sum_below-tail grows (512 - i) i (λ x from to. growth-nothing runs access before x (λ n at. outside-gigabytes runs span.first span.end n c.gigabyte_span-span.ensures.within (inr (omega (arith, from, at, c.loop-number-test.false))))) in
-    let whole = ap (sum_below grows) all in
-    let sum = grow-sum before (edited runs access before) in
-    omega (arith, c.loop-number.invariant.most, tail, whole, sum)
+    omega (arith, c.loop-number.invariant.most, tail, ap (sum_below grows) all, grow-sum before (edited runs access before))

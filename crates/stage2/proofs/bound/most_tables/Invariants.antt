@@ -1,5 +1,4 @@
-use Rattle.std.proofs.Common.{◌*◌, ◌≤◌}
-use Rattle.stage2.proofs.Names.{edited, sum_below, view_in, gigabyte_growth}
+use Rattle.stage2.proofs.Names.{edited, sum_below, view_in, gigabyte_growth, ◌*◌, ◌≤◌}
 use Rattle.stage2.proofs.bound.most_tables.Given as goal
 
 -- what the gigabytes before this one take is counted

@@ -1,5 +1,4 @@
-use Rattle.std.proofs.Common.{◌≡◌, ℕ, ◌<◌, ◌≤◌, true}
-use Rattle.stage2.proofs.Names.{words_of}
+use Rattle.stage2.proofs.Names.{words_of, ◌≡◌, ℕ, ◌<◌, ◌≤◌, true}
 use Rattle.stage2.proofs.cursor.are_same_words.Given as goal
 
 -- the words before this index are the same, if none differed

@@ -1,5 +1,4 @@
-use Rattle.std.proofs.Common.{◌≡◌, ◌+◌, Bool, true, false, not, is_some, Option, None, Some, ℕ, sym, ap, subst, ◌∙◌, arith}
-use Rattle.stage2.proofs.Names.{View, pages_of, table_word_of, answers, edited, EditsGigabyte}
+use Rattle.stage2.proofs.Names.{View, pages_of, table_word_of, answers, edited, EditsGigabyte, ◌≡◌, ◌+◌, Bool, true, false, not, is_some, Option, None, Some, ℕ, sym, ap, subst, ◌∙◌, arith}
 use Rattle.stage2.proofs.Editing.Gigabyte.{is-none, finish-none}
 use Rattle.stage2.proofs.Editing.TabledGigabyte.{tabled-can, tabled-page, tabled-left, can-unlink, kept, emptied}
 use Rattle.stage2.proofs.Editing.UntabledGigabyte.{untabled-free, untabled-can, untabled-left, untabled-edited}

@@ -1,5 +1,4 @@
-use Rattle.std.proofs.Common.{arith}
-use Rattle.stage2.proofs.Names.{pages_of, nat_tests, common_steps}
+use Rattle.stage2.proofs.Names.{pages_of, nat_tests, common_steps, arith}
 use Rattle.stage2.proofs.Tree.KnownWords.{root-known}
 use Rattle.stage2.proofs.level1.find_table.Goals as goal
 

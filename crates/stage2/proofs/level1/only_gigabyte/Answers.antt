@@ -1,6 +1,4 @@
-use Rattle.std.proofs.Common.{◌≡◌, ◌/◌, ◌≤◌, ap, sym, ◌∙◌, arith}
-use Rattle.std.proofs.lemmas.Bool.{ltb-true}
-use Rattle.stage2.proofs.Names.{nat_tests, end_from, common_steps}
+use Rattle.stage2.proofs.Names.{nat_tests, end_from, common_steps, ltb-true, ◌≡◌, ◌/◌, ◌≤◌, ap, sym, ◌∙◌, arith}
 use Rattle.stage2.proofs.Runs.Normal.{any-within, normal-within}
 use Rattle.stage2.proofs.Editing.GigabyteByGigabyte.{touched}
 use Rattle.stage2.proofs.level1.only_gigabyte.Goals as goal

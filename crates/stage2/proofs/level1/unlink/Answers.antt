@@ -1,5 +1,4 @@
-use Rattle.std.proofs.Common.{◌≡◌, ◌≢◌, ◌*◌, ◌<◌, ◌∷◌, false, sym, ap, subst, ◌∙◌}
-use Rattle.stage2.proofs.Names.{PageRun, Invalidate, IsLogged, page_count, Pages, Pool, InShare, pages_of, words_of, with_mark, with_put}
+use Rattle.stage2.proofs.Names.{PageRun, Invalidate, IsLogged, page_count, Pages, Pool, InShare, pages_of, words_of, with_mark, with_put, ◌≡◌, ◌≢◌, ◌*◌, ◌<◌, ◌∷◌, false, sym, ap, subst, ◌∙◌}
 use Rattle.stage2.proofs.Walkers.ZeroedTables.{stays-after, stays-taken}
 use Rattle.stage2.proofs.Walkers.RootWrites.{stays-unlinked}
 use Rattle.pool.proofs.Shares.{share_inside, root-outside}

@@ -1,5 +1,4 @@
-use Rattle.std.proofs.Common.{◌≡◌, ℕ, ◌<◌, ◌≤◌, true, None}
-use Rattle.stage2.proofs.Names.{word_in, Layout, slot, next_page}
+use Rattle.stage2.proofs.Names.{word_in, Layout, slot, next_page, ◌≡◌, ℕ, ◌<◌, ◌≤◌, true, None}
 use Rattle.stage2.proofs.level2.are_plain.Given as goal
 
 -- the chunks before this one have no table, if it is so yet

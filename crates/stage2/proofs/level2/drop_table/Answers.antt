@@ -27,14 +27,13 @@ empty_table-requires g c =
     let can = c.requires.can in
     let put = c.replace_entry.ensures.pages in
     let same = ap (λ n. cond (is_some e.access) n (pages_in e.runs e.chunk)) (left-words layout s.row e.chunk s.second m can.site k c.block_word.result m1 c.requires.table put) in
-    let gone = dropped s e old can.site c.requires.table c.requires.alike in
     let room = can.room in
     let left = c.replace_entry.ensures.room in
     record {
       page_in = subst (λ (x : Pages). k < page_count x.quotas) (sym put) (third-inside layout s.row e.chunk s.second m can.site k c.requires.table);
       taken = ap (λ (x : Pages). x.taken k) put ∙ third-taken layout s.row e.chunk s.second m can.site k c.requires.table;
       left = λ i small out. grind (arith, common_steps, nat_tests, left-kept layout s.row e.chunk s.second m can.site k c.block_word.result m1 c.requires.table put i, others s e old can.site c.requires.table c.requires.alike i small out);
-      room = omega (arith, same, gone, room, left);
+      room = omega (arith, same, dropped s e old can.site c.requires.table c.requires.alike, room, left);
     }
 
 pub give_page-requires : goal.give_page-requires
@@ -85,19 +84,16 @@ returns g c =
     c.replace_entry.ensures.history in
     let loose : IsUnheld layout (put j (chunk % 512) word (words_of x.memory.words)) k =
     unheld-word layout (words_of x.memory.words) row chunk j word k site.partition site.chunk hung none (third-alone layout row chunk j m site seated k table) (third-loose layout row chunk j m site seated k table) in
-    let wrote : words_of y.memory.words ≡ put j (chunk % 512) word (words_of x.memory.words) = ap (λ (s : Pages). s.words) put_there in
     let second : StaysInStep layout row which answer y z =
-    stays-filled layout row k chunk 512 (planned [] None (Some None)) which answer y z emptied.made (subst (λ (w : Words). IsUnheld layout w k) (sym wrote) loose) in
+    stays-filled layout row k chunk 512 (planned [] None (Some None)) which answer y z emptied.made (subst (λ (w : Words). IsUnheld layout w k) (sym (ap (λ (s : Pages). s.words) put_there)) loose) in
     let third : StaysInStep layout row which answer z end =
     stays-taken layout row which answer z end (ap (λ (s : Pool). words_of s.memory.words) given) (ap (λ (s : Pool). s.operations) given) (ap (λ (s : Pool). s.made) given) in
     stays-after layout row which answer x z end (stays-after layout row which answer x y z first second) third in
-    let inside = third-inside layout row chunk j m site k table in
     let quotas = emptied.words.quotas ∙ ap (λ (x : Pages). x.quotas) put_there in
     let same = ap (λ n. cond (is_some e.access) n (pages_in e.runs chunk)) (left-words layout row chunk j m site k word (pages_of y.memory) table put_there) in
-    let gone = dropped s e x site table alike in
     record {
       edits = does-drop layout row chunk j m site view e.access word k (pages_of y.memory) (pages_of z.memory) (pages_of end.memory) table c.block_word.ensures put_there emptied.words
-          (pages_of-give z end k (g.met.M.TableMem.whole c.empty_table.new.memory) (subst (λ x. k < page_count x) (sym quotas) inside) given) alike;
+          (pages_of-give z end k (g.met.M.TableMem.whole c.empty_table.new.memory) (subst (λ x. k < page_count x) (sym quotas) (third-inside layout row chunk j m site k table)) given) alike;
       in_step = in-step-alike s e x site alike stays;
-      room = omega (arith, same, gone, c.replace_entry.ensures.room, c.empty_table.ensures.room, c.give_page.ensures.room);
+      room = omega (arith, same, dropped s e x site table alike, c.replace_entry.ensures.room, c.empty_table.ensures.room, c.give_page.ensures.room);
     }

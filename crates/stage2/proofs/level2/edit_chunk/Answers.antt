@@ -1,5 +1,4 @@
-use Rattle.std.proofs.Common.{◌<◌, sym, ap, subst, ◌∙◌}
-use Rattle.stage2.proofs.Names.{pages_of, next_page}
+use Rattle.stage2.proofs.Names.{nat_tests, common_steps, pages_of, next_page, arith, ◌<◌, sym, ap, subst, ◌∙◌}
 use Rattle.stage2.proofs.Editing.FourChunkEdits.{second-inside, second-taken, entry-known}
 use Rattle.stage2.proofs.Editing.OneChunk.{is-table, told-alike, told-mixed, read-before}
 use Rattle.stage2.proofs.level2.edit_chunk.Goals as goal
@@ -8,8 +7,7 @@ pub read_chunk-entry-requires-clause-table : goal.read_chunk-entry-requires-clau
 read_chunk-entry-requires-clause-table g c =
     let s = c.args.site.now in
     let e = c.args.edit.now in
-    let inside = second-inside e.layout.now s.row e.chunk s.second (pages_of (g.M.TableMem.state c.args.memory.now).memory) c.requires.site in
-    subst (λ x. s.second < x) (sym c.requires.site.orderly.pages) inside
+    subst (λ x. s.second < x) (sym c.requires.site.orderly.pages) (second-inside e.layout.now s.row e.chunk s.second (pages_of (g.M.TableMem.state c.args.memory.now).memory) c.requires.site)
 
 pub read_chunk-entry-requires-clause-taken : goal.read_chunk-entry-requires-clause-taken
 read_chunk-entry-requires-clause-taken g c =
@@ -43,6 +41,4 @@ pub hang_table-requires-clause-mixed : goal.hang_table-requires-clause-mixed
 hang_table-requires-clause-mixed g c = told-mixed c.args.site.now c.args.edit.now (g.M.TableMem.state c.args.memory.now) c.requires.site c.read_chunk-entry.ensures.same c.becomes_alike.ensures c.if-becomes_alike.false
 
 pub hang_table-requires-clause-before : goal.hang_table-requires-clause-before
-hang_table-requires-clause-before g c =
-    let same = c.read_chunk-entry.ensures.same in
-    read-before c.args.site.now c.args.edit.now (g.M.TableMem.state c.args.memory.now) c.requires.site same (ap next_page (sym same) ∙ sym c.table_of-table.ensures ∙ c.in-None-table.is) c.block_of-before.ensures
+hang_table-requires-clause-before g c = grind (arith, common_steps, nat_tests, read-before)

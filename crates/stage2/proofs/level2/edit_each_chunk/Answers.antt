@@ -1,5 +1,4 @@
-use Rattle.std.proofs.Common.{◌≡◌, false, refl, ap, subst, ◌∙◌, arith}
-use Rattle.stage2.proofs.Names.{touches_chunk, chunk_runs, nat_tests, common_steps}
+use Rattle.stage2.proofs.Names.{touches_chunk, chunk_runs, nat_tests, common_steps, ◌≡◌, false, refl, ap, subst, ◌∙◌, arith}
 use Rattle.stage2.proofs.Editing.UpToChunk.{at-start, at-piece, at-untouched, at-end, own-here, here-can, here-next, table-inside, table-taken, blocks-room, blocks-next}
 use Rattle.stage2.proofs.Runs.Between.{past-past}
 use Rattle.stage2.proofs.Tree.Rows.{has-row}
@@ -12,20 +11,17 @@ loop-piece-init g c = record { up_to = λ below. rw c.again-rest.ensures (at-sta
 pub plain_until-plain-requires-clause-page_in : goal.plain_until-plain-requires-clause-page_in
 plain_until-plain-requires-clause-page_in g c =
     let below = c.in-Some.ensures.in_range in
-    let so = at-piece c.requires below (c.loop-piece.invariant.up_to below) c.in-Some.ensures.some in
-    table-inside c.requires below so c.in-Some.ensures.some.small
+    table-inside c.requires below (at-piece c.requires below (c.loop-piece.invariant.up_to below) c.in-Some.ensures.some) c.in-Some.ensures.some.small
 
 pub set_blocks-requires-clause-page_in : goal.set_blocks-requires-clause-page_in
 set_blocks-requires-clause-page_in g c =
     let below = c.in-Some.ensures.in_range in
-    let so = at-piece c.requires below (c.loop-piece.invariant.up_to below) c.in-Some.ensures.some in
-    table-inside c.requires below so c.in-Some.ensures.some.small
+    table-inside c.requires below (at-piece c.requires below (c.loop-piece.invariant.up_to below) c.in-Some.ensures.some) c.in-Some.ensures.some.small
 
 pub set_blocks-requires-clause-taken : goal.set_blocks-requires-clause-taken
 set_blocks-requires-clause-taken g c =
     let below = c.in-Some.ensures.in_range in
-    let so = at-piece c.requires below (c.loop-piece.invariant.up_to below) c.in-Some.ensures.some in
-    table-taken c.requires below so c.in-Some.ensures.some.small
+    table-taken c.requires below (at-piece c.requires below (c.loop-piece.invariant.up_to below) c.in-Some.ensures.some) c.in-Some.ensures.some.small
 
 pub set_blocks-requires-clause-partition : goal.set_blocks-requires-clause-partition
 set_blocks-requires-clause-partition g c = grind (arith, common_steps, nat_tests, at-piece, has-row)

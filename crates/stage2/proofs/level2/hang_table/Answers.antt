@@ -40,13 +40,12 @@ replace_entry-requires g c =
     let filled = c.fill_table.ensures.words in
     let marked = pages_of-take old (g.M.TableMem.state c.take_page-third.new.memory) s.row k (g.met.M.TableMem.whole c.args.memory.now) took.lowest took.state in
     let quotas = filled.quotas ∙ ap (λ (x : Pages). x.quotas) marked in
-    let words = hung s e old can.site c.requires.none c.requires.mixed c.requires.before in
     let room = can.room in
     record {
       page_in = subst (λ x. s.second < page_count x) (sym quotas) (second-inside e.layout.now s.row e.chunk s.second m can.site);
       taken = ap (λ f. f s.second) filled.taken ∙ ap (λ (x : Pages). x.taken s.second) marked ∙ mark-kept m.taken k s.second (second-taken e.layout.now s.row e.chunk s.second m can.site);
       partition = has-row e.layout.now (g.M.TableMem.state c.fill_table.new.memory).memory s.p s.row (can.site.orderly.ids ∙ sym (filled.ids ∙ ap (λ (x : Pages). x.ids) marked)) can.row can.site.partition;
-      room = omega (arith, words, room, took.room, c.fill_table.ensures.room);
+      room = omega (arith, hung s e old can.site c.requires.none c.requires.mixed c.requires.before, room, took.room, c.fill_table.ensures.room);
     }
 
 -- a word points at one page
@@ -84,12 +83,10 @@ returns g c =
     let same : words_of y.memory.words ≡ words_of x.memory.words = ap (λ (s : Pool). words_of s.memory.words) took.state in
     let first : StaysInStep layout row which answer x y = stays-taken layout row which answer x y same (ap (λ (s : Pool). s.operations) took.state) (ap (λ (s : Pool). s.made) took.state) in
     let loose : IsUnheld layout (words_of y.memory.words) k = subst (λ (w : Words). IsUnheld layout w k) (sym same) (unheld-free layout row chunk j m site seated k took.lowest.free) in
-    let second : StaysInStep layout row which answer y z = filled.unseen layout row which answer loose in
     let hung_y : IsHung layout (words_of y.memory.words) row chunk j = subst (λ (w : Words). IsHung layout w row chunk j) (sym same) (hung-seen layout row chunk j m site seated) in
     let hung_z : IsHung layout (words_of z.memory.words) row chunk j = hung-outside layout (words_of y.memory.words) (words_of z.memory.words) row chunk j k site.partition site.chunk loose filled.words.others hung_y in
     let loose_z : IsUnheld layout (words_of z.memory.words) k = unheld-outside layout (words_of y.memory.words) (words_of z.memory.words) k loose filled.words.others in
-    let inside : k < page_count m.quotas = share_inside m.quotas row k took.lowest.inside in
-    let is_slot : slot layout 2 word ≡ Next k = ap (slot layout 2) is_word ∙ slot-table layout 2 k (omega arith) (rw site.orderly.pages inside) site.orderly.fits in
+    let is_slot : slot layout 2 word ≡ Next k = ap (slot layout 2) is_word ∙ slot-table layout 2 k (omega arith) (rw site.orderly.pages (share_inside m.quotas row k took.lowest.inside)) site.orderly.fits in
     let wrote : words_of end.memory.words ≡ put j (chunk % 512) word (words_of z.memory.words) = ap (λ (s : Pages). s.words) put_there in
     let third : StaysInStep layout row which answer z end =
     stays-replaced layout row s.p chunk j word answer z end site.partition site.chunk hung_z can.row
@@ -99,10 +96,9 @@ returns g c =
     ap (λ (w : Words). at_2 layout w n (slot layout 2 word)) (sym wrote) ∙ ap (λ w. at_2 layout (words_of end.memory.words) n (slot layout 2 w)) (sym read)
     ∙ gives-after layout row chunk j view m (pages_of end.memory) site edits n small at)
     c.replace_entry.ensures.history in
-    stays-after layout row which answer x z end (stays-after layout row which answer x y z first second) third in
-    let words = hung s e x site c.requires.none c.requires.mixed c.requires.before in
+    stays-after layout row which answer x z end (stays-after layout row which answer x y z first (filled.unseen layout row which answer loose)) third in
     record {
       edits = edits;
       in_step = in-step-hung s e x site c.requires.none c.requires.mixed stays;
-      room = omega (arith, words, took.room, filled.room, c.replace_entry.ensures.room);
+      room = omega (arith, hung s e x site c.requires.none c.requires.mixed c.requires.before, took.room, filled.room, c.replace_entry.ensures.room);
     }

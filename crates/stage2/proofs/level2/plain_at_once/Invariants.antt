@@ -1,5 +1,4 @@
-use Rattle.std.proofs.Common.{◌≡◌, ℕ, ◌-◌, ◌<◌, ◌≤◌, None}
-use Rattle.stage2.proofs.Names.{word_in, Layout, slot, next_page}
+use Rattle.stage2.proofs.Names.{word_in, Layout, slot, next_page, ◌≡◌, ℕ, ◌-◌, ◌<◌, ◌≤◌, None}
 use Rattle.stage2.proofs.level2.plain_at_once.Given as goal
 
 -- the chunks before this one have no table

@@ -1,5 +1,4 @@
-use Rattle.std.proofs.Common.{arith}
-use Rattle.stage2.proofs.Names.{nat_tests}
+use Rattle.stage2.proofs.Names.{nat_tests, arith}
 use Rattle.stage2.proofs.Editing.FilledChunks.{plain-slot}
 use Rattle.stage2.proofs.level2.points_at_table.Goals as goal
 

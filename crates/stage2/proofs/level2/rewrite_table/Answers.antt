@@ -19,10 +19,6 @@ write_runs-requires g c =
     let can = c.requires.can in
     grind (arith, common_steps, nat_tests, kept s e old can.site c.requires.table c.requires.mixed, is-table s e old can.site c.requires.table can.turned)
 
--- pages that are mapped were not before
-unmapped : (runs : List PageRun) (access : View) (view : ℕ → View) (n : ℕ) (here : Bool) → is_some access ≡ true → (covers runs n ≡ true → (access ≡ None) ⊎ (view n ≡ None)) → (covers runs n && here) ≡ true → view n ≡ None
-unmapped runs access view n here maps free w = grind (arith, common_steps, nat_tests, both (covers runs n) here w)
-
 pub returns-else-is_none : goal.returns-else-is_none
 returns-else-is_none g c =
     let s = c.args.site.now in
@@ -42,7 +38,6 @@ returns-else-is_none g c =
     let wrote = c.write_runs.ensures.writes in
     let which : ℕ → Bool = λ n. covers runs n && eqb (n / 512) chunk in
     let maps : is_some access ≡ true = c.is_none.ensures ∙ ap not c.if-is_none.false in
-    let words = kept s e x site table c.requires.mixed in
     let room = c.write_runs.ensures.room in
     record {
       edits = does-rewrite layout row chunk j m site runs access k (pages_of y.memory) table wrote.words c.requires.mixed;
@@ -51,19 +46,16 @@ returns-else-is_none g c =
           (elim seated [
             | inl hung ↦
                 stays-made layout row k chunk (planned runs access None) which access x y wrote.made (plans-runs chunk runs access) (level_3-seen layout row chunk j m site hung k table)
-                (λ i small w. invalid-word layout row chunk j m site k i table small (unmapped runs access (answers_in layout row chunk j m) (512 * chunk + i) (eqb ((512 * chunk + i) / 512) chunk) maps (free (512 * chunk + i) (let below = site.chunk in omega (arith, small, below)) (both (covers runs (512 * chunk + i)) (eqb ((512 * chunk + i) / 512) chunk) w).1) w))
+                (λ i small w. invalid-word layout row chunk j m site k i table small (grind (arith, common_steps, nat_tests, both (covers runs (512 * chunk + i)) (eqb ((512 * chunk + i) / 512) chunk) w)))
             | inr loose ↦ stays-filled layout row k chunk 512 (planned runs access None) which (λ n. walked n access) x y wrote.made (unheld-third layout row chunk j m site loose k table)
           ]);
-      room = omega (arith, words, room);
+      room = omega (arith, kept s e x site table c.requires.mixed, room);
     }
 
 -- ---- pages are unmapped: they are invalidated run by run
 
 unmaps : (a : View) (b : Bool) (k : ℕ) → is_some a ≡ not b → b ≡ true → cond (is_some a) 0 k ≡ k
 unmaps a b k e f = let none : is_some a ≡ false = e ∙ ap not f in rw none refl
-
-gone : (a : View) (b : Bool) → is_some a ≡ not b → b ≡ true → a ≡ None
-gone a b e f = grind (arith, common_steps, nat_tests)
 
 pub invalidate_parts-requires : goal.invalidate_parts-requires
 invalidate_parts-requires g c = grind (arith, common_steps, nat_tests, unmaps, kept, has-row)
@@ -86,9 +78,7 @@ returns-then-is_none g c =
     let m = pages_of x.memory in
     let wrote = c.write_runs.ensures.writes in
     let which : ℕ → Bool = λ n. covers runs n && eqb (n / 512) chunk in
-    let none : e.access ≡ None = gone e.access c.is_none.result c.is_none.ensures c.if-is_none.true in
-    let each = unmaps e.access c.is_none.result (part_count chunk runs) c.is_none.ensures c.if-is_none.true in
-    let words = kept s e x site table c.requires.mixed in
+    let none : e.access ≡ None = (grind (arith, common_steps, nat_tests)) in
     let room = c.write_runs.ensures.room in
     record {
       edits = subst (λ (memory : Memory). Redoes_in layout row chunk j (chunk_after s e x) m (pages_of memory)) (sym c.invalidate_parts.ensures.memory)
@@ -101,5 +91,5 @@ returns-then-is_none g c =
                 clears-made layout row k chunk (planned runs e.access None) which x y wrote.made (subst (λ (a : View). PlansOnly chunk (planned runs e.access None) which a) none (plans-runs chunk runs e.access)) (level_3-seen layout row chunk j m site hung k table)
             | inr loose ↦ clears-filled layout row k chunk 512 (planned runs e.access None) which x y wrote.made (unheld-third layout row chunk j m site loose k table)
           ]) c.invalidate_parts.ensures.settles);
-      room = omega (arith, each, words, room, c.invalidate_parts.ensures.room);
+      room = omega (arith, unmaps e.access c.is_none.result (part_count chunk runs) c.is_none.ensures c.if-is_none.true, kept s e x site table c.requires.mixed, room, c.invalidate_parts.ensures.room);
     }

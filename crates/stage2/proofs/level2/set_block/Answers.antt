@@ -1,5 +1,4 @@
-use Rattle.std.proofs.Common.{◌%◌, arith}
-use Rattle.stage2.proofs.Names.{pages_of, words_of, put, chunk_after, walked}
+use Rattle.stage2.proofs.Names.{pages_of, words_of, put, chunk_after, walked, ◌%◌, arith}
 use Rattle.stage2.proofs.Editing.OneChunk.{in-step-alike}
 use Rattle.stage2.proofs.Walkers.StepLists.{stays-replaced}
 use Rattle.stage2.proofs.Walkers.SeatedChunks.{hung-seen, gives-block, block-no-table}

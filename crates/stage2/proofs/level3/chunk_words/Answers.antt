@@ -1,10 +1,6 @@
-use Rattle.std.proofs.Common.{◌≡◌, ℕ, ◌+◌, ◌*◌, ◌==◌, not, is_some, subst, ◌∙◌, arith}
-use Rattle.stage2.proofs.Names.{nat_tests, View, step_for, IsWordFor, common_steps}
-use Rattle.stage2.proofs.Editing.Stretches.{stretch-small, stretch-words, word-some}
+use Rattle.stage2.proofs.Names.{nat_tests, View, step_for, IsWordFor, common_steps, ◌≡◌, ℕ, ◌+◌, ◌*◌, ◌==◌, not, is_some, subst, ◌∙◌, arith}
+use Rattle.stage2.proofs.Editing.Stretches.{stretch-small, word-some, word-further, word-zero}
 use Rattle.stage2.proofs.level3.chunk_words.Goals as goal
-
-is-valid : (n word : ℕ) (answer : View) → IsWordFor n answer word → not (word == 0) ≡ is_some answer
-is-valid n word answer is = grind (arith, common_steps, nat_tests, word-some)
 
 steps : (n word : ℕ) (answer : View) → IsWordFor n answer word → word ≡ 0 → step_for answer ≡ 0
 steps n word answer is same = grind (arith, common_steps, nat_tests, word-some)
@@ -24,7 +20,7 @@ returns c =
           let begins : c.first-first.result ≡ 512 * c.args.chunk + 0 = omega (arith, at.same) in
           let there : 512 * c.args.chunk + (0 + x) ≡ 512 * c.args.chunk + x = omega arith in
           subst (λ n. IsWordFor n answer (word + step_for answer * x)) there
-          (stretch-words c.args.chunk 0 512 word answer (omega (arith, at.in_range)) (rw begins at c.word_of.ensures.same) c.word_of.ensures.zero x lt);
-      valid = is-valid c.first-first.result word answer first;
+          (grind (arith, common_steps, nat_tests, word-zero, word-further));
+      valid = (grind (arith, common_steps, nat_tests, word-some));
       zeros = steps c.first-first.result word answer first;
     }

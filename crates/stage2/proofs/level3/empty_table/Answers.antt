@@ -81,15 +81,11 @@ returns-then-nonzero-edit-eq-CHUNK_PAGES-clause-writes g c =
 
 -- ---- all words that are not 0
 
--- no more are left than go
-few-left : (k : ℕ) (e : ChunkEdit) (pool : Pool) → OthersAnswer k e.chunk e.runs e.access pool → nonzero_in (words_of pool.memory.words) k ≤ words_left k e pool
-few-left k e pool left = grind (arith, common_steps, nat_tests, word-beside, gone)
-
 pub clear_words-requires-clause-room : goal.clear_words-requires-clause-room
-clear_words-requires-clause-room g c = grind (arith, common_steps, nat_tests, few-left c.args.third c.args.edit.now (g.M.TableMem.state c.args.memory.now) c.requires.left)
+clear_words-requires-clause-room g c = grind (arith, common_steps, nat_tests, word-beside, gone)
 
 pub returns-else-is_some-clause-room : goal.returns-else-is_some-clause-room
-returns-else-is_some-clause-room g c = grind (arith, common_steps, nat_tests, few-left c.args.third c.args.edit.now (g.M.TableMem.state c.args.memory.now) c.requires.left)
+returns-else-is_some-clause-room g c = grind (arith, common_steps, nat_tests, word-beside, gone)
 
 pub returns-else-is_some-clause-writes : goal.returns-else-is_some-clause-writes
 returns-else-is_some-clause-writes g c =

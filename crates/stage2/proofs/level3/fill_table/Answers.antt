@@ -1,5 +1,4 @@
-use Rattle.std.proofs.Common.{None, is_some, ap, arith}
-use Rattle.stage2.proofs.Names.{pages_of, words_of, planned, gaps}
+use Rattle.stage2.proofs.Names.{pages_of, words_of, planned, gaps, None, is_some, ap, arith}
 use Rattle.stage2.proofs.Counting.Operations.{new-unmapped, new-all}
 use Rattle.stage2.proofs.Editing.Gaps.{writes-gaps}
 use Rattle.stage2.proofs.Editing.Level3Words.{writes-rest}
@@ -25,8 +24,7 @@ returns-in-None-default-clause-unseen g c = λ layout row which answer loose.
 pub write_gaps-requires-clause-room : goal.write_gaps-requires-clause-room
 write_gaps-requires-clause-room g c =
     let e = c.args.edit.now in
-    let words = new-unmapped e.runs e.access c.args.before.now e.chunk c.in-Some-None.is-1 (ap (λ a. is_some a) c.in-Some-None.is-0) in
-    omega (arith, words, c.requires.room)
+    omega (arith, new-unmapped e.runs e.access c.args.before.now e.chunk c.in-Some-None.is-1 (ap (λ a. is_some a) c.in-Some-None.is-0), c.requires.room)
 
 pub returns-in-Some-None-clause-words : goal.returns-in-Some-None-clause-words
 returns-in-Some-None-clause-words g c =
@@ -41,22 +39,19 @@ returns-in-Some-None-clause-unseen g c = λ layout row which answer loose.
 pub returns-in-Some-None-clause-room : goal.returns-in-Some-None-clause-room
 returns-in-Some-None-clause-room g c =
     let e = c.args.edit.now in
-    let words = new-unmapped e.runs e.access c.args.before.now e.chunk c.in-Some-None.is-1 (ap (λ a. is_some a) c.in-Some-None.is-0) in
-    omega (arith, words, c.write_gaps.ensures.room)
+    omega (arith, new-unmapped e.runs e.access c.args.before.now e.chunk c.in-Some-None.is-1 (ap (λ a. is_some a) c.in-Some-None.is-0), c.write_gaps.ensures.room)
 
 -- ---- all are to be reached
 
 pub turn_runs-requires-in-Some-Some-clause-room : goal.turn_runs-requires-in-Some-Some-clause-room
 turn_runs-requires-in-Some-Some-clause-room g c =
     let e = c.args.edit.now in
-    let words = new-all e.runs e.access c.args.before.now e.chunk (ap (λ a. is_some a) c.in-Some-Some.is-1) (ap (λ a. is_some a) c.in-Some-Some.is-0) in
-    omega (arith, words, c.requires.room, e.pages, e.most)
+    omega (arith, new-all e.runs e.access c.args.before.now e.chunk (ap (λ a. is_some a) c.in-Some-Some.is-1) (ap (λ a. is_some a) c.in-Some-Some.is-0), c.requires.room, e.pages, e.most)
 
 pub write_gaps-requires-in-Some-Some-clause-room : goal.write_gaps-requires-in-Some-Some-clause-room
 write_gaps-requires-in-Some-Some-clause-room g c =
     let e = c.args.edit.now in
-    let words = new-all e.runs e.access c.args.before.now e.chunk (ap (λ a. is_some a) c.in-Some-Some.is-1) (ap (λ a. is_some a) c.in-Some-Some.is-0) in
-    omega (arith, words, c.requires.room, c.turn_runs-in-Some-Some.ensures.room)
+    omega (arith, new-all e.runs e.access c.args.before.now e.chunk (ap (λ a. is_some a) c.in-Some-Some.is-1) (ap (λ a. is_some a) c.in-Some-Some.is-0), c.requires.room, c.turn_runs-in-Some-Some.ensures.room)
 
 pub returns-in-Some-Some-clause-unseen : goal.returns-in-Some-Some-clause-unseen
 returns-in-Some-Some-clause-unseen g c = λ layout row which answer loose.

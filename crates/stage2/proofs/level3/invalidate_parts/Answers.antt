@@ -1,5 +1,4 @@
-use Rattle.std.proofs.Common.{◌≡◌, ℕ, ◌+◌, ◌/◌, ◌&&◌, eqb, take, List, None, Some, sym, ap, ◌∙◌, arith}
-use Rattle.stage2.proofs.Names.{option_map_or, PageRun, in_run, covers, Pool, Invalidate, part_in, IsLogged}
+use Rattle.stage2.proofs.Names.{option_map_or, PageRun, in_run, covers, Pool, Invalidate, part_in, IsLogged, ◌≡◌, ℕ, ◌+◌, ◌/◌, ◌&&◌, eqb, take, List, None, Some, sym, ap, ◌∙◌, arith}
 use Rattle.pool.proofs.FirstRuns.{take-all}
 use Rattle.stage2.proofs.Runs.Parts.{parts-more, parts-same, sum-take}
 use Rattle.stage2.proofs.Walkers.ZeroedTables.{settles-one, settles-more, settles-as}

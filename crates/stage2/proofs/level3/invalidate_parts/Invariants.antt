@@ -1,5 +1,4 @@
-use Rattle.std.proofs.Common.{◌≡◌, ◌+◌, ◌/◌, ◌&&◌, eqb, take}
-use Rattle.stage2.proofs.Names.{covers, part_count, Settles}
+use Rattle.stage2.proofs.Names.{covers, part_count, Settles, ◌≡◌, ◌+◌, ◌/◌, ◌&&◌, eqb, take}
 use Rattle.stage2.proofs.level3.invalidate_parts.Given as goal
 
 -- the parts of the first runs are invalidated

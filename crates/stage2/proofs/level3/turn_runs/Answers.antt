@@ -1,9 +1,8 @@
-use Rattle.std.proofs.Common.{arith}
 use Rattle.pool.proofs.Gaps.{rise-normal}
 use Rattle.stage2.proofs.Editing.RunWords.{runs-written}
 use Rattle.stage2.proofs.Counting.Pieces.{words-pages}
 use Rattle.stage2.proofs.level3.turn_runs.Goals as goal
-use Rattle.stage2.proofs.Names.{nat_tests, common_steps}
+use Rattle.stage2.proofs.Names.{nat_tests, common_steps, arith}
 
 pub turn_runs-requires-clause-ready : goal.turn_runs-requires-clause-ready
 turn_runs-requires-clause-ready g c = grind (arith, common_steps, nat_tests, words-pages c.args.edit.now.chunk c.args.edit.now.runs c.args.edit.now.normal)

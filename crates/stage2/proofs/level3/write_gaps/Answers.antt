@@ -1,5 +1,4 @@
-use Rattle.std.proofs.Common.{◌*◌, arith}
-use Rattle.stage2.proofs.Names.{gaps_of, nat_tests, common_steps}
+use Rattle.stage2.proofs.Names.{gaps_of, nat_tests, common_steps, ◌*◌, arith}
 use Rattle.pool.proofs.Gaps.{rise-normal, gaps-rise, gaps-words, gaps-out}
 use Rattle.stage2.proofs.Editing.Gaps.{writes-gap-runs}
 use Rattle.stage2.proofs.Editing.RunWords.{runs-written}

@@ -1,5 +1,4 @@
-use Rattle.std.proofs.Common.{◌≡◌, None, sym, ◌∙◌}
-use Rattle.stage2.proofs.Names.{words_of, answers_at, next_page}
+use Rattle.stage2.proofs.Names.{words_of, answers_at, next_page, ◌≡◌, None, sym, ◌∙◌}
 use Rattle.stage2.proofs.Counting.Operations.{plain-answer}
 use Rattle.stage2.proofs.Editing.FourChunkEdits.{is-next}
 use Rattle.stage2.proofs.outcome.becomes_alike.Goals as goal
@@ -11,5 +10,4 @@ pub returns-in-None : goal.returns-in-None
 returns-in-None g c =
     let e = c.args.edit.now in
     let words = words_of (g.M.TableMem.state c.args.memory.now).memory.words in
-    let none : next_page c.args.entry.now ≡ None = sym c.table_of.ensures ∙ c.in-None.is in
-    c.is_alike_in_block.ensures (answers_at e.layout.now words c.args.entry.now) (λ n at. plain-answer e.layout.now words c.args.entry.now n none)
+    c.is_alike_in_block.ensures (answers_at e.layout.now words c.args.entry.now) (λ n at. plain-answer e.layout.now words c.args.entry.now n (sym c.table_of.ensures ∙ c.in-None.is))

@@ -1,6 +1,5 @@
-use Rattle.std.proofs.Common.{◌≡◌, ℕ, ◌+◌, ◌*◌, ◌<◌, ◌==◌, Bool, true, false, is_some, ◌∙◌, arith, not, refl, sym, ap, subst, inl, inr}
 use Rattle.std.proofs.lemmas.Bool.{cases_Bool, eqb-false}
-use Rattle.stage2.proofs.Names.{covers, words_of, IsOutcome, read_after, tells, Next, nat_tests, common_steps}
+use Rattle.stage2.proofs.Names.{covers, words_of, IsOutcome, read_after, tells, Next, nat_tests, common_steps, ◌≡◌, ℕ, ◌+◌, ◌*◌, ◌<◌, ◌==◌, Bool, true, false, is_some, ◌∙◌, arith, not, refl, sym, ap, subst, inl, inr}
 use Rattle.stage2.proofs.Counting.Operations.{others-alike, emptied-alike}
 use Rattle.stage2.proofs.Counting.Outcomes.{stray-mixed}
 use Rattle.stage2.proofs.Counting.Pieces.{none-beside, words-least}

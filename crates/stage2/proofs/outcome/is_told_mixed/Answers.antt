@@ -1,19 +1,15 @@
-use Rattle.std.proofs.Common.{◌≡◌, ℕ, ap, ◌∙◌, arith}
 use Rattle.words.proofs.RoundTrip.{entry-zero}
-use Rattle.stage2.proofs.Names.{Words, nonzero_in, nat_tests, common_steps}
+use Rattle.stage2.proofs.Names.{Words, nonzero_in, nat_tests, common_steps, ◌≡◌, ℕ, ap, ◌∙◌, arith}
 use Rattle.stage2.proofs.Counting.Pieces.{nonzero-most, zero-beside, word-beside}
 use Rattle.stage2.proofs.outcome.is_told_mixed.Goals as goal
 
-counted : (n k table : ℕ) (words : Words) → n ≡ nonzero_in words k → k ≡ table → n ≡ nonzero_in words table
-counted n k table words is same = is ∙ ap (nonzero_in words) same
-
 pub overflow_add-result : goal.overflow_add-result
-overflow_add-result g c = grind (arith, common_steps, nat_tests, counted, nonzero-most)
+overflow_add-result g c = grind (arith, common_steps, nat_tests, nonzero-most)
 
 -- a word beside the runs is 0, and the runs are mapped
 pub returns-in-Some-clause-yes : goal.returns-in-Some-clause-yes
-returns-in-Some-clause-yes g c = grind (arith, common_steps, nat_tests, counted, zero-beside, entry-zero)
+returns-in-Some-clause-yes g c = grind (arith, common_steps, nat_tests, zero-beside, entry-zero)
 
 -- one is not 0, and they are unmapped
 pub returns-in-None-clause-yes : goal.returns-in-None-clause-yes
-returns-in-None-clause-yes g c = grind (arith, common_steps, nat_tests, counted, word-beside)
+returns-in-None-clause-yes g c = grind (arith, common_steps, nat_tests, word-beside)

@@ -1,5 +1,4 @@
-use Rattle.std.proofs.Common.{◌≡◌, ℕ, ◌<◌, ltb, true, get_or}
-use Rattle.stage2.proofs.Names.{PageRun}
+use Rattle.stage2.proofs.Names.{PageRun, ◌≡◌, ℕ, ◌<◌, ltb, true, get_or}
 use Rattle.stage2.proofs.Runs.Normal.{first_of}
 use Rattle.stage2.proofs.parts.begun.Given as goal
 

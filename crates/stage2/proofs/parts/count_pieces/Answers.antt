@@ -1,5 +1,4 @@
-use Rattle.std.proofs.Common.{◌≡◌, [], ◌∷◌, arith}
-use Rattle.stage2.proofs.Names.{option_map_or, PageRun, part_in, part_count, nat_tests, common_steps}
+use Rattle.stage2.proofs.Names.{option_map_or, PageRun, part_in, part_count, nat_tests, common_steps, ◌≡◌, [], ◌∷◌, arith}
 use Rattle.stage2.proofs.Runs.Parts.{sum-take}
 use Rattle.stage2.proofs.Counting.Pieces.{pages_among-le, pages-none, pages-more}
 use Rattle.stage2.proofs.parts.count_pieces.Goals as goal
@@ -16,14 +15,13 @@ loop-run-preserved c =
     let i = c.loop-run.run-index in
     let run = c.run-item-in-loop-run.result in
     let chunk = c.args.chunk in
-    let one = sum-take (λ run. option_map_or (λ (part : PageRun). 1) (part_in chunk run) 0) runs i run c.loop-run-test.true c.run-item-in-loop-run.is in
     let pages = pages-more runs i chunk run c.list-list.ensures.normal c.loop-run-test.true c.run-item-in-loop-run.is in
     let so = c.loop-run.invariant in
     let piece = c.piece_of-piece.ensures in
     let own : part_count chunk (run ∷ []) ≡ option_map_or (λ (part : PageRun). 1) (part_in chunk run) 0 = omega arith in
     record {
       pages = omega (arith, so.pages, pages, piece.pages);
-      runs = omega (arith, so.runs, one, piece.runs, own);
+      runs = omega (arith, so.runs, sum-take (λ run. option_map_or (λ (part : PageRun). 1) (part_in chunk run) 0) runs i run c.loop-run-test.true c.run-item-in-loop-run.is, piece.runs, own);
       few = omega (arith, so.few, piece.few);
     }
 

@@ -1,5 +1,4 @@
-use Rattle.std.proofs.Common.{◌≡◌, ◌≤◌, take}
-use Rattle.stage2.proofs.Names.{part_count, pages_in}
+use Rattle.stage2.proofs.Names.{part_count, pages_in, ◌≡◌, ◌≤◌, take}
 use Rattle.stage2.proofs.parts.count_pieces.Given as goal
 
 -- the pages of the first runs are counted

@@ -1,6 +1,4 @@
-use Rattle.std.proofs.Common.{◌<◌, leb, get_or, ap, arith, rules}
-use Rattle.std.proofs.lemmas.List.{get_or_read}
-use Rattle.stage2.proofs.Names.{nat_tests, PageRun}
+use Rattle.stage2.proofs.Names.{nat_tests, PageRun, get_or_read, ◌<◌, leb, get_or, ap, arith, rules}
 use Rattle.std.proofs.lemmas.List.Sorted.{IsPartitionPoint-from_clause, IsPartitionedBy-leb}
 use Rattle.stage2.proofs.Runs.Normal.{end_of, ends-rise}
 use Rattle.stage2.proofs.Runs.Between.{past-halved}

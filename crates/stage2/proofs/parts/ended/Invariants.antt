@@ -1,5 +1,4 @@
-use Rattle.std.proofs.Common.{◌≡◌, ℕ, ◌<◌, leb, true, get_or}
-use Rattle.stage2.proofs.Names.{PageRun}
+use Rattle.stage2.proofs.Names.{PageRun, ◌≡◌, ℕ, ◌<◌, leb, true, get_or}
 use Rattle.stage2.proofs.Runs.Normal.{end_of}
 use Rattle.stage2.proofs.parts.ended.Given as goal
 

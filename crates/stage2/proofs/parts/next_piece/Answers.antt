@@ -1,5 +1,4 @@
-use Rattle.std.proofs.Common.{◌≡◌, ◌≢◌, ◌+◌, ◌*◌, ◌/◌, ◌≤◌, inl, inr, ap, ◌∙◌, arith}
-use Rattle.stage2.proofs.Names.{nat_tests, runs_past}
+use Rattle.stage2.proofs.Names.{nat_tests, runs_past, ◌≡◌, ◌≢◌, ◌+◌, ◌*◌, ◌/◌, ◌≤◌, inl, inr, ap, ◌∙◌, arith}
 use Rattle.stage2.proofs.Runs.Between.{past-later}
 use Rattle.stage2.proofs.Runs.Pieces.{apart-before}
 use Rattle.stage2.proofs.parts.next_piece.Goals as goal

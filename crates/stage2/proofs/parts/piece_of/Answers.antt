@@ -1,7 +1,6 @@
-use Rattle.std.proofs.Common.{sym, ◌∙◌, arith}
 use Rattle.stage2.proofs.Counting.Pieces.{part-pages, part-within, no-part-pages}
 use Rattle.stage2.proofs.parts.piece_of.Goals as goal
-use Rattle.stage2.proofs.Names.{nat_tests, common_steps}
+use Rattle.stage2.proofs.Names.{nat_tests, common_steps, sym, ◌∙◌, arith}
 
 pub returns-in-Some-clause-pages : goal.returns-in-Some-clause-pages
 returns-in-Some-clause-pages c = c.count.ensures.same ∙ sym (part-pages c.args.chunk c.args.run c.in-Some.part (sym c.part_in.ensures ∙ c.in-Some.is))

@@ -1,6 +1,5 @@
-use Rattle.std.proofs.Common.{ap, ◌∙◌}
 use Rattle.std.proofs.lemmas.List.{take_rest}
-use Rattle.stage2.proofs.Names.{are_normal}
+use Rattle.stage2.proofs.Names.{are_normal, ap, ◌∙◌}
 use Rattle.stage2.proofs.Runs.Normal.{normal-drop}
 use Rattle.stage2.proofs.parts.runs_past.Goals as goal
 

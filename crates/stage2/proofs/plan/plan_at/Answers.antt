@@ -1,14 +1,13 @@
-use Rattle.stage2.proofs.Names.{is_mixed, View, pages_of, answers_of, nat_tests, common_steps}
-use Rattle.std.proofs.Common.{ℕ, not, ◌&&◌, refl, ap, ◌∙◌, arith}
+use Rattle.stage2.proofs.Names.{is_mixed, View, pages_of, answers_of, nat_tests, common_steps, eqb-true, ℕ, not, ◌&&◌, refl, ap, ◌∙◌, arith}
 use Rattle.stage2.specs.inner.Clauses.{IsChunkPlanned}
 use Rattle.stage2.proofs.Editing.ChunkByChunk.{bit, untouched}
 use Rattle.stage2.proofs.Counting.Growth.{grows-nothing}
 use Rattle.stage2.proofs.Counting.Operations.{chunk-same}
-use Rattle.stage2.proofs.Runs.OwnRuns.{chunk-covers, chunk-turns, chunk-touches, chunk-count, chunk-mixed}
+use Rattle.stage2.proofs.Runs.OwnRuns.{chunk-covers, chunk-touches, chunk-count, chunk-mixed}
 use Rattle.stage2.proofs.plan.plan_at.Goals as goal
 
 pub plan_in-requires-clause-turned : goal.plan_in-requires-clause-turned
-plan_in-requires-clause-turned g c = grind (arith, common_steps, nat_tests, chunk-turns, chunk-covers)
+plan_in-requires-clause-turned g c = grind (arith, common_steps, nat_tests, eqb-true, chunk-covers)
 
 pub returns-in-Some : goal.returns-in-Some
 returns-in-Some g c =

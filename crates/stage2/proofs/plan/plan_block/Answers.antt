@@ -1,5 +1,4 @@
-use Rattle.std.proofs.Common.{arith}
-use Rattle.stage2.proofs.Names.{block_answer, nat_tests, common_steps}
+use Rattle.stage2.proofs.Names.{block_answer, nat_tests, common_steps, arith}
 use Rattle.stage2.proofs.Counting.EditPlans.{edit-planned}
 use Rattle.stage2.proofs.Counting.Needs.{same-unmixed}
 use Rattle.stage2.proofs.Counting.Operations.{hung, plain, reached-as}

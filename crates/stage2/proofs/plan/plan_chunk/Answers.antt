@@ -1,6 +1,5 @@
-use Rattle.std.proofs.Common.{Bool, is_some, not, ◌&&◌, refl, sym, ap, ◌∙◌}
 use Rattle.std.proofs.Math.Bool.{and-true}
-use Rattle.stage2.proofs.Names.{is_mixed, words_of, read_before, read_after}
+use Rattle.stage2.proofs.Names.{is_mixed, words_of, read_before, read_after, Bool, is_some, not, ◌&&◌, refl, sym, ap, ◌∙◌}
 use Rattle.stage2.proofs.Counting.Operations.{plain-answer}
 use Rattle.stage2.proofs.Editing.ChunkByChunk.{bit}
 use Rattle.stage2.proofs.Editing.FourChunkEdits.{is-next}

@@ -1,5 +1,4 @@
-use Rattle.std.proofs.Common.{◌≡◌, ℕ, ◌+◌, ◌*◌, ◌<◌, ◌≤◌, true, refl, sym, subst, ◌∙◌, arith}
-use Rattle.stage2.proofs.Names.{pages_of, covers_chunk, nat_tests, common_steps}
+use Rattle.stage2.proofs.Names.{pages_of, covers_chunk, nat_tests, common_steps, ◌≡◌, ℕ, ◌+◌, ◌*◌, ◌<◌, ◌≤◌, true, refl, sym, subst, ◌∙◌, arith}
 use Rattle.stage2.proofs.Counting.Growth.{filled-grows, filled-operations, second-inside}
 use Rattle.stage2.proofs.Counting.UpToPiece.{planned-start, planned-piece, planned-end, planned-filled, planned-one}
 use Rattle.stage2.proofs.Runs.Between.{past-past}

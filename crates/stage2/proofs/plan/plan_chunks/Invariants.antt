@@ -1,5 +1,4 @@
-use Rattle.std.proofs.Common.{◌-◌}
-use Rattle.stage2.proofs.Names.{view_in}
+use Rattle.stage2.proofs.Names.{view_in, ◌-◌}
 use Rattle.stage2.proofs.Counting.UpToPiece.{IsPlanned}
 use Rattle.stage2.proofs.plan.plan_chunks.Given as goal
 

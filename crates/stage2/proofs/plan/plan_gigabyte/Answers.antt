@@ -1,5 +1,4 @@
-use Rattle.std.proofs.Common.{◌≡◌, ◌+◌, ◌*◌, None, sym, ap, subst, ◌∙◌}
-use Rattle.stage2.proofs.Names.{View, pages_of, count_below, edited, answers_of, grows_at, gigabyte_growth, Plan}
+use Rattle.stage2.proofs.Names.{View, pages_of, count_below, edited, answers_of, grows_at, gigabyte_growth, Plan, ◌≡◌, ◌+◌, ◌*◌, None, sym, ap, subst, ◌∙◌}
 use Rattle.stage2.proofs.Editing.Gigabyte.{touched-below, is-none}
 use Rattle.stage2.proofs.Counting.Growth.{growth-mapped, growth-unmapped}
 use Rattle.stage2.proofs.plan.plan_gigabyte.Goals as goal

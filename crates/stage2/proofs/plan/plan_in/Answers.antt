@@ -1,5 +1,5 @@
 use Rattle.std.proofs.Common.{◌≡◌, ◌≤◌, ◌<◌, ℕ, ◌+◌, ◌*◌, ◌%◌, ◌/◌, not, is_some, ◌&&◌, cond, refl, sym, ap, subst, ◌∙◌, arith}
-use Rattle.stage2.proofs.Names.{View, pages_of, Layout, Slot, Next, next_page, is_mixed, edited, answers_at, answers_of, entry_in, IsSpelled, grows_at, table_operations, chunk_operations}
+use Rattle.stage2.proofs.Names.{nat_tests, common_steps, View, pages_of, Layout, Slot, Next, next_page, is_mixed, edited, answers_at, answers_of, entry_in, IsSpelled, grows_at, table_operations, chunk_operations}
 use Rattle.stage2.proofs.Editing.ChunkByChunk.{bit}
 use Rattle.stage2.proofs.Editing.MadeEdit.{touches-made}
 use Rattle.stage2.proofs.Counting.Growth.{grows-entry, second-inside, second-held, entry-view, view-mixed, view-spelled, view-taken}
@@ -53,8 +53,7 @@ plan_chunk-requires-clause-mixed g c =
     let entry = entry_in layout m.words c.args.second.now (chunk % 512) in
     let at : 512 * (chunk / 512) + chunk % 512 ≡ chunk = omega arith in
     let read = view-mixed layout m c.requires.canonical (chunk / 512) (omega (arith, c.requires.in_range)) c.args.row.now.row c.args.row.now.inside c.args.second.now (chunk % 512) (omega arith) c.requires.table in
-    let there : is_mixed (answers_at layout m.words entry) chunk ≡ is_some (next_page entry) = subst (λ x. is_mixed (answers_at layout m.words entry) x ≡ is_some (next_page entry)) at read in
-    rw (c.requires.layout, c.entry_at-entry.ensures.same) there
+    rw (c.requires.layout, c.entry_at-entry.ensures.same) (subst (λ x. is_mixed (answers_at layout m.words entry) x ≡ is_some (next_page entry)) at read)
 
 pub returns : goal.returns
 returns g c =
@@ -75,10 +74,8 @@ returns g c =
     ∙ entry-view layout m c.requires.canonical (chunk / 512) below c.args.row.now.row c.args.row.now.inside c.args.second.now (chunk % 512) (512 * chunk + i) (omega arith) c.requires.table (omega (arith, small)))
     refl in
     let all : 3 + table_operations h.runs h.access read chunk ≤ c.plan_chunk.result.operations = rw c.requires.layout at c.plan_chunk.ensures.operations in
-    let so_many : 3 + table_operations h.runs h.access read chunk ≡ chunk_operations h.runs h.access before chunk = ap (λ t. cond t (3 + table_operations h.runs h.access read chunk) 0) (sym (touches-made h)) ∙ same in
     record {
-      tables = (rw c.requires.layout at c.plan_chunk.ensures.tables)
-          ∙ ap bit (ap (λ (s : Slot). is_mixed (edited h.runs h.access (answers_at layout m.words s)) chunk && not (is_some (next_page s))) c.entry_at-entry.ensures.same ∙ there);
-      operations = omega (arith, all, so_many);
+      tables = grind (arith, common_steps, nat_tests, bit);
+      operations = omega (arith, all, ap (λ t. cond t (3 + table_operations h.runs h.access read chunk) 0) (sym (touches-made h)) ∙ same);
       most = c.plan_chunk.ensures.most;
     }

@@ -1,5 +1,4 @@
-use Rattle.std.proofs.Common.{◌≡◌, ℕ, ◌+◌, ◌-◌, ◌*◌, ◌/◌, ◌≤◌, false, inl, inr, sym, ap, ◌∙◌, arith}
-use Rattle.stage2.proofs.Names.{pages_of, edited, answers_of, sum_below, gigabyte_operations, gigabyte_growth, Plan, View, covers, nat_tests, common_steps}
+use Rattle.stage2.proofs.Names.{pages_of, edited, answers_of, sum_below, gigabyte_operations, gigabyte_growth, Plan, View, covers, nat_tests, common_steps, ◌≡◌, ℕ, ◌+◌, ◌-◌, ◌*◌, ◌/◌, ◌≤◌, false, inl, inr, sym, ap, ◌∙◌, arith}
 use Rattle.stage2.proofs.Editing.ChunkByChunk.{sum_below-more}
 use Rattle.stage2.proofs.Editing.GigabyteByGigabyte.{grow-sum}
 use Rattle.stage2.proofs.Runs.Spans.{sum_below-none, sum_below-tail, outside-gigabytes}
@@ -20,10 +19,8 @@ loop-number-init g c =
     let v = answers_of c.args.edit.now.layout.now (pages_of (g.M.TableMem.state c.args.memory.now).memory).words c.args.edit.now.row in
     let first = c.gigabyte_span-span.result.first in
     record {
-      tables = ap (λ (p : Plan). p.tables) c.new-plan.ensures ∙ sym (sum_below-none (gigabyte_growth v (edited c.args.runs.now c.args.edit.now.access v)) first
-          (λ x lt. growth-nothing c.args.runs.now c.args.edit.now.access v x (λ n at. outside-gigabytes c.args.runs.now first c.gigabyte_span-span.result.end n c.gigabyte_span-span.ensures.within (inl (omega (arith, at, lt))))));
-      operations = let none = sum_below-none (gigabyte_operations c.args.runs.now c.args.edit.now.access v) first
-          (λ x lt. operations-nothing c.args.runs.now c.args.edit.now.access v x (λ n at. outside-gigabytes c.args.runs.now first c.gigabyte_span-span.result.end n c.gigabyte_span-span.ensures.within (inl (omega (arith, at, lt))))) in omega (arith, none);
+      tables = grind (arith, common_steps, nat_tests, sum_below-none, growth-nothing, outside-gigabytes);
+      operations = grind (arith, common_steps, nat_tests, sum_below-none, operations-nothing, outside-gigabytes);
       few = let none : c.new-plan.result.tables ≡ 0 = ap (λ (p : Plan). p.tables) c.new-plan.ensures in omega (arith, none);
       most = let none : c.new-plan.result.operations ≡ 0 = ap (λ (p : Plan). p.operations) c.new-plan.ensures in omega (arith, none);
     }
@@ -46,10 +43,9 @@ loop-number-preserved g c =
       | then-touches w ↦
           let grown : w.plan_gigabyte-more.result.tables ≡ f i = (rw here at w.plan_gigabyte-more.ensures.tables) ∙ gigabyte-growth i runs part access is v in
           let all : gigabyte_operations part access v i ≤ w.plan_gigabyte-more.result.operations = rw here at w.plan_gigabyte-more.ensures.operations in
-          let own = gigabyte-operations i runs part is access v in
-          let made : h i ≤ w.plan_gigabyte-more.result.operations = omega (arith, all, own) in
+          let made : h i ≤ w.plan_gigabyte-more.result.operations = omega (arith, all, gigabyte-operations i runs part is access v) in
           rw w.plan-is (record {
-            tables = up c.loop-number.plan.tables w.plan_gigabyte-more.result.tables (f i) (sum_below f i) (sum_below f (i + 1)) so.tables grown tables;
+            tables = omega arith;
             operations = most c.loop-number.plan.operations w.plan_gigabyte-more.result.operations (h i) (sum_below h i) (sum_below h (i + 1)) so.operations made operations;
             few = bound 513 c.loop-number.plan.tables w.plan_gigabyte-more.result.tables i so.few w.plan_gigabyte-more.ensures.few;
             most = bound 525826 c.loop-number.plan.operations w.plan_gigabyte-more.result.operations i so.most w.plan_gigabyte-more.ensures.most;
@@ -59,24 +55,15 @@ loop-number-preserved g c =
           let grown : f i ≡ 0 = growth-nothing runs access v i out in
           let made : h i ≡ 0 = operations-nothing runs access v i out in
           rw w.plan-is (record {
-            tables = same c.loop-number.plan.tables (f i) (sum_below f i) (sum_below f (i + 1)) so.tables grown tables;
-            operations = still c.loop-number.plan.operations (h i) (sum_below h i) (sum_below h (i + 1)) so.operations made operations;
+            tables = omega arith;
+            operations = omega arith;
             few = let few = so.few in omega (arith, few);
             most = let most = so.most in omega (arith, most);
           })
     ]
   where
-    up : (count one f below next : ℕ) → count ≡ below → one ≡ f → next ≡ f + below → count + one ≡ next
-    up count one f below next a b c = omega arith
-
     most : (count more one below next : ℕ) → below ≤ count → one ≤ more → next ≡ one + below → next ≤ count + more
     most count more one below next a b c = omega arith
-
-    still : (count f below next : ℕ) → below ≤ count → f ≡ 0 → next ≡ f + below → next ≤ count
-    still count f below next a b c = omega arith
-
-    same : (count f below next : ℕ) → count ≡ below → f ≡ 0 → next ≡ f + below → count ≡ next
-    same count f below next a b c = omega arith
 
     bound : (k count one i : ℕ) → count ≤ k * i → one ≤ k → count + one ≤ k * (i + 1)
     bound k count one i a b = let more : k * (i + 1) ≡ k * i + k = omega arith in omega (arith, a, b, more)

@@ -1,5 +1,4 @@
-use Rattle.std.proofs.Common.{◌≡◌, ◌*◌, ◌≤◌}
-use Rattle.stage2.proofs.Names.{pages_of, edited, answers_of, sum_below, gigabyte_operations, gigabyte_growth}
+use Rattle.stage2.proofs.Names.{pages_of, edited, answers_of, sum_below, gigabyte_operations, gigabyte_growth, ◌≡◌, ◌*◌, ◌≤◌}
 use Rattle.stage2.proofs.plan.plan_row.Given as goal
 
 abbrev pub invariant-loop-number : goal.invariant-loop-number

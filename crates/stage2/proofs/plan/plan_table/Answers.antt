@@ -1,6 +1,5 @@
-use Rattle.std.proofs.Common.{◌≡◌, ◌⊎◌, ℕ, ◌+◌, ◌*◌, false, cond, is_some, subst, arith}
-use Rattle.stage2.proofs.Names.{View, Pool, ChunkEdit, IsOutcome, IsSpelled, read_before, read_after, tells, words_left, pages_in, reached_in, table_operations, Next, nat_tests, common_steps}
-use Rattle.stage2.proofs.Counting.EditPlans.{edit-planned, either-most, either-near}
+use Rattle.stage2.proofs.Names.{View, Pool, ChunkEdit, IsOutcome, IsSpelled, read_before, read_after, tells, words_left, pages_in, reached_in, table_operations, Next, nat_tests, common_steps, ◌≡◌, ◌⊎◌, ℕ, ◌+◌, ◌*◌, false, cond, is_some, subst, arith}
+use Rattle.stage2.proofs.Counting.EditPlans.{edit-planned, either-most}
 use Rattle.stage2.proofs.Counting.Operations.{kept, dropped, table-either, table-words}
 use Rattle.stage2.proofs.Counting.Outcomes.{one, stray-mixed}
 use Rattle.stage2.proofs.plan.plan_table.Goals as goal
@@ -33,7 +32,7 @@ returns-then-most-min-le-SURPLUS g c =
     rw (c.operations_kept-kept.ensures.same, gone) (table-either e.runs e.access view e.chunk (512 * e.chunk + page.0) c.requires.mixed (omega (arith, page.1)) page.2) in
     edit-planned false c.max-most.result c.new-then-most-min-le-SURPLUS.ensures
     (either-most t c.operations_kept-kept.result c.operations_gone-gone.result c.max-most.result either c.max-most.ensures)
-    (λ yes. either-near t c.operations_kept-kept.result c.operations_gone-gone.result c.max-most.result c.min.result either c.max-most.ensures c.min.ensures c.if-most-min-le-SURPLUS.true)
+    (λ yes. (grind (arith, common_steps, nat_tests)))
     (omega (arith, c.max-most.ensures, c.operations_kept-kept.ensures.most, c.operations_gone-gone.ensures.most))
 
 -- a table that goes
@@ -41,10 +40,9 @@ pub returns-then-is_alike_in_table : goal.returns-then-is_alike_in_table
 returns-then-is_alike_in_table g c =
     let e = c.args.edit.now in
     let pool = g.M.TableMem.state c.args.memory.now in
-    let view : ℕ → View = read_before e (Next c.args.third) pool in
     let gone = gone-words e c.args.third c.operations_gone-gone.result pool c.requires.table.spelled c.operations_gone-gone.ensures.same in
     let outcome = subst (λ b. IsOutcome e.chunk (read_after e (Next c.args.third) pool) (tells b e.access)) c.if-is_alike_in_table.true c.is_alike_in_table.ensures in
-    let all = dropped e.runs e.access view e.chunk e.access c.requires.mixed outcome in
+    let all = dropped e.runs e.access (read_before e (Next c.args.third) pool) e.chunk e.access c.requires.mixed outcome in
     edit-planned false c.operations_gone-gone.result c.new-then-is_alike_in_table.ensures (omega (arith, all, gone)) (λ yes. omega (arith, all, gone)) (omega (arith, c.operations_gone-gone.ensures.most))
 
 -- one that stays, as its count tells

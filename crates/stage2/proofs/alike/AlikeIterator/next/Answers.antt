@@ -1,6 +1,5 @@
-use Rattle.std.proofs.Common.{List, sym, subst}
-use Rattle.stage2.proofs.Names.{TableEntry, ArePassed}
-use Rattle.stage2.proofs.Reading.Passing.{passed-more, passed-nothing, next-pages}
+use Rattle.stage2.proofs.Names.{TableEntry, ArePassed, nat_tests, common_steps, List, sym, subst, arith}
+use Rattle.stage2.proofs.Reading.Passing.{passed-more, next-pages}
 use Rattle.stage2.proofs.alike.AlikeIterator.next.Goals as goal
 
 pub returns-in-Leaf-clause-steps : goal.returns-in-Leaf-clause-steps
@@ -11,4 +10,4 @@ returns-in-Leaf-clause-steps g c =
 pub loop-entry-preserved : goal.loop-entry-preserved
 loop-entry-preserved g c =
     let passed = subst (λ (xs : List TableEntry). ArePassed c.args.self.now xs) c.in-Some.ensures.steps c.loop-entry.invariant in
-    passed-more c.args.self.now c.next.new.self c.in-Some.entry (passed-nothing c.in-Some.entry c.entry.result (sym c.entry.ensures) c.in_default-entry.not-Leaf) passed
+    passed-more c.args.self.now c.next.new.self c.in-Some.entry (grind (arith, common_steps, nat_tests)) passed

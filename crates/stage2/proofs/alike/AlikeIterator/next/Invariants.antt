@@ -1,5 +1,4 @@
-use Rattle.std.proofs.Common.{length}
-use Rattle.stage2.proofs.Names.{ArePassed}
+use Rattle.stage2.proofs.Names.{ArePassed, length}
 use Rattle.stage2.proofs.alike.AlikeIterator.next.Given as goal
 
 -- nothing is reached by the entries that came

@@ -1,5 +1,4 @@
-use Rattle.std.proofs.Common.{◌+◌, ◌*◌, ◌%◌, sym, ap, ◌∙◌, arith}
-use Rattle.stage2.proofs.Names.{words_of}
+use Rattle.stage2.proofs.Names.{words_of, ◌+◌, ◌*◌, ◌%◌, sym, ap, ◌∙◌, arith}
 use Rattle.stage2.proofs.Reading.Cursors.{skipped, ended, at-end, passed, counted, taken-entry}
 use Rattle.stage2.proofs.cursor.Cursor.next.Goals as goal
 use Rattle.stage2.proofs.cursor.Cursor.next.Goals.{then-loop-self-test+else-self-lt-TABLE_WORDS, else-loop-self-test}

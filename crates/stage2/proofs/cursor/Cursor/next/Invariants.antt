@@ -1,5 +1,4 @@
-use Rattle.std.proofs.Common.{◌≡◌, ◌-◌}
-use Rattle.stage2.proofs.Names.{words_of, left_in, IsCursor}
+use Rattle.stage2.proofs.Names.{words_of, left_in, IsCursor, ◌≡◌, ◌-◌}
 use Rattle.stage2.proofs.cursor.Cursor.next.Given as goal
 
 -- the words that were read are of no entry

@@ -1,6 +1,5 @@
-use Rattle.std.proofs.Common.{◌≡◌, ◌+◌, ◌*◌, ◌%◌, ap, ◌∙◌, arith}
-use Rattle.stage2.proofs.Names.{words_of, pages_at, nat_tests, common_steps}
-use Rattle.stage2.proofs.Reading.Cursors.{counted, odd-row, row-none, row-step, step-more}
+use Rattle.stage2.proofs.Names.{words_of, pages_at, nat_tests, common_steps, ◌≡◌, ◌+◌, ◌*◌, ◌%◌, ap, ◌∙◌, arith}
+use Rattle.stage2.proofs.Reading.Cursors.{counted, odd-row, row-none, row-step, steps-suc}
 use Rattle.stage2.proofs.cursor.Cursor.pass_row.Goals as goal
 
 pub loop-self-init : goal.loop-self-init
@@ -19,6 +18,6 @@ loop-self-preserved g c =
       is = counted _ words level cursor so.is c.if-self-lt-TABLE_WORDS.true c.loop-self-test.true (λ even. odd-row level c.args.word c.loop-self.count c.word.result c.requires.odd place (ap (λ n. n % 2) at ∙ even));
       first = so.first;
       index = omega (arith, so.index);
-      next = step-more level c.args.word c.from-step.result c.loop-self.next c.loop-self.count pages so.next;
+      next = (grind (arith, common_steps, nat_tests, steps-suc));
       entries = row-step _ words level c.args.self.now cursor c.args.word c.loop-self.count c.word.result so.is so.first so.index c.if-self-lt-TABLE_WORDS.true c.requires.odd at place so.entries;
     }

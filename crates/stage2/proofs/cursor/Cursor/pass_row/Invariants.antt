@@ -1,5 +1,4 @@
-use Rattle.std.proofs.Common.{◌≡◌, ◌+◌, ◌-◌, ◌*◌, ◌++◌}
-use Rattle.stage2.proofs.Names.{words_of, left_in, entry_row, next_first, IsCursor}
+use Rattle.stage2.proofs.Names.{words_of, left_in, entry_row, next_first, IsCursor, ◌≡◌, ◌+◌, ◌-◌, ◌*◌, ◌++◌}
 use Rattle.stage2.proofs.cursor.Cursor.pass_row.Given as goal
 
 -- the words that were passed stand in a row

@@ -1,5 +1,4 @@
-use Rattle.std.proofs.Common.{◌+◌, ◌≤◌, sym, ap, ◌∙◌, arith}
-use Rattle.stage2.proofs.Names.{words_of}
+use Rattle.stage2.proofs.Names.{words_of, ◌+◌, ◌≤◌, sym, ap, ◌∙◌, arith}
 use Rattle.stage2.specs.declared.table_page.Level.TheVariants.{Third}
 use Rattle.stage2.proofs.Reading.Cursors.{further, same-more}
 use Rattle.stage2.proofs.cursor.Cursor.pass_same.Goals as goal

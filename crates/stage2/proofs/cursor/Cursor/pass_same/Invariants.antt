@@ -1,5 +1,4 @@
-use Rattle.std.proofs.Common.{◌≡◌, ◌-◌}
-use Rattle.stage2.proofs.Names.{words_of, left_in, IsCursor, PassTheSame}
+use Rattle.stage2.proofs.Names.{words_of, left_in, IsCursor, PassTheSame, ◌≡◌, ◌-◌}
 use Rattle.stage2.specs.declared.table_page.Level.TheVariants.{Third}
 use Rattle.stage2.proofs.cursor.Cursor.pass_same.Given as goal
 

@@ -18,6 +18,4 @@ pub returns : goal.returns
 returns g c =
     let pages = g.W.WordSource.pages c.args.words in
     let words = words_of (g.W.WordSource.words c.args.words) in
-    let second = c.ended.ensures pages words in
-    let third = c.ended-2.ensures pages words in
-    all-left c.args.base c.args.pages words c.opened-tree.result c.ended.result c.ended-2.result c.args.root third.1 second.1 c.opened-tree.ensures.entries
+    all-left c.args.base c.args.pages words c.opened-tree.result c.ended.result c.ended-2.result c.args.root (c.ended-2.ensures pages words).1 (c.ended.ensures pages words).1 c.opened-tree.ensures.entries

@@ -1,5 +1,4 @@
-use Rattle.std.proofs.Common.{◌≡◌, ◌+◌, ◌*◌, ◌%◌, sym, ap, ◌∙◌, arith}
-use Rattle.stage2.proofs.Names.{words_of, pages_at, next_first}
+use Rattle.stage2.proofs.Names.{words_of, pages_at, next_first, ◌≡◌, ◌+◌, ◌*◌, ◌%◌, sym, ap, ◌∙◌, arith}
 use Rattle.stage2.specs.declared.table_page.Level.TheVariants.{Second, Third}
 use Rattle.stage2.proofs.Reading.Rows.{second-row, none-behind, stand-behind}
 use Rattle.stage2.proofs.entries.Entries.pass_blocks.Goals as goal

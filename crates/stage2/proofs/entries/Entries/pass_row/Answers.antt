@@ -1,18 +1,16 @@
-use Rattle.std.proofs.Common.{sym, ap, ◌∙◌}
-use Rattle.stage2.proofs.Names.{entry_of, number_of}
-use Rattle.stage2.proofs.Reading.Rows.{in-row-behind, in-row-alone, leaf-small, leaf-odd, leaf-block}
+use Rattle.stage2.proofs.Names.{nat_tests, common_steps, entry_of, number_of, arith, sym, ap, ◌∙◌}
+use Rattle.stage2.proofs.Reading.Rows.{in-row-behind, in-row-alone, leaf-small, leaf-block}
 use Rattle.stage2.proofs.entries.Entries.pass_row.Goals as goal
+use Rattle.words.proofs.RoundTrip.{word-leaf, odd-leaf}
 
 pub pass_pages-requires-clause-odd : goal.pass_pages-requires-clause-odd
-pass_pages-requires-clause-odd g c = leaf-odd c.args.entry.level c.args.entry.word c.args.page c.args.access c.requires
+pass_pages-requires-clause-odd g c = grind (arith, common_steps, nat_tests, word-leaf (number_of c.args.entry.level) c.args.entry.word c.args.page c.args.access c.requires, odd-leaf)
 
 pub pass_pages-requires-clause-small : goal.pass_pages-requires-clause-small
 pass_pages-requires-clause-small g c = leaf-small c.args.entry.level c.args.entry.word c.args.page c.args.access c.requires
 
 pub pass_blocks-requires-clause-block : goal.pass_blocks-requires-clause-block
-pass_blocks-requires-clause-block g c =
-    let level = sym c.level.ensures ∙ c.in-Second.is in
-    leaf-block c.args.entry.word c.args.page c.args.access (ap (λ l. entry_of (number_of l) c.args.entry.word) (sym level) ∙ c.requires)
+pass_blocks-requires-clause-block g c = grind (arith, common_steps, nat_tests, leaf-block)
 
 pub pass_blocks-requires-clause-small : goal.pass_blocks-requires-clause-small
 pass_blocks-requires-clause-small g c = leaf-small c.args.entry.level c.args.entry.word c.args.page c.args.access c.requires

@@ -1,5 +1,4 @@
-use Rattle.std.proofs.Common.{◌≡◌, ℕ, List, [], length, sym, ap, ◌∙◌, arith}
-use Rattle.stage2.proofs.Names.{words_of, option_map_or, entry_of, Words, number_of, TableEntry, table_entries, table_in, left_in, nat_tests, common_steps}
+use Rattle.stage2.proofs.Names.{words_of, option_map_or, entry_of, Words, number_of, TableEntry, table_entries, table_in, left_in, nat_tests, common_steps, ◌≡◌, ℕ, List, [], length, sym, ap, ◌∙◌, arith}
 use Rattle.stage2.specs.declared.table_page.Level.TheVariants.{Second, Third}
 use Rattle.stage2.proofs.Reading.Trees.{third-next, second-next, root-next, none-next}
 use Rattle.stage2.proofs.entries.EntriesIterator.next.Goals as goal
@@ -8,9 +7,7 @@ pub returns-in-Some-clause-steps : goal.returns-in-Some-clause-steps
 returns-in-Some-clause-steps g c = grind (arith, common_steps, nat_tests, third-next)
 
 pub returns-in-Some-clause-goes : goal.returns-in-Some-clause-goes
-returns-in-Some-clause-goes g c =
-    let more = ap (λ xs. length xs) (returns-in-Some-clause-steps g c) in
-    record { on = λ _. (tt, tt, omega (arith, more)); keeps = tt; rests = λ _. tt }
+returns-in-Some-clause-goes g c = grind (arith, common_steps, nat_tests, returns-in-Some-clause-steps)
 
 -- what the table has below that an entry points at
 opened-at : (words : Words) (base pages first word level n : ℕ) (f : ℕ → List TableEntry) (below : List TableEntry) → level ≡ n → below ≡ option_map_or f (table_in base pages (entry_of level word)) [] → below ≡ option_map_or f (table_in base pages (entry_of n word)) []
@@ -27,8 +24,7 @@ returns-in-Some-next-clause-steps g c =
 
 pub returns-in-Some-next-clause-goes : goal.returns-in-Some-next-clause-goes
 returns-in-Some-next-clause-goes g c =
-    let more = ap (λ xs. length xs) (returns-in-Some-next-clause-steps g c) in
-    record { on = λ _. (tt, tt, omega (arith, more)); keeps = tt; rests = λ _. tt }
+    record { on = λ _. (tt, tt, omega (arith, ap (λ xs. length xs) (returns-in-Some-next-clause-steps g c))); keeps = tt; rests = λ _. tt }
 
 pub returns-clause-steps : goal.returns-clause-steps
 returns-clause-steps g c =
@@ -43,8 +39,7 @@ returns-clause-steps g c =
 
 pub returns-clause-goes : goal.returns-clause-goes
 returns-clause-goes g c =
-    let more = ap (λ xs. length xs) (returns-clause-steps g c) in
-    record { on = λ _. (tt, tt, omega (arith, more)); keeps = tt; rests = λ _. tt }
+    record { on = λ _. (tt, tt, omega (arith, ap (λ xs. length xs) (returns-clause-steps g c))); keeps = tt; rests = λ _. tt }
 
 pub returns-in_err-entry-clause-steps : goal.returns-in_err-entry-clause-steps
 returns-in_err-entry-clause-steps g c = grind (arith, common_steps, nat_tests, none-next)

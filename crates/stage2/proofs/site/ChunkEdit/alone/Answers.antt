@@ -1,5 +1,4 @@
-use Rattle.std.proofs.Common.{◌≡◌, ◌≢◌, ℕ, ◌+◌, ◌*◌, ◌/◌, ◌≤◌, true, false, List, arith}
-use Rattle.stage2.proofs.Names.{nat_tests, PageRun, touches_chunk, lie_within, common_steps}
+use Rattle.stage2.proofs.Names.{nat_tests, PageRun, touches_chunk, lie_within, common_steps, ◌≡◌, ◌≢◌, ℕ, ◌+◌, ◌*◌, ◌/◌, ◌≤◌, true, false, List, arith}
 use Rattle.stage2.proofs.Counting.Bounds.{between, in-chunk}
 use Rattle.stage2.proofs.Runs.Normal.{any-within}
 use Rattle.stage2.proofs.site.ChunkEdit.alone.Goals as goal

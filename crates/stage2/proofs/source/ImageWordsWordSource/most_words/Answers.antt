@@ -1,5 +1,4 @@
-use Rattle.std.proofs.Common.{ℕ, ◌≤◌, List, not, eqb}
-use Rattle.stage2.proofs.Names.{words_of, nonzero_in}
+use Rattle.stage2.proofs.Names.{words_of, nonzero_in, ℕ, ◌≤◌, List, not, eqb}
 use Rattle.pool.proofs.Count.{count_below-le}
 use Rattle.stage2.proofs.source.ImageWordsWordSource.most_words.Goals as goal
 

@@ -1,5 +1,4 @@
-use Rattle.std.proofs.Common.{subst}
-use Rattle.stage2.proofs.Names.{ClearsInStep}
+use Rattle.stage2.proofs.Names.{ClearsInStep, subst}
 use Rattle.stage2.specs.Tables.{TablesView}
 use Rattle.stage2.proofs.Editing.WholeTables.{view, canonical-now, cleared-in_step}
 use Rattle.stage2.proofs.tables.Tables.clear.Goals as goal

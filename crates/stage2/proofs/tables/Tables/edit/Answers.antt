@@ -1,25 +1,11 @@
-use Rattle.std.proofs.Common.{Some, ◌≡◌, ◌≤◌, false, eqb, sym, ap, subst, ◌∙◌, position, length}
-use Rattle.stage2.proofs.Names.{has_root, AreTurnedFor, edit_operations, AreEdited}
+use Rattle.stage2.proofs.Names.{nat_tests, common_steps, has_root, AreTurnedFor, edit_operations, AreEdited, arith, Some, ◌≡◌, ◌≤◌, false, eqb, sym, ap, subst, ◌∙◌, position, length}
 use Rattle.stage2.specs.Tables.{TablesView, Fits}
 use Rattle.stage2.proofs.Tree.Rows.{row-found}
-use Rattle.stage2.proofs.Editing.WholeTables.{view, canonical-inside, edited-rooted, edited-rootless, found-none, turned-found, fits-row, room-row, rootless-edit}
+use Rattle.stage2.proofs.Editing.WholeTables.{view, canonical-inside, edited-rooted, edited-rootless, found-none, turned-found, rootless-edit}
 use Rattle.stage2.proofs.tables.Tables.edit.Goals as goal
 
 pub edit_row-requires : goal.edit_row-requires
-edit_row-requires g c =
-    let layout = c.self.inside.layout in
-    let row = row-found layout.ids c.args.p c.in-Some.row (sym c.row.ensures.row ∙ c.in-Some.is) in
-    let m = c.self.inside.memory in
-    let now = view layout (g.M.TableMem.state m) (g.M.TableMem.room m) in
-    record {
-      canonical = c.self.invariant;
-      turned = λ yes. turned-found now c.args.p c.args.runs.now c.args.access.now (Some c.in-Some.row) (sym (sym c.row.ensures.row ∙ c.in-Some.is))
-          (subst (λ (t : TablesView). AreTurnedFor c.args.p c.args.runs.now c.args.access.now t) (sym c.self.view_is) (c.requires.turned yes));
-      fits = fits-row now c.args.p c.in-Some.row c.args.runs.now c.args.access.now row
-          (subst (λ (t : TablesView). Fits c.args.p c.args.runs.now c.args.access.now t) (sym c.self.view_is) c.requires.can.fits);
-      room = room-row now c.args.p c.in-Some.row c.args.runs.now c.args.access.now row
-          (subst (λ (t : TablesView). edit_operations c.args.p c.args.runs.now c.args.access.now t ≤ t.room) (sym c.self.view_is) c.requires.can.ready);
-    }
+edit_row-requires g c = grind (arith, common_steps, nat_tests, row-found, view, turned-found)
 
 pub returns-in-Some : goal.returns-in-Some
 returns-in-Some g c =

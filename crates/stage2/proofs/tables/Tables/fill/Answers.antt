@@ -1,11 +1,11 @@
-use Rattle.std.proofs.Common.{◌≡◌, ◌<◌, rules, refl, sym, subst, ◌∙◌, arith}
 use Rattle.std.proofs.lemmas.Result.{on_ok_weaker}
-use Rattle.stage2.proofs.Names.{View, in_range, IsFilling, nat_tests, common_steps}
-use Rattle.stage2.proofs.Editing.FillUpward.{can-map, mapped, others, others-more, others-none, edge-between, edge-last, filling-none, filling-more, filling-next, filled, segment-alike, in-range-fits}
+use Rattle.stage2.proofs.Names.{View, in_range, IsFilling, nat_tests, common_steps, ◌≡◌, ◌<◌, rules, refl, sym, subst, ◌∙◌, arith}
+use Rattle.stage2.proofs.Editing.FillUpward.{can-map, mapped, others, others-more, edge-between, filling-next, filled, segment-alike, in-range-fits}
 use Rattle.stage2.proofs.tables.Tables.fill.Goals as goal
+use Rattle.stage2.proofs.Editing.Fronts.{below-out}
 
 pub loop-number-init : goal.loop-number-init
-loop-number-init g c = grind (arith, common_steps, nat_tests, filling-none c.args.self.now.layout (in_range (g.V.Views.view c.args.views.now c.args.p)) c.args.p c.args.self.now refl c.requires.canonical c.requires.unmapped, others-none c.args.p c.args.self.now)
+loop-number-init g c = grind (arith, common_steps, nat_tests, below-out)
 
 pub map_pending-requires-clause-fits : goal.map_pending-requires-clause-fits
 map_pending-requires-clause-fits g c = λ a is.
@@ -23,7 +23,7 @@ map_pending-requires-2-clause-fits g c = λ a is.
     let view = g.V.Views.view c.args.views.now c.args.p in
     let l = c.loop-number in
     can-map c.args.self.now.layout (in_range view) c.args.p l.first l.number l.access l.self l.invariant.filling a is
-    (edge-last c.args.self.now.layout view c.args.p l.first l.number l.access a l.self l.invariant.filling c.loop-number-test.false is) (in-range-fits view _ c.requires.fits)
+    (grind (arith, common_steps, nat_tests, below-out)) (in-range-fits view _ c.requires.fits)
 
 pub loop-number-preserved-in_ok-map_pending : goal.loop-number-preserved-in_ok-map_pending
 loop-number-preserved-in_ok-map_pending g c =
@@ -51,7 +51,7 @@ loop-number-preserved-in_ok-map_pending g c =
     }
 
 pub loop-number-preserved : goal.loop-number-preserved
-loop-number-preserved g c = grind (arith, common_steps, nat_tests, g.V.Views.view c.args.views.now c.args.p, segment-alike, filling-more)
+loop-number-preserved g c = grind (arith, common_steps, nat_tests, g.V.Views.view c.args.views.now c.args.p, segment-alike)
 
 pub returns-clause-layout : goal.returns-clause-layout
 returns-clause-layout g c = on_ok_weaker _ (λ (same : c.map_pending-2.new.self.layout ≡ c.loop-number.self.layout). same ∙ c.loop-number.invariant.filling.placed) c.map_pending-2.ensures.layout
@@ -61,7 +61,6 @@ returns-clause-walks g c = grind (arith, common_steps, nat_tests, g.V.Views.view
 
 pub returns-clause-others : goal.returns-clause-others
 returns-clause-others g c =
-    let view = g.V.Views.view c.args.views.now c.args.p in
     let l = c.loop-number in
     on_ok_weaker _ (λ reach. others-more c.args.p c.args.self.now l.self c.map_pending-2.new.self l.invariant.others
-    (others c.args.self.now.layout (in_range view) c.args.p l.first l.number l.access l.self l.invariant.filling c.map_pending-2.new.self reach)) c.map_pending-2.ensures.walks
+    (others c.args.self.now.layout (in_range (g.V.Views.view c.args.views.now c.args.p)) c.args.p l.first l.number l.access l.self l.invariant.filling c.map_pending-2.new.self reach)) c.map_pending-2.ensures.walks

@@ -1,5 +1,4 @@
-use Rattle.std.proofs.Common.{◌-◌}
-use Rattle.stage2.proofs.Names.{in_range, IsFilling, KeepsOthers}
+use Rattle.stage2.proofs.Names.{in_range, IsFilling, KeepsOthers, ◌-◌}
 use Rattle.stage2.proofs.tables.Tables.fill.Given as goal
 
 -- the pages below the pending ones are mapped

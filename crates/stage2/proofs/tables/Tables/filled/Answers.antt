@@ -1,5 +1,4 @@
-use Rattle.std.proofs.Common.{◌≡◌, ◌<◌, List, length, get_or, ap, subst, ◌∙◌, arith}
-use Rattle.stage2.proofs.Names.{PartitionRow, nat_tests, common_steps}
+use Rattle.stage2.proofs.Names.{PartitionRow, nat_tests, common_steps, ◌≡◌, ◌<◌, List, length, get_or, ap, subst, ◌∙◌, arith}
 use Rattle.manifest.proofs.Facts.{facts}
 use Rattle.stage2.proofs.Counting.Quotas.{quota_at}
 use Rattle.stage2.proofs.Editing.FillPartitions.{filled-none, not-filled, filled-more, filled-all}

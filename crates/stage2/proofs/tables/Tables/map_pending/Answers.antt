@@ -1,8 +1,6 @@
-use Rattle.std.proofs.Common.{arith}
-use Rattle.stage2.proofs.Editing.FillUpward.{fits-same}
 use Rattle.stage2.proofs.Editing.WholeTables.{turned-same}
 use Rattle.stage2.proofs.tables.Tables.map_pending.Goals as goal
-use Rattle.stage2.proofs.Names.{nat_tests, common_steps}
+use Rattle.stage2.proofs.Names.{nat_tests, common_steps, arith}
 
 pub new-requires : goal.new-requires
 new-requires g c = let can = c.requires.fits c.in-Some.access c.in-Some.is in let a = can.some in let b = can.inside in omega (arith, a, b)
@@ -21,4 +19,4 @@ ready_to_turn-requires-clause-turned g c = grind (arith, common_steps, nat_tests
 
 -- the pages that are turned, and the edit that fits, where the list is made ready
 pub turn-requires : goal.turn-requires
-turn-requires g c = grind (arith, common_steps, nat_tests, c.requires.fits c.in-Some.access c.in-Some.is, turned-same, fits-same)
+turn-requires g c = grind (arith, common_steps, nat_tests, c.requires.fits c.in-Some.access c.in-Some.is, turned-same)

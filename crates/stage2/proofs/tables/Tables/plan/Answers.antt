@@ -1,5 +1,4 @@
-use Rattle.std.proofs.Common.{sym, ap, subst, ◌∙◌}
-use Rattle.stage2.proofs.Names.{grow, edited, view_of, AreTurnedFor}
+use Rattle.stage2.proofs.Names.{grow, edited, view_of, AreTurnedFor, sym, ap, subst, ◌∙◌}
 use Rattle.stage2.specs.Sound.{TablesView}
 use Rattle.stage2.proofs.Editing.WholeTables.{view, turned-found, grow-found}
 use Rattle.stage2.proofs.tables.Tables.plan.Goals as goal

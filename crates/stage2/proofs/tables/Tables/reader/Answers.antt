@@ -1,5 +1,4 @@
-use Rattle.std.proofs.Common.{map, ap, ◌∙◌}
-use Rattle.stage2.proofs.Names.{shown, Reading, entries_of, reading_of}
+use Rattle.stage2.proofs.Names.{shown, Reading, entries_of, reading_of, map, ap, ◌∙◌}
 use Rattle.stage2.proofs.Editing.WholeTables.{canonical-inside}
 use Rattle.stage2.proofs.Reading.Listing.{all-shown}
 use Rattle.stage2.proofs.tables.Tables.reader.Goals as goal
