@@ -11,7 +11,7 @@ use denote.Memory.{part_at}
 use denote.Shadow.{makes_shadow}
 use denote.Struct.Owning.{shape}
 use borrow.Table.OneValue.{part_in, part_out}
-use Rattle.pool.proofs.Names.{Option, type_size, slot, slots, slot_lent, slots_lent}
+use Rattle.pool.proofs.Names.{nat_tests, common_steps, Option, type_size, slot, slots, slot_lent, slots_lent}
 use Rattle.core.proofs.ptr.Rows.{times_below, one_below}
 use denote.Struct.Declared as Declared
 use Rattle.pool.specs.contracts.cells.Cells as C-type
@@ -90,9 +90,7 @@ three_of 𝓛 R S T x y z u v w =
     fpack ! (Valss (R ∷ S ∷ T ∷ [])) (within (Declared.shape (tuple_type (R ∷ S ∷ T ∷ []))) (x, (y, (z, tt))) (three_val u v w ∷ [])) (u ∷ [], (v ∷ [], (w ∷ [], tt))) $ done !
 
 alone : (τ : Ty) (vs : List Val) → Typed (τ ∷ []) vs → (v : Val) × ((vs ≡ v ∷ []) × Good τ v)
-alone τ [] t = absurd t
-alone τ (v ∷ []) t = (v, (refl, t.0))
-alone τ (v ∷ w ∷ vs) t = absurd t.1
+alone τ vs t = grind (arith, common_steps, nat_tests)
 
 module _ (Y : RattleType) (L : Laws Y) {M : Type 1} {𝓤 : Ura M} {𝓛 : Logic 𝓤} {K : Type 0} {Γ : List (Item 𝓤)} {G : Goal 𝓤 𝓛.H} where
   -- what is owned of a value is one machine value, of its type
@@ -104,14 +102,10 @@ module _ (Y : RattleType) (L : Laws Y) {M : Type 1} {𝓤 : Ura M} {𝓛 : Logic
 
 -- a place begins less than 2 ^ 64 bytes into its block
 pub place_fits : (index count size : ℕ) → index < count → count * size < 2 ^ 63 → (size < 2 ^ 64) × (index * size < 2 ^ 64)
-place_fits index count size within small =
-    let one = one_below count size (2 ^ 63) (omega arith) small in
-    let far = times_below index count size (2 ^ 63) (omega arith) small in (omega arith, omega arith)
+place_fits index count size within small = grind (arith, common_steps, nat_tests, one_below, times_below)
 
 pub filled_within : {X : Type 0} (cs : List (Option X)) (i : ℕ) (x : X) → get_or cs i None ≡ Some x → i < length cs
-filled_within [] i x e = cc
-filled_within (c ∷ cs) zero x e = omega arith
-filled_within (c ∷ cs) (suc i) x e = omega (arith, filled_within cs i x e)
+filled_within cs i x e = grind (arith, common_steps, nat_tests)
 
 module _ (E : El) {M : Type 1} {𝓤 : Ura M} (𝓛 : Logic 𝓤) (b : ℕ) where
   open 𝓛 use {H}

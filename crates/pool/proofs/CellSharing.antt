@@ -1,14 +1,14 @@
 -- A `&` to the places gives a `&` to what fills each.
+use Rattle.std.proofs.Common.{arith}
 use Rattle.pool.proofs.WalkNames.{ℕ, ◌+◌, List, [], ◌∷◌, Some, None, Ura, Lft, Incl, ftrue, ffalse, Logic, RattleType, RowLaws, Laws, Ptr, block_ptr, null_ptr, beside_shr_laws, nothing_shr_laws, said_shr_laws, Lends, Lends-both, Lends-nothing, Lends-said, Lends-false}
-use Rattle.pool.proofs.Names.{Option, type_size, slot, slots, slot_lent, slots_lent, cells_own, cells_lent}
+use Rattle.pool.proofs.Names.{nat_tests, common_steps, Option, type_size, slot, slots, slot_lent, slots_lent, cells_own, cells_lent}
 use denote.Sharing.{ShrLaws, said}
 use denote.Shares.{Shares-less}
 use Rattle.pool.specs.CellOwnership.{fit}
 
 module _ (R : RattleType) (L : RowLaws R) where
   slot_lent_laws : (b o : ℕ) (c : Option R.Denot) → ShrLaws (slot_lent R b o c)
-  slot_lent_laws b o (Some x) = L x b o
-  slot_lent_laws b o None = nothing_shr_laws
+  slot_lent_laws b o c = grind (arith, common_steps, nat_tests, nothing_shr_laws)
 
   slots_lent_laws : (b o : ℕ) (cs : List (Option R.Denot)) → ShrLaws (slots_lent R b o cs)
   slots_lent_laws b o [] = nothing_shr_laws

@@ -1,5 +1,5 @@
 -- The pages beside runs, as runs.
-use Rattle.pool.proofs.Names.{common_steps, nat_tests, PageRun, covers, rise, Pool, after_sets, index_from, words_in, after_runs, gap, gaps_from, gaps_of, at_drop_more, at_drop_all}
+use Rattle.pool.proofs.Names.{common_steps, nat_tests, PageRun, covers, rise, Pool, after_sets, index_from, words_in, after_runs, gap, gaps_from, gaps_of, at_drop_more}
 use Rattle.std.proofs.Common.{◌≡◌, ℕ, ◌+◌, ◌-◌, ◌<◌, ◌≤◌, ◌||◌, true, false, max, ◌*◌, List, [], ◌∷◌, ◌++◌, length, drop, get_or, refl, arith}
 use Rattle.base.specs.Pages.{rise_above, are_normal}
 use Rattle.pool.proofs.RunWords.{after_runs-none, after_runs-next, words_in-append, sets-none}
@@ -29,9 +29,6 @@ pub gaps-left : (start first end next i : ℕ) (runs : List PageRun) (run : Page
     → gaps_from start first (drop i runs) ≡ gap start first end ++ gaps_from start next (drop (i + 1) runs)
 gaps-left start first end next i runs run lt is at after = grind (arith, common_steps, nat_tests, at_drop_more (gaps_from start first) runs i run lt, gaps-next)
 
-pub gaps-done : (start first i : ℕ) (runs : List PageRun) → length runs ≤ i → gaps_from start first (drop i runs) ≡ gap start first 512
-gaps-done start first i runs all = grind (arith, common_steps, at_drop_all (gaps_from start first) runs i all, gaps-none)
-
 -- ---- runs that stand upward
 
 pub above : (run : PageRun) (runs : List PageRun) (e : ℕ) → rise e (run ∷ runs) ≡ true → (e ≤ run.first) × (rise (run.first + run.count) runs ≡ true)
@@ -55,17 +52,13 @@ rise-normal [] normal = refl
 rise-normal (run ∷ runs) normal = grind (arith, nat_tests, rise-strict)
 
 pub covers-append : (a b : List PageRun) (n : ℕ) → covers (a ++ b) n ≡ (covers a n || covers b n)
-covers-append [] b n = refl
-covers-append (run ∷ a) b n = grind (arith, nat_tests, covers-append a b n)
+covers-append a b n = grind (arith, common_steps, nat_tests)
 
 module _ (start : ℕ) where
-  rise-gap : (first end e : ℕ) (rest : List PageRun) → e ≤ start + first → first ≤ end → rise (start + end) rest ≡ true → rise e (gap start first end ++ rest) ≡ true
-  rise-gap first end e rest least ordered up = grind (arith, nat_tests, common_steps, rise-lower)
-
   -- gaps stand upward
   rise-gaps : (runs : List PageRun) (first : ℕ) → rise (start + first) (gaps_from start first runs) ≡ true
   rise-gaps [] first = grind (arith, common_steps, nat_tests, gaps-none)
-  rise-gaps (run ∷ runs) first = grind (arith, nat_tests, common_steps, gaps-next, rise-gap, rise-lower, rise-gaps runs (max first (index_from start (run.first + run.count))))
+  rise-gaps (run ∷ runs) first = grind (arith, nat_tests, common_steps, gaps-next, rise-lower, rise-lower, rise-gaps runs (max first (index_from start (run.first + run.count))))
 
   pub gaps-rise : (runs : List PageRun) → rise 0 (gaps_of start runs) ≡ true
   gaps-rise runs = rise-lower (gaps_of start runs) (start + 0) 0 (omega arith) (rise-gaps runs 0)

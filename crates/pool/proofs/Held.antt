@@ -4,7 +4,7 @@ use Rattle.std.proofs.Common.{◌≡◌, ◌≢◌, ℕ, zero, suc, ◌+◌, ◌
 use Rattle.std.proofs.Math.ListN.{set, get_or-map}
 use Rattle.std.proofs.Math.Nat.{div-add-mod, mod-lt}
 use Rattle.std.proofs.Math.Seq.{map-set_same}
-use Rattle.std.proofs.lemmas.List.{set-set, map-set, length-map, length-set, get_or-set_same, get_or-set_other}
+use Rattle.std.proofs.lemmas.List.{length-map, length-set, get_or-set_same, get_or-set_other}
 use Rattle.pool.specs.Cells.{IsPageEmpty}
 use Rattle.pool.proofs.Contents.{swept}
 
@@ -15,10 +15,6 @@ length-held cs = length-map cs (λ c. unwrap_or c 0)
 
 pub held-none : (cs : List (Option ℕ)) (i : ℕ) → get_or cs i None ≡ None → slice_index (held cs) i ≡ 0
 held-none cs i is = get_or-map (λ c. unwrap_or c 0) cs i None ∙ ap (λ c. unwrap_or c 0) is
-
--- a place is emptied and filled again
-pub held-set : (cs : List (Option ℕ)) (i x : ℕ) → held (set (set cs i None) i (Some x)) ≡ set (held cs) i x
-held-set cs i x = ap held (set-set cs i None (Some x)) ∙ map-set (λ c. unwrap_or c 0) cs i (Some x)
 
 pub held-new : (n : ℕ) → held (replicate n None) ≡ replicate n 0
 held-new zero = refl

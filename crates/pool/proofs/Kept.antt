@@ -81,11 +81,7 @@ counts-new m = grind (arith, common_steps, nat_tests, used_by-new)
 -- a page of a row's share gets another mark, and the row another count, which is right
 pub counts-set : {quotas free : List ℕ} {taken : List Bool} {row page : ℕ} (m : Pages) (n : ℕ) (is : Bool) → CountsFree quotas taken free → InShare quotas row page → page < length taken → m.quotas ≡ quotas → m.taken ≡ taken_of taken
     → n + used_by (with_mark page is m) row ≡ row_quota quotas row → CountsFree quotas (slice_set taken page is) (slice_set free row n)
-counts-set {quotas} {free} {taken} {row} {page} m n is counts inside below same shown right =
-    record {
-      rows = length-set free row n ∙ counts.rows;
-      each = λ r small. rw (taken_of-set taken page is below) (grind (arith, nat_tests, get_or-set_same free row n 0, get_or-set_other free row r n 0, used_by-other m row r page is, counts.each r small, counts.rows, inside.partition, inside, same, shown, right));
-    }
+counts-set {quotas} {free} {taken} {row} {page} m n is counts inside below same shown right = grind (arith, common_steps, nat_tests, length-set, taken_of-set, get_or-set_same, get_or-set_other, used_by-other)
 
 -- ---- a valid manifest
 

@@ -1,8 +1,8 @@
 -- How many words of a page are not 0, after a write.
-use Rattle.pool.proofs.Names.{nat_tests, common_steps, page_count, Words, words_of, put, nonzero_in, CountsNonzero, ◌≡◌, ◌≢◌, ℕ, ◌+◌, ◌*◌, ◌<◌, ◌≤◌, ◌==◌, not, arith, cond, List, length, replicate, slice_index, slice_set, ap, ◌⊎◌}
+use Rattle.pool.proofs.Names.{nat_tests, common_steps, page_count, Words, words_of, put, nonzero_in, CountsNonzero, ◌≡◌, ◌≢◌, ℕ, ◌+◌, ◌*◌, ◌<◌, ◌≤◌, ◌==◌, not, arith, cond, List, replicate, slice_index, slice_set, ap, ◌⊎◌}
 use Rattle.std.proofs.lemmas.List.{length-set, length-replicate, get_or-set_same, get_or-set_other}
 use Rattle.pool.proofs.Count.{count_below-same, count_below-at, count_below-some, count_below-none, count_below-le, count_below-witness}
-use Rattle.pool.proofs.Words.{words_of-set_at, words_of-zeros}
+use Rattle.pool.proofs.Words.{words_of-zeros}
 
 -- a word of the page is written
 pub nonzero-put : (words : Words) (page index word : ℕ) → index < 512
@@ -41,11 +41,6 @@ word-read words page index word below is = grind (arith, nat_tests, is)
 -- where it is known whether the word is 0, in whose place one comes: one that is not is counted
 pub recount-some : (words : List ℕ) (page index count before : ℕ) → index < 512 → count ≡ nonzero_in (words_of words) page → (before == 0) ≡ (words_of words page index == 0) → (1 ≤ count) ⊎ (before ≡ 0)
 recount-some words page index count before below counted same = grind (arith, nat_tests, nonzero-some (words_of words) page index below)
-
--- and how many are counted then
-pub recount : (words new : List ℕ) (page index word count before after : ℕ) → index < 512 → 512 * page + 512 ≤ length words → count ≡ nonzero_in (words_of words) page → (before == 0) ≡ (words_of words page index == 0)
-    → new ≡ slice_set words (512 * page + index) word → after + cond (before == 0) 0 1 ≡ count + cond (word == 0) 0 1 → after ≡ nonzero_in (words_of new) page
-recount words new page index word count before after below room counted same written sum = grind (arith, nat_tests, nonzero-put, words_of-set_at)
 
 -- a word that is read is known
 pub read-test : (words : List ℕ) (page index word : ℕ) → index < 512 → word ≡ slice_index words (512 * page + index) → (word == 0) ≡ (words_of words page index == 0)

@@ -1,6 +1,6 @@
 -- The words of a range, put and recorded one by one.
 use Rattle.std.proofs.lemmas.List.{reverse-append}
-use Rattle.pool.proofs.Names.{common_steps, held, IsPageFilled, AreMarked, Grows, Puts, RecordsAll, Op, Set, WordRange, ◌≡◌, ℕ, ◌+◌, ◌-◌, ◌*◌, ◌<◌, ◌≤◌, ◌++◌, ◌∷◌, [], Bool, List, length, slice_set, Vec, sym, ap, ◌∙◌, refl, arith}
+use Rattle.pool.proofs.Names.{nat_tests, common_steps, held, IsPageFilled, AreMarked, Grows, Puts, RecordsAll, Op, Set, WordRange, ◌≡◌, ℕ, ◌+◌, ◌-◌, ◌*◌, ◌<◌, ◌≤◌, ◌++◌, ◌∷◌, [], Bool, List, length, slice_set, Vec, sym, ◌∙◌, refl, arith}
 use Rattle.std.specs.declared.alloc.Global.{Global}
 use Rattle.pool.specs.declared.cells.Cells.{Cells}
 use Rattle.pool.proofs.Stretches.{first-words, first-writes, next-words, next-writes, next-differs}
@@ -25,10 +25,4 @@ module _ (r : WordRange) (i word : ℕ) (from : r.first ≤ i) (is : word ≡ r.
   pub puts-next : (old before after : Cells ℕ) → after.at ≡ before.at → length after.slots ≡ length before.slots → IsPageFilled after.slots r.page → held after.slots ≡ slice_set (held before.slots) (512 * r.page + i) word
       → ((marks : List Bool) → AreMarked marks before.slots → AreMarked marks after.slots)
       → Puts (record r { end = i }) old before → Puts (record r { end = i + 1 }) old after
-  puts-next old before after place len filled words marked put = record {
-    place = place ∙ put.place;
-    len = len ∙ put.len;
-    filled = filled;
-    words = words ∙ ap (λ items. slice_set items (512 * r.page + i) word) put.words ∙ sym (next-words r i word from is (held old.slots));
-    marked = λ marks was. marked marks (put.marked marks was);
-  }
+  puts-next old before after place len filled words marked put = grind (arith, common_steps, nat_tests, next-words)

@@ -1,5 +1,5 @@
 -- Words that are replaced one after another, and what else is kept.
-use Rattle.pool.proofs.Names.{common_steps, nat_tests, PageRun, Pool, words_of, nonzero_in, words_set, sets_of, after_set, after_sets, after_invalidate, after_replaces}
+use Rattle.pool.proofs.Names.{common_steps, nat_tests, PageRun, Pool, words_of, nonzero_in, words_set, sets_of, after_set, after_sets, after_replaces}
 use Rattle.std.proofs.Common.{◌≡◌, ◌≢◌, ℕ, zero, suc, ◌+◌, ◌*◌, ◌%◌, ◌^◌, ◌<◌, ◌≤◌, arith, length, refl, add-one}
 use Rattle.std.proofs.lemmas.List.{length-set}
 use Rattle.pool.specs.Pool.{after_break, after_make}
@@ -8,14 +8,6 @@ use Rattle.pool.proofs.Nonzero.{word-read, nonzero-zeros}
 use Rattle.pool.proofs.Stretches.{words_set-beside}
 
 -- ---- one word
-
--- that is 0 is not broken
-pub break-none : (p page index : ℕ) (run : PageRun) (pool : Pool) → words_of pool.memory.words page index ≡ 0 → after_break p page index run pool ≡ pool
-break-none p page index run pool is = grind (arith, common_steps, nat_tests)
-
--- another one is
-pub break-some : (p page index : ℕ) (run : PageRun) (pool : Pool) → words_of pool.memory.words page index ≢ 0 → after_break p page index run pool ≡ after_invalidate p run (after_set page index 0 pool)
-break-some p page index run pool isnt = grind (arith, common_steps, nat_tests)
 
 -- ---- what is kept
 
@@ -45,10 +37,6 @@ unfolding after_replaces
 keeps-replaces p page first zero word step start a small room = keeps-self page a
 keeps-replaces p page first (suc n) word step start a small room = grind (arith, common_steps, nat_tests, keeps-self, keeps-set, keeps-more, keeps-break, keeps-replaces p page first n word step start a)
 
--- two pools that agree in all
-pub pools-same : (a b : Pool) → a.memory.ids ≡ b.memory.ids → a.memory.quotas ≡ b.memory.quotas → a.memory.words ≡ b.memory.words → a.memory.taken ≡ b.memory.taken → a.operations ≡ b.operations → a.made ≡ b.made → a ≡ b
-pools-same a b ids quotas words taken operations made = grind arith
-
 -- none, and one more
 pub replaces-none : (p page first word step start : ℕ) (a : Pool) → after_replaces p page first 0 word step start a ≡ a
 unfolding after_replaces
@@ -62,11 +50,6 @@ replaces-more p page first n word step start index next from a is there at = rw 
 -- one alone
 pub replaces-one : (p page index next step from : ℕ) (a : Pool) → after_replaces p page index 1 next step from a ≡ after_make page index next (after_break p page index (record { first = from; count = 512 }) a)
 replaces-one p page index next step from a = grind (arith, common_steps, replaces-more p page index 0 next step from index next from a, replaces-none)
-
--- behind others
-pub replaces-then : (p page first n word step start index next from : ℕ) (a : Pool) → first + n ≡ index → word + step * n ≡ next → start + 512 * n ≡ from
-    → after_replaces p page index 1 next step from (after_replaces p page first n word step start a) ≡ after_replaces p page first (n + 1) word step start a
-replaces-then p page first n word step start index next from a is there at = grind (arith, common_steps, replaces-one, replaces-more)
 
 -- the words of the page that are not yet replaced stay
 pub replaces-beside : (p page first n word step start i : ℕ) (a : Pool) → first + n ≤ 512 → 512 * page + 512 ≤ length a.memory.words → first + n ≤ i → words_of (after_replaces p page first n word step start a).memory.words page i ≡ words_of a.memory.words page i

@@ -1,6 +1,6 @@
 -- The words for the pages of runs, and what else is kept.
 use Rattle.pool.proofs.Names.{nat_tests, common_steps, PageRun, Pool, words_set, sets_of, after_sets, index_from, words_in, after_run, after_runs, length-append, at_drop_more}
-use Rattle.std.proofs.Common.{◌≡◌, ℕ, ◌+◌, ◌-◌, ◌*◌, ◌^◌, ◌<◌, ◌≤◌, arith, List, [], ◌∷◌, ◌++◌, length, get_or, drop, refl, sym, ap}
+use Rattle.std.proofs.Common.{◌≡◌, ℕ, ◌+◌, ◌-◌, ◌*◌, ◌^◌, ◌<◌, ◌≤◌, arith, List, [], ◌∷◌, ◌++◌, length, get_or, drop, refl}
 use Rattle.pool.proofs.Stretches.{length-words_set, words_set-other, counted-length}
 use Rattle.pool.proofs.Replaced.{Keeps, keeps-self, keeps-more}
 
@@ -46,9 +46,7 @@ words_in-left start i runs run lt is = grind (arith, common_steps, at_drop_more 
 
 -- runs of which there is one
 pub runs-single : (runs : List PageRun) (run : PageRun) → length runs ≡ 1 → run ≡ get_or runs 0 run → runs ≡ run ∷ []
-runs-single [] run one is = absurd (omega (arith, one))
-runs-single (r ∷ []) run one is = ap (λ x. x ∷ []) (sym is)
-runs-single (r ∷ q ∷ rs) run one is = absurd (omega (arith, one))
+runs-single runs run one is = grind (arith, common_steps, nat_tests)
 
 -- some runs, and others behind them
 pub after_runs-append : (page start word step : ℕ) (a b : List PageRun) (pool : Pool) → after_runs page start word step (a ++ b) pool ≡ after_runs page start word step b (after_runs page start word step a pool)

@@ -1,5 +1,5 @@
 -- Rows and their shares, and how many pages of a share are taken.
-use Rattle.std.proofs.Common.{◌≡◌, ◌≢◌, ◌==◌, ℕ, ◌+◌, ◌-◌, ◌<◌, ◌≤◌, List, length, take, drop, sum, arith, Bool, true, false}
+use Rattle.std.proofs.Common.{◌≡◌, ◌≢◌, ◌==◌, ℕ, ◌+◌, ◌-◌, ◌<◌, ◌≤◌, List, length, arith, Bool, true, false}
 use Rattle.pool.proofs.Names.{common_steps, nat_tests, ManifestRows, row_of, page_count, Pages, InShare, share_start, row_quota, pages_of, taken_of, mark, with_mark, used_by, new_memory}
 use Rattle.std.proofs.lemmas.List.{get_or_past}
 use Rattle.std.proofs.lemmas.List.Sums.{sum_by-append, sum_by_more, passes_at_first}
@@ -19,17 +19,13 @@ row_quota-none quotas row beyond = get_or_past quotas row 0 beyond
 
 -- ---- shares
 
-sum-take-le : (quotas : List ℕ) (n m : ℕ) → n ≤ m → sum (take n quotas) ≤ sum (take m quotas)
-sum-take-le quotas n m within =
-    let same : n + (m - n) ≡ m = omega arith in rw (← same) (grind (arith, common_steps, take-add, sum_by-append (λ x. x) (take n quotas) (take (m - n) (drop n quotas))))
-
 -- a share ends among the pages
 pub share_end : (quotas : List ℕ) (row : ℕ) → row < length quotas → share_start quotas row + row_quota quotas row ≤ page_count quotas
 share_end quotas row below = grind (arith, common_steps)
 
 -- a share ends before a later one begins
 pub share_start-rises : (quotas : List ℕ) (row later : ℕ) → row < later → later < length quotas → share_start quotas row + row_quota quotas row ≤ share_start quotas later
-share_start-rises quotas row later before below = grind (arith, common_steps, sum_by_more (λ x. x) quotas row 0, sum-take-le quotas (row + 1) later)
+share_start-rises quotas row later before below = grind (arith, common_steps, sum_by_more (λ x. x) quotas row 0, take-add, sum_by-append)
 
 -- a page of a share is below the number of pages
 pub share_inside : (quotas : List ℕ) (row page : ℕ) → InShare quotas row page → page < page_count quotas

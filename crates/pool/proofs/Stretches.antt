@@ -1,6 +1,6 @@
 -- Words of a page that follow one another, and the operations that write them.
 use Rattle.pool.proofs.Names.{common_steps, nat_tests, Pool, words_of, nonzero_in, words_set, sets_of, counted, after_set, after_sets, Op, Set, WordRange, with_range, range_set, writes_of, NoneThere, cases_eq}
-use Rattle.std.proofs.Common.{◌≡◌, ◌≢◌, ℕ, zero, suc, ◌+◌, ◌-◌, ◌*◌, ◌%◌, ◌^◌, ◌<◌, ◌≤◌, arith, List, [], ◌∷◌, ◌++◌, length, reverse, slice_index, slice_set, refl, sym, ap, ◌⊎◌, inl, inr, Vec, Global, vec_len}
+use Rattle.std.proofs.Common.{◌≡◌, ◌≢◌, ℕ, zero, suc, ◌+◌, ◌-◌, ◌*◌, ◌%◌, ◌^◌, ◌<◌, ◌≤◌, arith, List, [], ◌∷◌, ◌++◌, length, reverse, slice_index, slice_set, refl, ◌⊎◌, inl, inr, Vec, Global, vec_len}
 use Rattle.pool.proofs.Words.{words_of-set_at, word-set}
 use Rattle.pool.proofs.Nonzero.{word-read, nonzero-put}
 
@@ -17,9 +17,7 @@ counted-length (op ∷ ops) n = grind (arith, common_steps, nat_tests, counted-l
 
 -- a word that is written where it stands
 pub set-same : (items : List ℕ) (place word : ℕ) → place < length items → slice_index items place ≡ word → slice_set items place word ≡ items
-set-same [] place word inside is = refl
-set-same (x ∷ items) zero word inside is = ap (λ y. y ∷ items) (sym is)
-set-same (x ∷ items) (suc place) word inside is = ap (λ rest. x ∷ rest) (set-same items place word (omega arith) is)
+set-same items place word inside is = grind (arith, common_steps, nat_tests)
 
 -- ---- one word
 

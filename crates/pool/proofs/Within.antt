@@ -1,10 +1,7 @@
 -- Where the operations of a list lie that calls make.
-use Rattle.pool.proofs.Names.{common_steps, list_all, nat_tests, row_of, page_count, PageRun, Pool, lies_in, sets_of, after_run, after_runs, after_replaces, Op, Set}
+use Rattle.pool.proofs.Names.{common_steps, list_all, nat_tests, row_of, page_count, PageRun, Pool, lies_in, sets_of, after_run, after_runs, after_replaces, Op}
 use Rattle.std.proofs.Common.{◌≡◌, ℕ, zero, suc, ◌+◌, ◌*◌, ◌^◌, ◌<◌, ◌≤◌, true, List, [], ◌∷◌, ◌++◌, length, refl, arith}
 use Rattle.pool.proofs.RunWords.{run-within}
-
-pub set-within : (ids quotas : List ℕ) (page index word : ℕ) → page < page_count quotas → index < 512 → lies_in ids quotas (Set page index word) ≡ true
-set-within ids quotas page index word inside small = grind (arith, nat_tests, inside, small)
 
 -- writes of words that follow one another
 pub within-sets : (ids quotas words : List ℕ) (page first n word step : ℕ) → page < page_count quotas → first + n ≤ 512 → list_all (lies_in ids quotas) (sets_of words page first n word step) ≡ true

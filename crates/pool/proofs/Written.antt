@@ -4,7 +4,7 @@ use Rattle.std.proofs.Common.{◌≡◌, ◌≢◌, ℕ, ◌+◌, ◌*◌, ◌%�
 use Rattle.std.proofs.lemmas.List.{length-reverse}
 use Rattle.pool.proofs.Kept.{memory_in}
 use Rattle.pool.proofs.Nonzero.{counts_nonzero-page}
-use Rattle.pool.proofs.Replaced.{Keeps, pools-same}
+use Rattle.pool.proofs.Replaced.{Keeps}
 use Rattle.pool.proofs.RunWords.{keeps-runs}
 use Rattle.pool.proofs.Within.{within-runs}
 
@@ -64,7 +64,7 @@ module _ {S : Type 0} {g : Ghosts S} (old : TablePool S g) (page : ℕ) (inside 
 
   -- it shows what the step makes
   pub state : pool_after old new after ≡ step (pool_in old ((old.made_before + length old.operations.items) % 2 ^ 64))
-  state = grind (arith, nat_tests, keeps, whole, shown, length-reverse, pools-same)
+  state = grind (arith, nat_tests, keeps, whole, shown, length-reverse)
 
 -- the same of words for the pages of runs
 module _ {S : Type 0} {g : Ghosts S} (old : TablePool S g) (with : TableWords) (runs : List PageRun) (inside : with.page < page_count old.quotas.items)

@@ -1,8 +1,7 @@
 -- What is written of a page, step by step.
-use Rattle.pool.proofs.Names.{common_steps, nat_tests, PageRun, covers, Pool, words_of, nonzero_in, counted, after_set, after_run, after_invalidate, index_from, words_in, gap, IsShown, Grows, Wrote, TurnRuns, with_range, range_set, runs_set, indexes_set, Log, Set, TableWords, WordRange, MayWrite, writes_of}
+use Rattle.pool.proofs.Names.{common_steps, nat_tests, PageRun, covers, Pool, words_of, nonzero_in, counted, after_set, after_run, index_from, words_in, gap, IsShown, Grows, Wrote, TurnRuns, with_range, range_set, runs_set, indexes_set, Log, Set, TableWords, WordRange, MayWrite, writes_of}
 use Rattle.std.proofs.Common.{◌≡◌, ◌≢◌, ℕ, slice_index, ◌+◌, ◌-◌, ◌*◌, ◌<◌, ◌≤◌, Bool, true, arith, List, [], ◌∷◌, ◌++◌, length, reverse, slice_set, vec_len, vec_capacity, refl, sym, ap, ◌∙◌}
 use Rattle.pool.specs.Writing.{MayWriteRuns, Records, CanWriteRuns, CanWriteIndexes}
-use Rattle.pool.specs.declared.operation.Op.TheVariants.{Invalidate}
 use Rattle.pool.proofs.Stretches.{words_set-beside, vec_len-made, length-words_set, length-sets_of-part, next-writes, next-set, next-pass}
 use Rattle.pool.proofs.RunWords.{words-in_range, after_runs-none, after_runs-next, after_runs-append, words_in-append}
 use Rattle.pool.proofs.Gaps.{gap-one, gap-words}
@@ -37,10 +36,6 @@ pub wrote-set : (page index word : ℕ) (old new : List ℕ) (before after : Log
     → Grows 1 before.operations after.operations → after.nonzero ≡ nonzero_in (words_of new) page → Wrote (after_set page index word) page 1 old new before after
 wrote-set page index word old new before after written pushed more right = grind (arith, common_steps, nat_tests)
 
-pub wrote-invalidate : (p : ℕ) (run : PageRun) (page : ℕ) (words : List ℕ) (before after : Log) → after.operations.items ≡ before.operations.items ++ Invalidate p run ∷ [] → Grows 1 before.operations after.operations
-    → after.nonzero ≡ nonzero_in (words_of words) page → Wrote (after_invalidate p run) page 1 words words before after
-wrote-invalidate p run page words before after pushed more right = grind (arith, common_steps, nat_tests)
-
 -- ---- words of a range
 
 pub wrote-range : (range : WordRange) {old new : List ℕ} {before after : Log} → new ≡ with_range old range → Records old range before.operations.items after.operations.items
@@ -65,9 +60,8 @@ module _ (r : WordRange) (i word : ℕ) (from : r.first ≤ i) (is : word ≡ r.
   -- there is room for its operation
   pub next-room : i < r.end → slice_index mid (512 * r.page + i) ≢ word → vec_len before.operations + length (writes_of old r) ≤ vec_capacity before.operations → vec_len log.operations + 1 ≤ vec_capacity log.operations
   next-room lt differs room =
-      let one_more = ap length (next-writes r i word from is old (grind (arith, common_steps, wrote-is wrote))) in
       let most = length-sets_of-part old r.page r.first ((i + 1) - r.first) (r.end - r.first) r.word r.step (omega (arith, from, lt)) in
-      omega (arith, one_more, most, wrote-length (record r { end = i }) wrote, wrote.grows.capacity, room)
+      omega (arith, ap length (next-writes r i word from is old (grind (arith, common_steps, wrote-is wrote))), most, wrote-length (record r { end = i }) wrote, wrote.grows.capacity, room)
 
 -- ---- words for the pages of runs
 

@@ -1,6 +1,8 @@
 use Rattle.pool.proofs.Names.{nat_tests, common_steps, index_from, gap, gaps_from, ◌+◌, drop, max, ap, ◌∙◌, arith, refl}
-use Rattle.pool.proofs.Gaps.{gaps-left, gaps-done, covers-append, gap-at, gap-has}
+use Rattle.pool.proofs.Gaps.{gaps-left, covers-append, gap-at, gap-has}
 use Rattle.pool.proofs.looks.are_gaps_there.Goals as goal
+use Rattle.pool.proofs.Names.{at_drop_all}
+use Rattle.pool.proofs.Gaps.{gaps-none}
 
 pub returns-then-not-is_gap_there-clause-no : goal.returns-then-not-is_gap_there-clause-no
 returns-then-not-is_gap_there-clause-no g c =
@@ -33,7 +35,7 @@ loop-run-preserved g c =
     }
 
 pub returns-clause-yes : goal.returns-clause-yes
-returns-clause-yes g c = grind (arith, common_steps, nat_tests, gaps-done, gap-at)
+returns-clause-yes g c = grind (arith, common_steps, nat_tests, at_drop_all, gaps-none, gap-at)
 
 pub returns-clause-no : goal.returns-clause-no
-returns-clause-no g c = grind (arith, common_steps, nat_tests, gaps-done, gap-has)
+returns-clause-no g c = grind (arith, common_steps, nat_tests, at_drop_all, gaps-none, gap-has)

@@ -1,5 +1,4 @@
-use Rattle.pool.proofs.Names.{nat_tests, ◌≡◌, ◌+◌, ◌-◌, arith, inl, inr}
-use Rattle.std.proofs.lemmas.Bool.{cases_Bool}
+use Rattle.pool.proofs.Names.{common_steps, nat_tests, ◌≡◌, ◌+◌, ◌-◌, arith}
 use Rattle.pool.proofs.Nonzero.{word-read}
 use Rattle.pool.proofs.Stretches.{next-word}
 use Rattle.pool.proofs.looks.are_there.Goals as goal
@@ -14,9 +13,6 @@ loop-index-preserved g c =
     let index : s.first + (i - s.first) ≡ i = omega (arith, from) in
     record {
       yes = λ are x lt. grind (arith, nat_tests, before.yes, read, index);
-      no = λ not. elim (cases_Bool c.loop-index.are) [
-        | inl was ↦ record { index = i - s.first; small = omega (arith, from); other = grind (arith, nat_tests, read, index) }
-        | inr was ↦ let old = before.no was in record { index = old.index; small = (let lt = old.small in omega (arith, lt)); other = old.other }
-      ];
+      no = λ not. grind (arith, common_steps, nat_tests);
       word = next-word s i c.loop-index.word from before.word;
     }

@@ -1,8 +1,9 @@
 use Rattle.std.proofs.Common.{◌≡◌, ◌+◌, ◌-◌, ◌*◌, refl, sym, ◌∙◌, arith}
-use Rattle.pool.proofs.Replaced.{replaces-none, replaces-then}
+use Rattle.pool.proofs.Replaced.{replaces-none, replaces-more, replaces-one}
 use Rattle.pool.proofs.Stretches.{first-word, next-word}
 use Rattle.pool.proofs.Wrote.{wrote-none, wrote-then, wrote-as}
 use Rattle.pool.proofs.replace.replace_others.Goals as goal
+use Rattle.pool.proofs.Names.{common_steps}
 
 pub loop-index-init : goal.loop-index-init
 loop-index-init g c =
@@ -28,7 +29,7 @@ loop-index-preserved g c =
     let one : (i + 1) - i ≡ 1 = omega arith in
     record {
       wrote = rw more (wrote-as (wrote-then before.wrote (rw one at c.replace_one.ensures.wrote)) (omega arith) (λ pool _.
-          replaces-then w.who r.page r.first (i - r.first) r.word r.step w.start i c.loop-index.word c.new.result pool (omega (arith, from)) (sym before.word) at));
+          (grind (arith, common_steps, replaces-one, replaces-more))));
       word = next-word r i c.loop-index.word from before.word;
       start = next-word (record r { word = w.start; step = 512 }) i c.loop-index.start from before.start;
       standing = c.replace_one.ensures.standing ∙ before.standing;

@@ -1,8 +1,10 @@
 use Rattle.pool.proofs.Names.{nat_tests, common_steps, index_from, gap, gaps_from, ◌+◌, ◌≤◌, [], drop, max, refl, ap, ◌∙◌, arith}
 use Rattle.std.proofs.lemmas.List.{append-nil}
-use Rattle.pool.proofs.Gaps.{gaps-left, gaps-done, gaps-behind}
+use Rattle.pool.proofs.Gaps.{gaps-left, gaps-behind}
 use Rattle.pool.proofs.Wrote.{left-can, left-less, left-none, can-gap, wrote-gap, wrote-beside, turned-rest}
 use Rattle.pool.proofs.runs.turn_gaps.Goals as goal
+use Rattle.pool.proofs.Names.{at_drop_all}
+use Rattle.pool.proofs.Gaps.{gaps-none}
 
 pub write_apart-log-requires : goal.write_apart-log-requires
 write_apart-log-requires g c =
@@ -39,8 +41,8 @@ loop-run-preserved g c =
     }
 
 pub write_apart-requires : goal.write_apart-requires
-write_apart-requires g c = grind (arith, common_steps, nat_tests, gaps-done, append-nil, can-gap, left-can)
+write_apart-requires g c = grind (arith, common_steps, nat_tests, at_drop_all, gaps-none, append-nil, can-gap, left-can)
 
 pub returns-clause-wrote : goal.returns-clause-wrote
 returns-clause-wrote g c =
-    left-none (left-less c.loop-run.invariant.left (gap c.args.with.start c.loop-run.first 512) [] (grind (arith, common_steps, gaps-done)) (wrote-gap c.args.with c.loop-run.first 512 (omega arith) c.write_apart.ensures.wrote)) refl
+    left-none (left-less c.loop-run.invariant.left (gap c.args.with.start c.loop-run.first 512) [] (grind (arith, common_steps, at_drop_all, gaps-none)) (wrote-gap c.args.with c.loop-run.first 512 (omega arith) c.write_apart.ensures.wrote)) refl

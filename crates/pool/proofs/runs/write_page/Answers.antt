@@ -6,15 +6,11 @@ use Rattle.pool.proofs.runs.write_page.Goals as goal
 pub returns-then-index-ge-TABLE_WORDS-clause-wrote : goal.returns-then-index-ge-TABLE_WORDS-clause-wrote
 returns-then-index-ge-TABLE_WORDS-clause-wrote g c = grind (arith, common_steps, nat_tests, wrote-none, alone-outside)
 
--- where the word before is the new one, or is not, so is the word that stands there
-is_there : (before word next : ℕ) → (before == next) ≡ (word == next) → before ≡ next → word ≡ next
-is_there before word next same is = grind (arith, nat_tests)
-
 differs : (before word next : ℕ) → (before == next) ≡ (word == next) → before ≢ next → word ≢ next
 differs before word next same other = grind (arith, nat_tests)
 
 pub returns-then-before-at-clause-wrote : goal.returns-then-before-at-clause-wrote
-returns-then-before-at-clause-wrote g c = grind (arith, common_steps, nat_tests, is_there, wrote-none, alone-stays)
+returns-then-before-at-clause-wrote g c = grind (arith, common_steps, nat_tests, wrote-none, alone-stays)
 
 pub returns-clause-wrote : goal.returns-clause-wrote
 returns-clause-wrote g c =

@@ -12,8 +12,7 @@ invariant_of-self g c =
     let page = c.args.page in
     let row = c.args.row in
     let share = c.requires.inside in
-    let rows = old.free_counted.rows in
-    let here : c.index_mut.result.now ≡ slice_index old.free.items row = get_or_read old.free.items _ _ (omega (arith, share.partition, rows)) c.index_mut.ensures.value 0 in
+    let here : c.index_mut.result.now ≡ slice_index old.free.items row = get_or_read old.free.items _ _ (omega (arith, share.partition, old.free_counted.rows)) c.index_mut.ensures.value 0 in
     let inside : page < length old.taken = omega (arith, old.taken_whole, share_inside _ _ _ c.requires.inside) in
     let low : c.min.result ≡ min (slice_index old.lowest.items row) page =
     c.min.ensures ∙ ap (λ n. min n page) (get_or_read old.lowest.items _ _ (omega (arith, share.partition, old.none_free_below.rows)) c.index.ensures 0) in

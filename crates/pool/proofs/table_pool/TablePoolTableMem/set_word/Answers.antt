@@ -3,12 +3,11 @@ use Rattle.pool.proofs.Nonzero.{read-test}
 use Rattle.pool.proofs.Replaced.{keeps-set}
 use Rattle.pool.proofs.Stretches.{vec_len-made}
 use Rattle.pool.proofs.Wrote.{wrote-is}
-use Rattle.pool.proofs.Within.{set-within}
 use Rattle.pool.proofs.Written.{stays, state}
 use Rattle.pool.proofs.table_pool.TablePoolTableMem.set_word.Goals as goal
 
 pub invariant_of-self : goal.invariant_of-self
-invariant_of-self g c = stays c.args.self.now c.args.page c.requires.page_in c.write_word-count.ensures.wrote (λ a room. keeps-set c.args.page c.args.index c.args.word a c.requires.index_in room) c.write_word-count.ensures.standing c.requires.taken (grind (arith, nat_tests, set-within, c.args.self.now.within))
+invariant_of-self g c = stays c.args.self.now c.args.page c.requires.page_in c.write_word-count.ensures.wrote (λ a room. keeps-set c.args.page c.args.index c.args.word a c.requires.index_in room) c.write_word-count.ensures.standing c.requires.taken (grind (arith, nat_tests, c.args.self.now.within))
 
 pub returns-clause-state : goal.returns-clause-state
 returns-clause-state g c = state c.args.self.now c.args.page c.requires.page_in c.write_word-count.ensures.wrote (λ a room. keeps-set c.args.page c.args.index c.args.word a c.requires.index_in room)

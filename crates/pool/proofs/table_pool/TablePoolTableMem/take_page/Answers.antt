@@ -27,8 +27,7 @@ invariant_of-self g c =
     let inside : page < length old.taken = omega (arith, old.taken_whole, share_inside old.quotas.items c.args.row page lowest.inside) in
     let row = c.args.row in
     let within = row-within (pages_in old) row c.requires.free in
-    let rows = old.free_counted.rows in
-    let here : c.index_mut.result.now ≡ slice_index old.free.items row = get_or_read old.free.items _ _ (omega (arith, within, rows)) c.index_mut.ensures.value 0 in
+    let here : c.index_mut.result.now ≡ slice_index old.free.items row = get_or_read old.free.items _ _ (omega (arith, within, old.free_counted.rows)) c.index_mut.ensures.value 0 in
     let counted = old.free_counted.each row within in
     let some = c.requires.free in
     record {
