@@ -4,7 +4,7 @@ use Rattle.std.proofs.Common.{ltb, max, min, ◌≡◌, ◌≢◌, ℕ, ◌+◌,
 use Rattle.std.proofs.lemmas.Bool.{cases_Bool, cases_lt}
 use Rattle.pool.proofs.Count.{count_below-some}
 use Rattle.stage2.proofs.Counting.Bounds.{count-within}
-use Rattle.stage2.proofs.Counting.Growth.{entry-view, view-mixed, view-spelled, filled-operations}
+use Rattle.stage2.proofs.Counting.Growth.{IsRead, view-same, view-spelled}
 use Rattle.stage2.proofs.Counting.Needs.{mixed-same, mixed-none, unlike-mixed}
 use Rattle.stage2.proofs.Counting.Operations.{table-either, table-words, reached-as, plain-answer}
 use Rattle.stage2.proofs.Counting.Pieces.{count_below-fewer, page-among, pages_among-same, pages_among-between, zero-beside}
@@ -115,33 +115,20 @@ module _ (runs : List PageRun) (access : View) (v : ℕ → View) (c : ℕ) (bel
 -- ---- what a chunk's word tells
 
 -- the chunk's word has a form of its level
-pub entry-known : (layout : Layout) (m : Pages) → IsCanonical layout m → (g i : ℕ) → g < 512 → i < 512 → (row : Option ℕ) → ((r : ℕ) → row ≡ Some r → r < length layout.ids) → (second : Option ℕ) → second_of layout m.words row g ≡ second → entry_in layout m.words second i ≢ Bad
-entry-known layout m canonical g i below small row inside second is bad = grind (arith, common_steps, nat_tests, second-known)
+pub entry-known : {layout : Layout} {m : Pages} {c : ℕ} (row second : Option ℕ) → IsRead layout m row second c → entry_in layout m.words second (c % 512) ≢ Bad
+entry-known row None h bad = absurd (cc)
+entry-known None (Some j) h bad = let e = h.hangs in absurd (cc)
+entry-known {layout} {m} {c} (Some r) (Some j) h bad = let below = h.below in second-known layout m h.canonical.orderly r (c / 512) (c % 512) j (h.inside r refl) (omega (arith, below)) (omega arith) h.hangs bad
 
-module _ (layout : Layout) (m : Pages) (canonical : IsCanonical layout m) (row : Option ℕ) (inside : (r : ℕ) → row ≡ Some r → r < length layout.ids) (second : Option ℕ) (c : ℕ) (below : c < 262144)
-    (hangs : second_of layout m.words row (c / 512) ≡ second) where
+module _ {layout : Layout} {m : Pages} {row second : Option ℕ} {c : ℕ} (h : IsRead layout m row second c) where
   abbrev entry : Slot
   entry = entry_in layout m.words second (c % 512)
 
   abbrev before : ℕ → View
   before = answers_of layout m.words row
 
-  gigabyte : c / 512 < 512
-  gigabyte = omega (arith, below)
-
-  at : 512 * (c / 512) + c % 512 ≡ c
-  at = omega arith
-
-  seen : (i : ℕ) → i < 512 → before (512 * c + i) ≡ answers_at layout m.words entry (512 * c + i)
-  seen i lt = sym (entry-view layout m canonical (c / 512) gigabyte row inside second (c % 512) (512 * c + i) (omega arith) hangs (omega (arith, lt)))
-
-  pub entry-mixed : is_mixed before c ≡ is_some (next_page entry)
-  entry-mixed =
-      mixed-same (answers_at layout m.words entry) before c seen
-      ∙ subst (λ x. is_mixed (answers_at layout m.words entry) x ≡ is_some (next_page entry)) at (view-mixed layout m canonical (c / 512) gigabyte row inside second (c % 512) (omega arith) hangs)
-
   pub entry-plain : next_page entry ≡ None → block_answer entry ≡ None → (i : ℕ) → i < 512 → before (512 * c + i) ≡ None
-  entry-plain none free i lt = seen i lt ∙ plain-answer layout m.words entry (512 * c + i) none ∙ free
+  entry-plain none free i lt = sym (view-same h i lt) ∙ plain-answer layout m.words entry (512 * c + i) none ∙ free
 
   pub entry-beside : (k : ℕ) → entry ≡ Next k → (which : ℕ → Bool) → nonzero_in m.words k + pages_among which < 512 → (i : ℕ) × (i < 512) × (which i ≡ false) × (before (512 * c + i) ≡ None)
   entry-beside k next which few =
@@ -150,15 +137,9 @@ module _ (layout : Layout) (m : Pages) (canonical : IsCanonical layout m) (row :
       let n = 512 * c + zero.0 in
       let index : n % 512 ≡ zero.0 = omega (arith, lt) in
       let word : m.words k (n % 512) ≡ 0 = ap (m.words k) index ∙ zero.3 in
-      (zero.0, lt, zero.2, seen zero.0 lt ∙ ap (λ (s : Slot). answers_at layout m.words s n) next ∙ ap answer_of (at_3-word layout n (m.words k (n % 512)) None (ap (entry_of 3) word ∙ entry-zero 3)))
+      (zero.0, lt, zero.2, sym (view-same h zero.0 lt) ∙ ap (λ (s : Slot). answers_at layout m.words s n) next ∙ ap answer_of (at_3-word layout n (m.words k (n % 512)) None (ap (entry_of 3) word ∙ entry-zero 3)))
 
   pub entry-words : (k : ℕ) → entry ≡ Next k → nonzero_in m.words k ≡ reached_in before c
   entry-words k next =
-      table-words layout m.words c k (λ n there none.
-      (subst (λ x. (y : ℕ) → y / 512 ≡ x → IsWordFor y (answers_at layout m.words (Next k) y) (m.words k (y % 512))) at (view-spelled layout m canonical (c / 512) gigabyte row inside second (c % 512) (omega arith) hangs k next) n there).zero none)
-      ∙ reached-as before (answers_at layout m.words (Next k)) c (λ i lt. sym (seen i lt ∙ ap (λ (s : Slot). answers_at layout m.words s (512 * c + i)) next))
-
-  pub entry-filled : (runs : List PageRun) (access : View) → next_page entry ≡ None → covers_chunk c runs ≡ true → chunk_operations runs access before c ≡ 3
-  entry-filled runs access none filled =
-      subst (λ x. chunk_operations runs access before x ≡ 3) at
-      (filled-operations layout m canonical (c / 512) gigabyte row inside runs access second (c % 512) (omega arith) hangs none (subst (λ x. covers_chunk x runs ≡ true) (sym at) filled))
+      table-words layout m.words c k (λ n there none. (view-spelled h k next n there).zero none)
+      ∙ reached-as before (answers_at layout m.words (Next k)) c (λ i lt. ap (λ (s : Slot). answers_at layout m.words s (512 * c + i)) (sym next) ∙ view-same h i lt)

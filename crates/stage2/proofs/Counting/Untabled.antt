@@ -1,9 +1,9 @@
 -- An edit takes a level 3 table in chunks alone that have none, and a level 2 table in gigabytes that have none.
-use Rattle.std.proofs.Common.{◌≡◌, ℕ, ◌+◌, ◌*◌, ◌<◌, ◌≤◌, ◌&&◌, Bool, true, false, not, cond, is_some, is_none, List, Option, Some, None, length, refl, sym, ap, ◌∙◌, true≢false, arith, inl, inr}
+use Rattle.std.proofs.Common.{◌≡◌, ◌%◌, ℕ, ◌+◌, ◌*◌, ◌<◌, ◌≤◌, ◌&&◌, Bool, true, false, not, cond, is_some, is_none, List, Option, Some, None, length, refl, sym, ap, ◌∙◌, true≢false, arith, inl, inr}
 use Rattle.std.proofs.lemmas.Bool.{cases_Bool, eqb-true}
 use Rattle.stage2.proofs.Names.{common_steps, nat_tests, View, count_below, is_mixed, is_reached, PageRun, Pool, pages_of, edited, touches_chunk, IsCanonical, Layout, next_page, answers_at, second_of, entry_in, is_between, points_at, view_in, grows_at, gigabyte_growth}
 use Rattle.stage2.specs.inner.Clauses.{second_in}
-use Rattle.stage2.proofs.Counting.Growth.{grows-nothing, reached-second, view-mixed, entry-view}
+use Rattle.stage2.proofs.Counting.Growth.{grows-nothing, reached-second, read-at, entry-mixed}
 use Rattle.stage2.proofs.Counting.Needs.{mixed-same}
 use Rattle.stage2.proofs.Counting.Pieces.{count_below-fewer}
 use Rattle.stage2.proofs.Editing.ChunkByChunk.{untouched}
@@ -24,11 +24,8 @@ module _ (layout : Layout) (pool : Pool) (canonical : IsCanonical layout (pages_
 
   points-mixed : (x : ℕ) → x < 512 → points_at second x pool ≡ true → is_mixed before (512 * g + x) ≡ true
   points-mixed x small points =
-      let m = pages_of pool.memory in
-      let entry = entry_in layout m.words second x in
-      let same : is_mixed (answers_at layout m.words entry) (512 * g + x) ≡ is_mixed before (512 * g + x) =
-      mixed-same before (answers_at layout m.words entry) (512 * g + x) (λ i lt. entry-view layout m canonical g below row inside second x (512 * (512 * g + x) + i) small is (omega (arith, lt))) in
-      sym same ∙ view-mixed layout m canonical g below row inside second x small is ∙ table-there layout pool canonical g below row inside second x small is points
+      let index : (512 * g + x) % 512 ≡ x = omega (arith, small) in
+      entry-mixed row second (read-at canonical inside g x below small is) ∙ ap (λ i. is_some (next_page (entry_in layout (pages_of pool.memory).words second i))) index ∙ table-there layout pool canonical g below row inside second x small is points
 
   module _ (runs : List PageRun) (access : View) (first end : ℕ) (within : (x : ℕ) → x < 512 → touches_chunk (512 * g + x) runs ≡ true → Between first end x) where
     -- a chunk that takes one is among these, and points at none

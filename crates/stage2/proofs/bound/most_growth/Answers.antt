@@ -1,6 +1,6 @@
 use Rattle.stage2.proofs.Counting.Bounds.{grow-most}
 use Rattle.stage2.proofs.bound.most_growth.Goals as goal
-use Rattle.stage2.proofs.Names.{nat_tests, common_steps, ℕ, ◌≡◌, ◌+◌, ◌/◌, arith}
+use Rattle.stage2.proofs.Names.{nat_tests, common_steps, arith}
 
 pub returns : goal.returns
 returns c = λ before access.

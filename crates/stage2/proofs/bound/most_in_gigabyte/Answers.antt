@@ -1,12 +1,12 @@
-use Rattle.stage2.proofs.Names.{pages_of, nat_tests, common_steps, cases_Bool, ◌≡◌, ℕ, ◌≤◌, Bool, true, false, cond, is_some, is_none, Option, Some, None, sym, ◌∙◌, refl, arith, inl, inr}
-use Rattle.stage2.proofs.Counting.Growth.{second-inside}
+use Rattle.stage2.proofs.Names.{nat_tests, common_steps, cases_Bool, sym, ◌∙◌, arith, inl, inr}
+use Rattle.stage2.proofs.Counting.Growth.{second-page}
 use Rattle.stage2.proofs.Counting.Untabled.{growth-untabled}
 use Rattle.stage2.proofs.bound.most_in_gigabyte.Goals as goal
 
 pub count_untabled-chunks-requires-clause-page_in : goal.count_untabled-chunks-requires-clause-page_in
 count_untabled-chunks-requires-clause-page_in g c = λ j e.
     let pool = g.M.TableMem.state c.args.memory.now in
-    let inside = second-inside c.args.edit.now.layout.now (pages_of pool.memory) c.requires.canonical c.args.gigabyte c.chunk_span.ensures.in_range c.args.edit.now.row c.args.edit.now.inside j (sym c.second_at-second.ensures ∙ e) in
+    let inside = (second-page c.requires.canonical c.chunk_span.ensures.in_range c.args.edit.now.row c.args.edit.now.inside j (sym c.second_at-second.ensures ∙ e)).0 in
     rw c.requires.canonical.orderly.pages at inside
 
 pub returns : goal.returns

@@ -1,4 +1,4 @@
-use Rattle.stage2.proofs.Names.{View, edited, sum_below, view_in, gigabyte_growth, nat_tests, common_steps, ◌≡◌, ℕ, ◌+◌, ◌-◌, ◌≤◌, inr, ap, arith}
+use Rattle.stage2.proofs.Names.{View, edited, sum_below, view_in, gigabyte_growth, nat_tests, common_steps, ◌≡◌, ℕ, ◌+◌, ◌-◌, inr, ap, arith}
 use Rattle.stage2.proofs.Counting.Growth.{growth-nothing}
 use Rattle.stage2.proofs.Editing.ChunkByChunk.{sum_below-more}
 use Rattle.stage2.proofs.Editing.GigabyteByGigabyte.{grow-sum}

@@ -1,4 +1,4 @@
-use Rattle.std.proofs.Common.{◌≡◌, ℕ, ◌/◌, ◌%◌, ◌<◌, Bool, cond, eqb, [], is_some, Some, None, arith, sym, ap, subst, ◌∙◌}
+use Rattle.std.proofs.Common.{ℕ, ◌/◌, ◌%◌, ◌<◌, Bool, cond, eqb, [], is_some, Some, None, arith, sym, ap, subst, ◌∙◌}
 use Rattle.stage2.proofs.Names.{page_count, Pages, Pool, Words, pages_of, words_of, put, Walked, planned, StaysAtChunk, IsSeatedAt, chunk_after, StaysInStep, pages_in, walked, nat_tests, common_steps}
 use Rattle.stage2.proofs.Tree.WalkFrame.{IsUnheld}
 use Rattle.stage2.proofs.Walkers.ZeroedTables.{stays-after, stays-taken}

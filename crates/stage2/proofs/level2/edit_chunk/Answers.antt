@@ -1,4 +1,4 @@
-use Rattle.stage2.proofs.Names.{nat_tests, common_steps, pages_of, next_page, arith, ◌<◌, sym, ap, subst, ◌∙◌}
+use Rattle.stage2.proofs.Names.{nat_tests, common_steps, pages_of, arith, ◌<◌, sym, subst, ◌∙◌}
 use Rattle.stage2.proofs.Editing.FourChunkEdits.{second-inside, second-taken, entry-known}
 use Rattle.stage2.proofs.Editing.OneChunk.{is-table, told-alike, told-mixed, read-before}
 use Rattle.stage2.proofs.level2.edit_chunk.Goals as goal

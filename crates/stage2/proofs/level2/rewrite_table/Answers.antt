@@ -1,5 +1,5 @@
-use Rattle.std.proofs.Common.{◌≡◌, ℕ, ◌+◌, ◌*◌, ◌/◌, Bool, true, false, ◌&&◌, eqb, is_some, List, None, arith, cond, not, refl, sym, ◌∙◌, ap, subst, ◌⊎◌, inl, inr}
-use Rattle.stage2.proofs.Names.{PageRun, covers, View, Memory, pages_of, Redoes_in, planned, answers_in, chunk_view, chunk_after, part_count, walked, nat_tests, common_steps, Unmapped}
+use Rattle.std.proofs.Common.{◌≡◌, ℕ, ◌+◌, ◌*◌, ◌/◌, Bool, true, false, ◌&&◌, eqb, is_some, None, arith, cond, not, refl, sym, ◌∙◌, ap, subst, inl, inr}
+use Rattle.stage2.proofs.Names.{covers, View, Memory, pages_of, Redoes_in, planned, chunk_view, chunk_after, part_count, walked, nat_tests, common_steps, Unmapped}
 use Rattle.base.proofs.Booleans.{both}
 use Rattle.stage2.proofs.Editing.FourChunkEdits.{does-rewrite}
 use Rattle.stage2.proofs.Editing.OneChunk.{is-table, kept}

@@ -1,4 +1,4 @@
-use Rattle.stage2.proofs.Names.{nat_tests, View, step_for, IsWordFor, common_steps, ◌≡◌, ℕ, ◌+◌, ◌*◌, ◌==◌, not, is_some, subst, ◌∙◌, arith}
+use Rattle.stage2.proofs.Names.{nat_tests, View, step_for, IsWordFor, common_steps, ◌≡◌, ℕ, ◌+◌, ◌*◌, subst, ◌∙◌, arith}
 use Rattle.stage2.proofs.Editing.Stretches.{stretch-small, word-some, word-further, word-zero}
 use Rattle.stage2.proofs.level3.chunk_words.Goals as goal
 

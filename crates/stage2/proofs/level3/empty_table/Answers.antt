@@ -1,5 +1,5 @@
-use Rattle.std.proofs.Common.{◌≡◌, ℕ, ◌+◌, ◌*◌, ◌≤◌, ◌==◌, true, false, [], List, Option, Some, None, arith, refl, subst, not, ◌≢◌, is_some, sym, ◌∙◌, ap}
-use Rattle.stage2.proofs.Names.{nat_tests, View, PageRun, covers, Pool, pages_of, words_of, nonzero_in, ChunkEdit, planned, WritesPlan, OthersAnswer, words_left, some_pages, gaps, common_steps}
+use Rattle.std.proofs.Common.{◌≡◌, ℕ, ◌+◌, ◌*◌, ◌==◌, true, false, [], List, Option, Some, None, arith, refl, subst, not, ◌≢◌, is_some, sym, ◌∙◌, ap}
+use Rattle.stage2.proofs.Names.{nat_tests, View, PageRun, covers, pages_of, words_of, nonzero_in, planned, WritesPlan, some_pages, gaps, common_steps}
 use Rattle.stage2.proofs.Editing.PlannedWords.{writes-join, filled-join}
 use Rattle.stage2.proofs.Editing.Stretches.{word-zero, word-some, writes-stretch}
 use Rattle.stage2.proofs.Editing.Level3Words.{writes-none, writes-all, writes-rest, writes-zero}

@@ -1,5 +1,5 @@
 use Rattle.pool.proofs.Gaps.{rise-normal, gaps-out, gaps-in}
-use Rattle.stage2.proofs.Names.{nat_tests, common_steps, IsWordFor, word_in, arith, ◌≡◌, ◌+◌, ◌*◌, Bool, true, false, not, refl, sym, ap, subst, ◌∙◌}
+use Rattle.stage2.proofs.Names.{nat_tests, common_steps, arith}
 use Rattle.stage2.proofs.Counting.Outcomes.{same-word}
 use Rattle.stage2.proofs.level3.has_stray.Goals as goal
 

@@ -1,4 +1,4 @@
-use Rattle.stage2.proofs.Names.{nat_tests, words_of, nonzero_in, common_steps, eqb-true, ◌≡◌, ap, sym, ◌∙◌, arith}
+use Rattle.stage2.proofs.Names.{nat_tests, words_of, nonzero_in, common_steps, eqb-true, ap, sym, ◌∙◌, arith}
 use Rattle.pool.proofs.Nonzero.{nonzero-zeros, nonzero-word}
 use Rattle.stage2.proofs.memory.is_empty.Goals as goal
 

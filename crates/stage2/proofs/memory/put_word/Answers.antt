@@ -1,4 +1,4 @@
-use Rattle.stage2.proofs.Names.{nat_tests, common_steps, Pages, pages_of, with_put, arith, ◌≡◌, ap}
+use Rattle.stage2.proofs.Names.{nat_tests, common_steps, arith}
 use Rattle.pool.proofs.Words.{pages_of-set}
 use Rattle.stage2.proofs.memory.put_word.Goals as goal
 

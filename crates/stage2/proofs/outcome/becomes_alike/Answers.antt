@@ -1,4 +1,4 @@
-use Rattle.stage2.proofs.Names.{words_of, answers_at, next_page, ◌≡◌, None, sym, ◌∙◌}
+use Rattle.stage2.proofs.Names.{words_of, answers_at, sym, ◌∙◌}
 use Rattle.stage2.proofs.Counting.Operations.{plain-answer}
 use Rattle.stage2.proofs.Editing.FourChunkEdits.{is-next}
 use Rattle.stage2.proofs.outcome.becomes_alike.Goals as goal

@@ -1,4 +1,4 @@
-use Rattle.stage2.proofs.Names.{edited, IsOutcome, tells, ◌≡◌, eqb, true, sym, ap, subst, ◌∙◌}
+use Rattle.stage2.proofs.Names.{edited, IsOutcome, tells, eqb, sym, ap, subst, ◌∙◌}
 use Rattle.stage2.proofs.Counting.Outcomes.{told-filled, told-block}
 use Rattle.stage2.proofs.outcome.is_alike_in_block.Goals as goal
 

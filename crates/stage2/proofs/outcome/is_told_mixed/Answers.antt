@@ -1,5 +1,5 @@
 use Rattle.words.proofs.RoundTrip.{entry-zero}
-use Rattle.stage2.proofs.Names.{Words, nonzero_in, nat_tests, common_steps, ◌≡◌, ℕ, ap, ◌∙◌, arith}
+use Rattle.stage2.proofs.Names.{nat_tests, common_steps, arith}
 use Rattle.stage2.proofs.Counting.Pieces.{nonzero-most, zero-beside, word-beside}
 use Rattle.stage2.proofs.outcome.is_told_mixed.Goals as goal
 

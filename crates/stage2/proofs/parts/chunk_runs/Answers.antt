@@ -1,4 +1,4 @@
-use Rattle.stage2.proofs.Names.{nat_tests, common_steps, runs_before, arith, ◌+◌, ◌*◌, sym, ap, ◌∙◌}
+use Rattle.stage2.proofs.Names.{nat_tests, common_steps, arith}
 use Rattle.stage2.proofs.Runs.Between.{between-parts}
 use Rattle.stage2.proofs.parts.chunk_runs.Goals as goal
 

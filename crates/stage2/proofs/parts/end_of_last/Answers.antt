@@ -1,4 +1,4 @@
-use Rattle.stage2.proofs.Names.{nat_tests, common_steps, end_from, ltb-true, arith, sym, ap, ◌∙◌}
+use Rattle.stage2.proofs.Names.{nat_tests, common_steps, ltb-true, arith}
 use Rattle.stage2.proofs.Runs.Normal.{end-last}
 use Rattle.stage2.proofs.parts.end_of_last.Goals as goal
 

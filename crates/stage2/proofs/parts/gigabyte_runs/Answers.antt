@@ -1,4 +1,4 @@
-use Rattle.stage2.proofs.Names.{nat_tests, common_steps, runs_before, runs_between, arith, ap, ap₂, ◌∙◌}
+use Rattle.stage2.proofs.Names.{nat_tests, common_steps, arith}
 use Rattle.stage2.proofs.Runs.Between.{between-parts}
 use Rattle.stage2.proofs.parts.gigabyte_runs.Goals as goal
 

@@ -1,4 +1,4 @@
-use Rattle.stage2.proofs.Names.{PageRun, covers, part_count, pages_in, nat_tests, common_steps, ◌+◌, ◌*◌, ◌≡◌, ℕ, ◌/◌, true, [], ◌∷◌, List, sym, ap, ◌∙◌, arith}
+use Rattle.stage2.proofs.Names.{PageRun, covers, pages_in, nat_tests, common_steps, ◌+◌, ◌*◌, ◌≡◌, ℕ, ◌/◌, true, [], ◌∷◌, List, sym, ap, ◌∙◌, arith}
 use Rattle.pool.proofs.RunWords.{runs-single}
 use Rattle.stage2.proofs.Counting.FewOperations.{run-all, run-whole, page-counted}
 use Rattle.stage2.proofs.Counting.Pieces.{pages_among-le}

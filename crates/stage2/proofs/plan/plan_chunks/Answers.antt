@@ -1,5 +1,5 @@
-use Rattle.stage2.proofs.Names.{pages_of, covers_chunk, nat_tests, common_steps, ◌≡◌, ℕ, ◌+◌, ◌*◌, ◌<◌, ◌≤◌, true, refl, sym, subst, ◌∙◌, arith}
-use Rattle.stage2.proofs.Counting.Growth.{filled-grows, filled-operations, second-inside}
+use Rattle.stage2.proofs.Names.{pages_of, covers_chunk, answers_of, next_page, entry_in, ap, ◌%◌, nat_tests, common_steps, ◌≡◌, ℕ, ◌+◌, ◌*◌, ◌<◌, ◌≤◌, true, refl, sym, subst, ◌∙◌, arith}
+use Rattle.stage2.proofs.Counting.Growth.{filled-grows, filled-operations, second-page, read-at}
 use Rattle.stage2.proofs.Counting.UpToPiece.{planned-start, planned-piece, planned-end, planned-filled, planned-one}
 use Rattle.stage2.proofs.Runs.Between.{past-past}
 use Rattle.stage2.proofs.Runs.Left.{left-covers}
@@ -12,8 +12,7 @@ loop-piece-init g c = record {
 
 pub plain_from-plain-requires-clause-page_in : goal.plain_from-plain-requires-clause-page_in
 plain_from-plain-requires-clause-page_in g c = λ j is.
-    let m = pages_of (g.M.TableMem.state c.args.memory.now).memory in
-    let inside = second-inside c.args.edit.now.layout.now m c.requires.canonical c.args.gigabyte c.in-Some.ensures.in_range c.args.edit.now.row c.args.edit.now.inside j (c.requires.table ∙ is) in
+    let inside = (second-page c.requires.canonical c.in-Some.ensures.in_range c.args.edit.now.row c.args.edit.now.inside j (c.requires.table ∙ is)).0 in
     subst (λ n. j < n) c.requires.canonical.orderly.pages inside
 
 pub loop-piece-preserved-then-piece-plain : goal.loop-piece-preserved-then-piece-plain
@@ -32,8 +31,11 @@ loop-piece-preserved-then-piece-plain g c =
     λ x from lt. sym (so.left.fills (512 * gigabyte + x) (omega (arith, from))) ∙ c.in-Some.ensures.some.filled x from (omega (arith, lt, most)) in
     record {
       planned = planned-filled so c.if-piece-plain.true (omega (arith, most, last))
-          (λ x from lt. filled-grows layout m c.requires.canonical gigabyte below row runs access (512 * gigabyte + x) (filled x from lt))
-          (λ x from lt. filled-operations layout m c.requires.canonical gigabyte below row c.args.edit.now.inside runs access c.args.second.now x (omega (arith, lt, most, last)) c.requires.table (c.plain_from-plain.ensures.plain layout x from lt) (filled x from lt))
+          (λ x from lt. filled-grows (answers_of layout m.words row) runs access (512 * gigabyte + x) (filled x from lt))
+          (λ x from lt.
+          let small : x < 512 = omega (arith, lt, most, last) in
+          let index : (512 * gigabyte + x) % 512 ≡ x = omega (arith, small) in
+          filled-operations (read-at c.requires.canonical c.args.edit.now.inside gigabyte x below small c.requires.table) runs access (ap (λ i. next_page (entry_in layout m.words c.args.second.now i)) index ∙ c.plain_from-plain.ensures.plain layout x from lt) (filled x from lt))
           refl;
     }
 

@@ -1,4 +1,4 @@
-use Rattle.stage2.proofs.Names.{TableEntry, ArePassed, nat_tests, common_steps, List, sym, subst, arith}
+use Rattle.stage2.proofs.Names.{TableEntry, ArePassed, nat_tests, common_steps, List, subst, arith}
 use Rattle.stage2.proofs.Reading.Passing.{passed-more, next-pages}
 use Rattle.stage2.proofs.alike.AlikeIterator.next.Goals as goal
 

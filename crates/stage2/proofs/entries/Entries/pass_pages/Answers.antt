@@ -1,5 +1,4 @@
-use Rattle.stage2.proofs.Names.{nat_tests, common_steps, words_of, pages_at, entry_row, next_first, arith, ◌≡◌, ◌+◌, sym, ap, ◌∙◌}
-use Rattle.stage2.specs.declared.table_page.Level.TheVariants.{Third}
+use Rattle.stage2.proofs.Names.{nat_tests, common_steps, arith}
 use Rattle.stage2.proofs.Reading.Rows.{third-row, none-behind, stand-behind}
 use Rattle.stage2.proofs.entries.Entries.pass_pages.Goals as goal
 

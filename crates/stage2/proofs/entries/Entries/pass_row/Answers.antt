@@ -1,4 +1,4 @@
-use Rattle.stage2.proofs.Names.{nat_tests, common_steps, entry_of, number_of, arith, sym, ap, ◌∙◌}
+use Rattle.stage2.proofs.Names.{nat_tests, common_steps, number_of, arith}
 use Rattle.stage2.proofs.Reading.Rows.{in-row-behind, in-row-alone, leaf-small, leaf-block}
 use Rattle.stage2.proofs.entries.Entries.pass_row.Goals as goal
 use Rattle.words.proofs.RoundTrip.{word-leaf, odd-leaf}

@@ -1,4 +1,4 @@
-use Rattle.stage2.proofs.Names.{nat_tests, common_steps, words_of, arith, sym, ◌∙◌}
+use Rattle.stage2.proofs.Names.{nat_tests, common_steps, arith}
 use Rattle.stage2.proofs.Reading.Rows.{third-row}
 use Rattle.stage2.proofs.entries.Entries.pass_same.Goals as goal
 

@@ -1,4 +1,4 @@
-use Rattle.stage2.proofs.Names.{nat_tests, common_steps, words_of, Reading, arith, eqb, position, sym, ap, ◌∙◌}
+use Rattle.stage2.proofs.Names.{nat_tests, common_steps, arith}
 use Rattle.stage2.proofs.Tree.Rows.{no-row}
 use Rattle.stage2.proofs.reader.Reader.walk.Goals as goal
 

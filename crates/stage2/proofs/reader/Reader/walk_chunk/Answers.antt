@@ -1,4 +1,4 @@
-use Rattle.stage2.proofs.Names.{nat_tests, common_steps, words_of, arith, sym, ◌∙◌}
+use Rattle.stage2.proofs.Names.{nat_tests, common_steps, arith}
 use Rattle.stage2.proofs.Tree.EntryWords.{block-page}
 use Rattle.stage2.proofs.reader.Reader.walk_chunk.Goals as goal
 

@@ -1,5 +1,5 @@
-use Rattle.stage2.proofs.Names.{nat_tests, common_steps, has_root, AreTurnedFor, edit_operations, AreEdited, arith, Some, ◌≡◌, ◌≤◌, false, eqb, sym, ap, subst, ◌∙◌, position, length}
-use Rattle.stage2.specs.Tables.{TablesView, Fits}
+use Rattle.stage2.proofs.Names.{nat_tests, common_steps, has_root, AreEdited, arith, ◌≡◌, false, eqb, sym, ap, subst, ◌∙◌, position, length}
+use Rattle.stage2.specs.Tables.{TablesView}
 use Rattle.stage2.proofs.Tree.Rows.{row-found}
 use Rattle.stage2.proofs.Editing.WholeTables.{view, canonical-inside, edited-rooted, edited-rootless, found-none, turned-found, rootless-edit}
 use Rattle.stage2.proofs.tables.Tables.edit.Goals as goal

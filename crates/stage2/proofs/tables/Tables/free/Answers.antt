@@ -1,6 +1,6 @@
 use Rattle.stage2.proofs.Names.{need, row_of, row_quota, pages_of, free_of, view_of, nat_tests, common_steps, ◌≡◌, ◌+◌, ap, sym, subst, ◌∙◌, arith}
 use Rattle.stage2.specs.Tables.{TablesView}
-use Rattle.stage2.proofs.Editing.WholeTables.{view, found-none, free-and-need}
+use Rattle.stage2.proofs.Editing.WholeTables.{view, free-and-need}
 use Rattle.stage2.proofs.Tree.Rows.{row-found}
 use Rattle.stage2.proofs.tables.Tables.free.Goals as goal
 use Rattle.pool.proofs.Shares.{row_quota-none}

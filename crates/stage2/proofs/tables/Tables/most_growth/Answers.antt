@@ -1,5 +1,4 @@
-use Rattle.stage2.proofs.Names.{nat_tests, common_steps, grow, edited, view_of, ap, arith}
-use Rattle.stage2.specs.Sound.{TablesView}
+use Rattle.stage2.proofs.Names.{nat_tests, common_steps, arith}
 use Rattle.stage2.proofs.Editing.WholeTables.{view, grow-found}
 use Rattle.stage2.proofs.tables.Tables.most_growth.Goals as goal
 
