@@ -1,6 +1,6 @@
 -- An edit takes no more tables than there are chunks and gigabytes from the first that its runs touch to the last.
-use Rattle.stage2.proofs.Names.{common_steps, nat_tests, View, count_below, is_mixed, is_reached, grow, PageRun, in_run, covers, edited, lie_within, cases_Bool, cases_lt}
-use Rattle.std.proofs.Common.{◌*◌, None, ◌≡◌, ℕ, zero, suc, ◌+◌, ◌-◌, ◌/◌, ◌<◌, ◌≤◌, ◌&&◌, not, Bool, true, false, List, sym, ◌∙◌, ◌⊎◌, true≢false, arith, inl, inr}
+use Rattle.stage2.proofs.Names.{common_steps, nat_tests, View, count_below, is_mixed, is_reached, grow, PageRun, covers, edited, lie_within, cases_Bool, cases_lt}
+use Rattle.std.proofs.Common.{◌*◌, ◌≡◌, ℕ, zero, suc, ◌+◌, ◌-◌, ◌/◌, ◌<◌, ◌≤◌, ◌&&◌, not, Bool, true, List, arith, inl, inr}
 use Rattle.stage2.proofs.Counting.Growth.{grows-nothing}
 use Rattle.stage2.proofs.Runs.Normal.{any-within}
 use Rattle.stage2.proofs.Counting.Needs.{reached-same}

@@ -1,5 +1,5 @@
 -- What the plan of one chunk's edit says.
-use Rattle.stage2.proofs.Names.{nat_tests, common_steps, View, Plan, ChunkEdit, table_operations, ◌≡◌, ℕ, ◌+◌, ◌-◌, ◌≤◌, ◌⊎◌, Bool, true, max, min, refl, arith, inl, inr}
+use Rattle.stage2.proofs.Names.{nat_tests, common_steps, View, Plan, ChunkEdit, table_operations, ◌≡◌, ℕ, ◌+◌, ◌≤◌, ◌⊎◌, Bool, true, max, arith}
 use Rattle.stage2.specs.inner.Clauses.{IsEditPlanned}
 use Rattle.stage2.proofs.Editing.ChunkByChunk.{bit}
 

@@ -1,6 +1,6 @@
 -- What an edit takes, read from the words.
-use Rattle.stage2.proofs.Names.{Slot, nat_tests, common_steps, PageRun, covers, View, page_count, Pages, count_below, Layout, Next, slot, at_2, next_page, Gigabyte, Chunk, table_at, is_mixed, is_reached, IsCanonical, IsOrderly, answers, answer_of, linked, edited, answers_at, answers_of, second_of, entry_in, covers_chunk, IsSite, IsWordFor, grows_at, gigabyte_growth, Touches, chunk_operations}
-use Rattle.std.proofs.Common.{◌≡◌, ℕ, ◌+◌, ◌-◌, ◌*◌, ◌/◌, ◌%◌, ◌<◌, Bool, true, false, not, ◌&&◌, cond, is_some, List, Option, Some, None, length, refl, arith, ap, ap₂, sym, subst, ◌∙◌}
+use Rattle.stage2.proofs.Names.{Slot, nat_tests, common_steps, PageRun, covers, View, Pages, count_below, Layout, Next, slot, at_2, next_page, Gigabyte, Chunk, table_at, is_mixed, is_reached, IsCanonical, answer_of, edited, answers_at, answers_of, second_of, entry_in, covers_chunk, IsSite, IsWordFor, grows_at, gigabyte_growth, Touches, chunk_operations}
+use Rattle.std.proofs.Common.{◌≡◌, ℕ, ◌+◌, ◌-◌, ◌*◌, ◌/◌, ◌%◌, ◌<◌, true, false, not, ◌&&◌, cond, is_some, List, Option, Some, None, length, refl, arith, ap, ap₂, sym, subst, ◌∙◌}
 use Rattle.pool.proofs.Shares.{share_inside}
 use Rattle.pool.proofs.Count.{count_below-none}
 use Rattle.stage2.proofs.Tree.WalkFrame.{walk-gigabyte}
@@ -75,11 +75,11 @@ module _ {layout : Layout} {m : Pages} {row second : Option ℕ} {c : ℕ} (h : 
 
   -- each word of the table is the one for its page's answer
   pub view-spelled : (k : ℕ) → entry ≡ Next k → (n : ℕ) → n / 512 ≡ c → IsWordFor n (answers_at layout m.words (Next k) n) (m.words k (n % 512))
-  view-spelled k next n at = let s = site-at row second h k next in spelled-words layout s.0 c s.1 m s.2 k s.3 n at
+  view-spelled k next n at = let s = site-at row second h k next in spelled-words s.2 k s.3 n at
 
   -- which is taken
   pub view-taken : (k : ℕ) → entry ≡ Next k → m.taken k ≡ true
-  view-taken k next = let s = site-at row second h k next in third-taken layout s.0 c s.1 m s.2 k s.3
+  view-taken k next = let s = site-at row second h k next in third-taken s.2 k s.3
 
 -- a chunk that a run fills takes no table
 pub filled-grows : (v : ℕ → View) (runs : List PageRun) (access : View) (c : ℕ) → covers_chunk c runs ≡ true → grows_at v (edited runs access v) c ≡ false

@@ -1,5 +1,5 @@
 -- New views need no more tables than the old ones and what they grow by.
-use Rattle.stage2.proofs.Names.{nat_tests, common_steps, View, count_below, is_mixed, is_reached, need, grow, ℕ, zero, suc, ◌+◌, ◌≤◌, Bool, true, false, not, ◌&&◌, cond, arith}
+use Rattle.stage2.proofs.Names.{nat_tests, common_steps, View, count_below, is_mixed, is_reached, need, grow, ℕ, zero, suc, ◌+◌, ◌≤◌, Bool, not, ◌&&◌, cond, arith}
 
 count-most : (f g : ℕ → Bool) (n : ℕ) → count_below g n ≤ count_below f n + count_below (λ k. g k && not (f k)) n
 unfolding count_below

@@ -1,6 +1,6 @@
 -- What a chunk and a gigabyte need depends on their pages alone.
 use Rattle.std.proofs.Common.{◌≡◌, ℕ, zero, suc, ◌+◌, ◌*◌, ◌/◌, ◌%◌, ◌<◌, Bool, true, false, not, ◌&&◌, ◌||◌, cond, leb, ltb, List, [], ◌∷◌, Some, None, is_some, refl, ap, ap₂, sym, ◌∙◌, arith, inl, inr}
-use Rattle.stage2.proofs.Names.{common_steps, nat_tests, View, Access, is_alike, is_mixed, is_reached, PageRun, in_run, covers, edited, touches_run, touches_chunk, covers_chunk, IsOutcome, cases_Bool}
+use Rattle.stage2.proofs.Names.{common_steps, nat_tests, View, is_alike, is_mixed, is_reached, PageRun, in_run, covers, edited, touches_run, touches_chunk, covers_chunk, IsOutcome, cases_Bool}
 use Rattle.base.specs.Counts.{any_below}
 use Rattle.manifest.proofs.Tables.{alike-same, alike-refl, any_below-some, any_below-none, any_below-no}
 

@@ -1,6 +1,6 @@
 -- What the pages of a chunk answer after an edit, told by the number of the runs' pages and by words.
-use Rattle.std.proofs.Common.{◌≡◌, ℕ, ◌+◌, ◌*◌, ◌/◌, ◌%◌, ◌<◌, Bool, true, false, not, cond, List, Some, None, refl, sym, ap, ap₂, subst, ◌∙◌, arith, inl, inr}
-use Rattle.stage2.proofs.Names.{nat_tests, common_steps, View, is_alike, PageRun, covers, Pool, words_of, leaf_level, leaf_word_of, ChunkEdit, edited, answers_at, IsOutcome, IsWordFor, IsSpelled, read_after, tells, pages_among, Next, cases_Bool}
+use Rattle.std.proofs.Common.{◌≡◌, ℕ, ◌+◌, ◌*◌, ◌/◌, ◌%◌, ◌<◌, Bool, true, false, not, cond, List, Some, None, refl, sym, ap, ap₂, subst, ◌∙◌, arith}
+use Rattle.stage2.proofs.Names.{nat_tests, common_steps, View, is_alike, PageRun, covers, Pool, words_of, leaf_level, leaf_word_of, ChunkEdit, edited, answers_at, IsOutcome, IsWordFor, IsSpelled, read_after, tells, pages_among, Next}
 use Rattle.manifest.proofs.Tables.{alike-same, alike-refl}
 use Rattle.pool.proofs.Count.{count_below-some, count_below-witness}
 use Rattle.words.proofs.RoundTrip.{word-leaf}

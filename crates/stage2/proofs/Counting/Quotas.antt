@@ -1,6 +1,6 @@
 -- Quotas of partitions, and views that need no tables.
-use Rattle.stage2.proofs.Names.{nat_tests, common_steps, option_map_or, View, PartitionRow, ManifestRows, ids_of, row_of, is_mixed, is_reached, need, quota_of, cases_Bool, cases_lt}
-use Rattle.std.proofs.Common.{◌≡◌, ℕ, suc, ◌+◌, ◌*◌, ◌/◌, ◌%◌, ◌^◌, ◌<◌, ◌≤◌, true, false, not, cond, eqb, List, [], ◌∷◌, Some, None, IsTrue, length, get_or, find, refl, sym, ap, subst, ◌∙◌, arith, inl, inr}
+use Rattle.stage2.proofs.Names.{nat_tests, common_steps, option_map_or, View, PartitionRow, ManifestRows, ids_of, row_of, is_reached, need, quota_of, cases_Bool, cases_lt}
+use Rattle.std.proofs.Common.{◌≡◌, ℕ, suc, ◌+◌, ◌*◌, ◌/◌, ◌%◌, ◌^◌, ◌<◌, ◌≤◌, true, false, not, cond, eqb, List, [], ◌∷◌, Some, None, IsTrue, length, get_or, find, refl, sym, ap, ◌∙◌, arith, inl, inr}
 use Rattle.base.specs.Manifest.{quotas_of, grant}
 use Rattle.manifest.specs.Valid.{is_valid}
 use Rattle.manifest.proofs.Facts.{facts, fits_of, stranger}

@@ -1,5 +1,5 @@
 -- One chunk of a gigabyte after another.
-use Rattle.std.proofs.Common.{◌≡◌, ◌≢◌, ℕ, zero, suc, ◌+◌, ◌*◌, ◌/◌, ◌^◌, ◌<◌, ◌≤◌, Bool, true, false, not, ◌&&◌, ◌||◌, cond, eqb, ltb, is_some, List, [], ◌∷◌, Some, length, refl, arith, ap, sym, subst, ◌∙◌, inl, inr, add-one}
+use Rattle.std.proofs.Common.{◌≡◌, ◌≢◌, ℕ, zero, suc, ◌+◌, ◌*◌, ◌/◌, ◌^◌, ◌<◌, ◌≤◌, Bool, true, false, not, ◌&&◌, ◌||◌, cond, eqb, ltb, is_some, List, [], ◌∷◌, length, refl, arith, ap, sym, subst, ◌∙◌, inl, inr, add-one}
 use Rattle.std.proofs.lemmas.Bool.{cases_eq}
 use Rattle.stage2.proofs.Names.{nat_tests, PageRun, in_run, covers, View, Pages, used_by, row_quota, count_below, Walked, Layout, walk, walked, Gigabyte, Chunk, table_at, is_mixed, IsOrderly, answers, answer_of, linked, edited, touches_run, touches_chunk, answers_in, Redoes, Redoes_in, IsSite, IsGrowing, sum_below, grows_at, IsUnderway, common_steps}
 use Rattle.pool.proofs.Count.{count_below-same, count_below-more}

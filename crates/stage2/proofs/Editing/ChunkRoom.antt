@@ -5,7 +5,7 @@ use Rattle.stage2.proofs.Counting.Needs.{mixed-none}
 use Rattle.stage2.proofs.Counting.Operations.{kept, hung, dropped, reached-as}
 use Rattle.stage2.proofs.Editing.FourChunkEdits.{entry-mixed, third-words}
 
-module _ (layout : Layout) (row c j : ℕ) (m : Pages) (h : IsSite layout row c j m) (runs : List PageRun) (access : View) where
+module _ {layout : Layout} {row c j : ℕ} {m : Pages} (h : IsSite layout row c j m) (runs : List PageRun) (access : View) where
   abbrev view : ℕ → View
   view = answers_in layout row c j m
 
@@ -17,14 +17,14 @@ module _ (layout : Layout) (row c j : ℕ) (m : Pages) (h : IsSite layout row c 
   -- it stays
   pub kept-words : (k : ℕ) → slot layout 2 (m.words j (c % 512)) ≡ Next k → IsOutcome c (edited runs access (answers_in layout row c j m)) None
       → table_operations runs access (answers_in layout row c j m) c ≡ pages_in runs c + cond (is_some access) 0 (part_count c runs)
-  kept-words k table is = kept runs access view c (entry-mixed layout row c j m h ∙ ap (λ (s : Slot). is_some (next_page s)) table) is
+  kept-words k table is = kept runs access view c (entry-mixed h ∙ ap (λ (s : Slot). is_some (next_page s)) table) is
 
   -- one is hung
   module _ (before : View) (none : next_page (slot layout 2 (m.words j (c % 512))) ≡ None) (is : IsOutcome c (edited runs access (answers_in layout row c j m)) None)
       (all : (n : ℕ) → n / 512 ≡ c → answers_in layout row c j m n ≡ before) where
     pub hung-words : table_operations runs access (answers_in layout row c j m) c ≡ reached_in (edited runs access (λ n. before)) c
     hung-words =
-        hung runs access view c (entry-mixed layout row c j m h ∙ ap (λ o. is_some o) none) is
+        hung runs access view c (entry-mixed h ∙ ap (λ o. is_some o) none) is
         ∙ reached-as (edited runs access (λ n. before)) (edited runs access view) c (λ i lt. ap (λ a. cond (covers runs (512 * c + i)) access a) (all (512 * c + i) (omega (arith, lt))))
 
     -- of which some are reached

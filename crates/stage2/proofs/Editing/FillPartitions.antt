@@ -1,5 +1,5 @@
 -- The tables of all partitions, filled one after another.
-use Rattle.std.proofs.Common.{◌≡◌, ◌≢◌, ℕ, ◌+◌, ◌^◌, ◌<◌, ◌≤◌, true, false, ltb, List, length, get_or, zero, suc, [], ◌∷◌, refl, sym, ap, subst, ◌∙◌, arith, inl, inr}
+use Rattle.std.proofs.Common.{◌≡◌, ◌≢◌, ℕ, ◌+◌, ◌^◌, ◌<◌, ◌≤◌, true, false, ltb, length, get_or, refl, sym, ap, subst, ◌∙◌, arith, inl, inr}
 use Rattle.stage2.proofs.Names.{nat_tests, View, PartitionRow, ManifestRows, ids_of, row_of, need, quota_of, KeepsOthers, IsFilled, AreFilled, layout_of, walk_in, AreCanonical, walked, common_steps, Unmapped, cases_lt, cases_eq}
 use Rattle.std.proofs.lemmas.List.{length-map}
 use Rattle.manifest.proofs.Facts.{Facts, row_of-id}

@@ -1,8 +1,8 @@
 -- The tables of one partition, filled upward.
-use Rattle.std.proofs.Common.{◌≡◌, ℕ, ◌^◌, ◌<◌, ◌≤◌, List, Some, None, refl, ap, ◌∙◌, arith}
-use Rattle.stage2.proofs.Names.{nat_tests, Access, View, row_of, need, PageRun, row_quota, edited, IsEdge, view_below, in_range, IsFilling, KeepsOthers, IsFilled, answer_of, Layout, walk_in, view_of, AreCanonical, ReachSo, walked, common_steps, Unmapped}
+use Rattle.std.proofs.Common.{◌≡◌, ℕ, ◌^◌, ◌<◌, ◌≤◌, Some, ap, ◌∙◌, arith}
+use Rattle.stage2.proofs.Names.{nat_tests, Access, View, row_of, need, row_quota, edited, IsEdge, view_below, in_range, IsFilling, KeepsOthers, IsFilled, answer_of, Layout, walk_in, view_of, AreCanonical, ReachSo, walked, common_steps}
 use Rattle.stage2.specs.inner.Filling.{pending_runs, CanMap}
-use Rattle.stage2.specs.Tables.{TablesView, Fits, quota_in}
+use Rattle.stage2.specs.Tables.{TablesView}
 use Rattle.stage2.proofs.Editing.Fronts.{below-in, below-out, fronts-fit}
 use Rattle.stage2.proofs.Editing.ChunkKeeps.{answer-walked}
 use Rattle.stage2.proofs.Reading.SameViews.{need-same}

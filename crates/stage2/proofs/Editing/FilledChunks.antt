@@ -112,7 +112,7 @@ module _ (layout : Layout) (row g j : ℕ) (runs : List PageRun) (access : View)
     pub edited-next : EditedUpTo (i + 1) t
     edited-next =
         underway-edit layout row g j runs access old partition below i lt (pages_of s.memory) h (pages_of t.memory)
-        (does-set layout row (512 * g + i) j (pages_of s.memory) (site layout row g j runs access old partition below i lt (pages_of s.memory) h) (edited runs access view) access word (pages_of t.memory)
+        (does-set (site layout row g j runs access old partition below i lt (pages_of s.memory) h) (edited runs access view) access word (pages_of t.memory)
         (rw index none) is (rw index puts) (outcome-filled runs access view (512 * g + i) filled))
 
     pub stays-next : IsSeated layout row g j old → StaysUpTo i s → StaysUpTo (i + 1) t
@@ -120,7 +120,7 @@ module _ (layout : Layout) (row g j : ℕ) (runs : List PageRun) (access : View)
         march-edit layout row g j runs access old partition below i lt (pages_of s.memory) h a s t (filled-touches runs (512 * g + i) filled) so
         (stays-whole layout row (512 * g + i) runs access view s t (unmixed-after (512 * g + i) view (edited runs access view) access (outcome-filled runs access view (512 * g + i) filled))
         (stays-replaced layout row p (512 * g + i) j word (λ n. walked n (edited runs access view n)) s t partition (omega (arith, below, lt))
-        (hung-seen layout row (512 * g + i) j (pages_of s.memory) (site layout row g j runs access old partition below i lt (pages_of s.memory) h) (march-seated layout row g j runs access old partition below i lt (pages_of s.memory) h seated))
+        (hung-seen (site layout row g j runs access old partition below i lt (pages_of s.memory) h) (march-seated layout row g j runs access old partition below i lt (pages_of s.memory) h seated))
         is_row
         (λ k next. let gone = block-no-table layout (512 * g + i) word access is in absurd (cc))
         (λ n small at. gives-block layout (put j ((512 * g + i) % 512) word (words_of s.memory.words)) (512 * g + i) word (edited runs access view) access is (outcome-filled runs access view (512 * g + i) filled) n at)

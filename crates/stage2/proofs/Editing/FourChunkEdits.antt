@@ -1,5 +1,5 @@
 -- The four edits of a chunk.
-use Rattle.std.proofs.Common.{◌≡◌, ◌≢◌, ℕ, ◌+◌, ◌*◌, ◌/◌, ◌%◌, ◌<◌, ◌==◌, Bool, true, false, not, List, [], is_some, Option, Some, None, refl, arith, ap, sym, subst, ◌∙◌, ◌⊎◌, inl, inr}
+use Rattle.std.proofs.Common.{◌≡◌, ◌≢◌, ℕ, ◌+◌, ◌*◌, ◌/◌, ◌%◌, ◌<◌, ◌==◌, Bool, true, false, not, List, [], is_some, Option, Some, None, refl, arith, ap, sym, ◌∙◌, ◌⊎◌, inl, inr}
 use Rattle.stage2.proofs.Names.{PageRun, covers, View, page_count, entry_of, table_word_of, Words, Pages, nonzero_in, InShare, put, mark, with_put, with_mark, IsLowestFree, Walked, Layout, Slot, Empty, Next, Bad, slot, slot_from, at_2, at_3, walk, walked, Place, Root, Gigabyte, Chunk, next_page, table_at, IsPlace, IsTidy, entry_for, answer_of, answers, linked, edited, Redoes, Redoes_in, IsWordFor, planned, Writes, answers_at, IsOutcome, IsEntryFor, IsSite, IsGrowing, block_answer, is_mixed, reached_in, nat_tests, common_steps, Unmapped}
 use Rattle.pool.proofs.Shares.{share_inside}
 use Rattle.stage2.proofs.Tree.WalkFrame.{put-other, put-same, walk-chunk, walk-gigabyte, table_at-root, table_at-chunk_in}
@@ -36,7 +36,7 @@ put-alike row g t old new q i e = rw e refl
 pub tidy-answer : (n : ℕ) (w : Walked) → IsTidy n w → w ≡ walked n (answer_of w)
 tidy-answer n w h = grind (arith, common_steps, nat_tests)
 
-module _ (layout : Layout) (row c j : ℕ) (m : Pages) (h : IsSite layout row c j m) where
+module _ {layout : Layout} {row c j : ℕ} {m : Pages} (h : IsSite layout row c j m) where
   abbrev pub old : Words
   old = (linked layout row (c / 512) j m).words
 

@@ -1,6 +1,6 @@
 -- The pages beside runs, run by run.
-use Rattle.std.proofs.Common.{arith, ◌≡◌, ℕ, ◌+◌, ◌*◌, ◌<◌, Bool, true, false, cond, List, Some, None, refl, sym, ap, ◌∙◌, ◌⊎◌, inl, inr}
-use Rattle.stage2.proofs.Names.{nat_tests, common_steps, View, PageRun, covers, rise, Pages, Pool, pages_of, gaps_of, entry_of, entry_for, planned, Writes, IsWordFor, gaps, WritesPlan, Filled, cases_Bool}
+use Rattle.std.proofs.Common.{arith, ◌≡◌, ℕ, ◌+◌, ◌*◌, ◌<◌, Bool, true, false, cond, List, Some, None, refl, sym, ap, ◌∙◌}
+use Rattle.stage2.proofs.Names.{nat_tests, common_steps, View, PageRun, covers, rise, Pages, Pool, pages_of, gaps_of, entry_of, entry_for, planned, Writes, IsWordFor, gaps, WritesPlan}
 use Rattle.pool.proofs.Gaps.{gaps-out, gaps-in}
 use Rattle.words.proofs.RoundTrip.{entry-zero}
 use Rattle.stage2.proofs.Walkers.Histories.{filled-more}

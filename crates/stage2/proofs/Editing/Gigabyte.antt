@@ -1,14 +1,12 @@
 -- The edit of a gigabyte, from its chunks and its link.
 use Rattle.std.proofs.Common.{◌≡◌, ◌≢◌, ℕ, ◌+◌, ◌-◌, ◌*◌, ◌/◌, ◌%◌, ◌^◌, ◌<◌, ◌≤◌, Bool, true, false, not, ◌&&◌, cond, eqb, ltb, is_some, List, Some, None, length, refl, arith, ap, ap₂, sym, subst, ◌∙◌, ◌⊎◌, inl, inr}
 use Rattle.std.proofs.lemmas.Bool.{cases_eq, cases_Bool}
-use Rattle.stage2.proofs.Names.{nat_tests, PageRun, covers, View, table_word_of, Entry, Invalid, Table, Leaf, Pages, with_put, with_mark, used_by, row_quota, count_below, Layout, Slot, Empty, Next, Maps, Bad, slot, slot_from, at_2, walk, walked, Root, Gigabyte, Chunk, next_page, table_at, IsTidy, is_mixed, is_reached, IsOrderly, IsCanonical, answers, answer_of, linked, edited, chunks_operations, grows_at, gigabyte_growth, IsUnderway, EditsGigabyte, Touches, FitsGigabyte, common_steps}
-use Rattle.words.specs.declared.word.Entry.TheVariants.{Wrong as WrongWord}
+use Rattle.stage2.proofs.Names.{nat_tests, PageRun, covers, View, table_word_of, Pages, with_put, with_mark, used_by, row_quota, count_below, Layout, Slot, Empty, Next, Maps, Bad, slot, at_2, walk, walked, Root, Gigabyte, Chunk, next_page, table_at, IsTidy, is_mixed, is_reached, IsOrderly, IsCanonical, answers, answer_of, linked, edited, chunks_operations, grows_at, gigabyte_growth, IsUnderway, EditsGigabyte, Touches, common_steps}
 use Rattle.words.proofs.RoundTrip.{word-table}
 use Rattle.pool.proofs.Count.{count_below-same}
 use Rattle.pool.proofs.Shares.{used_by-take, used_by-give}
 use Rattle.stage2.specs.declared.walked.Walked.TheVariants.{Wrong}
 use Rattle.stage2.proofs.Counting.Operations.{chunks-same}
-use Rattle.stage2.specs.inner.Gigabytes.{Fits}
 use Rattle.stage2.proofs.Tree.WalkFrame.{put-other, walk-gigabyte, table_at-root, table_at-chunk_in}
 use Rattle.stage2.proofs.Counting.Needs.{mixed-same, reached-same, reached-some, reached-none, mixed-none}
 use Rattle.manifest.proofs.Tables.{any_below-none}

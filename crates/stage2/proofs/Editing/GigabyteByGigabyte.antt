@@ -1,5 +1,5 @@
 -- One gigabyte after another, and what a row needs.
-use Rattle.std.proofs.Common.{◌≡◌, ℕ, zero, suc, ◌+◌, ◌*◌, ◌/◌, ◌^◌, ◌<◌, ◌≤◌, max, Bool, true, false, not, ◌&&◌, cond, ltb, leb, List, [], ◌∷◌, get_or, length, refl, arith, ap, ap₂, sym}
+use Rattle.std.proofs.Common.{◌≡◌, ℕ, zero, suc, ◌+◌, ◌*◌, ◌/◌, ◌^◌, ◌<◌, ◌≤◌, max, Bool, true, false, not, ◌&&◌, cond, ltb, leb, List, get_or, length, refl, arith, ap, ap₂}
 use Rattle.stage2.proofs.Names.{nat_tests, PageRun, in_run, covers, View, Pages, used_by, row_quota, count_below, Layout, walk, is_reached, need, grow, IsCanonical, answers, answer_of, edited, gigabyte_operations, sum_below, grows_at, gigabyte_growth, EditsGigabyte, FitsGigabyte, IsPast, EditsRow, FitsRow, Touches, common_steps}
 use Rattle.base.specs.Pages.{IsRun}
 use Rattle.pool.proofs.Count.{count_below-same, count_below-more}

@@ -1,6 +1,6 @@
 -- The edit of a chunk that is made of that of its row: what its clauses say of the row's layout and access.
 use Rattle.std.proofs.Common.{◌≡◌, ℕ, ◌/◌, ◌&&◌, eqb, true, refl, arith}
-use Rattle.stage2.proofs.Names.{View, Pool, pages_of, ChunkEdit, Site, edited, touches_chunk, AreFree, Turns, disturbs, answers_in, IsGrowing, IsSite, Redoes_in, IsAt, TurnsChunk, chunk_view, GrowsChunk, ChunkInStep, operations_in_table, StaysInStep, table_operations, Layout, IsSeated, walked}
+use Rattle.stage2.proofs.Names.{View, Pool, pages_of, ChunkEdit, Site, edited, touches_chunk, AreFree, disturbs, answers_in, IsGrowing, IsSite, Redoes_in, IsAt, GrowsChunk, ChunkInStep, operations_in_table, StaysInStep, table_operations, Layout, IsSeated, walked}
 use Rattle.stage2.specs.inner.Clauses.{EditsChunk}
 use Rattle.stage2.proofs.Runs.ChunkCounts.{with-pages}
 

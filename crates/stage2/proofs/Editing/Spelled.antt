@@ -7,5 +7,5 @@ word-spelled : (layout : Layout) (n w : ℕ) → IsTidy n (at_3 (slot layout 3 w
 unfolding slot
 word-spelled layout n w tidy clean = grind (arith, common_steps, nat_tests, word-table)
 
-pub spelled-words : (layout : Layout) (row c j : ℕ) (m : Pages) (h : IsSite layout row c j m) (k : ℕ) → slot layout 2 (m.words j (c % 512)) ≡ Next k → (n : ℕ) → n / 512 ≡ c → IsWordFor n (answers_at layout m.words (Next k) n) (m.words k (n % 512))
-spelled-words layout row c j m h k is n at = grind (arith, common_steps, nat_tests, h.orderly.tidy, walk-entry layout row c j m h n, at_2-seen, table-entry layout row c j m h, word-spelled, clean-words)
+pub spelled-words : {layout : Layout} {row c j : ℕ} {m : Pages} (h : IsSite layout row c j m) (k : ℕ) → slot layout 2 (m.words j (c % 512)) ≡ Next k → (n : ℕ) → n / 512 ≡ c → IsWordFor n (answers_at layout m.words (Next k) n) (m.words k (n % 512))
+spelled-words h k is n at = grind (arith, common_steps, nat_tests, h.orderly.tidy, walk-entry h n, at_2-seen, table-entry h, word-spelled, clean-words)

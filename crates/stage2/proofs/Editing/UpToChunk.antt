@@ -1,6 +1,6 @@
 -- The chunks of a gigabyte before one are edited, and these runs are left for the others: one piece after another.
 use Rattle.std.proofs.Common.{◌≡◌, ◌≢◌, ℕ, zero, suc, ◌+◌, ◌-◌, ◌*◌, ◌/◌, ◌%◌, ◌<◌, ◌≤◌, eqb, true, false, cond, None, List, sym, ap, subst, ◌∙◌, arith}
-use Rattle.stage2.proofs.Names.{View, page_count, row_of, PageRun, covers, Pool, IsWhole, pages_of, words_of, taken_of, after_replaces, edited, touches_chunk, AreFree, StaysInStep, chunk_runs, sum_below, table_operations, chunk_operations, Layout, slot, walked, next_page, Piece, ChunkEdit, RowEdit, Site, block_step, answers_in, covers_chunk, IsAt, TurnsChunk, chunk_view, GrowsChunk, HasFree, CanEditChunks, AreChunksEdited, operations_in_table, IsUnderway, IsNextPiece, IsSeated, disturbed_below, nat_tests, common_steps, part_count}
+use Rattle.stage2.proofs.Names.{View, page_count, row_of, PageRun, covers, Pool, IsWhole, pages_of, words_of, taken_of, after_replaces, edited, touches_chunk, AreFree, StaysInStep, chunk_runs, sum_below, table_operations, chunk_operations, Layout, slot, walked, next_page, Piece, ChunkEdit, RowEdit, Site, block_step, answers_in, covers_chunk, IsAt, GrowsChunk, HasFree, CanEditChunks, AreChunksEdited, operations_in_table, IsUnderway, IsNextPiece, IsSeated, disturbed_below, nat_tests, common_steps, part_count}
 use Rattle.stage2.specs.inner.Clauses.{CanEditChunk, IsChunkEdited, ReplacesBlocks, linked_view}
 use Rattle.stage2.proofs.Counting.Needs.{filled-touches}
 use Rattle.stage2.proofs.Counting.Operations.{chunk-same}
@@ -137,10 +137,10 @@ module _ {e : RowEdit} {j g : ℕ} {runs : List PageRun} {first : Pool} {r0 : �
     -- its level 2 table
     module _ (lt : i < 512) where
       pub table-inside : j < page_count now.memory.quotas
-      table-inside = second-inside e.layout.now e.row (512 * g + i) j (pages_of now.memory) (site e.layout.now e.row g j runs e.access (pages_of first.memory) e.inside below i lt (pages_of now.memory) so.underway)
+      table-inside = second-inside (site e.layout.now e.row g j runs e.access (pages_of first.memory) e.inside below i lt (pages_of now.memory) so.underway)
 
       pub table-taken : taken_of now.memory.taken j ≡ true
-      table-taken = second-taken e.layout.now e.row (512 * g + i) j (pages_of now.memory) (site e.layout.now e.row g j runs e.access (pages_of first.memory) e.inside below i lt (pages_of now.memory) so.underway)
+      table-taken = second-taken (site e.layout.now e.row g j runs e.access (pages_of first.memory) e.inside below i lt (pages_of now.memory) so.underway)
 
     -- chunks up to one that a run fills
     module _ {end : ℕ} (ahead : i < end) (most : end ≤ 512) (filled : (x : ℕ) → i ≤ x → x < end → covers_chunk (512 * g + x) rest ≡ true) where

@@ -1,7 +1,7 @@
 -- Entries that are passed on the way to the next pages that are reached.
 use Rattle.std.proofs.Common.{◌≡◌, ℕ, ◌+◌, ◌*◌, true, not, ◌&&◌, List, [], ◌∷◌, ◌++◌, None, is_some, sym, ap, ◌∙◌, append_assoc, arith}
 use Rattle.std.proofs.lemmas.List.Folds.{list_all-append}
-use Rattle.stage2.proofs.Names.{Access, View, Entry, Leaf, entry_of, number_of, TableEntry, pages_at, entry_row, StandInRow, ArePassed, nat_tests, common_steps}
+use Rattle.stage2.proofs.Names.{Access, View, TableEntry, pages_at, entry_row, StandInRow, ArePassed, nat_tests, common_steps}
 use Rattle.stage2.specs.Reading.{AlikePages, access_by, reach_nothing, AreNext}
 
 pub passed-more : (old new : List TableEntry) (e : TableEntry) → access_by e ≡ None → ArePassed old (e ∷ new) → ArePassed old new

@@ -3,7 +3,7 @@ use Rattle.std.proofs.Common.{◌≡◌, not, eqb, ℕ, zero, suc, ◌+◌, ◌*
 use Rattle.stage2.proofs.Names.{flat_map, Rights, MemoryKind, Access, Entry, Invalid, Table, Leaf, entry_of, leaf_fields, leaf_word_of, leaf_level, Words, number_of, Cursor, Level, First, TableEntry, pages_at, access_of, table_in, entry_row, left_in, left_of, StandInRow, nat_tests, common_steps}
 use Rattle.std.proofs.lemmas.List.Concat.{flat_map-append}
 use Rattle.words.specs.declared.word.Entry.TheVariants.{Wrong}
-use Rattle.words.proofs.RoundTrip.{word-table, word-leaf, odd-leaf, type-leaf, type-table, entry-page, entry-block}
+use Rattle.words.proofs.RoundTrip.{word-table, word-leaf, type-leaf, type-table, entry-page, entry-block}
 use Rattle.stage2.specs.declared.table_page.Level.TheVariants.{Second, Third}
 use Rattle.stage2.specs.Reading.{with_pages, StandBehind}
 use Rattle.stage2.proofs.Reading.Cursors.{pages-suc}

@@ -1,6 +1,6 @@
 -- The runs with pages from one up to another are found by two halvings, as runs stand upward.
-use Rattle.std.proofs.Common.{◌≡◌, ℕ, zero, suc, ◌+◌, ◌*◌, ◌<◌, ◌≤◌, true, false, ◌&&◌, ◌||◌, Bool, leb, ltb, List, [], ◌∷◌, get_or, length, take, drop, refl, arith, ap, ◌∙◌, inl, inr}
-use Rattle.stage2.proofs.Names.{common_steps, nat_tests, list_any, PageRun, in_run, covers, rise_above, are_normal, runs_past, runs_before, runs_between, chunk_runs, covers_chunk, any-filter_same, cases_Bool, ltb-true, and_parts}
+use Rattle.std.proofs.Common.{◌≡◌, ℕ, zero, suc, ◌+◌, ◌*◌, ◌<◌, ◌≤◌, true, false, ◌&&◌, Bool, leb, ltb, List, [], ◌∷◌, get_or, length, take, drop, refl, arith, ap, ◌∙◌, inl, inr}
+use Rattle.stage2.proofs.Names.{common_steps, nat_tests, list_any, PageRun, in_run, covers, rise_above, runs_past, runs_before, runs_between, chunk_runs, covers_chunk, any-filter_same, cases_Bool, ltb-true, and_parts}
 use Rattle.stage2.proofs.Runs.Normal.{end_of, first_of}
 
 -- those that end behind a page are all from the n-th on, where those before it end too early, and no other does

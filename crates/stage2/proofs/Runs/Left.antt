@@ -1,5 +1,5 @@
 -- Whoever goes upward over chunks needs the runs that are left alone: those that do not end before the chunk.
-use Rattle.stage2.proofs.Names.{View, is_mixed, PageRun, covers, edited, touches_chunk, grows_at, part_count, chunk_runs, chunk_operations, ◌≡◌, ℕ, ◌/◌, not, ◌&&◌, List, refl, sym, ap, ◌∙◌, arith}
+use Rattle.stage2.proofs.Names.{View, is_mixed, PageRun, covers, edited, touches_chunk, grows_at, chunk_runs, chunk_operations, ◌≡◌, ℕ, ◌/◌, not, ◌&&◌, List, refl, sym, ap, ◌∙◌, arith}
 use Rattle.stage2.proofs.Counting.Operations.{chunk-same}
 use Rattle.stage2.proofs.Runs.Between.{AreLeft}
 use Rattle.stage2.proofs.Runs.OwnRuns.{chunk-covers, chunk-touches, chunk-count, chunk-mixed}

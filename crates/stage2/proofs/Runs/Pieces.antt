@@ -1,5 +1,5 @@
 -- Chunks before that of the first of runs are not touched.
-use Rattle.stage2.proofs.Names.{common_steps, nat_tests, PageRun, touches_run, touches_chunk, lie_within, runs_past, cases_Bool, ◌≡◌, ℕ, ◌+◌, ◌*◌, ◌/◌, ◌<◌, ◌≤◌, true, false, List, sym, ◌∙◌, ◌⊎◌, inl, inr, arith}
+use Rattle.stage2.proofs.Names.{common_steps, nat_tests, PageRun, touches_chunk, lie_within, runs_past, cases_Bool, ◌≡◌, ℕ, ◌+◌, ◌*◌, ◌≤◌, true, false, List, sym, ◌∙◌, ◌⊎◌, inl, inr, arith}
 use Rattle.stage2.proofs.Runs.Between.{left-all, left-later, left-past}
 use Rattle.stage2.proofs.Runs.Left.{left-touches}
 use Rattle.stage2.proofs.Runs.Normal.{any-within}

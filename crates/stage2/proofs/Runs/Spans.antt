@@ -1,6 +1,6 @@
 -- The gigabytes and chunks before the first that the runs touch, and after the last, stay as they are.
-use Rattle.stage2.proofs.Names.{nat_tests, common_steps, View, PageRun, covers, Pool, Pages, Layout, walked, edited, touches_chunk, sum_below, IsUnderway, IsPast, StaysInStep, answers, linked, disturbed_below, cases_Bool}
-use Rattle.std.proofs.Common.{◌≡◌, ℕ, zero, suc, ◌≢◌, ◌+◌, ◌-◌, ◌*◌, ◌/◌, ◌<◌, ◌≤◌, Bool, true, false, ◌||◌, List, length, refl, ap, subst, ◌∙◌, ◌⊎◌, arith, inl, inr}
+use Rattle.stage2.proofs.Names.{nat_tests, common_steps, View, PageRun, covers, Pool, Pages, Layout, walked, edited, touches_chunk, sum_below, IsUnderway, IsPast, StaysInStep, answers, linked, disturbed_below}
+use Rattle.std.proofs.Common.{◌≡◌, ℕ, zero, suc, ◌≢◌, ◌+◌, ◌-◌, ◌*◌, ◌/◌, ◌<◌, ◌≤◌, true, false, List, length, refl, ap, subst, ◌∙◌, ◌⊎◌, arith}
 use Rattle.stage2.proofs.Walkers.GigabyteSteps.{disturbed_before}
 use Rattle.stage2.proofs.Walkers.ChunkSteps.{march-skip}
 use Rattle.stage2.proofs.Editing.GigabyteByGigabyte.{past-skip}

@@ -1,6 +1,6 @@
 -- The words of tables that hang are those of their entries.
-use Rattle.std.proofs.Common.{◌≡◌, ℕ, ◌+◌, ◌*◌, ◌/◌, ◌%◌, ◌^◌, ◌<◌, Bool, true, false, is_some, Some, length, refl, arith, ap, ◌∙◌}
-use Rattle.stage2.proofs.Names.{Access, Entry, Leaf, entry_of, leaf_word_of, leaf_level, Pages, Layout, Slot, Empty, Next, Maps, Bad, slot, slot_from, at_2, at_3, walk, Place, Root, Gigabyte, Chunk, next_page, table_at, IsPlace, IsOrderly, answer_of, leaf_for, entry_for_table, word_at, nat_tests, common_steps}
+use Rattle.std.proofs.Common.{◌≡◌, ℕ, ◌+◌, ◌*◌, ◌/◌, ◌%◌, ◌^◌, ◌<◌, true, false, is_some, Some, length, refl, arith, ap, ◌∙◌}
+use Rattle.stage2.proofs.Names.{Access, Entry, Leaf, entry_of, leaf_word_of, Pages, Layout, Slot, Empty, Next, Maps, Bad, slot, slot_from, at_2, at_3, walk, Place, Root, Gigabyte, Chunk, next_page, table_at, IsPlace, IsOrderly, answer_of, leaf_for, entry_for_table, word_at, nat_tests, common_steps}
 use Rattle.words.proofs.RoundTrip.{word-leaf, type-leaf}
 use Rattle.stage2.proofs.Tree.WalkFrame.{table_at-root, table_at-chunk_in, walk-chunk}
 use Rattle.stage2.proofs.Tree.KnownWords.{wrong-root, root-known, chunk-walk, second-known}

@@ -1,5 +1,5 @@
 -- The word of a table, and walks that begin at a root.
-use Rattle.stage2.proofs.Names.{nat_tests, table_word_of, Words, Layout, Slot, Next, slot, slot_from, index_1, at_1, walk, walk_across, next_page, IsTidy, common_steps, Unmapped, ◌≡◌, ℕ, ◌+◌, ◌^◌, ◌≤◌, ◌<◌, None, length, arith, ap, ◌∙◌}
+use Rattle.stage2.proofs.Names.{nat_tests, table_word_of, Words, Layout, Next, slot, slot_from, index_1, at_1, walk, walk_across, ◌≡◌, ℕ, ◌+◌, ◌^◌, ◌≤◌, ◌<◌, length, arith, ap, ◌∙◌}
 use Rattle.words.proofs.RoundTrip.{entry-table}
 
 -- a word that points at a page of the pool

@@ -1,6 +1,6 @@
 -- A word of a root is written: which tables hang, and what walks give.
 use Rattle.std.proofs.Common.{◌≡◌, ◌≢◌, ℕ, ◌/◌, ◌^◌, ◌<◌, Option, Some, None, length, refl, arith, ap, sym, ◌∙◌, ◌⊎◌, inl, inr}
-use Rattle.stage2.proofs.Names.{nat_tests, Words, put, Layout, Empty, Next, slot, index_1, index_2, index_3, at_1, walk, walk_across, Place, Root, Gigabyte, Chunk, next_page, chunk_table, table_at, IsPlace, IsForest, common_steps, Unmapped, cases_eq}
+use Rattle.stage2.proofs.Names.{nat_tests, Words, put, Layout, Empty, Next, slot, index_1, index_2, index_3, at_1, walk, walk_across, Place, Root, Gigabyte, Chunk, next_page, chunk_table, table_at, IsForest, common_steps, Unmapped, cases_eq}
 use Rattle.stage2.proofs.Tree.WalkFrame.{put-other, put-same, walk-same, other_table, table_at-gigabyte, table_at-chunk, table_at-root, IsUnheld, IsLevel2Write, table_at-level_2, table_at-level_2-other}
 
 -- whether a place is this chunk's

@@ -1,5 +1,5 @@
 -- Words that are written leave each walk, and the place of each table, that do not read them.
-use Rattle.std.proofs.Common.{◌≡◌, ◌≢◌, ℕ, ◌+◌, ◌*◌, ◌/◌, ◌%◌, ◌^◌, ◌<◌, Option, Some, length, refl, arith, ap, sym, ◌∙◌}
+use Rattle.std.proofs.Common.{◌≡◌, ◌≢◌, ℕ, ◌+◌, ◌*◌, ◌/◌, ◌%◌, ◌^◌, ◌<◌, Some, length, refl, arith, ap, sym, ◌∙◌}
 use Rattle.stage2.proofs.Names.{nat_tests, Words, put, Layout, Slot, slot, index_1, index_2, index_3, at_1, at_2, at_3, walk, walk_across, Place, Root, Gigabyte, Chunk, next_page, chunk_table, table_at, IsPlace, IsForest, common_steps}
 
 pub put-other : (words : Words) (page index word q i : ℕ) → (q ≡ page → i ≡ index → ⊥) → put page index word words q i ≡ words q i

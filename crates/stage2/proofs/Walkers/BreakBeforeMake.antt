@@ -1,9 +1,7 @@
 -- Where nothing is due, an invalid word of a table that hangs has had no valid one before it since its pages were invalidated.
-use Rattle.std.proofs.Common.{arith, ◌≡◌, ℕ, ◌+◌, ◌/◌, ◌^◌, ◌<◌, Bool, true, false, ◌&&◌, eqb, leb, ltb, cond, ◌-◌, List, Some, None, length, refl, ap, sym, ◌∙◌, ap₂, subst, ◌⊎◌, inl, inr}
-use Rattle.stage2.proofs.Names.{nat_tests, common_steps, entry_of, Entry, Invalid, Table, Leaf, Words, Op, Walked, Layout, Slot, Empty, Next, Maps, Bad, slot, slot_from, index_1, index_2, index_3, at_1, at_2, at_3, walk, Place, Root, Gigabyte, Chunk, next_page, chunk_table, table_at, IsPlace, words_after, Since, Walker, Begins, Ends, from_1, from_2, UnderWay, begins, reads, IsInvalid, OpenCall, IsInStep, Unmapped, Mapped}
-use Rattle.words.specs.declared.word.Entry.TheVariants.{Wrong as Wrong_entry}
+use Rattle.std.proofs.Common.{arith, ◌≡◌, ℕ, ◌/◌, ◌^◌, ◌<◌, Bool, false, ◌&&◌, eqb, List, Some, None, length, refl, ap, sym, ◌∙◌, subst}
+use Rattle.stage2.proofs.Names.{nat_tests, common_steps, Words, Op, Layout, Slot, Empty, Next, Maps, Bad, slot, slot_from, index_1, index_2, index_3, at_1, at_2, at_3, walk, Place, Gigabyte, Chunk, next_page, chunk_table, table_at, IsPlace, words_after, Since, Walker, Begins, Ends, from_1, from_2, UnderWay, begins, reads, IsInvalid, OpenCall, IsInStep, Unmapped}
 use Rattle.words.proofs.RoundTrip.{word-invalid, entry-invalid}
-use Rattle.stage2.specs.declared.walked.Walked.TheVariants.{Wrong}
 use Rattle.stage2.specs.Moments.{Second, Third, StandsFor}
 use Rattle.stage2.proofs.Tree.WalkFrame.{table_at-root, table_at-chunk_in, walk-gigabyte, walk-chunk}
 use Rattle.stage2.proofs.Walkers.UnderWay.{outlast}

@@ -1,5 +1,5 @@
 -- Which pages an edit may disturb: chunk by chunk.
-use Rattle.std.proofs.Common.{◌≡◌, ℕ, ◌+◌, ◌*◌, ◌/◌, ◌<◌, Bool, true, false, not, ◌&&◌, ◌||◌, eqb, ltb, List, Some, refl, arith, ap, ap₂, sym, ◌∙◌}
+use Rattle.std.proofs.Common.{◌≡◌, ℕ, ◌+◌, ◌*◌, ◌/◌, ◌<◌, false, not, ◌&&◌, ◌||◌, eqb, List, Some, arith, ap, ap₂, sym, ◌∙◌}
 use Rattle.stage2.proofs.Names.{nat_tests, PageRun, covers, View, Pool, Walked, Layout, walked, is_mixed, edited, disturbs, disturbed, IsOutcome, StaysInStep, disturbed_below, common_steps, eqb-true}
 use Rattle.stage2.proofs.Walkers.ZeroedTables.{stays-wider}
 use Rattle.base.proofs.Booleans.{both}

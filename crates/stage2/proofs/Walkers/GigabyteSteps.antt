@@ -1,5 +1,5 @@
 -- The edits of the gigabytes of a row, one after another, as walks under way see them.
-use Rattle.std.proofs.Common.{◌^◌, ◌≡◌, ℕ, ◌+◌, ◌*◌, ◌/◌, ◌<◌, Bool, true, ◌&&◌, ◌||◌, eqb, ltb, List, length, arith, ap, inr}
+use Rattle.std.proofs.Common.{◌^◌, ◌≡◌, ℕ, ◌+◌, ◌*◌, ◌/◌, ◌<◌, Bool, true, ◌&&◌, eqb, ltb, List, length, arith, ap, inr}
 use Rattle.stage2.proofs.Names.{nat_tests, PageRun, View, Pool, Pages, Layout, walked, is_mixed, answers, edited, AreFree, Turns, disturbed, IsPast, StaysInStep, common_steps, eqb-true}
 use Rattle.stage2.proofs.Editing.GigabyteByGigabyte.{still-answers, still-edited}
 use Rattle.stage2.proofs.Counting.Needs.{mixed-same}

@@ -1,6 +1,6 @@
 -- A chunk whose gigabyte's table hangs, or hangs only once the root's word is written: what hangs in the words as they are.
 use Rattle.std.proofs.Common.{◌≡◌, ◌≢◌, ℕ, ◌+◌, ◌*◌, ◌/◌, ◌%◌, ◌^◌, ◌<◌, true, false, Some, None, length, refl, arith, ap, sym, subst, ◌∙◌, inl, inr}
-use Rattle.stage2.proofs.Names.{View, table_word_of, Words, Pages, put, Layout, Slot, Empty, Next, slot, IsInvalid, at_2, walk, walked, Place, Gigabyte, Chunk, next_page, table_at, IsPlace, IsForest, answers, Redoes_in, IsSite, IsEntryFor, IsOutcome, IsSeated, nat_tests, common_steps, Unmapped}
+use Rattle.stage2.proofs.Names.{View, table_word_of, Words, Pages, put, Layout, Empty, Next, slot, IsInvalid, at_2, walk, walked, Place, Gigabyte, Chunk, next_page, table_at, IsPlace, IsForest, answers, Redoes_in, IsSite, IsEntryFor, IsOutcome, IsSeated, nat_tests, common_steps, Unmapped}
 use Rattle.stage2.proofs.Walkers.BreakBeforeMake.{empty-invalid}
 use Rattle.stage2.proofs.Walkers.TableWrites.{unmapped_3}
 use Rattle.stage2.proofs.Tree.WalkFrame.{IsLevel3Write, IsUnheld, AgreeOutside, table_at-outside}
@@ -9,16 +9,16 @@ use Rattle.stage2.proofs.Walkers.CallSeams.{hangs-linked, unheld-gigabyte, unhel
 use Rattle.stage2.proofs.Editing.FourChunkEdits.{old, entry, table-entry, walk-entry, at_2-seen, third-at, slot-word, no-table, at_2-block, tidy-answer}
 use Rattle.stage2.proofs.Walkers.StepLists.{IsHung}
 
-module _ (layout : Layout) (row c j : ℕ) (m : Pages) (h : IsSite layout row c j m) where
+module _ {layout : Layout} {row c j : ℕ} {m : Pages} (h : IsSite layout row c j m) where
   -- the words as they are, where the link is written, and where it is not
-  same-words : m.words row (c / 512) ≡ table_word_of (layout.base + j) → old layout row c j m h ≡ m.words
+  same-words : m.words row (c / 512) ≡ table_word_of (layout.base + j) → old h ≡ m.words
   same-words e = put-there m.words row (c / 512) (table_word_of (layout.base + j)) e
 
-  cut-words : m.words row (c / 512) ≡ 0 → put row (c / 512) 0 (old layout row c j m h) ≡ m.words
+  cut-words : m.words row (c / 512) ≡ 0 → put row (c / 512) 0 (old h) ≡ m.words
   cut-words e = put-twice m.words row (c / 512) (table_word_of (layout.base + j)) 0 ∙ put-there m.words row (c / 512) 0 e
 
   -- what hangs hangs with the link
-  pub hangs-seen : IsSeated layout row (c / 512) j m → (b : Place) (q : ℕ) → IsPlace layout b → table_at layout m.words b ≡ Some q → table_at layout (old layout row c j m h) b ≡ Some q
+  pub hangs-seen : IsSeated layout row (c / 512) j m → (b : Place) (q : ℕ) → IsPlace layout b → table_at layout m.words b ≡ Some q → table_at layout (old h) b ≡ Some q
   hangs-seen seated b q inside at = grind (arith, common_steps, nat_tests, same-words, hangs-linked, old, cut-words)
 
   pub forest-seen : IsSeated layout row (c / 512) j m → IsForest layout m.words
@@ -28,28 +28,28 @@ module _ (layout : Layout) (row c j : ℕ) (m : Pages) (h : IsSite layout row c 
   pub unheld-free : IsSeated layout row (c / 512) j m → (k : ℕ) → m.taken k ≡ false → IsUnheld layout m.words k
   unheld-free s k free b inside at = let held : m.taken k ≡ true = h.orderly.taken b k inside (hangs-seen s b k inside at) in absurd (cc)
 
-  pub unheld-third : m.words row (c / 512) ≡ 0 → (k : ℕ) → entry layout row c j m h ≡ Next k → IsUnheld layout m.words k
+  pub unheld-third : m.words row (c / 512) ≡ 0 → (k : ℕ) → entry h ≡ Next k → IsUnheld layout m.words k
   unheld-third e k is =
-      subst (λ (w : Words). IsUnheld layout w k) (cut-words e) (unheld-chunk layout (old layout row c j m h) row (c / 512) h.orderly.forest h.partition c k h.chunk refl (third-at layout row c j m h k is))
+      subst (λ (w : Words). IsUnheld layout w k) (cut-words e) (unheld-chunk layout (old h) row (c / 512) h.orderly.forest h.partition c k h.chunk refl (third-at h k is))
 
   -- the level 2 table hangs, or hangs nowhere
   pub hung-seen : IsSeated layout row (c / 512) j m → IsHung layout m.words row c j
   hung-seen seated = grind (arith, common_steps, nat_tests, forest-seen, same-words, cut-words, unheld-gigabyte, old)
 
   -- the table of the chunk hangs there alone, or nowhere
-  pub third-alone : IsSeated layout row (c / 512) j m → (k : ℕ) → entry layout row c j m h ≡ Next k → (a : Place) → IsPlace layout a → a ≢ Chunk row c → table_at layout m.words a ≡ Some k → ⊥
-  third-alone s k is a inside other at = other (h.orderly.forest a (Chunk row c) k inside (h.partition, h.chunk) (hangs-seen s a k inside at) (third-at layout row c j m h k is))
+  pub third-alone : IsSeated layout row (c / 512) j m → (k : ℕ) → entry h ≡ Next k → (a : Place) → IsPlace layout a → a ≢ Chunk row c → table_at layout m.words a ≡ Some k → ⊥
+  third-alone s k is a inside other at = other (h.orderly.forest a (Chunk row c) k inside (h.partition, h.chunk) (hangs-seen s a k inside at) (third-at h k is))
 
   -- where the level 2 table hangs nowhere, nor does it
-  pub third-loose : IsSeated layout row (c / 512) j m → (k : ℕ) → entry layout row c j m h ≡ Next k → IsUnheld layout m.words j → IsUnheld layout m.words k
+  pub third-loose : IsSeated layout row (c / 512) j m → (k : ℕ) → entry h ≡ Next k → IsUnheld layout m.words j → IsUnheld layout m.words k
   third-loose seated k is loose = grind (arith, common_steps, nat_tests, same-words, unheld-third)
 
-  pub third-hangs : m.words row (c / 512) ≡ table_word_of (layout.base + j) → (k : ℕ) → entry layout row c j m h ≡ Next k → table_at layout m.words (Chunk row c) ≡ Some k
-  third-hangs e k is = ap (λ (w : Words). table_at layout w (Chunk row c)) (sym (same-words e)) ∙ third-at layout row c j m h k is
+  pub third-hangs : m.words row (c / 512) ≡ table_word_of (layout.base + j) → (k : ℕ) → entry h ≡ Next k → table_at layout m.words (Chunk row c) ≡ Some k
+  third-hangs e k is = ap (λ (w : Words). table_at layout w (Chunk row c)) (sym (same-words e)) ∙ third-at h k is
 
   -- the walks of the chunk's pages, from its word on
-  pub gives-entry : (n : ℕ) → n / 512 ≡ c → walk layout (old layout row c j m h) row n ≡ at_2 layout m.words n (entry layout row c j m h)
-  gives-entry n at = walk-entry layout row c j m h n at ∙ at_2-seen layout row c j m h n (entry layout row c j m h) (sym (table-entry layout row c j m h))
+  pub gives-entry : (n : ℕ) → n / 512 ≡ c → walk layout (old h) row n ≡ at_2 layout m.words n (entry h)
+  gives-entry n at = walk-entry h n at ∙ at_2-seen h n (entry h) (sym (table-entry h))
 
 -- a page that hung nowhere was filled
 pub hung-outside : (layout : Layout) (words new : Words) (row c j k : ℕ) → row < length layout.ids → c < 262144 → IsUnheld layout words k → AgreeOutside k words new → IsHung layout words row c j → IsHung layout new row c j
@@ -64,12 +64,12 @@ unheld-outside layout words new k free agree a inside at = free a inside (sym (t
 
 -- ---- after the edit of a chunk
 
-pub site-after : (layout : Layout) (row c j : ℕ) (view : ℕ → View) (m new : Pages) → IsSite layout row c j m → Redoes_in layout row c j view m new → IsSite layout row c j new
-site-after layout row c j view m new h r = grind (arith, common_steps, nat_tests)
+pub site-after : {layout : Layout} {row c j : ℕ} {view : ℕ → View} {m new : Pages} → IsSite layout row c j m → Redoes_in layout row c j view m new → IsSite layout row c j new
+site-after h r = grind (arith, common_steps, nat_tests)
 
 -- the chunk's word says what its pages answer
-pub gives-after : (layout : Layout) (row c j : ℕ) (view : ℕ → View) (m new : Pages) → IsSite layout row c j m → Redoes_in layout row c j view m new → (n : ℕ) → n < 2 ^ 27 → n / 512 ≡ c → at_2 layout new.words n (slot layout 2 (new.words j (c % 512))) ≡ walked n (view n)
-gives-after layout row c j view m new h r n small at = grind (arith, common_steps, nat_tests, gives-entry layout row c j new (site-after layout row c j view m new h r) n, site-after layout row c j view m new h r, r.redoes.walks row n small)
+pub gives-after : {layout : Layout} {row c j : ℕ} {view : ℕ → View} {m new : Pages} → IsSite layout row c j m → Redoes_in layout row c j view m new → (n : ℕ) → n < 2 ^ 27 → n / 512 ≡ c → at_2 layout new.words n (slot layout 2 (new.words j (c % 512))) ≡ walked n (view n)
+gives-after {layout} {row} {c} {j} {view} {m} {new} h r n small at = grind (arith, common_steps, nat_tests, gives-entry (site-after h r) n, site-after h r, r.redoes.walks row n small)
 
 -- a block, or nothing, is what it says
 pub gives-block : (layout : Layout) (words : Words) (c word : ℕ) (view : ℕ → View) (one : View) → IsEntryFor c one word → IsOutcome c view (Some one) → (n : ℕ) → n / 512 ≡ c → at_2 layout words n (slot layout 2 word) ≡ walked n (view n)
@@ -81,15 +81,15 @@ block-no-table layout c word one is = ap next_page (slot-word layout 2 (512 * c)
 
 -- ---- words of pages that are not mapped
 
-pub invalid-word : (layout : Layout) (row c j : ℕ) (m : Pages) (h : IsSite layout row c j m) (k i : ℕ) → entry layout row c j m h ≡ Next k → i < 512 → answers layout (old layout row c j m h) row (512 * c + i) ≡ None → IsInvalid (m.words k i)
-invalid-word layout row c j m h k i is small none =
+pub invalid-word : {layout : Layout} {row c j : ℕ} {m : Pages} (h : IsSite layout row c j m) (k i : ℕ) → entry h ≡ Next k → i < 512 → answers layout (old h) row (512 * c + i) ≡ None → IsInvalid (m.words k i)
+invalid-word {layout} {row} {c} {j} {m} h k i is small none =
     let n = 512 * c + i in
     let chunk : n / 512 ≡ c = omega (arith, small) in
     let index : n % 512 ≡ i = omega (arith, small) in
-    let gone : walk layout (old layout row c j m h) row n ≡ Unmapped = tidy-answer n (walk layout (old layout row c j m h) row n) (h.orderly.tidy row n h.partition (omega (arith, small, h.chunk))) ∙ ap (walked n) none in
-    let empty : slot layout 3 (m.words k (n % 512)) ≡ Empty = (unmapped_3 (slot layout 3 (m.words k (n % 512))) (ap (at_2 layout m.words n) (sym is) ∙ (sym (gives-entry layout row c j m h n chunk) ∙ gone))) in
+    let gone : walk layout (old h) row n ≡ Unmapped = tidy-answer n (walk layout (old h) row n) (h.orderly.tidy row n h.partition (omega (arith, small, h.chunk))) ∙ ap (walked n) none in
+    let empty : slot layout 3 (m.words k (n % 512)) ≡ Empty = (unmapped_3 (slot layout 3 (m.words k (n % 512))) (ap (at_2 layout m.words n) (sym is) ∙ (sym (gives-entry h n chunk) ∙ gone))) in
     empty-invalid layout 3 (m.words k i) (ap (λ x. slot layout 3 (m.words k x)) (sym index) ∙ empty)
 
 -- the table of the chunk hangs
-pub level_3-seen : (layout : Layout) (row c j : ℕ) (m : Pages) (h : IsSite layout row c j m) → (e : m.words row (c / 512) ≡ table_word_of (layout.base + j)) → (k : ℕ) → entry layout row c j m h ≡ Next k → IsLevel3Write layout m.words row c k
-level_3-seen layout row c j m h e k is = record { forest = forest-seen layout row c j m h (inl e); partition = h.partition; chunk = h.chunk; table = third-hangs layout row c j m h e k is }
+pub level_3-seen : {layout : Layout} {row c j : ℕ} {m : Pages} (h : IsSite layout row c j m) → (e : m.words row (c / 512) ≡ table_word_of (layout.base + j)) → (k : ℕ) → entry h ≡ Next k → IsLevel3Write layout m.words row c k
+level_3-seen h e k is = record { forest = forest-seen h (inl e); partition = h.partition; chunk = h.chunk; table = third-hangs h e k is }

@@ -1,8 +1,7 @@
 -- What walkers see of a whole edit.
-use Rattle.std.proofs.Common.{◌≡◌, ℕ, ◌^◌, ◌<◌, Bool, true, ◌&&◌, eqb, List, [], ◌∷◌, refl, arith}
+use Rattle.std.proofs.Common.{◌≡◌, ℕ, ◌^◌, ◌<◌, Bool, true, List, [], ◌∷◌, refl, arith}
 use Rattle.stage2.proofs.Names.{View, PageRun, row_of, Pool, words_of, all_lie_in, Op, Walked, Layout, walked, Agrees, AtEachMoment, OpenCall, IsInStepIn, nothing, IsSteady, Moments, nat_tests, common_steps, Unmapped, eqb-true}
 use Rattle.stage2.proofs.Walkers.InStep.{orderly-start}
-use Rattle.base.proofs.Booleans.{both}
 
 pub at_each : (P Q : List Op → Type 0) → ((past : List Op) → P past → Q past) → (past : List Op) → AtEachMoment P past → AtEachMoment Q past
 at_each P Q f [] h = f [] h

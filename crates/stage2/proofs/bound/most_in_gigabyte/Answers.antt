@@ -5,7 +5,6 @@ use Rattle.stage2.proofs.bound.most_in_gigabyte.Goals as goal
 
 pub count_untabled-chunks-requires-clause-page_in : goal.count_untabled-chunks-requires-clause-page_in
 count_untabled-chunks-requires-clause-page_in g c = λ j e.
-    let pool = g.M.TableMem.state c.args.memory.now in
     let inside = (second-page c.requires.canonical c.chunk_span.ensures.in_range c.args.edit.now.row c.args.edit.now.inside j (sym c.second_at-second.ensures ∙ e)).0 in
     rw c.requires.canonical.orderly.pages at inside
 

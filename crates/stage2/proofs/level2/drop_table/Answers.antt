@@ -10,44 +10,38 @@ use Rattle.stage2.proofs.Tree.TakenPages.{pages_of-give}
 use Rattle.stage2.proofs.level2.drop_table.Goals as goal
 
 pub replace_entry-requires-clause-page_in : goal.replace_entry-requires-clause-page_in
-replace_entry-requires-clause-page_in g c = second-inside c.args.edit.now.layout.now c.args.site.now.row c.args.edit.now.chunk c.args.site.now.second (pages_of (g.M.TableMem.state c.args.memory.now).memory) c.requires.can.site
+replace_entry-requires-clause-page_in g c = second-inside c.requires.can.site
 
 pub replace_entry-requires-clause-taken : goal.replace_entry-requires-clause-taken
-replace_entry-requires-clause-taken g c = second-taken c.args.edit.now.layout.now c.args.site.now.row c.args.edit.now.chunk c.args.site.now.second (pages_of (g.M.TableMem.state c.args.memory.now).memory) c.requires.can.site
+replace_entry-requires-clause-taken g c = second-taken c.requires.can.site
 
 pub empty_table-requires : goal.empty_table-requires
 empty_table-requires g c =
     let s = c.args.site.now in
     let e = c.args.edit.now in
-    let layout = e.layout.now in
     let k = c.args.third in
     let old = g.M.TableMem.state c.args.memory.now in
-    let m = pages_of old.memory in
     let m1 = pages_of (g.M.TableMem.state c.replace_entry.new.memory).memory in
     let can = c.requires.can in
     let put = c.replace_entry.ensures.pages in
-    let same = ap (λ n. cond (is_some e.access) n (pages_in e.runs e.chunk)) (left-words layout s.row e.chunk s.second m can.site k c.block_word.result m1 c.requires.table put) in
+    let same = ap (λ n. cond (is_some e.access) n (pages_in e.runs e.chunk)) (left-words can.site k c.block_word.result m1 c.requires.table put) in
     let room = can.room in
     let left = c.replace_entry.ensures.room in
     record {
-      page_in = subst (λ (x : Pages). k < page_count x.quotas) (sym put) (third-inside layout s.row e.chunk s.second m can.site k c.requires.table);
-      taken = ap (λ (x : Pages). x.taken k) put ∙ third-taken layout s.row e.chunk s.second m can.site k c.requires.table;
-      left = λ i small out. grind (arith, common_steps, nat_tests, left-kept layout s.row e.chunk s.second m can.site k c.block_word.result m1 c.requires.table put i, others s e old can.site c.requires.table c.requires.alike i small out);
+      page_in = subst (λ (x : Pages). k < page_count x.quotas) (sym put) (third-inside can.site k c.requires.table);
+      taken = ap (λ (x : Pages). x.taken k) put ∙ third-taken can.site k c.requires.table;
+      left = λ i small out. grind (arith, common_steps, nat_tests, left-kept can.site k c.block_word.result m1 c.requires.table put i, others s e old can.site c.requires.table c.requires.alike i small out);
       room = omega (arith, same, dropped s e old can.site c.requires.table c.requires.alike, room, left);
     }
 
 pub give_page-requires : goal.give_page-requires
 give_page-requires g c =
-    let s = c.args.site.now in
-    let e = c.args.edit.now in
-    let layout = e.layout.now in
     let k = c.args.third in
-    let m = pages_of (g.M.TableMem.state c.args.memory.now).memory in
     let m1 = pages_of (g.M.TableMem.state c.replace_entry.new.memory).memory in
     let m2 = pages_of (g.M.TableMem.state c.empty_table.new.memory).memory in
     let site = c.requires.can.site in
     let emptied = c.empty_table.ensures.writes.words in
-    grind (arith, common_steps, nat_tests, third-share layout s.row e.chunk s.second m site k c.requires.table, third-taken layout s.row e.chunk s.second m site k c.requires.table, drop-zero layout s.row e.chunk s.second m site k m1 m2 emptied)
+    grind (arith, common_steps, nat_tests, third-share site k c.requires.table, third-taken site k c.requires.table, drop-zero site k m1 m2 emptied)
 
 pub returns : goal.returns
 returns g c =
@@ -67,7 +61,6 @@ returns g c =
     let y = g.M.TableMem.state c.replace_entry.new.memory in
     let z = g.M.TableMem.state c.empty_table.new.memory in
     let end = g.M.TableMem.state c.give_page.new.memory in
-    let m = pages_of x.memory in
     let view : ℕ → _ = chunk_after s e x in
     let which : ℕ → Bool = λ n. eqb (n / 512) chunk in
     let answer : ℕ → Walked = λ n. walked n (view n) in
@@ -76,24 +69,24 @@ returns g c =
     let given = c.give_page.ensures.state in
     let stays : IsSeatedAt s e x → StaysAtChunk layout row chunk view x end = λ seated.
     let none = block-no-table layout chunk word e.access c.block_word.ensures in
-    let hung = hung-seen layout row chunk j m site seated in
+    let hung = hung-seen site seated in
     let first : StaysInStep layout row which answer x y =
     stays-replaced layout row s.p chunk j word answer x y site.partition site.chunk hung can.row
     (λ q next. absurd (cc))
     (λ n small at. gives-block layout (put j (chunk % 512) word (words_of x.memory.words)) chunk word view e.access c.block_word.ensures alike n at)
     c.replace_entry.ensures.history in
     let loose : IsUnheld layout (put j (chunk % 512) word (words_of x.memory.words)) k =
-    unheld-word layout (words_of x.memory.words) row chunk j word k site.partition site.chunk hung none (third-alone layout row chunk j m site seated k table) (third-loose layout row chunk j m site seated k table) in
+    unheld-word layout (words_of x.memory.words) row chunk j word k site.partition site.chunk hung none (third-alone site seated k table) (third-loose site seated k table) in
     let second : StaysInStep layout row which answer y z =
     stays-filled layout row k chunk 512 (planned [] None (Some None)) which answer y z emptied.made (subst (λ (w : Words). IsUnheld layout w k) (sym (ap (λ (s : Pages). s.words) put_there)) loose) in
     let third : StaysInStep layout row which answer z end =
     stays-taken layout row which answer z end (ap (λ (s : Pool). words_of s.memory.words) given) (ap (λ (s : Pool). s.operations) given) (ap (λ (s : Pool). s.made) given) in
     stays-after layout row which answer x z end (stays-after layout row which answer x y z first second) third in
     let quotas = emptied.words.quotas ∙ ap (λ (x : Pages). x.quotas) put_there in
-    let same = ap (λ n. cond (is_some e.access) n (pages_in e.runs chunk)) (left-words layout row chunk j m site k word (pages_of y.memory) table put_there) in
+    let same = ap (λ n. cond (is_some e.access) n (pages_in e.runs chunk)) (left-words site k word (pages_of y.memory) table put_there) in
     record {
-      edits = does-drop layout row chunk j m site view e.access word k (pages_of y.memory) (pages_of z.memory) (pages_of end.memory) table c.block_word.ensures put_there emptied.words
-          (pages_of-give z end k (g.met.M.TableMem.whole c.empty_table.new.memory) (subst (λ x. k < page_count x) (sym quotas) (third-inside layout row chunk j m site k table)) given) alike;
+      edits = does-drop site view e.access word k (pages_of y.memory) (pages_of z.memory) (pages_of end.memory) table c.block_word.ensures put_there emptied.words
+          (pages_of-give z end k (g.met.M.TableMem.whole c.empty_table.new.memory) (subst (λ x. k < page_count x) (sym quotas) (third-inside site k table)) given) alike;
       in_step = in-step-alike s e x site alike stays;
       room = omega (arith, same, dropped s e x site table alike, c.replace_entry.ensures.room, c.empty_table.ensures.room, c.give_page.ensures.room);
     }

@@ -42,8 +42,8 @@ replace_entry-requires g c =
     let quotas = filled.quotas ∙ ap (λ (x : Pages). x.quotas) marked in
     let room = can.room in
     record {
-      page_in = subst (λ x. s.second < page_count x) (sym quotas) (second-inside e.layout.now s.row e.chunk s.second m can.site);
-      taken = ap (λ f. f s.second) filled.taken ∙ ap (λ (x : Pages). x.taken s.second) marked ∙ mark-kept m.taken k s.second (second-taken e.layout.now s.row e.chunk s.second m can.site);
+      page_in = subst (λ x. s.second < page_count x) (sym quotas) (second-inside can.site);
+      taken = ap (λ f. f s.second) filled.taken ∙ ap (λ (x : Pages). x.taken s.second) marked ∙ mark-kept m.taken k s.second (second-taken can.site);
       partition = has-row e.layout.now (g.M.TableMem.state c.fill_table.new.memory).memory s.p s.row (can.site.orderly.ids ∙ sym (filled.ids ∙ ap (λ (x : Pages). x.ids) marked)) can.row can.site.partition;
       room = omega (arith, hung s e old can.site c.requires.none c.requires.mixed c.requires.before, room, took.room, c.fill_table.ensures.room);
     }
@@ -77,13 +77,13 @@ returns g c =
     let put_there = c.replace_entry.ensures.pages in
     let marked = pages_of-take x y row k (g.met.M.TableMem.whole c.args.memory.now) took.lowest took.state in
     let is_word : word ≡ table_word_of (layout.base + k) = c.table_word.ensures.value ∙ ap table_word_of c.address.ensures in
-    let edits = does-hang layout row chunk j m site e.runs e.access c.args.before.now k (pages_of y.memory) (pages_of z.memory) (pages_of end.memory) c.requires.none took.lowest c.requires.before marked filled.words
+    let edits = does-hang site e.runs e.access c.args.before.now k (pages_of y.memory) (pages_of z.memory) (pages_of end.memory) c.requires.none took.lowest c.requires.before marked filled.words
     (subst (λ x. pages_of end.memory ≡ with_put j (chunk % 512) x (pages_of z.memory)) is_word put_there) c.requires.mixed in
     let stays : IsSeatedAt s e x → StaysAtChunk layout row chunk view x end = λ seated.
     let same : words_of y.memory.words ≡ words_of x.memory.words = ap (λ (s : Pool). words_of s.memory.words) took.state in
     let first : StaysInStep layout row which answer x y = stays-taken layout row which answer x y same (ap (λ (s : Pool). s.operations) took.state) (ap (λ (s : Pool). s.made) took.state) in
-    let loose : IsUnheld layout (words_of y.memory.words) k = subst (λ (w : Words). IsUnheld layout w k) (sym same) (unheld-free layout row chunk j m site seated k took.lowest.free) in
-    let hung_y : IsHung layout (words_of y.memory.words) row chunk j = subst (λ (w : Words). IsHung layout w row chunk j) (sym same) (hung-seen layout row chunk j m site seated) in
+    let loose : IsUnheld layout (words_of y.memory.words) k = subst (λ (w : Words). IsUnheld layout w k) (sym same) (unheld-free site seated k took.lowest.free) in
+    let hung_y : IsHung layout (words_of y.memory.words) row chunk j = subst (λ (w : Words). IsHung layout w row chunk j) (sym same) (hung-seen site seated) in
     let hung_z : IsHung layout (words_of z.memory.words) row chunk j = hung-outside layout (words_of y.memory.words) (words_of z.memory.words) row chunk j k site.partition site.chunk loose filled.words.others hung_y in
     let loose_z : IsUnheld layout (words_of z.memory.words) k = unheld-outside layout (words_of y.memory.words) (words_of z.memory.words) k loose filled.words.others in
     let is_slot : slot layout 2 word ≡ Next k = ap (slot layout 2) is_word ∙ slot-table layout 2 k (omega arith) (rw site.orderly.pages (share_inside m.quotas row k took.lowest.inside)) site.orderly.fits in
@@ -94,7 +94,7 @@ returns g c =
     (λ n small at.
     let read : words_of end.memory.words j (chunk % 512) ≡ word = ap (λ (w : Words). w j (chunk % 512)) wrote ∙ put-same (words_of z.memory.words) j (chunk % 512) word in
     ap (λ (w : Words). at_2 layout w n (slot layout 2 word)) (sym wrote) ∙ ap (λ w. at_2 layout (words_of end.memory.words) n (slot layout 2 w)) (sym read)
-    ∙ gives-after layout row chunk j view m (pages_of end.memory) site edits n small at)
+    ∙ gives-after site edits n small at)
     c.replace_entry.ensures.history in
     stays-after layout row which answer x z end (stays-after layout row which answer x y z first (filled.unseen layout row which answer loose)) third in
     record {

@@ -6,10 +6,10 @@ use Rattle.stage2.proofs.Editing.FourChunkEdits.{second-inside, second-taken, do
 use Rattle.stage2.proofs.level2.set_block.Goals as goal
 
 pub replace_entry-requires-clause-page_in : goal.replace_entry-requires-clause-page_in
-replace_entry-requires-clause-page_in g c = second-inside c.args.edit.now.layout.now c.args.site.now.row c.args.edit.now.chunk c.args.site.now.second (pages_of (g.M.TableMem.state c.args.memory.now).memory) c.requires.can.site
+replace_entry-requires-clause-page_in g c = second-inside c.requires.can.site
 
 pub replace_entry-requires-clause-taken : goal.replace_entry-requires-clause-taken
-replace_entry-requires-clause-taken g c = second-taken c.args.edit.now.layout.now c.args.site.now.row c.args.edit.now.chunk c.args.site.now.second (pages_of (g.M.TableMem.state c.args.memory.now).memory) c.requires.can.site
+replace_entry-requires-clause-taken g c = second-taken c.requires.can.site
 
 pub returns : goal.returns
 returns g c =
@@ -18,16 +18,15 @@ returns g c =
     let layout = e.layout.now in
     let old = g.M.TableMem.state c.args.memory.now in
     let new = g.M.TableMem.state c.replace_entry.new.memory in
-    let m = pages_of old.memory in
     let can = c.requires.can in
     let alike = c.requires.alike in
     let word = c.block_word.result in
     let view = chunk_after s e old in
     let none = block-no-table layout e.chunk word e.access c.block_word.ensures in
     record {
-      edits = does-set layout s.row e.chunk s.second m can.site view e.access word (pages_of new.memory) c.requires.none c.block_word.ensures c.replace_entry.ensures.pages alike;
+      edits = does-set can.site view e.access word (pages_of new.memory) c.requires.none c.block_word.ensures c.replace_entry.ensures.pages alike;
       in_step = in-step-alike s e old can.site alike (λ seated.
-          stays-replaced layout s.row s.p e.chunk s.second word (λ n. walked n (view n)) old new can.site.partition can.site.chunk (hung-seen layout s.row e.chunk s.second m can.site seated) can.row
+          stays-replaced layout s.row s.p e.chunk s.second word (λ n. walked n (view n)) old new can.site.partition can.site.chunk (hung-seen can.site seated) can.row
           (λ k next. absurd (cc))
           (λ n small at. gives-block layout (put s.second (e.chunk % 512) word (words_of old.memory.words)) e.chunk word view e.access c.block_word.ensures alike n at)
           c.replace_entry.ensures.history);

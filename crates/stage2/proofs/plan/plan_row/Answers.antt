@@ -1,4 +1,4 @@
-use Rattle.stage2.proofs.Names.{pages_of, edited, answers_of, sum_below, gigabyte_operations, gigabyte_growth, Plan, View, covers, nat_tests, common_steps, ◌≡◌, ℕ, ◌+◌, ◌-◌, ◌*◌, ◌/◌, ◌≤◌, false, inl, inr, sym, ap, ◌∙◌, arith}
+use Rattle.stage2.proofs.Names.{pages_of, edited, answers_of, sum_below, gigabyte_operations, gigabyte_growth, Plan, View, covers, nat_tests, common_steps, ◌≡◌, ℕ, ◌+◌, ◌-◌, ◌*◌, ◌/◌, ◌≤◌, false, inr, sym, ap, ◌∙◌, arith}
 use Rattle.stage2.proofs.Editing.ChunkByChunk.{sum_below-more}
 use Rattle.stage2.proofs.Editing.GigabyteByGigabyte.{grow-sum}
 use Rattle.stage2.proofs.Runs.Spans.{sum_below-none, sum_below-tail, outside-gigabytes}
@@ -16,8 +16,6 @@ plan_gigabyte-more-requires-clause-turned g c = λ yes n at covered. grind (arit
 
 pub loop-number-init : goal.loop-number-init
 loop-number-init g c =
-    let v = answers_of c.args.edit.now.layout.now (pages_of (g.M.TableMem.state c.args.memory.now).memory).words c.args.edit.now.row in
-    let first = c.gigabyte_span-span.result.first in
     record {
       tables = grind (arith, common_steps, nat_tests, sum_below-none, growth-nothing, outside-gigabytes);
       operations = grind (arith, common_steps, nat_tests, sum_below-none, operations-nothing, outside-gigabytes);

@@ -1,5 +1,5 @@
 use Rattle.std.proofs.lemmas.Result.{on_ok_weaker}
-use Rattle.stage2.proofs.Names.{View, in_range, IsFilling, nat_tests, common_steps, ◌≡◌, ◌<◌, rules, refl, sym, subst, ◌∙◌, arith}
+use Rattle.stage2.proofs.Names.{View, in_range, IsFilling, nat_tests, common_steps, ◌≡◌, ◌<◌, rules, sym, subst, ◌∙◌, arith}
 use Rattle.stage2.proofs.Editing.FillUpward.{can-map, mapped, others, others-more, edge-between, filling-next, filled, segment-alike, in-range-fits}
 use Rattle.stage2.proofs.tables.Tables.fill.Goals as goal
 use Rattle.stage2.proofs.Editing.Fronts.{below-out}

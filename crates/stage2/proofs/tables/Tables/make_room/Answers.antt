@@ -1,4 +1,4 @@
-use Rattle.stage2.proofs.Names.{view_of, ◌≡◌, ap, arith}
+use Rattle.stage2.proofs.Names.{view_of, ap, arith}
 use Rattle.stage2.specs.Tables.{TablesView}
 use Rattle.stage2.proofs.Editing.WholeTables.{canonical-inside, ready-already, room-most}
 use Rattle.stage2.proofs.tables.Tables.make_room.Goals as goal
