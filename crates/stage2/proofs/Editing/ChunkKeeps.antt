@@ -4,7 +4,7 @@ use Rattle.stage2.proofs.Names.{nat_tests, View, Pages, Layout, slot, Empty, wal
 use Rattle.stage2.proofs.Tree.RootWrites.{is_chunk}
 use Rattle.stage2.proofs.Editing.ChunkEdit.{IsChunkEdit, table-other, walk-apart}
 use Rattle.stage2.proofs.Counting.Needs.{mixed-same}
-use Rattle.stage2.proofs.Editing.Trades.{Trade, IsTrade, trade-forest, trade-taken, trade-owned, trade-hangs, trade-used}
+use Rattle.stage2.proofs.Editing.Trades.{Trade, traded}
 
 pub in_chunk : (row c r n : ℕ) → ((r ≡ row) × (n / 512 ≡ c)) ⊎ (r ≡ row → n / 512 ≡ c → ⊥)
 in_chunk row c r n = grind (arith, common_steps, nat_tests)
@@ -61,34 +61,18 @@ module _ (layout : Layout) (row c j : ℕ) (answer : ℕ → View) (old new : Pa
         ]
   ]
 
-  is_trade : IsTrade layout row (Chunk row c) old new
-  is_trade = record {
-    orderly = h.orderly;
-    at = (h.edit.partition, h.edit.chunk);
-    partition = h.edit.partition;
-    of_row = inr (c, refl);
-    is_x = λ b. is_chunk b row c;
-    kept = λ b inside other. table-other layout row c j old.words new.words h.edit b inside other;
-    quotas = h.quotas;
-    trade = h.trade;
-  }
-
   orderly : IsOrderly layout new
-  orderly = record {
-    ids = h.orderly.ids ∙ sym h.ids;
-    quotas = h.orderly.quotas ∙ sym h.quotas;
-    pages = rw h.quotas h.orderly.pages;
-    rows = rw h.quotas h.orderly.rows;
-    fits = h.orderly.fits;
-    forest = trade-forest layout row (Chunk row c) old new is_trade;
-    taken = trade-taken layout row (Chunk row c) old new is_trade;
-    owned = trade-owned layout row (Chunk row c) old new is_trade;
-    hangs = trade-hangs layout row (Chunk row c) old new is_trade;
-    used = trade-used layout row (Chunk row c) old new is_trade;
-    clean = clean;
-    tidy = tidy;
-    mixed = mixed;
-  }
+  orderly =
+      traded (record {
+      orderly = h.orderly;
+      at = (h.edit.partition, h.edit.chunk);
+      partition = h.edit.partition;
+      of_row = inr (c, refl);
+      is_x = λ b. is_chunk b row c;
+      kept = λ b inside other. table-other layout row c j old.words new.words h.edit b inside other;
+      quotas = h.quotas;
+      trade = h.trade;
+    }) h.ids clean tidy mixed
 
   pub redone : Redoes layout row c answer old new
   redone = grind (arith, common_steps, nat_tests, orderly, in_chunk, apart, table-other)

@@ -119,7 +119,7 @@ module _ (layout : Layout) (row g j : ℕ) (runs : List PageRun) (access : View)
     stays-next seated so =
         march-edit layout row g j runs access old partition below i lt (pages_of s.memory) h a s t (filled-touches runs (512 * g + i) filled) so
         (stays-whole layout row (512 * g + i) runs access view s t (unmixed-after (512 * g + i) view (edited runs access view) access (outcome-filled runs access view (512 * g + i) filled))
-        (stays-replaced layout row p (512 * g + i) j word (λ n. walked n (edited runs access view n)) s t partition (omega (arith, below, lt))
+        (stays-replaced _ _ partition (omega (arith, below, lt))
         (hung-seen (site layout row g j runs access old partition below i lt (pages_of s.memory) h) (march-seated layout row g j runs access old partition below i lt (pages_of s.memory) h seated))
         is_row
         (λ k next. let gone = block-no-table layout (512 * g + i) word access is in absurd (cc))

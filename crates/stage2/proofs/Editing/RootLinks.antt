@@ -7,7 +7,7 @@ use Rattle.stage2.proofs.Tree.RootWrites.{IsRootWrite, is_gigabyte, table_at-roo
 use Rattle.stage2.proofs.Walkers.Level3Write.{slot-zero}
 use Rattle.stage2.proofs.Tree.LinkTable.{slot-table, walk-inside}
 use Rattle.stage2.proofs.Counting.Needs.{mixed-same, mixed-none}
-use Rattle.stage2.proofs.Editing.Trades.{Trade, Hang, Drop, IsTrade, trade-forest, trade-taken, trade-owned, trade-hangs, trade-used}
+use Rattle.stage2.proofs.Editing.Trades.{Trade, Hang, Drop, traded}
 
 pub record IsRooted (layout : Layout) (row g word : ℕ) (old new : Pages) : Type 0 where
   pub orderly : IsOrderly layout old
@@ -26,18 +26,6 @@ module _ (layout : Layout) (row g word : ℕ) (old new : Pages) (h : IsRooted la
   pub kept : (b : Place) → IsPlace layout b → b ≢ Gigabyte row g → table_at layout new.words b ≡ table_at layout old.words b
   kept b inside other = ap (λ w. table_at layout w b) h.words ∙ (grind (arith, common_steps, nat_tests, table_at-root, table_at-root_write-gigabyte, table_at-root_write-below, mixed-none, table_at-root_write-chunk))
 
-  is_trade : IsTrade layout row (Gigabyte row g) old new
-  is_trade = record {
-    orderly = h.orderly;
-    at = (h.write.partition, h.write.gigabyte);
-    partition = h.write.partition;
-    of_row = inl (g, refl);
-    is_x = λ b. is_gigabyte b row g;
-    kept = kept;
-    quotas = h.quotas;
-    trade = h.trade;
-  }
-
   here : (q : ℕ) → table_at layout new.words (Gigabyte row g) ≡ Some q → next_page (slot layout 1 word) ≡ Some q
   here q at = sym (table_at-root_write layout old.words row g word h.write) ∙ sym (ap (λ w. table_at layout w (Gigabyte row g)) h.words) ∙ at
 
@@ -54,21 +42,19 @@ module _ (layout : Layout) (row g word : ℕ) (old new : Pages) (h : IsRooted la
   ]
 
   pub rooted : IsOrderly layout new
-  rooted = record {
-    ids = h.orderly.ids ∙ sym h.ids;
-    quotas = h.orderly.quotas ∙ sym h.quotas;
-    pages = rw h.quotas h.orderly.pages;
-    rows = rw h.quotas h.orderly.rows;
-    fits = h.orderly.fits;
-    forest = trade-forest layout row (Gigabyte row g) old new is_trade;
-    taken = trade-taken layout row (Gigabyte row g) old new is_trade;
-    owned = trade-owned layout row (Gigabyte row g) old new is_trade;
-    hangs = trade-hangs layout row (Gigabyte row g) old new is_trade;
-    used = trade-used layout row (Gigabyte row g) old new is_trade;
-    clean = clean;
-    tidy = λ r n inside small. rw (same-walk r n small) (h.orderly.tidy r n inside small);
-    mixed = λ r c inside below. grind (arith, common_steps, nat_tests, kept, h.orderly.mixed r c inside below, mixed-same, same-walk);
-  }
+  rooted =
+      traded (record {
+      orderly = h.orderly;
+      at = (h.write.partition, h.write.gigabyte);
+      partition = h.write.partition;
+      of_row = inl (g, refl);
+      is_x = λ b. is_gigabyte b row g;
+      kept = kept;
+      quotas = h.quotas;
+      trade = h.trade;
+    }) h.ids clean
+      (λ r n inside small. rw (same-walk r n small) (h.orderly.tidy r n inside small))
+      (λ r c inside below. grind (arith, common_steps, nat_tests, kept, h.orderly.mixed r c inside below, mixed-same, same-walk))
 
 -- ---- a free page is linked
 

@@ -60,6 +60,6 @@ module _ {e : RowEdit} {j g : ℕ} {runs : List PageRun} {first : Pool} {r0 : �
           let answer : ℕ → Walked = λ n. walked n (row_after e runs first n) in
           let none = zero-unmapped e.layout.now e.row g j (edited runs e.access (answers e.layout.now (linked e.layout.now e.row g j (pages_of first.memory)).words e.row)) (pages_of first.memory) (pages_of mid.memory) e.inside below
           (seated-linked e.layout.now e.row g j (pages_of first.memory) same) chunks.edits empty in
-          stays-after e.layout.now e.row which answer first mid new (steps free) (quietly e.layout.now which answer none.0 e.inside e.own none.1);
+          stays-after (steps free) (quietly e.layout.now which answer none.0 e.inside e.own none.1);
       room = let all = costs in let left = chunks.room in omega (arith, all, left, less);
     }

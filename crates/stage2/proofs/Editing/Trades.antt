@@ -1,6 +1,6 @@
 -- A table is hung at one place, or given back there, or stays: the tables of all other places stay.
-use Rattle.std.proofs.Common.{◌≡◌, ◌≢◌, ℕ, ◌+◌, ◌<◌, Bool, true, false, is_some, Some, None, length, arith, ap, ap₂, sym, subst, ◌∙◌, ◌⊎◌, inl, inr}
-use Rattle.stage2.proofs.Names.{Words, Pages, InShare, mark, with_mark, used_by, count_below, Layout, Place, Gigabyte, Chunk, table_at, IsPlace, IsForest, IsOrderly, nat_tests, common_steps, cases_eq}
+use Rattle.std.proofs.Common.{◌≡◌, ◌≢◌, ℕ, ◌+◌, ◌^◌, ◌<◌, Bool, true, false, is_some, Some, None, length, arith, ap, ap₂, sym, subst, ◌∙◌, ◌⊎◌, inl, inr}
+use Rattle.stage2.proofs.Names.{slot, level_at, Empty, IsTidy, walk, is_mixed, answers, Words, Pages, InShare, mark, with_mark, used_by, count_below, Layout, Place, Gigabyte, Chunk, table_at, IsPlace, IsForest, IsOrderly, nat_tests, common_steps, cases_eq}
 use Rattle.pool.proofs.Words.{mark-same, mark-other, mark-kept}
 use Rattle.pool.proofs.Count.{count_below-same, count_below-one}
 use Rattle.pool.proofs.Shares.{used_by-take, used_by-give, used_by-other}
@@ -44,7 +44,7 @@ pub record IsTrade (layout : Layout) (row : ℕ) (x : Place) (old new : Pages) :
   pub quotas : new.quotas ≡ old.quotas
   pub trade : Trade layout row x old new
 
-module _ (layout : Layout) (row : ℕ) (x : Place) (old new : Pages) (h : IsTrade layout row x old new) where
+module _ {layout : Layout} {row : ℕ} {x : Place} {old new : Pages} (h : IsTrade layout row x old new) where
   fresh_in : Trade layout row x old new → (k : ℕ) → table_at layout new.words x ≡ Some k → IsUnheld layout old.words k ⊎ (table_at layout old.words x ≡ Some k)
   fresh_in (Stay t) k here = inr (sym t.table ∙ here)
   fresh_in (Hang y t) k here = inl (λ b inside held. let same : k ≡ y = let now = t.now in cc in let taken : old.taken k ≡ true = h.orderly.taken b k inside held in let free : old.taken k ≡ false = ap old.taken same ∙ t.free in absurd (cc))
@@ -56,7 +56,7 @@ module _ (layout : Layout) (row : ℕ) (x : Place) (old new : Pages) (h : IsTrad
   elsewhere : (b : Place) → IsPlace layout b → b ≢ x → (q : ℕ) → table_at layout new.words x ≡ Some q → table_at layout new.words b ≡ Some q → ⊥
   elsewhere b in_b differs q here there = grind (arith, common_steps, nat_tests, fresh)
 
-  pub trade-forest : IsForest layout new.words
+  trade-forest : IsForest layout new.words
   trade-forest a b q in_a in_b at_a at_b =
       elim (h.is_x a) [
         | inl e ↦ elim (h.is_x b) [
@@ -79,13 +79,13 @@ module _ (layout : Layout) (row : ℕ) (x : Place) (old new : Pages) (h : IsTrad
   taken-other (Hang k t) b q inside other was = ap (λ f. f q) t.taken ∙ mark-kept old.taken k q (h.orderly.taken b q inside was)
   taken-other (Drop k t) b q inside other was = ap (λ f. f q) t.taken ∙ mark-other old.taken k q false (λ same. other (h.orderly.forest b x k inside h.at (was ∙ ap Some same) t.was)) ∙ h.orderly.taken b q inside was
 
-  pub trade-taken : (b : Place) (q : ℕ) → IsPlace layout b → table_at layout new.words b ≡ Some q → new.taken q ≡ true
+  trade-taken : (b : Place) (q : ℕ) → IsPlace layout b → table_at layout new.words b ≡ Some q → new.taken q ≡ true
   trade-taken b q inside now = elim (h.is_x b) [
     | inl f ↦ taken-here h.trade q (ap (table_at layout new.words) (sym f) ∙ now)
     | inr f ↦ taken-other h.trade b q inside f (sym (h.kept b inside f) ∙ now)
   ]
 
-  pub trade-owned : (b : Place) (q : ℕ) → IsPlace layout b → table_at layout new.words b ≡ Some q → Owns new.quotas b q
+  trade-owned : (b : Place) (q : ℕ) → IsPlace layout b → table_at layout new.words b ≡ Some q → Owns new.quotas b q
   trade-owned b q inside now = grind (arith, common_steps, nat_tests)
 
   hangs_in : Trade layout row x old new → (r q : ℕ) → InShare old.quotas r q → new.taken q ≡ true → Hangs layout new.words q
@@ -106,7 +106,7 @@ module _ (layout : Layout) (row : ℕ) (x : Place) (old new : Pages) (h : IsTrad
         (was.0, was.1, h.kept was.0 was.1 (λ f. differs (let bad : table_at layout old.words x ≡ Some q = ap (table_at layout old.words) (sym f) ∙ was.2 in let here = t.was in cc)) ∙ was.2)
   ]
 
-  pub trade-hangs : (r q : ℕ) → InShare new.quotas r q → new.taken q ≡ true → Hangs layout new.words q
+  trade-hangs : (r q : ℕ) → InShare new.quotas r q → new.taken q ≡ true → Hangs layout new.words q
   trade-hangs r q inside = hangs_in h.trade r q (subst (λ qs. InShare qs r q) h.quotas inside)
 
   -- ---- as many pages are taken as tables hang
@@ -159,5 +159,24 @@ module _ (layout : Layout) (row : ℕ) (x : Place) (old new : Pages) (h : IsTrad
         | inr differs ↦ (used_by-same (with_mark k false old) new r t.taken h.quotas) ∙ used_by-other old row r k false owns differs ∙ h.orderly.used r inside ∙ sym (hung-kept r inside (λ same. absurd (differs same)))
       ]
 
-  pub trade-used : (r : ℕ) → r < length layout.ids → used_by new r ≡ hung layout new.words r
+  trade-used : (r : ℕ) → r < length layout.ids → used_by new r ≡ hung layout new.words r
   trade-used = used_in h.trade
+
+  -- the rest is told of each table's words, and of each page
+  pub traded : new.ids ≡ old.ids → ((b : Place) (q i : ℕ) → IsPlace layout b → table_at layout new.words b ≡ Some q → i < 512 → slot layout (level_at b) (new.words q i) ≡ Empty → new.words q i ≡ 0)
+      → ((r n : ℕ) → r < length layout.ids → n < 2 ^ 27 → IsTidy n (walk layout new.words r n)) → ((r c : ℕ) → r < length layout.ids → c < 262144 → is_some (table_at layout new.words (Chunk r c)) ≡ is_mixed (answers layout new.words r) c) → IsOrderly layout new
+  traded ids clean tidy mixed = record {
+    ids = h.orderly.ids ∙ sym ids;
+    quotas = h.orderly.quotas ∙ sym h.quotas;
+    pages = rw h.quotas h.orderly.pages;
+    rows = rw h.quotas h.orderly.rows;
+    fits = h.orderly.fits;
+    forest = trade-forest;
+    taken = trade-taken;
+    owned = trade-owned;
+    hangs = trade-hangs;
+    used = trade-used;
+    clean = clean;
+    tidy = tidy;
+    mixed = mixed;
+  }

@@ -65,7 +65,7 @@ module _ {e : RowEdit} {g : ℕ} {runs : List PageRun} {first : Pool} {r0 : ℕ}
             let P : Pages → Type 0 = λ s. IsSeated layout e.row g j s → AreFree (λ n. eqb (n / 512 / 512) g) runs e.access (answers layout (linked layout e.row g j s).words e.row)
             → StaysInStep layout e.row (disturbed_below g 512 runs (answers layout (linked layout e.row g j s).words e.row) (edited runs e.access (answers layout (linked layout e.row g j s).words e.row)))
             (λ n. walked n (edited runs e.access (answers layout (linked layout e.row g j s).words e.row) n)) taken mid in
-            let take = stays-taken layout e.row which answer first taken (ap (λ (s : Pool). words_of s.memory.words) is) (ap (λ (s : Pool). s.operations) is) (ap (λ (s : Pool). s.made) is) in
+            let take = stays-taken (ap (λ (s : Pool). words_of s.memory.words) is) (ap (λ (s : Pool). s.operations) is) (ap (λ (s : Pool). s.made) is) in
             let passed = stays-linked layout e.row g j runs e.access m can.canonical below link taken mid (same-answers layout e.row g j runs e.access m can.canonical below link can.touched maps) (subst P marked chunks.in_step) free in
             let zero : (pages_of mid.memory).words e.row g ≡ 0 = chunks.edits.root g ∙ ap (λ (s : Pages). s.words e.row g) marked ∙ root-zero layout m e.row g can.canonical.orderly e.inside below none in
             let root = stays-root layout e.row g (table_word_of (layout.base + j)) which answer mid new (forest-unlinked layout e.row g j (pages_of mid.memory) chunks.edits.orderly e.inside zero) e.inside (ap (λ w. w % 2) zero)
@@ -74,7 +74,7 @@ module _ {e : RowEdit} {g : ℕ} {runs : List PageRun} {first : Pool} {r0 : ℕ}
             gives-new g runs e.access v n (walk layout (words_of new.memory.words) e.row n) at nothing
             (made.walks e.row n small ∙ ap (λ b. cond b (walked n (edited runs e.access v n)) (walk layout m.words e.row n)) (here e.row (n / 512 / 512) g at)))
             (ap (λ (s : Pages). s.words) puts) logged in
-            stays-after layout e.row which answer first mid new (stays-after layout e.row which answer first taken mid take passed) root
+            stays-after (stays-after take passed) root
           where
             here : (x y z : ℕ) → y ≡ z → (eqb x x && eqb y z) ≡ true
             here x y z same = grind (arith, nat_tests)

@@ -11,10 +11,10 @@ pub stays-whole : (layout : Layout) (row c : ℕ) (runs : List PageRun) (access 
 stays-whole layout row c runs access view old new one stays = grind (arith, common_steps, nat_tests, stays-wider, eqb-true)
 
 -- pages of a table
-pub stays-covered : (layout : Layout) (row c : ℕ) (runs : List PageRun) (access : View) (view : ℕ → View) (answer : ℕ → Walked) (old new : Pool) → ((n : ℕ) → answer n ≡ walked n access)
+pub stays-covered : {layout : Layout} {row : ℕ} (c : ℕ) (runs : List PageRun) (access : View) (view : ℕ → View) {answer : ℕ → Walked} {old new : Pool} → ((n : ℕ) → answer n ≡ walked n access)
     → StaysInStep layout row (λ n. covers runs n && eqb (n / 512) c) answer old new
     → StaysInStep layout row (λ n. eqb (n / 512) c && disturbs runs view (edited runs access view) n) (λ n. walked n (edited runs access view n)) old new
-stays-covered layout row c runs access view answer old new is stays = grind (arith, common_steps, nat_tests, stays-wider, both)
+stays-covered {layout} {row} c runs access view {answer} {old} {new} is stays = grind (arith, common_steps, nat_tests, stays-wider, both)
 
 pub unmixed-after : (c : ℕ) (before after : ℕ → View) (one : View) → IsOutcome c after (Some one) → (is_mixed before c && is_mixed after c) ≡ false
 unmixed-after c before after one outcome = grind (arith, common_steps, nat_tests)

@@ -104,15 +104,15 @@ sets-cleared e due words past k c b plan which (Clear run ∷ ops) s le only h e
 
 -- ---- of a pool
 
-pub stays-made : (layout : Layout) (row k c : ℕ) (plan : ℕ → Option View) (which : ℕ → Bool) (access : View) (old new : Pool) → Filled k c 512 plan old new → PlansOnly c plan which access → IsLevel3Write layout (words_of old.memory.words) row c k
+pub stays-made : {layout : Layout} {row k c : ℕ} {plan : ℕ → Option View} {which : ℕ → Bool} {access : View} {old new : Pool} → Filled k c 512 plan old new → PlansOnly c plan which access → IsLevel3Write layout (words_of old.memory.words) row c k
     → ((i : ℕ) → i < 512 → which (512 * c + i) ≡ true → IsInvalid (words_of old.memory.words k i)) → StaysInStep layout row which (λ n. walked n access) old new
-stays-made layout row k c plan which access old new f only h each e allows o =
+stays-made {layout} {row} {k} {c} {plan} {which} {access} {old} {new} f only h each e allows o =
     let here : IsLevel3Write e.layout (words_of old.memory.words) e.row c k = rw (allows.same_layout, allows.same_row) h in
     made-in-step e nothing nothing f.ops old new f.made o
     (sets-made e (words_of old.memory.words) old.operations k c 512 plan which access f.ops f.sets (omega arith) only here (λ i small w. (each i small w, (allows.may (512 * c + i) (omega arith) w).1)) o.orderly)
 
-pub clears-made : (layout : Layout) (row k c : ℕ) (plan : ℕ → Option View) (which : ℕ → Bool) (old new : Pool) → Filled k c 512 plan old new → PlansOnly c plan which None → IsLevel3Write layout (words_of old.memory.words) row c k → LeavesDue layout row which old new
-clears-made layout row k c plan which old new f only h e due allows o =
+pub clears-made : {layout : Layout} {row k c : ℕ} {plan : ℕ → Option View} {which : ℕ → Bool} {old new : Pool} → Filled k c 512 plan old new → PlansOnly c plan which None → IsLevel3Write layout (words_of old.memory.words) row c k → LeavesDue layout row which old new
+clears-made {layout} {row} {k} {c} {plan} {which} {old} {new} f only h e due allows o =
     let here : IsLevel3Write e.layout (words_of old.memory.words) e.row c k = rw (allows.same_layout, allows.same_row) h in
     let more : ℕ → Bool = λ n. due n || which n in
     let weak = orderly-weaker e due more (words_of old.memory.words) old.operations o.orderly (λ n small f. left (due n) (which n) f) in
@@ -125,8 +125,8 @@ clears-made layout row k c plan which old new f only h e due allows o =
     right : (a b : Bool) → b ≡ true → (a || b) ≡ true
     right a b e = grind (arith, common_steps, nat_tests)
 
-pub clears-filled : (layout : Layout) (row k c b : ℕ) (plan : ℕ → Option View) (which : ℕ → Bool) (old new : Pool) → Filled k c b plan old new → IsUnheld layout (words_of old.memory.words) k → LeavesDue layout row which old new
-clears-filled layout row k c b plan which old new f h e due allows o = filled-unheld e (λ n. due n || which n) layout k c b plan old new f allows.same_layout h (clears-none layout row which old e due allows o)
+pub clears-filled : {layout : Layout} {row k c b : ℕ} {plan : ℕ → Option View} {which : ℕ → Bool} {old new : Pool} → Filled k c b plan old new → IsUnheld layout (words_of old.memory.words) k → LeavesDue layout row which old new
+clears-filled {layout} {row} {k} {c} {b} {plan} {which} {old} {new} f h e due allows o = filled-unheld e (λ n. due n || which n) layout k c b plan old new f allows.same_layout h (clears-none layout row which old e due allows o)
 
 -- the plan of a rewrite: the pages of the runs, and no others
 pub plans-runs : (c : ℕ) (runs : List PageRun) (access : View) → PlansOnly c (planned runs access None) (λ n. covers runs n && eqb (n / 512) c) access

@@ -52,15 +52,15 @@ module _ {layout : Layout} {row c j : ℕ} {m : Pages} (h : IsSite layout row c 
   gives-entry n at = walk-entry h n at ∙ at_2-seen h n (entry h) (sym (table-entry h))
 
 -- a page that hung nowhere was filled
-pub hung-outside : (layout : Layout) (words new : Words) (row c j k : ℕ) → row < length layout.ids → c < 262144 → IsUnheld layout words k → AgreeOutside k words new → IsHung layout words row c j → IsHung layout new row c j
-hung-outside layout words new row c j k partition small free agree (inl h) = inl (
+pub hung-outside : (layout : Layout) {words new : Words} {row c j k : ℕ} → row < length layout.ids → c < 262144 → IsUnheld layout words k → AgreeOutside k words new → IsHung layout words row c j → IsHung layout new row c j
+hung-outside layout {words} {new} {row} {c} {j} {k} partition small free agree (inl h) = inl (
   λ a b q in_a in_b at_a at_b. h.0 a b q in_a in_b (sym (table_at-outside layout words new k free agree a in_a) ∙ at_a) (sym (table_at-outside layout words new k free agree b in_b) ∙ at_b),
   table_at-outside layout words new k free agree (Gigabyte row (c / 512)) (partition, omega (arith, small)) ∙ h.1,
 )
-hung-outside layout words new row c j k partition small free agree (inr h) = inr (λ a inside at. h a inside (sym (table_at-outside layout words new k free agree a inside) ∙ at))
+hung-outside layout {words} {new} {row} {c} {j} {k} partition small free agree (inr h) = inr (λ a inside at. h a inside (sym (table_at-outside layout words new k free agree a inside) ∙ at))
 
-pub unheld-outside : (layout : Layout) (words new : Words) (k : ℕ) → IsUnheld layout words k → AgreeOutside k words new → IsUnheld layout new k
-unheld-outside layout words new k free agree a inside at = free a inside (sym (table_at-outside layout words new k free agree a inside) ∙ at)
+pub unheld-outside : (layout : Layout) {words new : Words} {k : ℕ} → IsUnheld layout words k → AgreeOutside k words new → IsUnheld layout new k
+unheld-outside layout {words} {new} {k} free agree a inside at = free a inside (sym (table_at-outside layout words new k free agree a inside) ∙ at)
 
 -- ---- after the edit of a chunk
 

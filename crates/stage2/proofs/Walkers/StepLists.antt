@@ -43,8 +43,8 @@ filled-unheld e due layout k c b plan old new f same h o =
     let here : IsUnheld e.layout (words_of old.memory.words) k = subst (λ (l : Layout). IsUnheld l (words_of old.memory.words) k) (sym same) h in
     made-in-step e due due f.ops old new f.made o (sets-unheld e due (words_of old.memory.words) old.operations k c b plan f.ops f.sets here o.orderly)
 
-pub stays-filled : (layout : Layout) (row k c b : ℕ) (plan : ℕ → Option View) (which : ℕ → Bool) (answer : ℕ → Walked) (old new : Pool) → Filled k c b plan old new → IsUnheld layout (words_of old.memory.words) k → StaysInStep layout row which answer old new
-stays-filled layout row k c b plan which answer old new f h e allows o = filled-unheld e nothing layout k c b plan old new f allows.same_layout h o
+pub stays-filled : {layout : Layout} {row k c b : ℕ} {plan : ℕ → Option View} {which : ℕ → Bool} {answer : ℕ → Walked} {old new : Pool} → Filled k c b plan old new → IsUnheld layout (words_of old.memory.words) k → StaysInStep layout row which answer old new
+stays-filled {layout} {row} {k} {c} {b} {plan} {which} {answer} {old} {new} f h e allows o = filled-unheld e nothing layout k c b plan old new f allows.same_layout h o
 
 -- ---- the word of a chunk, in a level 2 table that hangs or that hangs nowhere as yet
 
@@ -110,11 +110,11 @@ replace-step e words past p c j word partition small hung is none fresh may o =
       | inr f ↦ rw f (subst (λ (w : Words). IsInStep e nothing (put j (c % 512) word w) (Set j (c % 512) word ∷ (b ++ past))) (sym (broken-words words p c j)) second)
     ]
 
-pub stays-replaced : (layout : Layout) (row p c j word : ℕ) (answer : ℕ → Walked) (old new : Pool) → row < length layout.ids → c < 262144 → IsHung layout (words_of old.memory.words) row c j → row_of layout.ids p ≡ row
+pub stays-replaced : {layout : Layout} {row c j : ℕ} (p word : ℕ) {answer : ℕ → Walked} {old new : Pool} → row < length layout.ids → c < 262144 → IsHung layout (words_of old.memory.words) row c j → row_of layout.ids p ≡ row
     → ((k : ℕ) → next_page (slot layout 2 word) ≡ Some k → IsUnheld layout (words_of old.memory.words) k)
     → ((x : ℕ) → x < 2 ^ 27 → x / 512 ≡ c → at_2 layout (put j (c % 512) word (words_of old.memory.words)) x (slot layout 2 word) ≡ answer x)
     → Made (replaced p j c (words_of old.memory.words j (c % 512)) word) old new → StaysInStep layout row (λ n. eqb (n / 512) c) answer old new
-stays-replaced layout row p c j word answer old new partition small hung is fresh gives made e allows o =
+stays-replaced {layout} {row} {c} {j} p word {answer} {old} {new} partition small hung is fresh gives made e allows o =
     let words = words_of old.memory.words in
     let at_c : (x : ℕ) → x / 512 ≡ c → eqb (x / 512) c ≡ true = λ x at. grind (arith, nat_tests) in
     let hung_here : IsHung e.layout words e.row c j = rw (allows.same_layout, allows.same_row) hung in

@@ -45,8 +45,8 @@ settles-as who which all a b so is e due row o = weaker e (λ n. due n && not (w
 
 -- ---- edits after which nothing is due
 
-pub stays-cleared : (layout : Layout) (row who : ℕ) (which : ℕ → Bool) (a b c : Pool) → row_of layout.ids who ≡ row → LeavesDue layout row which a b → Settles who which b c → StaysInStep layout row which (λ n. Unmapped) a c
-stays-cleared layout row who which a b c is clears settles e allows o =
+pub stays-cleared : {layout : Layout} {row : ℕ} (who : ℕ) {which : ℕ → Bool} {a b c : Pool} → row_of layout.ids who ≡ row → LeavesDue layout row which a b → Settles who which b c → StaysInStep layout row which (λ n. Unmapped) a c
+stays-cleared {layout} {row} who {which} {a} {b} {c} is clears settles e allows o =
     let here : row_of e.layout.ids who ≡ e.row = rw (allows.same_layout, allows.same_row) is in
     weaker e (λ n. (false || which n) && not (which n)) nothing c (settles e (λ n. false || which n) here (clears e nothing allows o)) (λ n small f. (grind (arith, common_steps, nat_tests)))
 
@@ -66,9 +66,9 @@ pub stays-wider : (layout : Layout) (row : ℕ) (which all : ℕ → Bool) (answ
 stays-wider layout row which all answer other a b so within e allows o = grind (arith, common_steps, nat_tests)
 
 -- one edit after another
-pub stays-after : (layout : Layout) (row : ℕ) (which : ℕ → Bool) (answer : ℕ → Walked) (a b c : Pool) → StaysInStep layout row which answer a b → StaysInStep layout row which answer b c → StaysInStep layout row which answer a c
-stays-after layout row which answer a b c so here e allows o = here e allows (so e allows o)
+pub stays-after : {layout : Layout} {row : ℕ} {which : ℕ → Bool} {answer : ℕ → Walked} {a b c : Pool} → StaysInStep layout row which answer a b → StaysInStep layout row which answer b c → StaysInStep layout row which answer a c
+stays-after {layout} {row} {which} {answer} {a} {b} {c} so here e allows o = here e allows (so e allows o)
 
 -- pages are taken and given back without an operation
-pub stays-taken : (layout : Layout) (row : ℕ) (which : ℕ → Bool) (answer : ℕ → Walked) (a b : Pool) → words_of b.memory.words ≡ words_of a.memory.words → b.operations ≡ a.operations → b.made ≡ a.made → StaysInStep layout row which answer a b
-stays-taken layout row which answer a b words ops made e allows o = record { orderly = rw (words, ops) o.orderly; counted = rw (ops, made) o.counted }
+pub stays-taken : {layout : Layout} {row : ℕ} {which : ℕ → Bool} {answer : ℕ → Walked} {a b : Pool} → words_of b.memory.words ≡ words_of a.memory.words → b.operations ≡ a.operations → b.made ≡ a.made → StaysInStep layout row which answer a b
+stays-taken {layout} {row} {which} {answer} {a} {b} words ops made e allows o = record { orderly = rw (words, ops) o.orderly; counted = rw (ops, made) o.counted }

@@ -27,13 +27,12 @@ returns-clause-in_step g c = λ layout which answer forest partition is unmapped
     let old = g.M.TableMem.state c.args.memory.now in
     let mid = g.M.TableMem.state c.put_word.new.memory in
     let cut = g.M.TableMem.state c.invalidate.new.self in
-    let new = g.M.TableMem.state c.give_page.new.memory in
     let wrote = ap (λ (x : Pages). x.words) (rw (c.root.ensures, c.index.ensures.same) at c.put_word.ensures.pages) in
     let same : cut.memory ≡ mid.memory = ap (λ (s : Pool). s.memory) c.invalidate.ensures.state in
     let logged : IsLogged (Invalidate c.args.p (record { first = 262144 * c.args.gigabyte; count = 262144 })) mid cut = record {
       operations = ap (λ (s : Pool). s.operations) c.invalidate.ensures.state ∙ ap (λ (r : PageRun). Invalidate c.args.p r ∷ mid.operations) c.pages.ensures.same;
       made = ap (λ (s : Pool). s.made) c.invalidate.ensures.state;
     } in
-    stays-after layout c.args.row which answer old cut new
+    stays-after
     (stays-unlinked layout c.args.row c.args.p c.args.gigabyte which answer old mid cut forest partition is unmapped wrote (rw (c.root.ensures, c.index.ensures.same) at c.put_word.ensures.logged) same logged)
-    (stays-taken layout c.args.row which answer cut new (ap (λ (s : Pool). words_of s.memory.words) c.give_page.ensures.state) (ap (λ (s : Pool). s.operations) c.give_page.ensures.state) (ap (λ (s : Pool). s.made) c.give_page.ensures.state))
+    (stays-taken (ap (λ (s : Pool). words_of s.memory.words) c.give_page.ensures.state) (ap (λ (s : Pool). s.operations) c.give_page.ensures.state) (ap (λ (s : Pool). s.made) c.give_page.ensures.state))

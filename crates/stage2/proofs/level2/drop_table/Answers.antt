@@ -1,5 +1,5 @@
-use Rattle.std.proofs.Common.{ℕ, ◌/◌, ◌%◌, ◌<◌, Bool, cond, eqb, [], is_some, Some, None, arith, sym, ap, subst, ◌∙◌}
-use Rattle.stage2.proofs.Names.{page_count, Pages, Pool, Words, pages_of, words_of, put, Walked, planned, StaysAtChunk, IsSeatedAt, chunk_after, StaysInStep, pages_in, walked, nat_tests, common_steps}
+use Rattle.std.proofs.Common.{ℕ, ◌%◌, ◌<◌, cond, is_some, arith, sym, ap, subst, ◌∙◌}
+use Rattle.stage2.proofs.Names.{page_count, Pages, Pool, Words, pages_of, words_of, put, StaysAtChunk, IsSeatedAt, chunk_after, pages_in, nat_tests, common_steps}
 use Rattle.stage2.proofs.Tree.WalkFrame.{IsUnheld}
 use Rattle.stage2.proofs.Walkers.ZeroedTables.{stays-after, stays-taken}
 use Rattle.stage2.proofs.Walkers.StepLists.{stays-replaced, stays-filled, unheld-word}
@@ -48,13 +48,11 @@ returns g c =
     let s = c.args.site.now in
     let e = c.args.edit.now in
     let layout = e.layout.now in
-    let row = s.row in
     let chunk = e.chunk in
     let j = s.second in
     let k = c.args.third in
     let word = c.block_word.result in
-    let can = c.requires.can in
-    let site = can.site in
+    let site = c.requires.can.site in
     let alike = c.requires.alike in
     let table = c.requires.table in
     let x = g.M.TableMem.state c.args.memory.now in
@@ -62,26 +60,21 @@ returns g c =
     let z = g.M.TableMem.state c.empty_table.new.memory in
     let end = g.M.TableMem.state c.give_page.new.memory in
     let view : ℕ → _ = chunk_after s e x in
-    let which : ℕ → Bool = λ n. eqb (n / 512) chunk in
-    let answer : ℕ → Walked = λ n. walked n (view n) in
     let put_there = c.replace_entry.ensures.pages in
     let emptied = c.empty_table.ensures.writes in
     let given = c.give_page.ensures.state in
-    let stays : IsSeatedAt s e x → StaysAtChunk layout row chunk view x end = λ seated.
-    let none = block-no-table layout chunk word e.access c.block_word.ensures in
+    let stays : IsSeatedAt s e x → StaysAtChunk layout s.row chunk view x end = λ seated.
     let hung = hung-seen site seated in
-    let first : StaysInStep layout row which answer x y =
-    stays-replaced layout row s.p chunk j word answer x y site.partition site.chunk hung can.row
-    (λ q next. absurd (cc))
-    (λ n small at. gives-block layout (put j (chunk % 512) word (words_of x.memory.words)) chunk word view e.access c.block_word.ensures alike n at)
-    c.replace_entry.ensures.history in
     let loose : IsUnheld layout (put j (chunk % 512) word (words_of x.memory.words)) k =
-    unheld-word layout (words_of x.memory.words) row chunk j word k site.partition site.chunk hung none (third-alone site seated k table) (third-loose site seated k table) in
-    let second : StaysInStep layout row which answer y z =
-    stays-filled layout row k chunk 512 (planned [] None (Some None)) which answer y z emptied.made (subst (λ (w : Words). IsUnheld layout w k) (sym (ap (λ (s : Pages). s.words) put_there)) loose) in
-    let third : StaysInStep layout row which answer z end =
-    stays-taken layout row which answer z end (ap (λ (s : Pool). words_of s.memory.words) given) (ap (λ (s : Pool). s.operations) given) (ap (λ (s : Pool). s.made) given) in
-    stays-after layout row which answer x z end (stays-after layout row which answer x y z first second) third in
+    unheld-word layout (words_of x.memory.words) s.row chunk j word k site.partition site.chunk hung (block-no-table layout chunk word e.access c.block_word.ensures) (third-alone site seated k table) (third-loose site seated k table) in
+    stays-after {b = z}
+    (stays-after {b = y}
+    (stays-replaced s.p word site.partition site.chunk hung c.requires.can.row
+    (λ q next. let none = block-no-table layout chunk word e.access c.block_word.ensures in absurd (cc))
+    (λ n small at. gives-block layout (put j (chunk % 512) word (words_of x.memory.words)) chunk word view e.access c.block_word.ensures alike n at)
+    c.replace_entry.ensures.history)
+    (stays-filled emptied.made (subst (λ (w : Words). IsUnheld layout w k) (sym (ap (λ (s : Pages). s.words) put_there)) loose)))
+    (stays-taken (ap (λ (s : Pool). words_of s.memory.words) given) (ap (λ (s : Pool). s.operations) given) (ap (λ (s : Pool). s.made) given)) in
     let quotas = emptied.words.quotas ∙ ap (λ (x : Pages). x.quotas) put_there in
     let same = ap (λ n. cond (is_some e.access) n (pages_in e.runs chunk)) (left-words site k word (pages_of y.memory) table put_there) in
     record {

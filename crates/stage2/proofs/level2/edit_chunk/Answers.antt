@@ -1,20 +1,10 @@
-use Rattle.stage2.proofs.Names.{nat_tests, common_steps, arith, ◌<◌, sym, subst, ◌∙◌}
+use Rattle.stage2.proofs.Names.{nat_tests, common_steps, arith, sym, ◌∙◌}
 use Rattle.stage2.proofs.Editing.FourChunkEdits.{second-inside, second-taken, entry-known}
 use Rattle.stage2.proofs.Editing.OneChunk.{is-table, told-alike, told-mixed, read-before}
 use Rattle.stage2.proofs.level2.edit_chunk.Goals as goal
 
-pub read_chunk-entry-requires-clause-table : goal.read_chunk-entry-requires-clause-table
-read_chunk-entry-requires-clause-table g c =
-    let s = c.args.site.now in
-    subst (λ x. s.second < x) (sym c.requires.site.orderly.pages) (second-inside c.requires.site)
-
-pub read_chunk-entry-requires-clause-taken : goal.read_chunk-entry-requires-clause-taken
-read_chunk-entry-requires-clause-taken g c =
-    second-taken c.requires.site
-
-pub read_chunk-entry-requires-clause-known : goal.read_chunk-entry-requires-clause-known
-read_chunk-entry-requires-clause-known g c =
-    entry-known c.requires.site
+pub read_chunk-entry-requires : goal.read_chunk-entry-requires
+read_chunk-entry-requires g c = grind (arith, common_steps, nat_tests, second-inside c.requires.site, second-taken c.requires.site, entry-known c.requires.site, c.requires.site.orderly.pages)
 
 pub becomes_alike-requires : goal.becomes_alike-requires
 becomes_alike-requires g c = λ k next. is-table c.args.site.now c.args.edit.now (g.M.TableMem.state c.args.memory.now) c.requires.site (sym c.read_chunk-entry.ensures.same ∙ next) c.requires.turned

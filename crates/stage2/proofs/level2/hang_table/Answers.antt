@@ -1,5 +1,5 @@
-use Rattle.std.proofs.Common.{◌≡◌, ℕ, ◌+◌, ◌/◌, ◌%◌, ◌<◌, Bool, eqb, true, Some, arith, sym, ap, subst, ◌∙◌}
-use Rattle.stage2.proofs.Names.{View, page_count, table_word_of, Pages, Pool, Words, pages_of, words_of, put, with_put, Walked, StaysAtChunk, IsSeatedAt, chunk_after, StaysInStep, Next, slot, at_2, next_page, walked, nat_tests, common_steps}
+use Rattle.std.proofs.Common.{◌≡◌, ℕ, ◌+◌, ◌%◌, ◌<◌, true, Some, arith, sym, ap, subst, ◌∙◌}
+use Rattle.stage2.proofs.Names.{page_count, table_word_of, Pages, Pool, Words, pages_of, words_of, put, with_put, StaysAtChunk, IsSeatedAt, chunk_after, Next, slot, at_2, next_page, nat_tests, common_steps}
 use Rattle.pool.proofs.Shares.{share_inside}
 use Rattle.pool.proofs.Words.{mark-same, mark-kept}
 use Rattle.stage2.proofs.Editing.FourChunkEdits.{second-inside, second-taken, does-hang}
@@ -57,46 +57,36 @@ returns g c =
     let s = c.args.site.now in
     let e = c.args.edit.now in
     let layout = e.layout.now in
-    let row = s.row in
     let chunk = e.chunk in
     let j = s.second in
-    let can = c.requires.can in
-    let site = can.site in
+    let site = c.requires.can.site in
     let x = g.M.TableMem.state c.args.memory.now in
     let y = g.M.TableMem.state c.take_page-third.new.memory in
     let z = g.M.TableMem.state c.fill_table.new.memory in
     let end = g.M.TableMem.state c.replace_entry.new.memory in
-    let m = pages_of x.memory in
     let k = c.take_page-third.result in
     let word = c.table_word.result in
-    let view : ℕ → View = chunk_after s e x in
-    let which : ℕ → Bool = λ n. eqb (n / 512) chunk in
-    let answer : ℕ → Walked = λ n. walked n (view n) in
     let took = c.take_page-third.ensures in
     let filled = c.fill_table.ensures in
     let put_there = c.replace_entry.ensures.pages in
-    let marked = pages_of-take x y row k (g.met.M.TableMem.whole c.args.memory.now) took.lowest took.state in
+    let marked = pages_of-take x y s.row k (g.met.M.TableMem.whole c.args.memory.now) took.lowest took.state in
     let is_word : word ≡ table_word_of (layout.base + k) = c.table_word.ensures.value ∙ ap table_word_of c.address.ensures in
     let edits = does-hang site e.runs e.access c.args.before.now k (pages_of y.memory) (pages_of z.memory) (pages_of end.memory) c.requires.none took.lowest c.requires.before marked filled.words
     (subst (λ x. pages_of end.memory ≡ with_put j (chunk % 512) x (pages_of z.memory)) is_word put_there) c.requires.mixed in
-    let stays : IsSeatedAt s e x → StaysAtChunk layout row chunk view x end = λ seated.
+    let stays : IsSeatedAt s e x → StaysAtChunk layout s.row chunk (chunk_after s e x) x end = λ seated.
     let same : words_of y.memory.words ≡ words_of x.memory.words = ap (λ (s : Pool). words_of s.memory.words) took.state in
-    let first : StaysInStep layout row which answer x y = stays-taken layout row which answer x y same (ap (λ (s : Pool). s.operations) took.state) (ap (λ (s : Pool). s.made) took.state) in
     let loose : IsUnheld layout (words_of y.memory.words) k = subst (λ (w : Words). IsUnheld layout w k) (sym same) (unheld-free site seated k took.lowest.free) in
-    let hung_y : IsHung layout (words_of y.memory.words) row chunk j = subst (λ (w : Words). IsHung layout w row chunk j) (sym same) (hung-seen site seated) in
-    let hung_z : IsHung layout (words_of z.memory.words) row chunk j = hung-outside layout (words_of y.memory.words) (words_of z.memory.words) row chunk j k site.partition site.chunk loose filled.words.others hung_y in
-    let loose_z : IsUnheld layout (words_of z.memory.words) k = unheld-outside layout (words_of y.memory.words) (words_of z.memory.words) k loose filled.words.others in
-    let is_slot : slot layout 2 word ≡ Next k = ap (slot layout 2) is_word ∙ slot-table layout 2 k (omega arith) (rw site.orderly.pages (share_inside m.quotas row k took.lowest.inside)) site.orderly.fits in
-    let wrote : words_of end.memory.words ≡ put j (chunk % 512) word (words_of z.memory.words) = ap (λ (s : Pages). s.words) put_there in
-    let third : StaysInStep layout row which answer z end =
-    stays-replaced layout row s.p chunk j word answer z end site.partition site.chunk hung_z can.row
-    (λ q next. subst (λ t. IsUnheld layout (words_of z.memory.words) t) (same-page k q (sym (ap next_page is_slot) ∙ next)) loose_z)
+    let hung_y : IsHung layout (words_of y.memory.words) s.row chunk j = subst (λ (w : Words). IsHung layout w s.row chunk j) (sym same) (hung-seen site seated) in
+    let is_slot : slot layout 2 word ≡ Next k = ap (slot layout 2) is_word ∙ slot-table layout 2 k (omega arith) (rw site.orderly.pages (share_inside (pages_of x.memory).quotas s.row k took.lowest.inside)) site.orderly.fits in
+    stays-after {b = z}
+    (stays-after {b = y} (stays-taken same (ap (λ (s : Pool). s.operations) took.state) (ap (λ (s : Pool). s.made) took.state)) (filled.unseen layout s.row _ _ loose))
+    (stays-replaced s.p word site.partition site.chunk (hung-outside layout site.partition site.chunk loose filled.words.others hung_y) c.requires.can.row
+    (λ q next. subst (λ t. IsUnheld layout (words_of z.memory.words) t) (same-page k q (sym (ap next_page is_slot) ∙ next)) (unheld-outside layout loose filled.words.others))
     (λ n small at.
+    let wrote : words_of end.memory.words ≡ put j (chunk % 512) word (words_of z.memory.words) = ap (λ (s : Pages). s.words) put_there in
     let read : words_of end.memory.words j (chunk % 512) ≡ word = ap (λ (w : Words). w j (chunk % 512)) wrote ∙ put-same (words_of z.memory.words) j (chunk % 512) word in
-    ap (λ (w : Words). at_2 layout w n (slot layout 2 word)) (sym wrote) ∙ ap (λ w. at_2 layout (words_of end.memory.words) n (slot layout 2 w)) (sym read)
-    ∙ gives-after site edits n small at)
-    c.replace_entry.ensures.history in
-    stays-after layout row which answer x z end (stays-after layout row which answer x y z first (filled.unseen layout row which answer loose)) third in
+    ap (λ (w : Words). at_2 layout w n (slot layout 2 word)) (sym wrote) ∙ ap (λ w. at_2 layout (words_of end.memory.words) n (slot layout 2 w)) (sym read) ∙ gives-after site edits n small at)
+    c.replace_entry.ensures.history) in
     record {
       edits = edits;
       in_step = in-step-hung s e x site c.requires.none c.requires.mixed stays;

@@ -1,5 +1,5 @@
 use Rattle.std.proofs.Common.{◌≡◌, ℕ, ◌+◌, ◌*◌, ◌/◌, Bool, true, false, ◌&&◌, eqb, is_some, None, arith, cond, not, refl, sym, ◌∙◌, ap, subst, inl, inr}
-use Rattle.stage2.proofs.Names.{covers, View, Memory, pages_of, Redoes_in, planned, chunk_view, chunk_after, part_count, walked, nat_tests, common_steps, Unmapped}
+use Rattle.stage2.proofs.Names.{covers, View, Memory, pages_of, Redoes_in, planned, chunk_view, chunk_after, part_count, walked, nat_tests, common_steps}
 use Rattle.base.proofs.Booleans.{both}
 use Rattle.stage2.proofs.Editing.FourChunkEdits.{does-rewrite}
 use Rattle.stage2.proofs.Editing.OneChunk.{is-table, kept}
@@ -23,8 +23,6 @@ pub returns-else-is_none : goal.returns-else-is_none
 returns-else-is_none g c =
     let s = c.args.site.now in
     let e = c.args.edit.now in
-    let layout = e.layout.now in
-    let row = s.row in
     let chunk = e.chunk in
     let k = c.args.third in
     let runs = e.runs in
@@ -34,18 +32,17 @@ returns-else-is_none g c =
     let x = g.M.TableMem.state c.args.memory.now in
     let y = g.M.TableMem.state c.write_runs.new.memory in
     let wrote = c.write_runs.ensures.writes in
-    let which : ℕ → Bool = λ n. covers runs n && eqb (n / 512) chunk in
     let maps : is_some access ≡ true = c.is_none.ensures ∙ ap not c.if-is_none.false in
     let room = c.write_runs.ensures.room in
     record {
       edits = does-rewrite site runs access k (pages_of y.memory) table wrote.words c.requires.mixed;
       in_step = λ seated free.
-          stays-covered layout row chunk runs access (chunk_view s e x) (λ n. walked n access) x y (λ n. refl)
+          stays-covered chunk runs e.access (chunk_view s e x) (λ n. refl)
           (elim seated [
             | inl hung ↦
-                stays-made layout row k chunk (planned runs access None) which access x y wrote.made (plans-runs chunk runs access) (level_3-seen site hung k table)
+                stays-made wrote.made (plans-runs chunk runs access) (level_3-seen site hung k table)
                 (λ i small w. invalid-word site k i table small (grind (arith, common_steps, nat_tests, both (covers runs (512 * chunk + i)) (eqb ((512 * chunk + i) / 512) chunk) w)))
-            | inr loose ↦ stays-filled layout row k chunk 512 (planned runs access None) which (λ n. walked n access) x y wrote.made (unheld-third site loose k table)
+            | inr loose ↦ stays-filled wrote.made (unheld-third site loose k table)
           ]);
       room = omega (arith, kept s e x site table c.requires.mixed, room);
     }
@@ -72,7 +69,6 @@ returns-then-is_none g c =
     let table = c.requires.table in
     let x = g.M.TableMem.state c.args.memory.now in
     let y = g.M.TableMem.state c.write_runs.new.memory in
-    let new = g.M.TableMem.state c.invalidate_parts.new.memory in
     let m = pages_of x.memory in
     let wrote = c.write_runs.ensures.writes in
     let which : ℕ → Bool = λ n. covers runs n && eqb (n / 512) chunk in
@@ -82,12 +78,12 @@ returns-then-is_none g c =
       edits = subst (λ (memory : Memory). Redoes_in layout row chunk j (chunk_after s e x) m (pages_of memory)) (sym c.invalidate_parts.ensures.memory)
           (does-rewrite site runs e.access k (pages_of y.memory) table wrote.words c.requires.mixed);
       in_step = λ seated free.
-          stays-covered layout row chunk runs e.access (chunk_view s e x) (λ n. Unmapped) x new (λ n. ap (walked n) (sym none))
-          (stays-cleared layout row s.p which x y new c.requires.can.row
+          stays-covered chunk runs e.access (chunk_view s e x) (λ n. ap (walked n) (sym none))
+          (stays-cleared s.p c.requires.can.row
           (elim seated [
             | inl hung ↦
-                clears-made layout row k chunk (planned runs e.access None) which x y wrote.made (subst (λ (a : View). PlansOnly chunk (planned runs e.access None) which a) none (plans-runs chunk runs e.access)) (level_3-seen site hung k table)
-            | inr loose ↦ clears-filled layout row k chunk 512 (planned runs e.access None) which x y wrote.made (unheld-third site loose k table)
+                clears-made wrote.made (subst (λ (a : View). PlansOnly chunk (planned runs e.access None) which a) none (plans-runs chunk runs e.access)) (level_3-seen site hung k table)
+            | inr loose ↦ clears-filled wrote.made (unheld-third site loose k table)
           ]) c.invalidate_parts.ensures.settles);
       room = omega (arith, unmaps e.access c.is_none.result (part_count chunk runs) c.is_none.ensures c.if-is_none.true, kept s e x site table c.requires.mixed, room, c.invalidate_parts.ensures.room);
     }

@@ -1,4 +1,4 @@
-use Rattle.stage2.proofs.Names.{pages_of, words_of, put, chunk_after, walked, ◌%◌, arith}
+use Rattle.stage2.proofs.Names.{pages_of, words_of, put, chunk_after, ◌%◌, arith}
 use Rattle.stage2.proofs.Editing.OneChunk.{in-step-alike}
 use Rattle.stage2.proofs.Walkers.StepLists.{stays-replaced}
 use Rattle.stage2.proofs.Walkers.SeatedChunks.{hung-seen, gives-block, block-no-table}
@@ -26,7 +26,7 @@ returns g c =
     record {
       edits = does-set can.site view e.access word (pages_of new.memory) c.requires.none c.block_word.ensures c.replace_entry.ensures.pages alike;
       in_step = in-step-alike s e old can.site alike (λ seated.
-          stays-replaced layout s.row s.p e.chunk s.second word (λ n. walked n (view n)) old new can.site.partition can.site.chunk (hung-seen can.site seated) can.row
+          stays-replaced s.p word can.site.partition can.site.chunk (hung-seen can.site seated) can.row
           (λ k next. absurd (cc))
           (λ n small at. gives-block layout (put s.second (e.chunk % 512) word (words_of old.memory.words)) e.chunk word view e.access c.block_word.ensures alike n at)
           c.replace_entry.ensures.history);

@@ -1,4 +1,4 @@
-use Rattle.stage2.proofs.Names.{pages_of, words_of, planned, gaps, None, is_some, ap, arith}
+use Rattle.stage2.proofs.Names.{pages_of, is_some, ap, arith}
 use Rattle.stage2.proofs.Counting.Operations.{new-unmapped, new-all}
 use Rattle.stage2.proofs.Editing.Gaps.{writes-gaps}
 use Rattle.stage2.proofs.Editing.Level3Words.{writes-rest}
@@ -15,9 +15,7 @@ returns-in-None-default-clause-words g c =
     rw c.in-None-default.is-0 (writes-rest c.args.third e.chunk e.runs e.access (pages_of (g.M.TableMem.state c.args.memory.now).memory) (pages_of (g.M.TableMem.state c.turn_runs.new.memory).memory) (λ i small out. c.requires.empty i small) c.turn_runs.ensures.writes.words)
 
 pub returns-in-None-default-clause-unseen : goal.returns-in-None-default-clause-unseen
-returns-in-None-default-clause-unseen g c = λ layout row which answer loose.
-    let e = c.args.edit.now in
-    stays-filled layout row c.args.third e.chunk 512 (planned e.runs e.access None) which answer (g.M.TableMem.state c.args.memory.now) (g.M.TableMem.state c.turn_runs.new.memory) c.turn_runs.ensures.writes.made loose
+returns-in-None-default-clause-unseen g c = λ layout row which answer loose. stays-filled c.turn_runs.ensures.writes.made loose
 
 -- ---- the runs are not to be reached
 
@@ -32,9 +30,7 @@ returns-in-Some-None-clause-words g c =
     rw c.in-Some-None.is-1 (writes-gaps c.args.third e.chunk e.runs c.args.before.now (pages_of (g.M.TableMem.state c.args.memory.now).memory) (pages_of (g.M.TableMem.state c.write_gaps.new.memory).memory) (λ i small covered. c.requires.empty i small) c.write_gaps.ensures.writes.words)
 
 pub returns-in-Some-None-clause-unseen : goal.returns-in-Some-None-clause-unseen
-returns-in-Some-None-clause-unseen g c = λ layout row which answer loose.
-    let e = c.args.edit.now in
-    stays-filled layout row c.args.third e.chunk 512 (gaps e.runs c.args.before.now) which answer (g.M.TableMem.state c.args.memory.now) (g.M.TableMem.state c.write_gaps.new.memory) c.write_gaps.ensures.writes.made loose
+returns-in-Some-None-clause-unseen g c = λ layout row which answer loose. stays-filled c.write_gaps.ensures.writes.made loose
 
 pub returns-in-Some-None-clause-room : goal.returns-in-Some-None-clause-room
 returns-in-Some-None-clause-room g c =
@@ -55,16 +51,8 @@ write_gaps-requires-in-Some-Some-clause-room g c =
 
 pub returns-in-Some-Some-clause-unseen : goal.returns-in-Some-Some-clause-unseen
 returns-in-Some-Some-clause-unseen g c = λ layout row which answer loose.
-    let e = c.args.edit.now in
-    let k = c.args.third in
-    let old = g.M.TableMem.state c.args.memory.now in
-    let mid = g.M.TableMem.state c.turn_runs-in-Some-Some.new.memory in
-    let new = g.M.TableMem.state c.write_gaps-in-Some-Some.new.memory in
     let first = c.turn_runs-in-Some-Some.ensures.writes in
-    stays-after layout row which answer old mid new
-    (stays-filled layout row k e.chunk 512 (planned e.runs e.access None) which answer old mid first.made loose)
-    (stays-filled layout row k e.chunk 512 (gaps e.runs c.args.before.now) which answer mid new c.write_gaps-in-Some-Some.ensures.writes.made
-    (unheld-outside layout (words_of old.memory.words) (words_of mid.memory.words) k loose first.words.others))
+    stays-after (stays-filled first.made loose) (stays-filled c.write_gaps-in-Some-Some.ensures.writes.made (unheld-outside layout loose first.words.others))
 
 pub returns-in-Some-Some-clause-room : goal.returns-in-Some-Some-clause-room
 returns-in-Some-Some-clause-room g c =
