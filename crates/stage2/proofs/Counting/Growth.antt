@@ -1,14 +1,14 @@
 -- What an edit takes, read from the words.
 use Rattle.stage2.proofs.Names.{Slot, nat_tests, common_steps, PageRun, covers, View, Pages, count_below, Layout, Next, slot, at_2, next_page, Gigabyte, Chunk, table_at, is_mixed, is_reached, IsCanonical, answer_of, edited, answers_at, answers_of, second_of, entry_in, covers_chunk, IsSite, IsWordFor, grows_at, gigabyte_growth, Touches, chunk_operations}
-use Rattle.std.proofs.Common.{◌≡◌, ℕ, ◌+◌, ◌-◌, ◌*◌, ◌/◌, ◌%◌, ◌<◌, true, false, not, ◌&&◌, cond, is_some, List, Option, Some, None, length, refl, arith, ap, ap₂, sym, subst, ◌∙◌}
+use Rattle.std.proofs.Common.{◌≡◌, ℕ, ◌+◌, ◌*◌, ◌/◌, ◌%◌, ◌<◌, true, false, not, ◌&&◌, cond, is_some, List, Option, Some, None, length, refl, arith, ap, ap₂, sym, subst, ◌∙◌}
 use Rattle.pool.proofs.Shares.{share_inside}
 use Rattle.pool.proofs.Count.{count_below-none}
 use Rattle.stage2.proofs.Tree.WalkFrame.{walk-gigabyte}
 use Rattle.stage2.proofs.Counting.Operations.{plain}
-use Rattle.stage2.proofs.Counting.Needs.{filled-touches, outcome-filled, mixed-same, mixed-none, reached-same, reached-none, reached-some}
+use Rattle.stage2.proofs.Counting.Needs.{filled-touches, outcome-filled, mixed-same, mixed-none, reached-same, reached-none}
 use Rattle.stage2.proofs.Editing.FourChunkEdits.{third-taken}
 use Rattle.stage2.proofs.Editing.Spelled.{spelled-words}
-use Rattle.stage2.proofs.Editing.Gigabyte.{linked-same}
+use Rattle.stage2.proofs.Editing.Gigabyte.{linked-same, touched-growth}
 use Rattle.stage2.proofs.Editing.RootLinks.{untabled}
 
 -- a chunk of a partition that may have no root, and the table of its gigabyte if there is one
@@ -105,11 +105,7 @@ module _ {layout : Layout} {m : Pages} (canonical : IsCanonical layout m) {g : �
     pub growth-mapped : (access : View) → Touches runs g → second_of layout m.words row g ≡ None → is_some access ≡ true
         → gigabyte_growth (answers_of layout m.words row) (edited runs access (answers_of layout m.words row)) g ≡ count_below (λ x. grows_at (answers_of layout m.words row) (edited runs access (answers_of layout m.words row)) (512 * g + x)) 512 + 1
     growth-mapped access touches none maps =
-        let place : 262144 * g + (touches.page - 262144 * g) ≡ touches.page = let a = touches.here in omega arith in
-        let covered : edited runs access before touches.page ≡ access = let c = touches.covered in rw c refl in
-        let now : is_reached (edited runs access before) g ≡ true =
-        reached-some (edited runs access before) g (touches.page - 262144 * g) (let a = touches.here in omega arith) (ap (λ n. is_some (edited runs access before n)) place ∙ ap (λ a. is_some a) covered ∙ maps) in
-        rw (now, sym (reached-second row inside) ∙ ap (λ o. is_some o) none) (omega arith)
+        touched-growth runs access before touches maps (sym (reached-second row inside) ∙ ap (λ o. is_some o) none) ∙ omega arith
 
     -- and none where pages are unmapped
     pub growth-unmapped : second_of layout m.words row g ≡ None

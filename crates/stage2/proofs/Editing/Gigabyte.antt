@@ -1,13 +1,13 @@
 -- The edit of a gigabyte, from its chunks and its link.
-use Rattle.std.proofs.Common.{◌≡◌, ◌≢◌, ℕ, ◌+◌, ◌-◌, ◌*◌, ◌/◌, ◌%◌, ◌^◌, ◌<◌, ◌≤◌, Bool, true, false, not, ◌&&◌, cond, eqb, ltb, is_some, List, Some, None, length, refl, arith, ap, ap₂, sym, subst, ◌∙◌, ◌⊎◌, inl, inr}
+use Rattle.std.proofs.Common.{◌≡◌, ◌≢◌, ℕ, ◌+◌, ◌-◌, ◌*◌, ◌/◌, ◌^◌, ◌<◌, ◌≤◌, Bool, true, false, not, ◌&&◌, cond, eqb, ltb, is_some, List, Some, None, length, refl, arith, ap, ap₂, sym, subst, ◌∙◌, ◌⊎◌, inl, inr}
 use Rattle.std.proofs.lemmas.Bool.{cases_eq, cases_Bool}
-use Rattle.stage2.proofs.Names.{nat_tests, PageRun, covers, View, table_word_of, Pages, with_put, with_mark, used_by, row_quota, count_below, Layout, Slot, Empty, Next, Maps, Bad, slot, at_2, walk, walked, Root, Gigabyte, Chunk, next_page, table_at, IsTidy, is_mixed, is_reached, IsOrderly, IsCanonical, answers, answer_of, linked, edited, chunks_operations, grows_at, gigabyte_growth, IsUnderway, EditsGigabyte, Touches, common_steps}
+use Rattle.stage2.proofs.Names.{nat_tests, PageRun, covers, View, table_word_of, Pages, with_put, with_mark, used_by, row_quota, count_below, Layout, Slot, Empty, Next, Maps, Bad, slot, at_2, walk, walked, Root, Gigabyte, Chunk, next_page, table_at, is_mixed, is_reached, IsOrderly, IsCanonical, answers, answer_of, linked, edited, chunks_operations, grows_at, gigabyte_growth, IsUnderway, EditsGigabyte, Touches, common_steps}
 use Rattle.words.proofs.RoundTrip.{word-table}
 use Rattle.pool.proofs.Count.{count_below-same}
 use Rattle.pool.proofs.Shares.{used_by-take, used_by-give}
-use Rattle.stage2.specs.declared.walked.Walked.TheVariants.{Wrong}
 use Rattle.stage2.proofs.Counting.Operations.{chunks-same}
-use Rattle.stage2.proofs.Tree.WalkFrame.{put-other, walk-gigabyte, table_at-root, table_at-chunk_in}
+use Rattle.stage2.proofs.Tree.KnownWords.{chunk-walk, chunk-table, second-known}
+use Rattle.stage2.proofs.Tree.WalkFrame.{put-other, table_at-root}
 use Rattle.stage2.proofs.Counting.Needs.{mixed-same, reached-same, reached-some, reached-none, mixed-none}
 use Rattle.manifest.proofs.Tables.{any_below-none}
 use Rattle.stage2.proofs.Tree.PutTwice.{with_put-twice, with_put-there}
@@ -79,39 +79,36 @@ word-reaches layout row g k x m orderly inside below table lt nonzero = elim (ca
   | inr f ↦ absurd (by-slot (slot layout 2 (m.words k x)) refl (λ i small. not-reached (answers layout m.words row) g i f small))
 ]
   where
-    n : ℕ
-    n = 512 * (512 * g + x)
-
     place : 512 * (512 * g + x) ≡ 262144 * g + 512 * x
     place = omega arith
 
-    walk-n : walk layout m.words row (512 * (512 * g + x)) ≡ at_2 layout m.words (512 * (512 * g + x)) (slot layout 2 (m.words k x))
-    walk-n =
-        let q : 512 * (512 * g + x) / 512 / 512 ≡ g = omega (arith, lt) in
-        let r : 512 * (512 * g + x) / 512 % 512 ≡ x = omega (arith, lt) in
-        walk-gigabyte layout m.words row (512 * (512 * g + x)) k inside (ap (λ y. table_at layout m.words (Gigabyte row y)) q ∙ table) ∙ ap (λ y. at_2 layout m.words (512 * (512 * g + x)) (slot layout 2 (m.words k y))) r
-
     none-n : ((i : ℕ) → i < 262144 → answers layout m.words row (262144 * g + i) ≡ None) → answer_of (at_2 layout m.words (512 * (512 * g + x)) (slot layout 2 (m.words k x))) ≡ None
-    none-n none = sym (ap answer_of walk-n) ∙ ap (answers layout m.words row) place ∙ none (512 * x) (omega (arith, lt))
+    none-n none = sym (ap answer_of (chunk-walk layout m row g x k inside lt table)) ∙ ap (answers layout m.words row) place ∙ none (512 * x) (omega (arith, lt))
 
     by-slot : (s : Slot) → slot layout 2 (m.words k x) ≡ s → ((i : ℕ) → i < 262144 → answers layout m.words row (262144 * g + i) ≡ None) → ⊥
     by-slot Empty e none = nonzero (orderly.clean (Gigabyte row g) k x (inside, below) table lt e)
     by-slot (Maps p a) e none = let some : Some a ≡ None = sym (ap (λ s. answer_of (at_2 layout m.words (512 * (512 * g + x)) s)) e) ∙ none-n none in cc
     by-slot (Next q) e none =
-        let c : (512 * g + x) / 512 ≡ g = omega (arith, lt) in
-        let r : (512 * g + x) % 512 ≡ x = omega (arith, lt) in
-        let hangs : table_at layout m.words (Chunk row (512 * g + x)) ≡ Some q =
-        table_at-chunk_in layout m.words row (512 * g + x) k (ap (λ y. table_at layout m.words (Gigabyte row y)) c ∙ table) ∙ ap (λ y. next_page (slot layout 2 (m.words k y))) r ∙ ap next_page e in
+        let hangs : table_at layout m.words (Chunk row (512 * g + x)) ≡ Some q = chunk-table layout m row g x k lt table ∙ ap next_page e in
         let mixed : true ≡ is_mixed (answers layout m.words row) (512 * g + x) = sym (ap (λ o. is_some o) hangs) ∙ orderly.mixed row (512 * g + x) inside (omega (arith, lt, below)) in
         let unmixed : is_mixed (answers layout m.words row) (512 * g + x) ≡ false = mixed-none (answers layout m.words row) (512 * g + x) (λ i small. ap (answers layout m.words row) (spot i) ∙ none (512 * x + i) (omega (arith, lt, small))) in
         absurd (cc)
       where
         spot : (i : ℕ) → 512 * (512 * g + x) + i ≡ 262144 * g + (512 * x + i)
         spot i = omega arith
-    by-slot Bad e none =
-        let wrong : walk layout m.words row (512 * (512 * g + x)) ≡ Wrong = walk-n ∙ ap (at_2 layout m.words (512 * (512 * g + x))) e in
-        let tidy : IsTidy (512 * (512 * g + x)) (walk layout m.words row (512 * (512 * g + x))) = orderly.tidy row (512 * (512 * g + x)) inside (omega (arith, lt, below)) in
-        rw wrong at tidy
+    by-slot Bad e none = absurd (second-known layout m orderly row g x k inside below lt table e)
+
+-- a level 2 table that is all 0 may be taken away
+pub zero-unlink : {layout : Layout} {row g k : ℕ} {answer : ℕ → View} {m mid : Pages} → row < length layout.ids → g < 512 → IsUnderway layout row g k 512 answer m mid → ((i : ℕ) → i < 512 → mid.words k i ≡ 0) → IsUnlink layout row g k (linked layout row g k mid)
+zero-unlink {layout} {row} {g} {k} {answer} {m} {mid} inside below u empty =
+    let differs : k ≢ row = λ e. let f : Gigabyte row g ≡ Root row = u.orderly.forest (Gigabyte row g) (Root row) k (inside, below) inside u.second (table_at-root layout (linked layout row g k mid).words row ∙ ap Some (sym e)) in cc in
+    record {
+      orderly = u.orderly;
+      partition = inside;
+      gigabyte = below;
+      table = u.second;
+      zero = λ i lt. put-other mid.words row g (table_word_of (layout.base + k)) k i (λ e _. differs e) ∙ empty i lt;
+    }
 
 -- ---- a gigabyte that has its level 2 table
 
@@ -145,18 +142,9 @@ module _ (layout : Layout) (row g k : ℕ) (m : Pages) (canonical : IsCanonical 
         used = let used = subst (λ (z : Pages). used_by new row ≤ used_by m row + count_below (λ x. grows_at (answers layout z.words row) answer (512 * g + x)) 512) linked-same u.used in omega (arith, used);
       }
 
-  pub second-no-root : (new : Pages) → IsOrderly layout (linked layout row g k new) → table_at layout (linked layout row g k new).words (Gigabyte row g) ≡ Some k → k ≢ row
-  second-no-root new orderly at same = grind (arith, common_steps, nat_tests, orderly.forest (Gigabyte row g) (Root row) k (inside, below) inside, table_at-root layout (linked layout row g k new).words row)
-
   pub finish-zero : (answer : ℕ → View) (mid new : Pages) → IsUnderway layout row g k 512 answer m mid → ((i : ℕ) → i < 512 → mid.words k i ≡ 0) → new ≡ with_mark k false (with_put row g 0 mid) → EditsGigabyte layout row g answer m new
   finish-zero answer mid new u empty is =
-      let h : IsUnlink layout row g k (linked layout row g k mid) = record {
-        orderly = u.orderly;
-        partition = inside;
-        gigabyte = below;
-        table = u.second;
-        zero = λ i lt. put-other mid.words row g (table_word_of (layout.base + k)) k i (λ e _. (second-no-root mid u.orderly u.second) e) ∙ empty i lt;
-      } in
+      let h : IsUnlink layout row g k (linked layout row g k mid) = zero-unlink inside below u empty in
       let to : Pages = with_mark k false (with_put row g 0 (linked layout row g k mid)) in
       let r : IsRooted layout row g 0 (linked layout row g k mid) to = unlink-rooted layout row g k (linked layout row g k mid) h in
       let same : to ≡ new = ap (with_mark k false) (with_put-twice mid row g (table_word_of (layout.base + k)) 0) ∙ sym is in
@@ -179,6 +167,18 @@ module _ (layout : Layout) (row g k : ℕ) (m : Pages) (canonical : IsCanonical 
     where
       quotient : (i : ℕ) → i < 262144 → (262144 * g + i) / 512 / 512 ≡ g
       quotient i small = omega arith
+
+-- ---- a gigabyte in which pages are mapped
+
+covered-page : {runs : List PageRun} {g : ℕ} (touches : Touches runs g) (access : View) (v : ℕ → View) → edited runs access v touches.page ≡ access
+covered-page touches access v = let c = touches.covered in rw c refl
+
+reaches : {runs : List PageRun} {g : ℕ} (touches : Touches runs g) (access : View) → is_some access ≡ true → (v : ℕ → View) → v touches.page ≡ access → is_reached v g ≡ true
+reaches {runs} {g} touches access maps v e = reached-some v g (touches.page - 262144 * g) (let a = touches.here in omega arith) (ap (λ n. is_some (v n)) (let a = touches.here in omega arith) ∙ ap (λ a. is_some a) e ∙ maps)
+
+-- one table is for the gigabyte itself, where it had none
+pub touched-growth : (runs : List PageRun) (access : View) (v : ℕ → View) {g : ℕ} → Touches runs g → is_some access ≡ true → is_reached v g ≡ false → gigabyte_growth v (edited runs access v) g ≡ 1 + count_below (λ x. grows_at v (edited runs access v) (512 * g + x)) 512
+touched-growth runs access v {g} touches maps none = let now = reaches touches access maps (edited runs access v) (covered-page touches access v) in rw (now, none) refl
 
 -- ---- a gigabyte that gets its level 2 table
 
@@ -204,15 +204,10 @@ module _ (layout : Layout) (row g k : ℕ) (runs : List PageRun) (access : View)
   pub link-chunks : (new : Pages) → new ≡ with_mark k true m → chunks_operations runs access (answers layout (linked layout row g k new).words row) g ≡ chunks_operations runs access (answers layout m.words row) g
   link-chunks new is = grind (arith, common_steps, nat_tests, chunks-same, same-answers)
 
-  reaches : (v : ℕ → View) → v touches.page ≡ access → is_reached v g ≡ true
-  reaches v e = reached-some v g (touches.page - 262144 * g) (let a = touches.here in omega arith) (ap (λ n. is_some (v n)) (let a = touches.here in omega arith) ∙ ap (λ a. is_some a) e ∙ maps)
-
-  covered-page : edited runs access (answers layout m.words row) touches.page ≡ access
-  covered-page = let c = touches.covered in rw c refl
-
   growth : gigabyte_growth (answers layout m.words row) (edited runs access (answers layout m.words row)) g
       ≡ 1 + count_below (λ x. grows_at (answers layout m.words row) (edited runs access (answers layout m.words row)) (512 * g + x)) 512
-  growth = grind (arith, common_steps, nat_tests, reaches, covered-page)
+  growth =
+      touched-growth runs access (answers layout m.words row) touches maps (sym (canonical.reached row g h.partition below) ∙ ap (λ o. is_some o) h.none)
 
   took : used_by (with_mark k true m) row ≡ used_by m row + 1
   took = used_by-take m row k h.inside h.free
@@ -227,12 +222,12 @@ module _ (layout : Layout) (row g k : ℕ) (runs : List PageRun) (access : View)
       let to : Pages = linked layout row g k mid in
       let w = edited runs access (answers layout (linked layout row g k (with_mark k true m)).words row) in
       let walk-here : walk layout to.words row touches.page ≡ walked touches.page access =
-      done-here layout row g k w (with_mark k true m) mid below u touches.page touches.small touches.here ∙ ap (walked touches.page) (same-edited touches.page touches.small ∙ covered-page) in
+      done-here layout row g k w (with_mark k true m) mid below u touches.page touches.small touches.here ∙ ap (walked touches.page) (same-edited touches.page touches.small ∙ covered-page touches access (answers layout m.words row)) in
       let made : EditsGigabyte layout row g (edited runs access (answers layout m.words row)) m to = record {
         canonical = canonical-from layout row g m to canonical u.orderly
             (λ s y in_s lt_y apart. u.others s y in_s lt_y ∙ kept layout row g (table_word_of (layout.base + k)) m (linked layout row g k (with_mark k true m)) r (Gigabyte s y) (in_s, lt_y) (λ e. apart (cc) (cc)))
             (λ s n small apart. done-apart layout row g k w (with_mark k true m) mid below u s n small apart ∙ same-walk layout row g (table_word_of (layout.base + k)) m (linked layout row g k (with_mark k true m)) r s n small)
-            (ap (λ o. is_some o) u.second ∙ sym (reaches (answers layout to.words row) (ap answer_of walk-here ∙ answer-walked touches.page access)));
+            (ap (λ o. is_some o) u.second ∙ sym (reaches touches access maps (answers layout to.words row) (ap answer_of walk-here ∙ answer-walked touches.page access)));
         ids = u.ids;
         quotas = u.quotas;
         walks = λ q n small. grind (arith, common_steps, nat_tests, done-walks layout row g k w (with_mark k true m) mid below u q n small, same-edited n small, same-walk layout row g (table_word_of (layout.base + k)) m (linked layout row g k (with_mark k true m)) r q n small);
@@ -253,11 +248,5 @@ touched-below runs g touches = let small = touches.small in let here = touches.h
 pub link-has-free : (layout : Layout) (row g : ℕ) (runs : List PageRun) (access : View) (m : Pages) → IsCanonical layout m → row < length layout.ids → g < 512 → table_at layout m.words (Gigabyte row g) ≡ None → Touches runs g → is_some access ≡ true
     → used_by m row + gigabyte_growth (answers layout m.words row) (edited runs access (answers layout m.words row)) g ≤ row_quota m.quotas row → used_by m row < row_quota m.quotas row
 link-has-free layout row g runs access m canonical inside below none touches maps fits =
-    let place : 262144 * g + (touches.page - 262144 * g) ≡ touches.page = let a = touches.here in omega arith in
-    let covered : edited runs access (answers layout m.words row) touches.page ≡ access = let c = touches.covered in rw c refl in
-    let now : is_reached (edited runs access (answers layout m.words row)) g ≡ true =
-    reached-some (edited runs access (answers layout m.words row)) g (touches.page - 262144 * g) (let a = touches.here in omega arith) (ap (λ n. is_some (edited runs access (answers layout m.words row) n)) place ∙ ap (λ a. is_some a) covered ∙ maps) in
-    let was : is_reached (answers layout m.words row) g ≡ false = sym (canonical.reached row g inside below) ∙ ap (λ o. is_some o) none in
-    let growth : gigabyte_growth (answers layout m.words row) (edited runs access (answers layout m.words row)) g
-    ≡ 1 + count_below (λ x. grows_at (answers layout m.words row) (edited runs access (answers layout m.words row)) (512 * g + x)) 512 = rw (now, was) refl in
+    let growth = touched-growth runs access (answers layout m.words row) touches maps (sym (canonical.reached row g inside below) ∙ ap (λ o. is_some o) none) in
     omega (arith, growth, fits)

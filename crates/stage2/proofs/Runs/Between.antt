@@ -77,17 +77,6 @@ left-past c page rest past runs at is left = rw is record {
   fills = λ x le. fills-past page x rest (omega (arith, at, le)) ∙ left.fills x le;
 }
 
--- no more of them are
-pub past-past : (page first : ℕ) (rest past : List PageRun) → page ≡ first → past ≡ runs_past page rest → runs_past first past ≡ past
-past-past page first rest past at is = rw (is, ← at) (again rest)
-  where
-    again : (runs : List PageRun) → runs_past page (runs_past page runs) ≡ runs_past page runs
-    again [] = refl
-    again (r ∷ runs) = elim (cases_Bool (ltb page (end_of r))) [
-      | inl t ↦ rw (t, t) (ap (λ rest. r ∷ rest) (again runs))
-      | inr f ↦ rw f (again runs)
-    ]
-
 -- those that end behind a later page are told of them
 pub past-later : (page later : ℕ) (runs : List PageRun) → page ≤ later → runs_past later (runs_past page runs) ≡ runs_past later runs
 past-later page later [] le = refl
@@ -100,6 +89,10 @@ past-later page later (r ∷ runs) le = elim (cases_Bool (ltb page (end_of r))) 
       let out : ltb later (end_of r) ≡ false = grind (arith, nat_tests, over) in
       rw (over, out) (past-later page later runs le)
 ]
+
+-- no more of them are
+pub past-past : (page first : ℕ) (rest past : List PageRun) → page ≡ first → past ≡ runs_past page rest → runs_past first past ≡ past
+past-past page first rest past at is = rw (is, ← at) (past-later page page rest (omega arith))
 
 -- ---- the first of runs
 

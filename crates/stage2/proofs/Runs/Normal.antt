@@ -19,18 +19,15 @@ rise-first end [] j d e below = absurd (omega arith)
 rise-first end (r ∷ runs) zero d e below = (rise-parts end r runs e).0
 rise-first end (r ∷ runs) (suc j) d e below = let h = rise-parts end r runs e in let first = h.0 in let rest = rise-first (end_of r) runs j d h.1 (omega arith) in omega (arith, first, rest)
 
-apart-above : (end : ℕ) (runs : List PageRun) (i j : ℕ) (d : PageRun) → rise_above end runs ≡ true → i < j → j < length runs → end_of (get_or runs i d) < (get_or runs j d).first
-apart-above end [] i j d e lt below = absurd (omega arith)
-apart-above end (r ∷ runs) i zero d e lt below = absurd (omega arith)
-apart-above end (r ∷ runs) zero (suc j) d e lt below = rise-first (end_of r) runs j d (rise-parts end r runs e).1 (omega arith)
-apart-above end (r ∷ runs) (suc i) (suc j) d e lt below = apart-above (end_of r) runs i j d (rise-parts end r runs e).1 (omega arith) (omega arith)
+pub rise-normal : (end : ℕ) (runs : List PageRun) → rise_above end runs ≡ true → are_normal runs ≡ true
+rise-normal end runs e = grind (arith, common_steps, nat_tests, rise-parts)
 
 -- between each and a later one there is a page
 normal-apart : (runs : List PageRun) (i j : ℕ) (d : PageRun) → are_normal runs ≡ true → i < j → j < length runs → end_of (get_or runs i d) < (get_or runs j d).first
 normal-apart [] i j d e lt below = absurd (omega arith)
 normal-apart (r ∷ runs) i zero d e lt below = absurd (omega arith)
 normal-apart (r ∷ runs) zero (suc j) d e lt below = rise-first (end_of r) runs j d e (omega arith)
-normal-apart (r ∷ runs) (suc i) (suc j) d e lt below = apart-above (end_of r) runs i j d e (omega arith) (omega arith)
+normal-apart (r ∷ runs) (suc i) (suc j) d e lt below = normal-apart runs i j d (rise-normal (end_of r) runs e) (omega arith) (omega arith)
 
 pub ends-rise : (runs : List PageRun) → are_normal runs ≡ true → IsNonDecreasingBy end_of runs
 ends-rise runs e i j d le below = elim (cases_eq i j) [
@@ -43,9 +40,6 @@ firsts-rise runs e i j d le below = elim (cases_eq i j) [
   | inl is ↦ rw is (omega arith)
   | inr other ↦ let apart = normal-apart runs i j d e (omega (arith, le, other)) below in omega (arith, apart)
 ]
-
-pub rise-normal : (end : ℕ) (runs : List PageRun) → rise_above end runs ≡ true → are_normal runs ≡ true
-rise-normal end runs e = grind (arith, common_steps, nat_tests, rise-parts)
 
 pub normal-drop : (n : ℕ) (runs : List PageRun) → are_normal runs ≡ true → are_normal (drop n runs) ≡ true
 normal-drop zero runs e = e

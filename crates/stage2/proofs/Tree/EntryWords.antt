@@ -2,8 +2,8 @@
 use Rattle.std.proofs.Common.{◌≡◌, ℕ, ◌+◌, ◌*◌, ◌/◌, ◌%◌, ◌^◌, ◌<◌, true, false, is_some, Some, length, refl, arith, ap, ◌∙◌}
 use Rattle.stage2.proofs.Names.{Access, Entry, Leaf, entry_of, leaf_word_of, Pages, Layout, Slot, Empty, Next, Maps, Bad, slot, slot_from, at_2, at_3, walk, Place, Root, Gigabyte, Chunk, next_page, table_at, IsPlace, IsOrderly, answer_of, leaf_for, entry_for_table, word_at, nat_tests, common_steps}
 use Rattle.words.proofs.RoundTrip.{word-leaf, type-leaf}
-use Rattle.stage2.proofs.Tree.WalkFrame.{table_at-root, table_at-chunk_in, walk-chunk}
-use Rattle.stage2.proofs.Tree.KnownWords.{wrong-root, root-known, chunk-walk, second-known}
+use Rattle.stage2.proofs.Tree.WalkFrame.{table_at-root, walk-chunk}
+use Rattle.stage2.proofs.Tree.KnownWords.{wrong-root, root-known, chunk-walk, chunk-table, second-known}
 use Rattle.stage2.proofs.Walkers.InStep.{gigabyte-now}
 use Rattle.stage2.proofs.Editing.Gigabyte.{table-word}
 
@@ -38,13 +38,6 @@ module _ (layout : Layout) (m : Pages) (h : IsOrderly layout m) where
   root-by row g inside below Bad is = absurd (root-known layout m h row g inside below is)
 
   -- ---- a level 2 table
-
-  chunk-table : (row g i q : ℕ) → i < 512 → table_at layout m.words (Gigabyte row g) ≡ Some q → table_at layout m.words (Chunk row (512 * g + i)) ≡ next_page (slot layout 2 (m.words q i))
-  chunk-table row g i q small table =
-      let first : (512 * g + i) / 512 ≡ g = omega (arith, small) in
-      let second : (512 * g + i) % 512 ≡ i = omega (arith, small) in
-      table_at-chunk_in layout m.words row (512 * g + i) q (ap (λ x. table_at layout m.words (Gigabyte row x)) first ∙ table)
-      ∙ ap (λ x. next_page (slot layout 2 (m.words q x))) second
 
   gigabyte-by : (row g i q : ℕ) → row < length layout.ids → g < 512 → i < 512 → table_at layout m.words (Gigabyte row g) ≡ Some q → (s : Slot) → slot layout 2 (m.words q i) ≡ s
       → m.words q i ≡ entry_for_table layout (next_page s) (leaf_for true (512 * (512 * g + i)) (answer_of (at_2 layout m.words (512 * (512 * g + i)) s)))
@@ -84,5 +77,5 @@ module _ (layout : Layout) (m : Pages) (h : IsOrderly layout m) where
   pub entries : (a : Place) (q i : ℕ) → IsPlace layout a → table_at layout m.words a ≡ Some q → i < 512 → m.words q i ≡ word_at layout m.words a i
   unfolding word_at
   entries (Root row) q i inside table small = grind (arith, common_steps, nat_tests, table_at-root layout m.words row, root-by row i inside small (slot layout 1 (m.words row i)) refl, gigabyte-now layout m.words row i)
-  entries (Gigabyte row g) q i inside table small = grind (arith, common_steps, nat_tests, gigabyte-by row g i q inside.0 inside.1 small table (slot layout 2 (m.words q i)) refl, chunk-table row g i q small table, chunk-walk layout m row g i q inside.0 small table)
+  entries (Gigabyte row g) q i inside table small = grind (arith, common_steps, nat_tests, gigabyte-by row g i q inside.0 inside.1 small table (slot layout 2 (m.words q i)) refl, chunk-table layout m row g i q small table, chunk-walk layout m row g i q inside.0 small table)
   entries (Chunk row c) q i inside table small = grind (arith, common_steps, nat_tests, chunk-by row c i q inside.0 inside.1 small table (slot layout 3 (m.words q i)) refl, page-walk row c i q inside.0 small table)

@@ -1,7 +1,7 @@
 -- The word of a root is written, or set to 0, as walks under way see it.
-use Rattle.std.proofs.Common.{◌≡◌, ◌≢◌, ℕ, ◌+◌, ◌*◌, ◌/◌, ◌^◌, ◌<◌, Bool, true, ◌&&◌, eqb, cond, List, ◌∷◌, Some, None, length, arith, ap, sym, subst, ◌∙◌, ◌⊎◌, inl, inr}
+use Rattle.std.proofs.Common.{◌≡◌, ℕ, ◌+◌, ◌*◌, ◌/◌, ◌^◌, ◌<◌, Bool, true, ◌&&◌, eqb, cond, List, ◌∷◌, None, length, arith, ap, sym, subst, ◌∙◌, ◌⊎◌, inl, inr}
 use Rattle.stage2.proofs.Names.{nat_tests, PageRun, covers, View, row_of, table_word_of, Pool, Pages, Words, words_of, put, with_mark, Set, Invalidate, Walked, Layout, Slot, Empty, slot, index_1, at_1, walk, walked, Root, Gigabyte, next_page, table_at, IsForest, is_mixed, IsOrderly, IsCanonical, answers, linked, edited, AreFree, disturbed, IsUnderway, IsInvalid, MayGive, IsInStep, IsLogged, nothing, StaysInStep, IsSeated, disturbed_below, common_steps, Unmapped}
-use Rattle.stage2.proofs.Tree.WalkFrame.{put-same, put-other, table_at-root}
+use Rattle.stage2.proofs.Tree.WalkFrame.{put-same, table_at-root}
 use Rattle.stage2.proofs.Walkers.InStep.{may-now, gigabyte-now}
 use Rattle.stage2.proofs.Tree.LinkTable.{walk-inside}
 use Rattle.stage2.proofs.Walkers.BreakBeforeMake.{invalid-empty}
@@ -10,6 +10,7 @@ use Rattle.stage2.proofs.Walkers.ZeroedTables.{counted-op, stays-wider, stays-as
 use Rattle.stage2.proofs.Tree.PutTwice.{put-twice, put-there, with_put-there}
 use Rattle.stage2.proofs.Walkers.CallSeams.{hangs-linked}
 use Rattle.stage2.proofs.Counting.Needs.{mixed-same}
+use Rattle.stage2.proofs.Editing.Gigabyte.{zero-unlink}
 use Rattle.stage2.proofs.Editing.RootLinks.{untabled, IsUnlink, unlink-unmapped, IsLink}
 use Rattle.stage2.proofs.Editing.ChunkByChunk.{untouched}
 use Rattle.stage2.proofs.Walkers.Disturbed.{below-all}
@@ -86,14 +87,7 @@ pub zero-unmapped : (layout : Layout) (row g k : ℕ) (answer : ℕ → View) (m
     → IsForest layout mid.words × ((n : ℕ) → n < 2 ^ 27 → n / 512 / 512 ≡ g → walk layout mid.words row n ≡ Unmapped)
 zero-unmapped layout row g k answer m mid inside below seated u empty =
     let same : linked layout row g k mid ≡ mid = linked-there layout row g k mid (u.root g ∙ seated) in
-    let differs : k ≢ row = λ e. let f : Gigabyte row g ≡ Root row = u.orderly.forest (Gigabyte row g) (Root row) k (inside, below) inside u.second (table_at-root layout (linked layout row g k mid).words row ∙ ap Some (sym e)) in cc in
-    let h : IsUnlink layout row g k (linked layout row g k mid) = record {
-      orderly = u.orderly;
-      partition = inside;
-      gigabyte = below;
-      table = u.second;
-      zero = λ i lt. put-other mid.words row g (table_word_of (layout.base + k)) k i (λ e _. differs e) ∙ empty i lt;
-    } in (
+    let h : IsUnlink layout row g k (linked layout row g k mid) = zero-unlink inside below u empty in (
       subst (λ (x : Pages). IsForest layout x.words) same u.orderly.forest,
       λ n small at. sym (ap (λ (x : Pages). walk layout x.words row n) same) ∙ unlink-unmapped layout row g k (linked layout row g k mid) h n at,
     )

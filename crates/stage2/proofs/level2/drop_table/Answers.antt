@@ -7,13 +7,11 @@ use Rattle.stage2.proofs.Walkers.SeatedChunks.{hung-seen, gives-block, block-no-
 use Rattle.stage2.proofs.Editing.FourChunkEdits.{second-inside, second-taken, third-inside, third-taken, third-share, left-kept, left-words, drop-zero, does-drop}
 use Rattle.stage2.proofs.Editing.OneChunk.{in-step-alike, others, dropped}
 use Rattle.stage2.proofs.Tree.TakenPages.{pages_of-give}
+use Rattle.stage2.proofs.Tree.Rows.{has-row}
 use Rattle.stage2.proofs.level2.drop_table.Goals as goal
 
-pub replace_entry-requires-clause-page_in : goal.replace_entry-requires-clause-page_in
-replace_entry-requires-clause-page_in g c = second-inside c.requires.can.site
-
-pub replace_entry-requires-clause-taken : goal.replace_entry-requires-clause-taken
-replace_entry-requires-clause-taken g c = second-taken c.requires.can.site
+pub replace_entry-requires : goal.replace_entry-requires
+replace_entry-requires g c = grind (arith, common_steps, nat_tests, second-inside c.requires.can.site, second-taken c.requires.can.site, has-row)
 
 pub empty_table-requires : goal.empty_table-requires
 empty_table-requires g c =

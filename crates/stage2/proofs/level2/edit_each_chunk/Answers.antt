@@ -13,25 +13,19 @@ plain_until-plain-requires-clause-page_in g c =
     let below = c.in-Some.ensures.in_range in
     table-inside c.requires below (at-piece c.requires below (c.loop-piece.invariant.up_to below) c.in-Some.ensures.some) c.in-Some.ensures.some.small
 
-pub set_blocks-requires-clause-page_in : goal.set_blocks-requires-clause-page_in
-set_blocks-requires-clause-page_in g c =
-    let below = c.in-Some.ensures.in_range in
-    table-inside c.requires below (at-piece c.requires below (c.loop-piece.invariant.up_to below) c.in-Some.ensures.some) c.in-Some.ensures.some.small
-
-pub set_blocks-requires-clause-taken : goal.set_blocks-requires-clause-taken
-set_blocks-requires-clause-taken g c =
-    let below = c.in-Some.ensures.in_range in
-    table-taken c.requires below (at-piece c.requires below (c.loop-piece.invariant.up_to below) c.in-Some.ensures.some) c.in-Some.ensures.some.small
-
-pub set_blocks-requires-clause-partition : goal.set_blocks-requires-clause-partition
-set_blocks-requires-clause-partition g c = grind (arith, common_steps, nat_tests, at-piece, has-row)
-
-pub set_blocks-requires-clause-room : goal.set_blocks-requires-clause-room
-set_blocks-requires-clause-room g c =
+pub set_blocks-requires : goal.set_blocks-requires
+set_blocks-requires g c =
     let below = c.in-Some.ensures.in_range in
     let so = at-piece c.requires below (c.loop-piece.invariant.up_to below) c.in-Some.ensures.some in
     let most = c.plain_until-plain.ensures.most c.if-piece-plain.true in
-    blocks-room c.requires below so c.if-piece-plain.true (omega (arith, most, c.in-Some.ensures.some.most)) (λ x from to. c.in-Some.ensures.some.filled x from (omega (arith, to, most)))
+    record {
+      page_in = table-inside c.requires below so c.in-Some.ensures.some.small;
+      taken = table-taken c.requires below so c.in-Some.ensures.some.small;
+      some = c.if-piece-plain.true;
+      most = omega (arith, most, c.in-Some.ensures.some.most);
+      partition = grind (arith, common_steps, nat_tests, at-piece, has-row);
+      room = blocks-room c.requires below so c.if-piece-plain.true (omega (arith, most, c.in-Some.ensures.some.most)) (λ x from to. c.in-Some.ensures.some.filled x from (omega (arith, to, most)));
+    }
 
 pub loop-piece-preserved-then-piece-plain : goal.loop-piece-preserved-then-piece-plain
 loop-piece-preserved-then-piece-plain g c =

@@ -1,15 +1,13 @@
-use Rattle.stage2.proofs.Names.{pages_of, words_of, put, chunk_after, ◌%◌, arith}
+use Rattle.stage2.proofs.Names.{nat_tests, common_steps, pages_of, words_of, put, chunk_after, ◌%◌, arith}
 use Rattle.stage2.proofs.Editing.OneChunk.{in-step-alike}
 use Rattle.stage2.proofs.Walkers.StepLists.{stays-replaced}
 use Rattle.stage2.proofs.Walkers.SeatedChunks.{hung-seen, gives-block, block-no-table}
 use Rattle.stage2.proofs.Editing.FourChunkEdits.{second-inside, second-taken, does-set}
+use Rattle.stage2.proofs.Tree.Rows.{has-row}
 use Rattle.stage2.proofs.level2.set_block.Goals as goal
 
-pub replace_entry-requires-clause-page_in : goal.replace_entry-requires-clause-page_in
-replace_entry-requires-clause-page_in g c = second-inside c.requires.can.site
-
-pub replace_entry-requires-clause-taken : goal.replace_entry-requires-clause-taken
-replace_entry-requires-clause-taken g c = second-taken c.requires.can.site
+pub replace_entry-requires : goal.replace_entry-requires
+replace_entry-requires g c = grind (arith, common_steps, nat_tests, second-inside c.requires.can.site, second-taken c.requires.can.site, has-row)
 
 pub returns : goal.returns
 returns g c =
