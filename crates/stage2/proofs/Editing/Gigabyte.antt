@@ -6,8 +6,8 @@ use Rattle.words.proofs.RoundTrip.{word-table}
 use Rattle.pool.proofs.Count.{count_below-same}
 use Rattle.pool.proofs.Shares.{used_by-take, used_by-give}
 use Rattle.stage2.proofs.Counting.Operations.{chunks-same}
-use Rattle.stage2.proofs.Tree.KnownWords.{chunk-walk, chunk-table, second-known}
-use Rattle.stage2.proofs.Tree.WalkFrame.{put-other, table_at-root}
+use Rattle.stage2.proofs.Tree.KnownWords.{chunk-walk, second-known}
+use Rattle.stage2.proofs.Tree.WalkFrame.{chunk-table, put-other, table_at-root}
 use Rattle.stage2.proofs.Counting.Needs.{mixed-same, reached-same, reached-some, reached-none, mixed-none}
 use Rattle.manifest.proofs.Tables.{any_below-none}
 use Rattle.stage2.proofs.Tree.PutTwice.{with_put-twice, with_put-there}
@@ -89,7 +89,7 @@ word-reaches layout row g k x m orderly inside below table lt nonzero = elim (ca
     by-slot Empty e none = nonzero (orderly.clean (Gigabyte row g) k x (inside, below) table lt e)
     by-slot (Maps p a) e none = let some : Some a ≡ None = sym (ap (λ s. answer_of (at_2 layout m.words (512 * (512 * g + x)) s)) e) ∙ none-n none in cc
     by-slot (Next q) e none =
-        let hangs : table_at layout m.words (Chunk row (512 * g + x)) ≡ Some q = chunk-table layout m row g x k lt table ∙ ap next_page e in
+        let hangs : table_at layout m.words (Chunk row (512 * g + x)) ≡ Some q = chunk-table layout m.words row g x k lt table ∙ ap next_page e in
         let mixed : true ≡ is_mixed (answers layout m.words row) (512 * g + x) = sym (ap (λ o. is_some o) hangs) ∙ orderly.mixed row (512 * g + x) inside (omega (arith, lt, below)) in
         let unmixed : is_mixed (answers layout m.words row) (512 * g + x) ≡ false = mixed-none (answers layout m.words row) (512 * g + x) (λ i small. ap (answers layout m.words row) (spot i) ∙ none (512 * x + i) (omega (arith, lt, small))) in
         absurd (cc)

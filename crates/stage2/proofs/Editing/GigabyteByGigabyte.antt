@@ -108,7 +108,3 @@ touched runs i g run lt is some from to =
   where
     in_part : (first count g : ℕ) → 0 < count → first / 512 / 512 ≤ g → g < ((first + count + 511) / 512 + 511) / 512 → (leb first (max first (262144 * g)) && ltb (max first (262144 * g)) (first + count)) ≡ true
     in_part first count g a from to = grind (arith, nat_tests)
-
-pub sum_below-zero : (f : ℕ → ℕ) → sum_below f 0 ≡ 0
-unfolding sum_below
-sum_below-zero f = refl

@@ -25,10 +25,6 @@ unfolding sum_below
 sum_below-le f g zero le = omega arith
 sum_below-le f g (suc n) le = let rest = sum_below-le f g n le in let here = le n in omega (arith, rest, here)
 
-pub sum_below-zero : (f : ℕ → ℕ) → sum_below f 0 ≡ 0
-unfolding sum_below
-sum_below-zero f = refl
-
 -- ---- pages and pieces of runs
 
 -- what is known of the runs behind one, and that one: a page lies between them

@@ -1,9 +1,9 @@
 -- The words of tables that hang are those of their entries.
-use Rattle.std.proofs.Common.{◌≡◌, ℕ, ◌+◌, ◌*◌, ◌/◌, ◌%◌, ◌^◌, ◌<◌, true, false, is_some, Some, length, refl, arith, ap, ◌∙◌}
-use Rattle.stage2.proofs.Names.{Access, Entry, Leaf, entry_of, leaf_word_of, Pages, Layout, Slot, Empty, Next, Maps, Bad, slot, slot_from, at_2, at_3, walk, Place, Root, Gigabyte, Chunk, next_page, table_at, IsPlace, IsOrderly, answer_of, leaf_for, entry_for_table, word_at, nat_tests, common_steps}
+use Rattle.std.proofs.Common.{◌≡◌, ℕ, ◌+◌, ◌*◌, ◌%◌, ◌^◌, ◌<◌, true, false, is_some, Some, length, refl, arith}
+use Rattle.stage2.proofs.Names.{Access, Entry, Leaf, entry_of, leaf_word_of, Pages, Layout, Slot, Empty, Next, Maps, Bad, slot, slot_from, at_2, at_3, Place, Root, Gigabyte, Chunk, next_page, table_at, IsPlace, IsOrderly, answer_of, leaf_for, entry_for_table, word_at, nat_tests, common_steps}
 use Rattle.words.proofs.RoundTrip.{word-leaf, type-leaf}
-use Rattle.stage2.proofs.Tree.WalkFrame.{table_at-root, walk-chunk}
-use Rattle.stage2.proofs.Tree.KnownWords.{wrong-root, root-known, chunk-walk, chunk-table, second-known}
+use Rattle.stage2.proofs.Tree.WalkFrame.{chunk-table, page-walk, table_at-root}
+use Rattle.stage2.proofs.Tree.KnownWords.{wrong-root, root-known, chunk-walk, second-known}
 use Rattle.stage2.proofs.Walkers.InStep.{gigabyte-now}
 use Rattle.stage2.proofs.Editing.Gigabyte.{table-word}
 
@@ -58,24 +58,17 @@ module _ (layout : Layout) (m : Pages) (h : IsOrderly layout m) where
 
   -- ---- a level 3 table
 
-  page-walk : (row c i q : ℕ) → row < length layout.ids → i < 512 → table_at layout m.words (Chunk row c) ≡ Some q → walk layout m.words row (512 * c + i) ≡ at_3 (slot layout 3 (m.words q i))
-  page-walk row c i q inside small table =
-      let chunk : (512 * c + i) / 512 ≡ c = omega (arith, small) in
-      let third : (512 * c + i) % 512 ≡ i = omega (arith, small) in
-      walk-chunk layout m.words row (512 * c + i) q inside (ap (λ x. table_at layout m.words (Chunk row x)) chunk ∙ table)
-      ∙ ap (λ x. at_3 (slot layout 3 (m.words q x))) third
-
   chunk-by : (row c i q : ℕ) → row < length layout.ids → c < 262144 → i < 512 → table_at layout m.words (Chunk row c) ≡ Some q → (s : Slot) → slot layout 3 (m.words q i) ≡ s
       → m.words q i ≡ leaf_for false (512 * c + i) (answer_of (at_3 s))
   chunk-by row c i q inside below small table Empty is = h.clean (Chunk row c) q i (inside, below) table small is
-  chunk-by row c i q inside below small table (Maps p a) is = grind (arith, common_steps, nat_tests, page-walk row c i q inside small table, h.tidy, page-word layout p (m.words q i) a is)
-  chunk-by row c i q inside below small table (Next k) is = grind (arith, common_steps, nat_tests, page-walk row c i q inside small table, h.tidy)
-  chunk-by row c i q inside below small table Bad is = grind (arith, common_steps, nat_tests, page-walk row c i q inside small table, h.tidy)
+  chunk-by row c i q inside below small table (Maps p a) is = grind (arith, common_steps, nat_tests, page-walk layout m.words row c i q inside small table, h.tidy, page-word layout p (m.words q i) a is)
+  chunk-by row c i q inside below small table (Next k) is = grind (arith, common_steps, nat_tests, page-walk layout m.words row c i q inside small table, h.tidy)
+  chunk-by row c i q inside below small table Bad is = grind (arith, common_steps, nat_tests, page-walk layout m.words row c i q inside small table, h.tidy)
 
   -- ---- each table
 
   pub entries : (a : Place) (q i : ℕ) → IsPlace layout a → table_at layout m.words a ≡ Some q → i < 512 → m.words q i ≡ word_at layout m.words a i
   unfolding word_at
   entries (Root row) q i inside table small = grind (arith, common_steps, nat_tests, table_at-root layout m.words row, root-by row i inside small (slot layout 1 (m.words row i)) refl, gigabyte-now layout m.words row i)
-  entries (Gigabyte row g) q i inside table small = grind (arith, common_steps, nat_tests, gigabyte-by row g i q inside.0 inside.1 small table (slot layout 2 (m.words q i)) refl, chunk-table layout m row g i q small table, chunk-walk layout m row g i q inside.0 small table)
-  entries (Chunk row c) q i inside table small = grind (arith, common_steps, nat_tests, chunk-by row c i q inside.0 inside.1 small table (slot layout 3 (m.words q i)) refl, page-walk row c i q inside.0 small table)
+  entries (Gigabyte row g) q i inside table small = grind (arith, common_steps, nat_tests, gigabyte-by row g i q inside.0 inside.1 small table (slot layout 2 (m.words q i)) refl, chunk-table layout m.words row g i q small table, chunk-walk layout m row g i q inside.0 small table)
+  entries (Chunk row c) q i inside table small = grind (arith, common_steps, nat_tests, chunk-by row c i q inside.0 inside.1 small table (slot layout 3 (m.words q i)) refl, page-walk layout m.words row c i q inside.0 small table)

@@ -1,7 +1,7 @@
 -- The words of a root and of a level 2 table that hang have a form of their level.
-use Rattle.stage2.proofs.Names.{Chunk, next_page, Pages, Layout, Slot, Bad, slot, at_1, at_2, walk, Gigabyte, table_at, IsOrderly, nat_tests, common_steps, ◌≡◌, ◌≢◌, ℕ, ◌+◌, ◌*◌, ◌/◌, ◌%◌, ◌<◌, Some, length, refl, arith, ap, ◌∙◌}
+use Rattle.stage2.proofs.Names.{Pages, Layout, Slot, Bad, slot, at_1, at_2, walk, Gigabyte, table_at, IsOrderly, nat_tests, common_steps, ◌≡◌, ◌≢◌, ℕ, ◌+◌, ◌*◌, ◌/◌, ◌%◌, ◌<◌, Some, length, refl, arith, ap, ◌∙◌}
 use Rattle.stage2.specs.declared.walked.Walked.TheVariants.{Wrong}
-use Rattle.stage2.proofs.Tree.WalkFrame.{walk-gigabyte, table_at-chunk_in}
+use Rattle.stage2.proofs.Tree.WalkFrame.{walk-gigabyte}
 use Rattle.stage2.proofs.Tree.LinkTable.{walk-inside}
 
 -- the walk of a chunk's first page goes on at the chunk's word
@@ -12,14 +12,6 @@ chunk-walk layout m row g i q inside small table =
     let second : 512 * (512 * g + i) / 512 % 512 ≡ i = omega (arith, small) in
     walk-gigabyte layout m.words row (512 * (512 * g + i)) q inside (ap (λ x. table_at layout m.words (Gigabyte row x)) first ∙ table)
     ∙ ap (λ x. at_2 layout m.words (512 * (512 * g + i)) (slot layout 2 (m.words q x))) second
-
--- whose table is the one that the word points at
-pub chunk-table : (layout : Layout) (m : Pages) (row g i q : ℕ) → i < 512 → table_at layout m.words (Gigabyte row g) ≡ Some q → table_at layout m.words (Chunk row (512 * g + i)) ≡ next_page (slot layout 2 (m.words q i))
-chunk-table layout m row g i q small table =
-    let first : (512 * g + i) / 512 ≡ g = omega (arith, small) in
-    let second : (512 * g + i) % 512 ≡ i = omega (arith, small) in
-    table_at-chunk_in layout m.words row (512 * g + i) q (ap (λ x. table_at layout m.words (Gigabyte row x)) first ∙ table)
-    ∙ ap (λ x. next_page (slot layout 2 (m.words q x))) second
 
 module _ (layout : Layout) (m : Pages) (h : IsOrderly layout m) where
   pub wrong-root : (row g : ℕ) → row < length layout.ids → g < 512 → (s : Slot) → slot layout 1 (m.words row g) ≡ s → at_1 layout m.words m.words (262144 * g) s ≡ Wrong → ⊥

@@ -90,6 +90,13 @@ pub walk-chunk : (layout : Layout) (words : Words) (p n q : ℕ) → p < length 
 unfolding walk_across table_at
 walk-chunk layout words p n q inside table = grind (arith, common_steps, nat_tests)
 
+-- of a page by its index
+pub page-walk : (layout : Layout) (words : Words) (p c i q : ℕ) → p < length layout.ids → i < 512 → table_at layout words (Chunk p c) ≡ Some q → walk layout words p (512 * c + i) ≡ at_3 (slot layout 3 (words q i))
+page-walk layout words p c i q inside small table =
+    let chunk : (512 * c + i) / 512 ≡ c = omega (arith, small) in
+    let third : (512 * c + i) % 512 ≡ i = omega (arith, small) in
+    walk-chunk layout words p (512 * c + i) q inside (ap (λ x. table_at layout words (Chunk p x)) chunk ∙ table) ∙ ap (λ x. at_3 (slot layout 3 (words q x))) third
+
 -- a walk through the table of its gigabyte
 pub walk-gigabyte : (layout : Layout) (words : Words) (p n j : ℕ) → p < length layout.ids → table_at layout words (Gigabyte p (index_1 n)) ≡ Some j
     → walk layout words p n ≡ at_2 layout words n (slot layout 2 (words j (index_2 n)))
@@ -100,11 +107,8 @@ walk-gigabyte layout words p n j inside table = grind (arith, common_steps, nat_
 pub walk-level_3 : (layout : Layout) (words : Words) (p c q i word : ℕ) → IsLevel3Write layout words p c q → i < 512
     → walk layout (put q i word words) p (512 * c + i) ≡ at_3 (slot layout 3 word)
 walk-level_3 layout words p c q i word h small =
-    let new = put q i word words in
-    let chunk : (512 * c + i) / 512 ≡ c = omega arith in
-    let index : (512 * c + i) % 512 ≡ i = omega arith in
-    let here : table_at layout new (Chunk p ((512 * c + i) / 512)) ≡ Some q = rw chunk (table_at-level_3 layout words p c q i word h (Chunk p c) (h.partition, h.chunk) ∙ h.table) in
-    walk-chunk layout new p (512 * c + i) q h.partition here ∙ ap (λ w. at_3 (slot layout 3 w)) (ap (new q) index ∙ put-same words q i word)
+    page-walk layout (put q i word words) p c i q h.partition small (table_at-level_3 layout words p c q i word h (Chunk p c) (h.partition, h.chunk) ∙ h.table)
+    ∙ ap (λ w. at_3 (slot layout 3 w)) (put-same words q i word)
 
 -- ---- a write into a page where no table hangs
 
@@ -164,15 +168,19 @@ pub table_at-chunk_in : (layout : Layout) (words : Words) (p c j : ℕ) → tabl
 unfolding table_at
 table_at-chunk_in layout words p c j e = ap (chunk_table layout words c) e
 
+-- of a chunk by its index
+pub chunk-table : (layout : Layout) (words : Words) (p g i j : ℕ) → i < 512 → table_at layout words (Gigabyte p g) ≡ Some j → table_at layout words (Chunk p (512 * g + i)) ≡ next_page (slot layout 2 (words j i))
+chunk-table layout words p g i j small table =
+    let gigabyte : (512 * g + i) / 512 ≡ g = omega (arith, small) in
+    let index : (512 * g + i) % 512 ≡ i = omega (arith, small) in
+    table_at-chunk_in layout words p (512 * g + i) j (ap (λ x. table_at layout words (Gigabyte p x)) gigabyte ∙ table) ∙ ap (λ x. next_page (slot layout 2 (words j x))) index
+
 -- the table of the chunk is the one that the new word points at
 pub table_at-level_2 : (layout : Layout) (words : Words) (p g j i word : ℕ) → IsLevel2Write layout words p g j i word
     → table_at layout (put j i word words) (Chunk p (512 * g + i)) ≡ next_page (slot layout 2 word)
 table_at-level_2 layout words p g j i word h =
-    let new = put j i word words in
-    let gigabyte : (512 * g + i) / 512 ≡ g = omega (arith, h.index) in
-    let index : (512 * g + i) % 512 ≡ i = omega (arith, h.index) in
-    let here : table_at layout new (Gigabyte p ((512 * g + i) / 512)) ≡ Some j = rw gigabyte (table_at-level_2-other layout words p g j i word h (Gigabyte p g) (h.partition, h.gigabyte) (λ e. cc) ∙ h.table) in
-    table_at-chunk_in layout new p (512 * g + i) j here ∙ ap (λ w. next_page (slot layout 2 w)) (ap (new j) index ∙ put-same words j i word)
+    chunk-table layout (put j i word words) p g i j h.index (table_at-level_2-other layout words p g j i word h (Gigabyte p g) (h.partition, h.gigabyte) (λ e. cc) ∙ h.table)
+    ∙ ap (λ w. next_page (slot layout 2 w)) (put-same words j i word)
 
 -- pages of other chunks are translated as before
 pub walk-level_2-other : (layout : Layout) (words : Words) (p g j i word : ℕ) → IsLevel2Write layout words p g j i word → (p' n : ℕ) → n < 2 ^ 27 → (p' ≡ p → n / 512 ≡ 512 * g + i → ⊥)
