@@ -1,6 +1,6 @@
 -- An edit takes no more tables than there are chunks and gigabytes from the first that its runs touch to the last.
-use Rattle.stage2.proofs.Names.{common_steps, nat_tests, View, count_below, is_mixed, is_reached, grow, PageRun, covers, edited, lie_within, cases_Bool, cases_lt}
-use Rattle.std.proofs.Common.{◌*◌, ◌≡◌, ℕ, zero, suc, ◌+◌, ◌-◌, ◌/◌, ◌<◌, ◌≤◌, ◌&&◌, not, Bool, true, List, arith, inl, inr}
+use Rattle.stage2.proofs.Names.{common_steps, nat_tests, View, count_below, grow, PageRun, covers, edited, lie_within, cases_Bool, cases_lt}
+use Rattle.std.proofs.Common.{◌*◌, ◌≡◌, ℕ, zero, suc, ◌+◌, ◌-◌, ◌/◌, ◌<◌, ◌≤◌, Bool, true, List, arith, inl, inr}
 use Rattle.stage2.proofs.Counting.Growth.{grows-nothing}
 use Rattle.stage2.proofs.Runs.Normal.{any-within}
 use Rattle.stage2.proofs.Counting.Needs.{reached-same}
@@ -27,12 +27,6 @@ count-within f low high (suc n) within = elim (cases_Bool (f n)) [
 module _ (runs : List PageRun) (access : View) (v : ℕ → View) (first end : ℕ) (within : lie_within first end runs ≡ true) where
   pub between : (n : ℕ) → covers runs n ≡ true → (first ≤ n) × (n < end)
   between n covered = grind (arith, common_steps, nat_tests, any-within)
-
-  abbrev takes_gigabyte : ℕ → Bool
-  takes_gigabyte g = is_reached (edited runs access v) g && not (is_reached v g)
-
-  abbrev takes_chunk : ℕ → Bool
-  takes_chunk c = is_mixed (edited runs access v) c && not (is_mixed v c)
 
   pub grow-most : grow v (edited runs access v) ≤ ((end + 262143) / 512 / 512 - first / 512 / 512) + ((end + 511) / 512 - first / 512)
   unfolding grow

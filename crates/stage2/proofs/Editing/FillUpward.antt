@@ -7,7 +7,7 @@ use Rattle.stage2.proofs.Editing.Fronts.{below-in, below-out, fronts-fit}
 use Rattle.stage2.proofs.Editing.ChunkKeeps.{answer-walked}
 use Rattle.stage2.proofs.Reading.SameViews.{need-same}
 
-module _ (layout : Layout) (view : ℕ → View) (p first number : ℕ) (access : View) (t : TablesView) (h : IsFilling layout view p first number access t) where
+module _ {layout : Layout} {view : ℕ → View} {p first number : ℕ} {access : View} {t : TablesView} (h : IsFilling layout view p first number access t) where
   before : (n : ℕ) → n < 2 ^ 27 → view_of t p n ≡ view_below view first n
   before n small = ap answer_of (h.walks n small) ∙ answer-walked n (view_below view first n)
 

@@ -15,14 +15,14 @@ map_pending-requires-clause-fits g c = λ a is.
     let at = c.new-page.ensures in
     let here = segment-alike view l.number c.new-page.result c.view_from-next.result.end c.view_from-next.result.value at e.in_range e.alike l.number (omega arith) (omega (arith, e.behind, at)) in
     let unlike : (l.access ≡ c.view_from-next.result.value) → ⊥ = search rules in
-    can-map c.args.self.now.layout (in_range view) c.args.p l.first l.number l.access l.self l.invariant.filling a is
+    can-map l.invariant.filling a is
     (edge-between c.args.self.now.layout (in_range view) c.args.p l.first l.number l.access l.self l.invariant.filling (λ same. unlike (same ∙ here))) (in-range-fits view _ c.requires.fits)
 
 pub map_pending-requires-2-clause-fits : goal.map_pending-requires-2-clause-fits
 map_pending-requires-2-clause-fits g c = λ a is.
     let view = g.V.Views.view c.args.views.now c.args.p in
     let l = c.loop-number in
-    can-map c.args.self.now.layout (in_range view) c.args.p l.first l.number l.access l.self l.invariant.filling a is
+    can-map l.invariant.filling a is
     (grind (arith, common_steps, nat_tests, below-out)) (in-range-fits view _ c.requires.fits)
 
 pub loop-number-preserved-in_ok-map_pending : goal.loop-number-preserved-in_ok-map_pending
@@ -43,11 +43,11 @@ loop-number-preserved-in_ok-map_pending g c =
     let edge = edge-between layout (in_range view) p l.first l.number l.access l.self h (λ same. unlike (same ∙ here)) in
     let new = c.map_pending.new.self in
     let e = c.in_ok-map_pending.ensures in
-    let walks = mapped layout (in_range view) p l.first l.number l.access l.self h new e.walks in
+    let walks = mapped h new e.walks in
     let filling = filling-next layout (in_range view) p l.number end new (e.layout ∙ h.placed) e.canonical walks edge behind_number s.in_range (λ n le lt. alike n le lt ∙ sym here) in
     record {
       filling = subst (λ (a : View). IsFilling layout (in_range view) p l.number end a new) here filling;
-      others = others-more p c.args.self.now l.self new l.invariant.others (others layout (in_range view) p l.first l.number l.access l.self h new e.walks);
+      others = others-more p c.args.self.now l.self new l.invariant.others (others h new e.walks);
     }
 
 pub loop-number-preserved : goal.loop-number-preserved
@@ -63,4 +63,4 @@ pub returns-clause-others : goal.returns-clause-others
 returns-clause-others g c =
     let l = c.loop-number in
     on_ok_weaker _ (λ reach. others-more c.args.p c.args.self.now l.self c.map_pending-2.new.self l.invariant.others
-    (others c.args.self.now.layout (in_range (g.V.Views.view c.args.views.now c.args.p)) c.args.p l.first l.number l.access l.self l.invariant.filling c.map_pending-2.new.self reach)) c.map_pending-2.ensures.walks
+    (others l.invariant.filling c.map_pending-2.new.self reach)) c.map_pending-2.ensures.walks
