@@ -1,6 +1,6 @@
 -- The edit of a gigabyte that has its level 2 table, from that of its chunks.
-use Rattle.std.proofs.Common.{◌≡◌, ℕ, ◌+◌, ◌/◌, ◌<◌, ◌≤◌, Bool, ◌&&◌, eqb, Some, List, sym, ap, subst, ◌∙◌, arith}
-use Rattle.stage2.proofs.Names.{row_of, page_count, PageRun, Pages, Pool, pages_of, edited, disturbed, answers, linked, walked, Gigabyte, RowEdit, Walked, second_at, row_view, row_after, CanEditChunks, AreChunksEdited, CanEditGigabyte, IsGigabyteEdited, GigabyteInStep, operations_in_chunks, operations_in_gigabyte, IsUnderway, nat_tests, common_steps}
+use Rattle.std.proofs.Common.{◌≡◌, ℕ, ◌+◌, ◌<◌, ◌≤◌, Some, List, sym, ap, subst, ◌∙◌, arith}
+use Rattle.stage2.proofs.Names.{row_of, page_count, PageRun, Pages, Pool, pages_of, edited, answers, linked, Gigabyte, RowEdit, second_at, row_view, row_after, CanEditChunks, AreChunksEdited, CanEditGigabyte, IsGigabyteEdited, GigabyteInStep, operations_in_chunks, operations_in_gigabyte, IsUnderway, nat_tests, common_steps}
 use Rattle.pool.proofs.Shares.{share_inside}
 use Rattle.stage2.specs.inner.Clauses.{IsEmpty, HasWord, CanUnlink, Unlinks, UnlinksInStep}
 use Rattle.stage2.proofs.Editing.Gigabyte.{touched-below, linked-same, tabled-chunks, finish-kept, finish-zero}
@@ -56,10 +56,8 @@ module _ {e : RowEdit} {j g : ℕ} {runs : List PageRun} {first : Pool} {r0 : �
     emptied {new} empty gone quietly less = record {
       edits = finish-zero e.layout.now e.row g j (pages_of first.memory) can.canonical e.inside below table (row_after e runs first) (pages_of mid.memory) (pages_of new.memory) under empty gone;
       in_step = λ free.
-          let which : ℕ → Bool = λ n. eqb (n / 512 / 512) g && disturbed runs (row_view e.layout.now e.row first) (row_after e runs first) n in
-          let answer : ℕ → Walked = λ n. walked n (row_after e runs first n) in
           let none = zero-unmapped e.layout.now e.row g j (edited runs e.access (answers e.layout.now (linked e.layout.now e.row g j (pages_of first.memory)).words e.row)) (pages_of first.memory) (pages_of mid.memory) e.inside below
           (seated-linked e.layout.now e.row g j (pages_of first.memory) same) chunks.edits empty in
-          stays-after (steps free) (quietly e.layout.now which answer none.0 e.inside e.own none.1);
+          stays-after (steps free) (quietly e.layout.now _ _ none.0 e.inside e.own none.1);
       room = let all = costs in let left = chunks.room in omega (arith, all, left, less);
     }

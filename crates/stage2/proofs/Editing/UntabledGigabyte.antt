@@ -1,7 +1,7 @@
 -- The edit of a gigabyte that gets its level 2 table, from that of its chunks.
-use Rattle.std.proofs.Common.{◌≡◌, ℕ, ◌+◌, ◌/◌, ◌%◌, ◌<◌, Bool, true, false, ◌&&◌, eqb, cond, is_some, None, Some, List, sym, ap, subst, ◌∙◌, arith}
+use Rattle.std.proofs.Common.{◌≡◌, ℕ, ◌+◌, ◌/◌, ◌%◌, ◌<◌, true, false, ◌&&◌, eqb, cond, is_some, None, Some, List, sym, ap, subst, ◌∙◌, arith}
 use Rattle.std.proofs.lemmas.Bool.{eqb-true}
-use Rattle.stage2.proofs.Names.{nat_tests, View, PageRun, Pages, Pool, IsWhole, pages_of, words_of, taken_of, with_mark, after_take, IsLowestFree, Set, table_word_of, AreFree, Turns, edited, disturbed, StaysInStep, IsLogged, IsOrderly, answers, answer_of, linked, walk, walked, Gigabyte, table_at, RowEdit, Walked, second_at, row_view, HasFree, Puts, CanEditChunks, AreChunksEdited, CanEditGigabyte, IsGigabyteEdited, GigabyteInStep, operations_in_chunks, operations_in_gigabyte, IsUnderway, IsSeated, disturbed_below, common_steps}
+use Rattle.stage2.proofs.Names.{nat_tests, View, PageRun, Pages, Pool, IsWhole, pages_of, words_of, taken_of, with_mark, after_take, IsLowestFree, Set, table_word_of, AreFree, Turns, edited, StaysInStep, IsLogged, IsOrderly, answers, answer_of, linked, walk, walked, Gigabyte, table_at, RowEdit, second_at, row_view, HasFree, Puts, CanEditChunks, AreChunksEdited, CanEditGigabyte, IsGigabyteEdited, GigabyteInStep, operations_in_chunks, operations_in_gigabyte, IsUnderway, IsSeated, disturbed_below, common_steps}
 use Rattle.stage2.specs.inner.Clauses.{EditsInGigabyte}
 use Rattle.stage2.specs.inner.Gigabytes.{Fits}
 use Rattle.stage2.proofs.Editing.Gigabyte.{touched-below, link-has-free, link-fits, same-answers, link-chunks, finish-link}
@@ -60,21 +60,18 @@ module _ {e : RowEdit} {g : ℕ} {runs : List PageRun} {first : Pool} {r0 : ℕ}
             let layout = e.layout.now in
             let m = pages_of first.memory in
             let v : ℕ → View = row_view layout e.row first in
-            let which : ℕ → Bool = λ n. eqb (n / 512 / 512) g && disturbed runs v (edited runs e.access v) n in
-            let answer : ℕ → Walked = λ n. walked n (edited runs e.access v n) in
             let P : Pages → Type 0 = λ s. IsSeated layout e.row g j s → AreFree (λ n. eqb (n / 512 / 512) g) runs e.access (answers layout (linked layout e.row g j s).words e.row)
             → StaysInStep layout e.row (disturbed_below g 512 runs (answers layout (linked layout e.row g j s).words e.row) (edited runs e.access (answers layout (linked layout e.row g j s).words e.row)))
             (λ n. walked n (edited runs e.access (answers layout (linked layout e.row g j s).words e.row) n)) taken mid in
-            let take = stays-taken (ap (λ (s : Pool). words_of s.memory.words) is) (ap (λ (s : Pool). s.operations) is) (ap (λ (s : Pool). s.made) is) in
             let passed = stays-linked layout e.row g j runs e.access m can.canonical below link taken mid (same-answers layout e.row g j runs e.access m can.canonical below link can.touched maps) (subst P marked chunks.in_step) free in
             let zero : (pages_of mid.memory).words e.row g ≡ 0 = chunks.edits.root g ∙ ap (λ (s : Pages). s.words e.row g) marked ∙ root-zero layout m e.row g can.canonical.orderly e.inside below none in
-            let root = stays-root layout e.row g (table_word_of (layout.base + j)) which answer mid new (forest-unlinked layout e.row g j (pages_of mid.memory) chunks.edits.orderly e.inside zero) e.inside (ap (λ w. w % 2) zero)
+            stays-after {b = mid} (stays-after {b = taken} (stays-taken (ap (λ (s : Pool). words_of s.memory.words) is) (ap (λ (s : Pool). s.operations) is) (ap (λ (s : Pool). s.made) is)) passed)
+            (stays-root layout e.row g (table_word_of (layout.base + j)) _ _ mid new (forest-unlinked layout e.row g j (pages_of mid.memory) chunks.edits.orderly e.inside zero) e.inside (ap (λ w. w % 2) zero)
             (λ n small at.
             let nothing : v n ≡ None = ap answer_of (untabled layout m e.row n can.canonical.orderly e.inside small (ap (λ q. table_at layout m.words (Gigabyte e.row q)) at ∙ none)) in
             gives-new g runs e.access v n (walk layout (words_of new.memory.words) e.row n) at nothing
             (made.walks e.row n small ∙ ap (λ b. cond b (walked n (edited runs e.access v n)) (walk layout m.words e.row n)) (here e.row (n / 512 / 512) g at)))
-            (ap (λ (s : Pages). s.words) puts) logged in
-            stays-after (stays-after take passed) root
+            (ap (λ (s : Pages). s.words) puts) logged)
           where
             here : (x y z : ℕ) → y ≡ z → (eqb x x && eqb y z) ≡ true
             here x y z same = grind (arith, nat_tests)
