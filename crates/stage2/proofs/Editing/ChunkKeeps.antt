@@ -64,15 +64,15 @@ module _ (layout : Layout) (row c j : ℕ) (answer : ℕ → View) (old new : Pa
   orderly : IsOrderly layout new
   orderly =
       traded (record {
-      orderly = h.orderly;
-      at = (h.edit.partition, h.edit.chunk);
-      partition = h.edit.partition;
-      of_row = inr (c, refl);
-      is_x = λ b. is_chunk b row c;
-      kept = λ b inside other. table-other layout row c j old.words new.words h.edit b inside other;
-      quotas = h.quotas;
-      trade = h.trade;
-    }) h.ids clean tidy mixed
+        orderly = h.orderly;
+        at = (h.edit.partition, h.edit.chunk);
+        partition = h.edit.partition;
+        of_row = inr (c, refl);
+        is_x = λ b. is_chunk b row c;
+        kept = λ b inside other. table-other layout row c j old.words new.words h.edit b inside other;
+        quotas = h.quotas;
+        trade = h.trade;
+      }) h.ids clean tidy mixed
 
   pub redone : Redoes layout row c answer old new
   redone = grind (arith, common_steps, nat_tests, orderly, in_chunk, apart, table-other)

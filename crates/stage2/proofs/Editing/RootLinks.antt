@@ -44,15 +44,15 @@ module _ (layout : Layout) (row g word : ℕ) (old new : Pages) (h : IsRooted la
   pub rooted : IsOrderly layout new
   rooted =
       traded (record {
-      orderly = h.orderly;
-      at = (h.write.partition, h.write.gigabyte);
-      partition = h.write.partition;
-      of_row = inl (g, refl);
-      is_x = λ b. is_gigabyte b row g;
-      kept = kept;
-      quotas = h.quotas;
-      trade = h.trade;
-    }) h.ids clean
+        orderly = h.orderly;
+        at = (h.write.partition, h.write.gigabyte);
+        partition = h.write.partition;
+        of_row = inl (g, refl);
+        is_x = λ b. is_gigabyte b row g;
+        kept = kept;
+        quotas = h.quotas;
+        trade = h.trade;
+      }) h.ids clean
       (λ r n inside small. rw (same-walk r n small) (h.orderly.tidy r n inside small))
       (λ r c inside below. grind (arith, common_steps, nat_tests, kept, h.orderly.mixed r c inside below, mixed-same, same-walk))
 

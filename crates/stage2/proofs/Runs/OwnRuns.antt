@@ -70,7 +70,6 @@ module _ (c : ℕ) (runs part : List PageRun) (access : View) (same : (n : ℕ) 
   disturbs-part v n at = ap₂ (λ x y. x || not (is_mixed v (n / 512) && y)) (same n at) (ap (is_mixed (edited part access v)) at ∙ chunk-mixed v ∙ sym (ap (is_mixed (edited runs access v)) at))
 
 module _ (layout : Layout) (row c : ℕ) (runs part : List PageRun) (access : View) (same : (n : ℕ) → n / 512 ≡ c → covers part n ≡ covers runs n) where
-
   pub chunk-redoes : (j : ℕ) (v : ℕ → View) (old new : Pages) → Redoes_in layout row c j (edited part access v) old new → Redoes_in layout row c j (edited runs access v) old new
   chunk-redoes j v old new h = record { redoes = (grind (arith, common_steps, nat_tests, in_case, edited-same, same, both)); root = h.root }
 

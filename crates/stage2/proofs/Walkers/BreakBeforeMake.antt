@@ -45,7 +45,6 @@ module _ (layout : Layout) (entry : Words) (row n : ℕ) (moment : List Op) wher
 -- ---- a walk that read the word
 
 module _ (e : OpenCall) (due : ℕ → Bool) (words : Words) (past moment : List Op) (h : IsInStep e due words past) (row n : ℕ) (inside : row < length e.layout.ids) (small : n < 2 ^ 27) (free : (eqb row e.row && due n) ≡ false) (since : Since e.layout row n moment past) where
-
   second-stands : (j : ℕ) → UnderWay e.layout e.entry row n moment (Second j) → table_at e.layout words (Gigabyte row (index_1 n)) ≡ Some j
   second-stands j u = h.stands row n inside small (Second j) (outlast e.layout e.entry row n moment past (Second j) since u)
 

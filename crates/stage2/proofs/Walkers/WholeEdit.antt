@@ -16,7 +16,6 @@ module _ (layout : Layout) (old new : Pool) (before after : ℕ → ℕ → View
     (starts : Agrees layout (words_of old.memory.words) before) (ends : Agrees layout (words_of new.memory.words) after)
     (changed : (q n : ℕ) → n < 2 ^ 27 → row_of layout.ids q ≡ row → which n ≡ true → answer n ≡ walked n (after q n))
     (kept : (q n : ℕ) → n < 2 ^ 27 → row_of layout.ids q ≡ row → which n ≡ true → IsSteady before after q n → Unmapped ≡ walked n (before q n)) where
-
   pub moments-of : Moments layout old new before after
   moments-of = grind (arith, common_steps, nat_tests, at_each, eqb-true)
 
