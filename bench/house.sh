@@ -30,8 +30,8 @@ echo
 echo "| What it is for | Code | Proof |"
 echo "|---|---|---|"
 subject "raw memory" pool 'cells|raw_pool' 'cells|CellMemory|CellSharing|WalkNames'
-subject "the store: words, counts, shares and the list of operations" pool 'block|identifiers|image|lib|list_pool|log|looks|operation|places|replace|runs|stretch|table_mem|table_pool|word_range|word_store' 'block|identifiers|image|list_pool|looks|places|replace|runs|stretch|table_pool|Alone|Applying|Contents|Count|FirstRuns|Gaps|Held|Kept|Lib|Nonzero|Recorded|Replaced|Rows|RunWords|Shares|Stretches|Turned|Within|Words|Written|Wrote'
-subject "the edit, level by level, and boot" stage2 'fill|layout|level[123]|lib|memory|outcome|place|site|table_page|tables|views' 'Editing|Lib|layout|level[123]|memory|outcome|site|tables'
+subject "the store: words, counts, shares and the list of operations" pool 'block|identifiers|image|lib|list_pool|log|looks|operation|places|replace|runs|stretch|table_mem|table_pool|word_range|word_store' 'block|identifiers|image|list_pool|looks|places|replace|runs|stretch|table_pool|Alone|Applying|Contents|Count|FirstRuns|Gaps|Held|Kept|Lib|Names|Nonzero|Recorded|Replaced|Rows|RunWords|Shares|Stretches|Turned|Within|Words|Written|Wrote'
+subject "the edit, level by level, and boot" stage2 'fill|layout|level[123]|lib|memory|outcome|place|site|table_page|tables|views' 'Editing|Lib|Names|layout|level[123]|memory|outcome|site|tables'
 subject "tables as trees" stage2 'none' 'Tree'
 subject "what walkers see on the way" stage2 'moments' 'Walkers|moments'
 subject "tables and operations that an edit needs: plan and bounds" stage2 'bound|plan' 'Counting|bound|plan'

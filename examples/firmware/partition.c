@@ -502,10 +502,13 @@ static void unshare(uint64_t handle)
     check();
 }
 
-/* A send that finds no heap changes nothing, and is made again. */
+/* A send that finds no heap changes nothing, and is made again. Another is live all the while: it stands where the
+   transaction stood that was reclaimed last, a place for which no heap is asked. */
 static void starve(void)
 {
     say("h. lends a page without heap, and with it");
+    uint64_t handle = send(FFA_MEM_LEND, 0, HELD, 0x8002, 0);
+    check();
     call(STARVE, 0, 0, 0, 0, 0);
     send(FFA_MEM_LEND, 0, LENT, 0x8002, 0);
     tell_load("reads", load(LENT));
@@ -513,6 +516,7 @@ static void starve(void)
     reclaim(send(FFA_MEM_LEND, 0, LENT, 0x8002, 0));
     tell_load("reads", load(LENT));
     check();
+    reclaim(handle);
 }
 
 static void go_through(void)
