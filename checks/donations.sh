@@ -1,6 +1,6 @@
 #!/bin/sh
-# Makes a million donations by the C library, over a heap that counts: after the first thousand it must not grow, and a
-# donation must not take longer. To be run after `rt lib` in crates/ffaspm_c.
+# Makes a million donations by the C library, over a heap that counts: after the first hundred thousand it must not grow
+# by more than a twentieth, and a donation must not take longer. To be run after `rt lib` in crates/ffaspm_c.
 set -eu
 here=$(cd "$(dirname "$0")" && pwd)
 work=$(mktemp -d)
