@@ -127,15 +127,20 @@ unfolding count_below
 count_below-fewer a b zero is = omega arith
 count_below-fewer a b (suc n) is = grind (arith, common_steps, nat_tests, count_below-fewer a b n (λ k lt. is k (omega (arith, lt))))
 
+-- where there is one more of the second kind
+count_below-less : (a b : ℕ → Bool) (n i : ℕ) → ((k : ℕ) → k < n → a k ≡ true → b k ≡ true) → i < n → a i ≡ false → b i ≡ true → count_below a n < count_below b n
+count_below-less a b n i is lt out on =
+    let more : ℕ → Bool = λ k. b k && not (a k) in
+    let all = count_below-fewer (λ k. a k || more k) b n (λ k below some. grind (arith, common_steps, nat_tests, is k below)) in
+    omega (arith, all, count_below-either a more n (λ k below. (grind (arith, common_steps, nat_tests))), count_below-some more n i lt (rw (out, on) refl))
+
 -- where there are fewer words that are not 0 than pages beside some, one of these has the word 0
 pub zero-beside : (words : Words) (k : ℕ) (which : ℕ → Bool) → nonzero_in words k + pages_among which < 512 → (i : ℕ) × (i < 512) × (which i ≡ false) × (words k i ≡ 0)
 unfolding pages_among nonzero_in
 zero-beside words k which fewer =
     let some : ℕ → Bool = λ i. which i || not (words k i == 0) in
     let most = or-most which (λ i. not (words k i == 0)) 512 in
-    let all = count_below-either some (λ i. not (some i)) 512 (λ j lt. apart-self (some j)) in
-    let whole = count_below-all (λ i. some i || not (some i)) 512 (λ j lt. or-not (some j)) in
-    let left = count_below-witness (λ i. not (some i)) 512 (omega (arith, most, all, whole, fewer)) in
+    let left = count_below-witness (λ i. not (some i)) 512 (omega (arith, most, pages_among-not some, fewer)) in
     let out = not-or (which left.0) (not (words k left.0 == 0)) left.2 in
     (left.0, left.1, out.0, grind (arith, nat_tests, out.1))
 
@@ -149,30 +154,18 @@ pub word-beside : (words : Words) (k : ℕ) (which : ℕ → Bool) → pages_amo
 unfolding pages_among nonzero_in
 word-beside words k which more =
     let other : ℕ → Bool = λ i. not (which i) && not (words k i == 0) in
-    let same = count_below-same (λ i. (which i && not (words k i == 0)) || other i) (λ i. not (words k i == 0)) 512 (λ i lt. parts (which i) (not (words k i == 0))) in
-    let less = count_below-fewer (λ i. which i && not (words k i == 0)) which 512 (λ i lt both. (and_parts (which i) (not (words k i == 0)) both).0) in
-    let found = count_below-witness other 512 (omega (arith, same, or-most (λ i. which i && not (words k i == 0)) other 512, less, more)) in
+    let all = count_below-fewer (λ i. not (words k i == 0)) (λ i. which i || other i) 512 (λ i lt some. (grind (arith, common_steps, nat_tests))) in
+    let found = count_below-witness other 512 (omega (arith, all, or-most which other 512, more)) in
     let both = and_parts (not (which found.0)) (not (words k found.0 == 0)) found.2 in
     (found.0, found.1, (grind (arith, common_steps, nat_tests)), λ zero. grind (arith, nat_tests, zero, both.1))
-  where
-    parts : (a x : Bool) → x ≡ ((a && x) || (not a && x))
-    parts a x = grind (arith, common_steps, nat_tests)
 
 -- and where there are as many, which are all of those pages, the words beside them are 0
 pub none-beside : (words : Words) (k : ℕ) (which : ℕ → Bool) → nonzero_in words k ≡ pages_among which → ((i : ℕ) → i < 512 → which i ≡ true → words k i ≢ 0) → (i : ℕ) → i < 512 → which i ≡ false → words k i ≡ 0
 unfolding pages_among nonzero_in
 none-beside words k which as_many all i lt out = elim (cases_Bool (words k i == 0)) [
   | inl is ↦ eqb-true _ _ is
-  | inr isnt ↦
-      let other : ℕ → Bool = λ j. not (which j) && not (words k j == 0) in
-      let sum = count_below-either which other 512 (λ j small. (grind (arith, common_steps, nat_tests))) in
-      let one : other i ≡ true = rw (out, isnt) refl in
-      let some = count_below-some other 512 i lt one in
-      absurd (omega (arith, as_many, count_below-same (λ j. which j || other j) (λ j. not (words k j == 0)) 512 (λ j small. parts (which j) (words k j) (all j small)), sum, some))
+  | inr isnt ↦ absurd (omega (arith, as_many, count_below-less which (λ j. not (words k j == 0)) 512 i (λ j small on. grind (arith, nat_tests, all j small on)) lt out (ap not isnt)))
 ]
-  where
-    parts : (a : Bool) (w : ℕ) → (a ≡ true → w ≢ 0) → not (w == 0) ≡ (a || (not a && not (w == 0)))
-    parts a w e = grind (arith, common_steps, nat_tests)
 
 -- and where as many are left for the pages beside some, which are all of these, the words of those pages are 0
 pub none-among : (words : Words) (k : ℕ) (which : ℕ → Bool) → nonzero_in words k + pages_among which ≡ 512 → ((i : ℕ) → i < 512 → which i ≡ false → words k i ≢ 0) → (i : ℕ) → i < 512 → which i ≡ true → words k i ≡ 0
@@ -186,17 +179,7 @@ none-among words k which left all i lt in_it =
 pub all-among : (words : Words) (k : ℕ) (which : ℕ → Bool) → nonzero_in words k ≡ pages_among which → ((i : ℕ) → i < 512 → which i ≡ false → words k i ≡ 0) → (i : ℕ) → i < 512 → which i ≡ true → words k i ≢ 0
 unfolding pages_among nonzero_in
 all-among words k which counted none i lt in_it is_zero =
-    let other : ℕ → Bool = λ j. not (words k j == 0) in
-    let missing : ℕ → Bool = λ j. which j && (words k j == 0) in
-    let parts = count_below-either other missing 512 (λ j small. apart (which j) (words k j == 0)) in
-    let here : missing i ≡ true = grind (arith, nat_tests, in_it, is_zero) in
-    omega (arith, counted, count_below-same which (λ j. other j || missing j) 512 (λ j small. both (which j) (words k j) (none j small)), parts, (count_below-some missing 512 i lt here))
-  where
-    apart : (a b : Bool) → (not b && (a && b)) ≡ false
-    apart a b = grind (arith, common_steps, nat_tests)
-
-    both : (a : Bool) (w : ℕ) → (a ≡ false → w ≡ 0) → (not (w == 0) || (a && (w == 0))) ≡ a
-    both a w e = grind (arith, common_steps, nat_tests)
+    omega (arith, counted, count_below-less (λ j. not (words k j == 0)) which 512 i (λ j small some. grind (arith, common_steps, nat_tests, none j small)) lt (grind (arith, nat_tests, is_zero)) in_it)
 
 -- ---- the part of a run in a chunk
 

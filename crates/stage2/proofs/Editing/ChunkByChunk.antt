@@ -1,8 +1,8 @@
 -- One chunk of a gigabyte after another.
-use Rattle.std.proofs.Common.{◌≡◌, ◌≢◌, ℕ, zero, suc, ◌+◌, ◌*◌, ◌/◌, ◌^◌, ◌<◌, ◌≤◌, Bool, true, false, not, ◌&&◌, ◌||◌, cond, eqb, ltb, is_some, List, [], ◌∷◌, length, refl, arith, ap, sym, subst, ◌∙◌, inl, inr, add-one}
+use Rattle.std.proofs.Common.{◌≡◌, ◌≢◌, ℕ, zero, suc, ◌+◌, ◌-◌, ◌*◌, ◌/◌, ◌^◌, ◌<◌, ◌≤◌, Bool, true, false, not, ◌&&◌, ◌||◌, cond, eqb, ltb, is_some, List, [], ◌∷◌, length, refl, arith, ap, sym, subst, ◌∙◌, inl, inr, add-one}
 use Rattle.std.proofs.lemmas.Bool.{cases_eq}
 use Rattle.stage2.proofs.Names.{nat_tests, PageRun, in_run, covers, View, Pages, used_by, row_quota, count_below, Walked, Layout, walk, walked, Gigabyte, Chunk, table_at, is_mixed, IsOrderly, answers, answer_of, linked, edited, touches_run, touches_chunk, answers_in, Redoes, Redoes_in, IsSite, IsGrowing, sum_below, grows_at, IsUnderway, common_steps}
-use Rattle.pool.proofs.Count.{count_below-same, count_below-more}
+use Rattle.pool.proofs.Count.{count_below-same, count_below-at, count_below-more}
 use Rattle.stage2.proofs.Counting.Needs.{mixed-same}
 use Rattle.stage2.proofs.Editing.FourChunkEdits.{tidy-answer}
 use Rattle.stage2.proofs.Editing.ChunkKeeps.{answer-walked}
@@ -15,35 +15,29 @@ bit b = cond b 1 0
 pub bit-most : (b : Bool) → bit b ≤ 1
 bit-most b = grind (arith, common_steps, nat_tests)
 
--- two counts that differ at one number
-pub count_below-at : (f g : ℕ → Bool) (n x : ℕ) → x < n → ((k : ℕ) → k < n → k ≢ x → g k ≡ f k) → count_below g n + bit (f x) ≡ count_below f n + bit (g x)
-unfolding count_below
-count_below-at f g zero x below same = absurd (omega arith)
-count_below-at f g (suc n) x below same = elim (cases_eq n x) [
-  | inl is ↦ grind (arith, common_steps, nat_tests, count_below-same)
-  | inr other ↦
-      rw (same n (omega arith) other) (omega (arith, count_below-at f g n x (omega arith) (λ k lt differs. same k (omega arith) differs)))
-]
-
-pub count_below-up : (f : ℕ → Bool) (n m : ℕ) → n ≤ m → count_below f n ≤ count_below f m
-unfolding count_below
-count_below-up f n zero le = let e : n ≡ 0 = omega arith in rw e (omega arith)
-count_below-up f n (suc m) le = elim (cases_eq n (suc m)) [
-  | inl e ↦ rw e (omega arith)
-  | inr e ↦ let rest = count_below-up f n m (omega arith) in omega (arith, rest)
-]
-
 pub sum_below-more : (f : ℕ → ℕ) (n : ℕ) → sum_below f (n + 1) ≡ f n + sum_below f n
 unfolding sum_below
 sum_below-more f n = rw add-one refl
 
-pub sum_below-up : (f : ℕ → ℕ) (n m : ℕ) → n ≤ m → sum_below f n ≤ sum_below f m
+pub sum_below-add : (f : ℕ → ℕ) (a b : ℕ) → sum_below f (a + b) ≡ sum_below f a + sum_below (λ k. f (a + k)) b
 unfolding sum_below
-sum_below-up f n zero le = let e : n ≡ 0 = omega arith in rw e (omega arith)
-sum_below-up f n (suc m) le = elim (cases_eq n (suc m)) [
-  | inl e ↦ rw e (omega arith)
-  | inr e ↦ let rest = sum_below-up f n m (omega arith) in omega (arith, rest)
-]
+sum_below-add f a zero = let e : a + 0 ≡ a = omega arith in rw e (omega arith)
+sum_below-add f a (suc b) = let e : a + suc b ≡ suc (a + b) = omega arith in rw (e, sum_below-add f a b) (omega arith)
+
+pub sum_below-up : (f : ℕ → ℕ) (n m : ℕ) → n ≤ m → sum_below f n ≤ sum_below f m
+sum_below-up f n m le = let e : n + (m - n) ≡ m = omega (arith, le) in omega (arith, ap (sum_below f) e, sum_below-add f n (m - n))
+
+-- a count is a sum
+count-sum : (f : ℕ → Bool) (n : ℕ) → count_below f n ≡ sum_below (λ k. bit (f k)) n
+unfolding count_below sum_below
+count-sum f zero = refl
+count-sum f (suc n) = omega (arith, count-sum f n)
+
+pub count_below-add : (f : ℕ → Bool) (a b : ℕ) → count_below f (a + b) ≡ count_below f a + count_below (λ k. f (a + k)) b
+count_below-add f a b = omega (arith, sum_below-add (λ k. bit (f k)) a b, count-sum f (a + b), count-sum f a, count-sum (λ k. f (a + k)) b)
+
+pub count_below-up : (f : ℕ → Bool) (n m : ℕ) → n ≤ m → count_below f n ≤ count_below f m
+count_below-up f n m le = omega (arith, sum_below-up (λ k. bit (f k)) n m le, count-sum f n, count-sum f m)
 
 -- numbers that are all alike
 pub sum_below-each : (f : ℕ → ℕ) (i k n : ℕ) → ((x : ℕ) → i ≤ x → x < i + k → f x ≡ n) → sum_below f (i + k) ≡ sum_below f i + n * k

@@ -1,13 +1,11 @@
 -- An edit of a chunk, whichever of its kinds, keeps the tables orderly.
-use Rattle.std.proofs.Common.{◌≡◌, ◌≢◌, ℕ, ◌+◌, ◌*◌, ◌/◌, ◌%◌, ◌^◌, ◌<◌, is_some, Some, length, refl, arith, ap, ap₂, sym, ◌∙◌, ◌⊎◌, inl, inr}
+use Rattle.std.proofs.Common.{◌≡◌, ◌≢◌, ℕ, ◌+◌, ◌*◌, ◌/◌, ◌%◌, ◌^◌, ◌<◌, is_some, Some, length, refl, arith, ap, ap₂, sym, ◌∙◌, inl, inr}
 use Rattle.stage2.proofs.Names.{nat_tests, View, Pages, Layout, slot, Empty, walk, walked, Place, Gigabyte, Chunk, table_at, IsPlace, IsTidy, is_mixed, IsOrderly, answers, answer_of, level_at, Redoes, common_steps}
-use Rattle.stage2.proofs.Tree.RootWrites.{is_chunk}
+use Rattle.stage2.proofs.Tree.RootWrites.{is_chunk, is_pair}
 use Rattle.stage2.proofs.Editing.ChunkEdit.{IsChunkEdit, table-other, walk-apart}
 use Rattle.stage2.proofs.Counting.Needs.{mixed-same}
 use Rattle.stage2.proofs.Editing.Trades.{Trade, traded}
 
-pub in_chunk : (row c r n : ℕ) → ((r ≡ row) × (n / 512 ≡ c)) ⊎ (r ≡ row → n / 512 ≡ c → ⊥)
-in_chunk row c r n = grind (arith, common_steps, nat_tests)
 
 pub answer-walked : (n : ℕ) (a : View) → answer_of (walked n a) ≡ a
 answer-walked n a = grind (arith, common_steps, nat_tests)
@@ -29,7 +27,7 @@ module _ (layout : Layout) (row c j : ℕ) (answer : ℕ → View) (old new : Pa
   apart = walk-apart layout row c j old.words new.words new.words new.words h.edit h.edit h.edit
 
   tidy : (r n : ℕ) → r < length layout.ids → n < 2 ^ 27 → IsTidy n (walk layout new.words r n)
-  tidy r n inside small = grind (arith, common_steps, nat_tests, in_chunk, apart)
+  tidy r n inside small = grind (arith, common_steps, nat_tests, is_pair row c r (n / 512), apart)
 
   mixed_other : (r d : ℕ) → r < length layout.ids → d < 262144 → Chunk r d ≢ Chunk row c → is_some (table_at layout new.words (Chunk r d)) ≡ is_mixed (answers layout new.words r) d
   mixed_other r d inside below differs =
@@ -43,16 +41,12 @@ module _ (layout : Layout) (row c j : ℕ) (answer : ℕ → View) (old new : Pa
   mixed : (r d : ℕ) → r < length layout.ids → d < 262144 → is_some (table_at layout new.words (Chunk r d)) ≡ is_mixed (answers layout new.words r) d
   mixed r d inside below = grind (arith, common_steps, nat_tests, is_chunk, mixed-same, answer-walked, mixed_other)
 
-  -- which of the words it is
-  is_entry : (q i : ℕ) → ((q ≡ j) × (i ≡ c % 512)) ⊎ (q ≡ j → i ≡ c % 512 → ⊥)
-  is_entry q i = grind (arith, common_steps, nat_tests)
-
   clean : (a : Place) (q i : ℕ) → IsPlace layout a → table_at layout new.words a ≡ Some q → i < 512 → slot layout (level_at a) (new.words q i) ≡ Empty → new.words q i ≡ 0
   clean a q i inside at below none = elim (is_chunk a row c) [
     | inl f ↦ h.clean_table q i (ap (table_at layout new.words) (sym f) ∙ at) below (rw f at none)
     | inr f ↦
         let was : table_at layout old.words a ≡ Some q = sym (table-other layout row c j old.words new.words h.edit a inside f) ∙ at in
-        elim (is_entry q i) [
+        elim (is_pair j (c % 512) q i) [
           | inl e ↦
               rw (e.0, e.1) (h.clean_entry (rw (h.orderly.forest a (Gigabyte row (c / 512)) j inside (h.edit.partition, omega (arith, h.edit.chunk)) (was ∙ ap Some e.0) h.edit.second, e.0, e.1) at none))
           | inr e ↦
@@ -75,4 +69,4 @@ module _ (layout : Layout) (row c j : ℕ) (answer : ℕ → View) (old new : Pa
       }) h.ids clean tidy mixed
 
   pub redone : Redoes layout row c answer old new
-  redone = grind (arith, common_steps, nat_tests, orderly, in_chunk, apart, table-other)
+  redone = grind (arith, common_steps, nat_tests, orderly, is_pair, apart, table-other)

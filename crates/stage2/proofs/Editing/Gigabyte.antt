@@ -1,12 +1,13 @@
 -- The edit of a gigabyte, from its chunks and its link.
-use Rattle.std.proofs.Common.{◌≡◌, ◌≢◌, ℕ, ◌+◌, ◌-◌, ◌*◌, ◌/◌, ◌^◌, ◌<◌, ◌≤◌, Bool, true, false, not, ◌&&◌, cond, eqb, ltb, is_some, List, Some, None, length, refl, arith, ap, ap₂, sym, subst, ◌∙◌, ◌⊎◌, inl, inr}
-use Rattle.std.proofs.lemmas.Bool.{cases_eq, cases_Bool}
+use Rattle.std.proofs.Common.{◌≡◌, ◌≢◌, ℕ, ◌+◌, ◌-◌, ◌*◌, ◌/◌, ◌^◌, ◌<◌, ◌≤◌, true, false, not, ◌&&◌, cond, eqb, ltb, is_some, List, Some, None, length, refl, arith, ap, ap₂, sym, subst, ◌∙◌, inl, inr}
+use Rattle.std.proofs.lemmas.Bool.{cases_Bool}
 use Rattle.stage2.proofs.Names.{nat_tests, PageRun, covers, View, table_word_of, Pages, with_put, with_mark, used_by, row_quota, count_below, Layout, Slot, Empty, Next, Maps, Bad, slot, at_2, walk, walked, Root, Gigabyte, Chunk, next_page, table_at, is_mixed, is_reached, IsOrderly, IsCanonical, answers, answer_of, linked, edited, chunks_operations, grows_at, gigabyte_growth, IsUnderway, EditsGigabyte, Touches, common_steps}
 use Rattle.words.proofs.RoundTrip.{word-table}
 use Rattle.pool.proofs.Count.{count_below-same}
 use Rattle.pool.proofs.Shares.{used_by-take, used_by-give}
 use Rattle.stage2.proofs.Counting.Operations.{chunks-same}
 use Rattle.stage2.proofs.Tree.KnownWords.{chunk-walk, second-known}
+use Rattle.stage2.proofs.Tree.RootWrites.{is_pair, at-pair}
 use Rattle.stage2.proofs.Tree.WalkFrame.{chunk-table, put-other, table_at-root}
 use Rattle.stage2.proofs.Counting.Needs.{mixed-same, reached-same, reached-some, reached-none, mixed-none}
 use Rattle.manifest.proofs.Tables.{any_below-none}
@@ -29,7 +30,7 @@ pub canonical-from : (layout : Layout) (row g : ℕ) (old new : Pages) → IsCan
     → is_some (table_at layout new.words (Gigabyte row g)) ≡ is_reached (answers layout new.words row) g → IsCanonical layout new
 canonical-from layout row g old new canonical orderly others apart here = record {
   orderly = orderly;
-  reached = λ r x inside below. elim (which r x) [
+  reached = λ r x inside below. elim (is_pair row g r x) [
     | inl e ↦ rw (e.0, e.1) here
     | inr e ↦ grind (arith, common_steps, nat_tests, canonical.reached r x inside below, reached-same, quotient)
   ];
@@ -37,9 +38,6 @@ canonical-from layout row g old new canonical orderly others apart here = record
   where
     quotient : (x i : ℕ) → i < 262144 → x ≡ (262144 * x + i) / 512 / 512
     quotient x i small = omega arith
-
-    which : (r x : ℕ) → ((r ≡ row) × (x ≡ g)) ⊎ (r ≡ row → x ≡ g → ⊥)
-    which r x = grind (arith, common_steps, nat_tests, r)
 
 -- ---- after the last chunk
 
@@ -54,16 +52,7 @@ module _ (layout : Layout) (row g j : ℕ) (answer : ℕ → View) (old new : Pa
   done-apart q n small other = grind (arith, common_steps, nat_tests)
 
   pub done-walks : (q n : ℕ) → n < 2 ^ 27 → walk layout (linked layout row g j new).words q n ≡ cond (eqb q row && eqb (n / 512 / 512) g) (walked n (answer n)) (walk layout (linked layout row g j old).words q n)
-  done-walks q n small = elim (cases_eq q row) [
-    | inl e ↦ elim (cases_eq (n / 512 / 512) g) [
-      | inl f ↦ rw e (done-here n small f ∙ (let b : eqb (n / 512 / 512) g ≡ true = grind (arith, nat_tests) in let r : eqb row row ≡ true = grind (arith, nat_tests) in rw (r, b) refl))
-      | inr f ↦ done-apart q n small (λ _ x. f x) ∙ (let b : eqb (n / 512 / 512) g ≡ false = grind (arith, nat_tests, f) in rw b (both (eqb q row)))
-    ]
-    | inr e ↦ done-apart q n small (λ x _. e x) ∙ (let b : eqb q row ≡ false = grind (arith, nat_tests, e) in rw b refl)
-  ]
-    where
-      both : (x : Bool) → walk layout (linked layout row g j old).words q n ≡ cond (x && false) (walked n (answer n)) (walk layout (linked layout row g j old).words q n)
-      both x = grind (arith, common_steps, nat_tests)
+  done-walks q n small = at-pair row g q (n / 512 / 512) (λ e at. rw e (done-here n small at)) (done-apart q n small)
 
 pub is-none : (a : View) → is_some a ≡ false → a ≡ None
 is-none a e = grind (arith, common_steps, nat_tests)

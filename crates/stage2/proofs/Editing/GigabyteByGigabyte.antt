@@ -5,7 +5,7 @@ use Rattle.base.specs.Pages.{IsRun}
 use Rattle.pool.proofs.Count.{count_below-same, count_below-more}
 use Rattle.stage2.proofs.Counting.Operations.{gigabyte-same}
 use Rattle.stage2.proofs.Counting.Needs.{mixed-same, reached-same}
-use Rattle.stage2.proofs.Editing.ChunkByChunk.{sum_below-more, sum_below-up}
+use Rattle.stage2.proofs.Editing.ChunkByChunk.{sum_below-more, sum_below-up, count_below-add}
 use Rattle.stage2.proofs.Editing.FourChunkEdits.{tidy-answer}
 
 -- ---- used is need
@@ -15,13 +15,6 @@ unfolding need
 used-need layout m row h inside = grind (arith, common_steps, nat_tests, h.orderly.used row inside, count_below-same, h.reached, h.orderly.mixed)
 
 -- ---- grow, gigabyte by gigabyte
-
-count_below-add : (f : ℕ → Bool) (a b : ℕ) → count_below f (a + b) ≡ count_below f a + count_below (λ k. f (a + k)) b
-unfolding count_below
-count_below-add f a zero = let e : a + 0 ≡ a = omega arith in rw e (omega arith)
-count_below-add f a (suc b) =
-    let e : a + suc b ≡ suc (a + b) = omega arith in
-    rw (e, count_below-add f a b) (omega arith)
 
 sum-none : (v w : ℕ → View) → sum_below (gigabyte_growth v w) 0 ≡ count_below (λ x. is_reached w x && not (is_reached v x)) 0 + count_below (grows_at v w) (512 * 0)
 unfolding sum_below count_below

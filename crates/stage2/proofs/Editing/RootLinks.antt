@@ -1,9 +1,9 @@
 -- A level 2 table without valid words is linked in a root, or its link is taken away: all walks stay, and the tables are orderly.
-use Rattle.std.proofs.Common.{◌≡◌, ◌≢◌, ℕ, ◌+◌, ◌/◌, ◌^◌, ◌<◌, true, false, Some, None, length, refl, arith, ap, sym, ◌∙◌, ◌⊎◌, inl, inr}
+use Rattle.std.proofs.Common.{◌≡◌, ◌≢◌, ℕ, ◌+◌, ◌/◌, ◌^◌, ◌<◌, true, false, Some, None, length, refl, arith, ap, sym, ◌∙◌, inl, inr}
 use Rattle.stage2.proofs.Names.{page_count, table_word_of, Pages, InShare, put, with_put, with_mark, Layout, Empty, Next, slot, index_2, at_2, walk, Place, Gigabyte, next_page, table_at, IsPlace, IsOrderly, level_at, linked, nat_tests, common_steps, Unmapped}
 use Rattle.pool.proofs.Shares.{share_inside}
 use Rattle.stage2.proofs.Tree.WalkFrame.{put-other, put-same, walk-gigabyte, table_at-root, IsUnheld}
-use Rattle.stage2.proofs.Tree.RootWrites.{IsRootWrite, is_gigabyte, table_at-root_write, table_at-root_write-gigabyte, table_at-root_write-chunk, table_at-root_write-below, walk-root_write}
+use Rattle.stage2.proofs.Tree.RootWrites.{IsRootWrite, is_gigabyte, is_pair, table_at-root_write, table_at-root_write-gigabyte, table_at-root_write-chunk, table_at-root_write-below, walk-root_write}
 use Rattle.stage2.proofs.Walkers.Level3Write.{slot-zero}
 use Rattle.stage2.proofs.Tree.LinkTable.{slot-table, walk-inside}
 use Rattle.stage2.proofs.Counting.Needs.{mixed-same, mixed-none}
@@ -32,13 +32,10 @@ module _ (layout : Layout) (row g word : ℕ) (old new : Pages) (h : IsRooted la
   read : (q i : ℕ) → (q ≡ row → i ≡ g → ⊥) → new.words q i ≡ old.words q i
   read q i apart = ap (λ w. w q i) h.words ∙ put-other old.words row g word q i apart
 
-  is_entry : (q i : ℕ) → ((q ≡ row) × (i ≡ g)) ⊎ (q ≡ row → i ≡ g → ⊥)
-  is_entry q i = grind (arith, common_steps, nat_tests)
-
   clean : (a : Place) (q i : ℕ) → IsPlace layout a → table_at layout new.words a ≡ Some q → i < 512 → slot layout (level_at a) (new.words q i) ≡ Empty → new.words q i ≡ 0
   clean a q i inside at below none = elim (is_gigabyte a row g) [
     | inl f ↦ grind (arith, common_steps, nat_tests, here, read, h.write.fresh, table_at-root layout old.words row, h.empty)
-    | inr f ↦ grind (arith, common_steps, nat_tests, kept a inside f, is_entry q i, h.orderly.forest, table_at-root layout old.words row, put-same old.words row g word, h.zero, read, h.orderly.clean)
+    | inr f ↦ grind (arith, common_steps, nat_tests, kept a inside f, is_pair row g q i, h.orderly.forest, table_at-root layout old.words row, put-same old.words row g word, h.zero, read, h.orderly.clean)
   ]
 
   pub rooted : IsOrderly layout new

@@ -159,9 +159,6 @@ module _ {layout : Layout} {row : ℕ} {x : Place} {old new : Pages} (h : IsTrad
         | inr differs ↦ (used_by-same (with_mark k false old) new r t.taken h.quotas) ∙ used_by-other old row r k false owns differs ∙ h.orderly.used r inside ∙ sym (hung-kept r inside (λ same. absurd (differs same)))
       ]
 
-  trade-used : (r : ℕ) → r < length layout.ids → used_by new r ≡ hung layout new.words r
-  trade-used = used_in h.trade
-
   -- the rest is told of each table's words, and of each page
   pub traded : new.ids ≡ old.ids → ((b : Place) (q i : ℕ) → IsPlace layout b → table_at layout new.words b ≡ Some q → i < 512 → slot layout (level_at b) (new.words q i) ≡ Empty → new.words q i ≡ 0)
       → ((r n : ℕ) → r < length layout.ids → n < 2 ^ 27 → IsTidy n (walk layout new.words r n)) → ((r c : ℕ) → r < length layout.ids → c < 262144 → is_some (table_at layout new.words (Chunk r c)) ≡ is_mixed (answers layout new.words r) c) → IsOrderly layout new
@@ -175,7 +172,7 @@ module _ {layout : Layout} {row : ℕ} {x : Place} {old new : Pages} (h : IsTrad
     taken = trade-taken;
     owned = trade-owned;
     hangs = trade-hangs;
-    used = trade-used;
+    used = (used_in h.trade);
     clean = clean;
     tidy = tidy;
     mixed = mixed;

@@ -2,6 +2,7 @@
 use Rattle.std.proofs.Common.{◌≡◌, ℕ, zero, suc, ◌+◌, ◌-◌, ◌*◌, ◌%◌, ◌<◌, ◌≤◌, Bool, not, cond, eqb, [], ◌∷◌, ◌++◌, refl, sym, ap, ap₂, ◌∙◌, append_assoc, arith, inl, inr, eq-eqb, List}
 use Rattle.stage2.proofs.Names.{count_below, Words, nonzero_in, Cursor, Level, TableEntry, pages_at, entry_at, entries_from, entry_row, left_in, IsCursor, PassTheSame, next_first, nat_tests, common_steps, cases_Bool, eqb-true}
 use Rattle.pool.proofs.Count.{count_below-more}
+use Rattle.stage2.proofs.Editing.ChunkByChunk.{count_below-up}
 
 module _ (level : Level) (first : ℕ) (word : ℕ → ℕ) where
   -- the word at an index, and those behind it
@@ -20,10 +21,6 @@ module _ (level : Level) (first : ℕ) (word : ℕ → ℕ) where
   abbrev some_word : ℕ → Bool
   some_word i = not (eqb (word i) 0)
 
-  count-grows : (i n : ℕ) → count_below some_word i ≤ count_below some_word (i + n)
-  count-grows i zero = let same : i ≡ i + 0 = omega arith in let e = ap (λ k. count_below some_word k) same in omega (arith, e)
-  count-grows i (suc n) = grind (arith, common_steps, nat_tests, count-grows i n, count_below-more some_word (i + n))
-
   none-left : (n i : ℕ) → i + n ≡ 512 → count_below some_word 512 ≤ count_below some_word i → entries_from level first word i n ≡ []
   unfolding entries_from
   none-left zero i all le = refl
@@ -33,7 +30,7 @@ module _ (level : Level) (first : ℕ) (word : ℕ → ℕ) where
         let next : suc i ≡ i + 1 = omega arith in
         ap (λ b. cond b [] (record { level = level; first = first + pages_at level * i; word = word i } ∷ []) ++ entries_from level first word (suc i) n) (eq-eqb (word i % 2) 0 even)
         ∙ none-left n (suc i) (omega (arith, all)) (omega (arith, le, count_below-more some_word i ∙ ap (λ b. cond (not b) 1 0 + count_below some_word i) is, ap (λ k. count_below some_word k) next))
-    | inr some ↦ grind (arith, common_steps, nat_tests, count_below-more some_word i, count-grows (i + 1) n)
+    | inr some ↦ grind (arith, common_steps, nat_tests, count_below-more some_word i, count_below-up some_word (i + 1) (i + 1 + n))
   ]
 
 -- ---- a cursor
@@ -139,7 +136,7 @@ module _ (level : Level) (first : ℕ) where
 
 -- so many words further
 pub further : (pages : ℕ) (words : Words) (level : Level) (c : Cursor) → IsCursor pages words level c → c.index + 64 ≤ 512 → IsCursor pages words level (record c { index = c.index + 64 })
-further pages words level c is inside = grind (arith, common_steps, nat_tests, count-grows c.level c.first (words c.table) c.index 64, is.left, is.at, is.table, is.range)
+further pages words level c is inside = grind (arith, common_steps, nat_tests, count_below-up (λ i. not (eqb (words c.table i) 0)) c.index (c.index + 64), is.left, is.at, is.table, is.range)
 
 pub same-more : (pages counts : ℕ) (words others : Words) (level : Level) (old c other d : Cursor) → IsCursor pages words level c → IsCursor counts others level d → PassTheSame (left_in words old) (left_in words c) (left_in others other) (left_in others d) → c.first ≡ d.first → c.index ≡ d.index → c.index + 64 ≤ 512 → ((x : ℕ) → c.index ≤ x → x < c.index + 64 → words c.table x ≡ others d.table x) → PassTheSame (left_in words old) (left_in words (record c { index = c.index + 64 })) (left_in others other) (left_in others (record d { index = d.index + 64 }))
 same-more pages counts words others level old c other d is also so first index inside same =

@@ -5,20 +5,13 @@ use Rattle.std.proofs.lemmas.Bool.{cases_Bool, cases_eq, ltb-true, and_parts}
 use Rattle.std.proofs.lemmas.List.Sums.{sum_by-cons}
 use Rattle.stage2.proofs.Counting.Pieces.{pages_among-le, page-among, words-pages}
 use Rattle.pool.proofs.Count.{count_below-some}
-use Rattle.stage2.proofs.Editing.ChunkByChunk.{sum_below-more, untouched}
+use Rattle.stage2.proofs.Editing.ChunkByChunk.{sum_below-more, sum_below-add, untouched}
 use Rattle.stage2.proofs.Counting.Pieces.{words-pages}
 use Rattle.stage2.proofs.Runs.Normal.{end_of, any-within}
 use Rattle.stage2.proofs.Runs.Spans.{sum_below-none}
 use Rattle.stage2.proofs.Walkers.SteadyPages.{covered-page}
 
 -- ---- sums
-
-pub sum_below-add : (f : ℕ → ℕ) (a b : ℕ) → sum_below f (a + b) ≡ sum_below f a + sum_below (λ k. f (a + k)) b
-unfolding sum_below
-sum_below-add f a zero = let e : a + 0 ≡ a = omega arith in rw e (omega arith)
-sum_below-add f a (suc b) =
-    let e : a + suc b ≡ suc (a + b) = omega arith in
-    rw (e, sum_below-add f a b) (omega arith)
 
 pub sum_below-le : (f g : ℕ → ℕ) (n : ℕ) → ((k : ℕ) → f k ≤ g k) → sum_below f n ≤ sum_below g n
 unfolding sum_below

@@ -1,10 +1,10 @@
 -- The gigabytes and chunks before the first that the runs touch, and after the last, stay as they are.
 use Rattle.stage2.proofs.Names.{nat_tests, common_steps, View, PageRun, covers, Pool, Pages, Layout, walked, edited, touches_chunk, sum_below, IsUnderway, IsPast, StaysInStep, answers, linked, disturbed_below}
-use Rattle.std.proofs.Common.{◌≡◌, ℕ, zero, suc, ◌≢◌, ◌+◌, ◌-◌, ◌*◌, ◌/◌, ◌<◌, ◌≤◌, true, false, List, length, refl, ap, subst, ◌∙◌, ◌⊎◌, arith}
+use Rattle.std.proofs.Common.{◌≡◌, ℕ, zero, suc, ◌≢◌, ◌+◌, ◌-◌, ◌*◌, ◌/◌, ◌<◌, ◌≤◌, true, false, List, length, refl, ap, subst, ◌⊎◌, arith}
 use Rattle.stage2.proofs.Walkers.GigabyteSteps.{disturbed_before}
 use Rattle.stage2.proofs.Walkers.ChunkSteps.{march-skip}
 use Rattle.stage2.proofs.Editing.GigabyteByGigabyte.{past-skip}
-use Rattle.stage2.proofs.Editing.ChunkByChunk.{sum_below-more, underway-skip, untouched}
+use Rattle.stage2.proofs.Editing.ChunkByChunk.{sum_below-more, sum_below-each, underway-skip, untouched}
 use Rattle.stage2.proofs.Walkers.ZeroedTables.{stays-wider}
 use Rattle.base.proofs.Booleans.{both}
 
@@ -17,6 +17,13 @@ Between first end x = (first ≤ x) × (x < end)
 -- a page of a gigabyte outside the span is not covered
 pub outside-gigabytes : (runs : List PageRun) (first end n : ℕ) → ((y : ℕ) → covers runs y ≡ true → Between first end (y / 512 / 512)) → (n / 512 / 512 < first) ⊎ (end ≤ n / 512 / 512) → covers runs n ≡ false
 outside-gigabytes runs first end n within out = grind (arith, common_steps, nat_tests)
+
+-- what each of some steps keeps is kept by all of them
+climbed : (P : ℕ → Type 0) (k i : ℕ) → ((x : ℕ) → i ≤ x → x < i + k → P x → P (x + 1)) → P i → P (i + k)
+climbed P zero i step p = let e : i ≡ i + 0 = omega arith in subst P e p
+climbed P (suc k) i step p =
+    let e : (i + 1) + k ≡ i + suc k = omega arith in
+    subst P e (climbed P k (i + 1) (λ x from to. step x (omega (arith, from)) (omega (arith, to))) (step i (omega arith) (omega arith) p))
 
 -- ---- chunks
 
@@ -35,33 +42,20 @@ module _ (layout : Layout) (row g j : ℕ) (runs : List PageRun) (access : View)
   underway-next i lt none u = underway-skip layout row g j runs access old inside below i lt mid u (λ n small at. untouched (512 * g + i) runs n none at)
 
   pub underway-gap : (k i : ℕ) → i + k ≤ 512 → AreUntouched i k → UnderwayAt i → UnderwayAt (i + k)
-  underway-gap zero i le none u = let e : i ≡ i + 0 = omega arith in subst UnderwayAt e u
-  underway-gap (suc k) i le none u = grind (arith, common_steps, nat_tests, underway-gap k (i + 1) (omega (arith, le)) (λ x from to. none x (omega (arith, from)) (omega (arith, to))) (underway-next i (omega (arith, le)) (none i (omega arith) (omega arith)) u))
+  underway-gap k i le none = climbed UnderwayAt k i (λ x from to. underway-next x (omega (arith, le, to)) (none x from to))
 
   pub stays-gap : (a b : Pool) (k i : ℕ) → i + k ≤ 512 → AreUntouched i k → UnderwayAt i → StaysAt a b i → StaysAt a b (i + k)
-  stays-gap a b zero i le none u so = let e : i ≡ i + 0 = omega arith in subst (StaysAt a b) e so
-  stays-gap a b (suc k) i le none u so =
-      let e : (i + 1) + k ≡ i + suc k = omega arith in
-      let here = none i (omega arith) (omega arith) in
-      subst (StaysAt a b) e (stays-gap a b k (i + 1) (omega (arith, le)) (λ x from to. none x (omega (arith, from)) (omega (arith, to))) (underway-next i (omega (arith, le)) here u)
-      (march-skip layout row g j runs access old inside below i (omega (arith, le)) mid u a b here so))
+  stays-gap a b k i le none u so = (climbed (λ x. UnderwayAt x × StaysAt a b x) k i (λ x from to now. let lt : x < 512 = omega (arith, le, to) in
+      (underway-next x lt (none x from to) now.0, march-skip layout row g j runs access old inside below x lt mid now.0 a b (none x from to) now.1)) (u, so)).1
 
 -- ---- sums and counts
 
 pub sum_below-none : (f : ℕ → ℕ) (n : ℕ) → ((k : ℕ) → k < n → f k ≡ 0) → sum_below f n ≡ 0
 unfolding sum_below
-sum_below-none f zero none = refl
-sum_below-none f (suc n) none = let rest = sum_below-none f n (λ k lt. none k (omega (arith, lt))) in let here = none n (omega arith) in omega (arith, rest, here)
+sum_below-none f n none = let all : 0 + n ≡ n = omega arith in let start : sum_below f 0 ≡ 0 = refl in omega (arith, ap (sum_below f) all, start, sum_below-each f 0 n 0 (λ x _ lt. none x (omega (arith, lt))))
 
 pub sum_below-tail : (f : ℕ → ℕ) (k i : ℕ) → ((x : ℕ) → i ≤ x → x < i + k → f x ≡ 0) → sum_below f (i + k) ≡ sum_below f i
-sum_below-tail f zero i none = let e : i + 0 ≡ i = omega arith in ap (sum_below f) e
-sum_below-tail f (suc k) i none =
-    let e : i + suc k ≡ (i + k) + 1 = omega arith in
-    let rest = sum_below-tail f k i (λ x from to. none x from (omega (arith, to))) in
-    ap (sum_below f) e ∙ (sum_below-more f (i + k)) ∙ numbers (f (i + k)) (sum_below f (i + k)) (sum_below f i) (none (i + k) (omega arith) (omega arith)) rest
-  where
-    numbers : (a b c : ℕ) → a ≡ 0 → b ≡ c → a + b ≡ c
-    numbers a b c x y = omega arith
+sum_below-tail f k i none = omega (arith, sum_below-each f i k 0 none)
 
 -- where one of them alone is not 0
 pub sum_below-alone : (f : ℕ → ℕ) (n i : ℕ) → i < n → ((k : ℕ) → k < n → k ≢ i → f k ≡ 0) → sum_below f n ≡ f i
@@ -78,11 +72,7 @@ module _ (layout : Layout) (row : ℕ) (runs : List PageRun) (access : View) (ol
   PastAt i = IsPast layout row i (edited runs access (answers layout old.words row)) old mid
 
   pub past-gap : (k i : ℕ) → i + k ≤ 512 → AreUncovered i k → PastAt i → PastAt (i + k)
-  past-gap zero i le none p = let e : i ≡ i + 0 = omega arith in subst PastAt e p
-  past-gap (suc k) i le none p =
-      let e : (i + 1) + k ≡ i + suc k = omega arith in
-      subst PastAt e (past-gap k (i + 1) (omega (arith, le)) (λ n from to. none n (omega (arith, from)) (omega (arith, to)))
-      (past-skip layout row runs access old inside i (omega (arith, le)) mid p (λ n at. none n (omega (arith, at)) (omega (arith, at)))))
+  past-gap k i le none = climbed PastAt k i (λ x from to p. past-skip layout row runs access old inside x (omega (arith, le, to)) mid p (λ n at. none n (omega (arith, at, from)) (omega (arith, at, to))))
 
 pub cross-gap : (layout : Layout) (row : ℕ) (runs : List PageRun) (before after : ℕ → View) (a b : Pool) (k i : ℕ)
     → StaysInStep layout row (disturbed_before i runs before after) (λ n. walked n (after n)) a b → StaysInStep layout row (disturbed_before (i + k) runs before after) (λ n. walked n (after n)) a b

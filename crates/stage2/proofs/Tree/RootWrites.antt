@@ -1,5 +1,5 @@
 -- A word of a root is written: which tables hang, and what walks give.
-use Rattle.std.proofs.Common.{◌≡◌, ◌≢◌, ℕ, ◌/◌, ◌^◌, ◌<◌, Option, Some, None, length, refl, arith, ap, sym, ◌∙◌, ◌⊎◌, inl, inr}
+use Rattle.std.proofs.Common.{◌≡◌, ◌≢◌, ℕ, ◌/◌, ◌^◌, ◌<◌, ◌&&◌, cond, eqb, Option, Some, None, length, refl, arith, ap, sym, ◌∙◌, ◌⊎◌, inl, inr}
 use Rattle.stage2.proofs.Names.{nat_tests, Words, put, Layout, Empty, Next, slot, index_1, index_2, index_3, at_1, walk, walk_across, Place, Root, Gigabyte, Chunk, next_page, chunk_table, table_at, IsForest, common_steps, Unmapped, cases_eq}
 use Rattle.stage2.proofs.Tree.WalkFrame.{put-other, put-same, walk-same, other_table, table_at-gigabyte, table_at-chunk, table_at-root, IsUnheld, IsLevel2Write, table_at-level_2, table_at-level_2-other}
 
@@ -9,6 +9,14 @@ is_chunk a p c = grind (arith, common_steps, nat_tests)
 
 pub is_gigabyte : (a : Place) (p g : ℕ) → (a ≡ Gigabyte p g) ⊎ (a ≢ Gigabyte p g)
 is_gigabyte a p c = grind (arith, common_steps, nat_tests)
+
+-- whether two numbers are these
+pub is_pair : (a b x y : ℕ) → ((x ≡ a) × (y ≡ b)) ⊎ (x ≡ a → y ≡ b → ⊥)
+is_pair a b x y = grind (arith, common_steps, nat_tests)
+
+-- what is one value at two numbers, and another elsewhere
+pub at-pair : {A : Type 0} (a b x y : ℕ) {c u v : A} → (x ≡ a → y ≡ b → c ≡ u) → ((x ≡ a → y ≡ b → ⊥) → c ≡ v) → c ≡ cond (eqb x a && eqb y b) u v
+at-pair a b x y here there = grind (arith, common_steps, nat_tests, is_pair)
 
 pub forest-level_2 : (layout : Layout) (words : Words) (p g j i word : ℕ) → IsLevel2Write layout words p g j i word → IsForest layout (put j i word words)
 forest-level_2 layout words p g j i word h = grind (arith, common_steps, nat_tests, is_chunk, table_at-level_2-other, table_at-level_2)

@@ -79,6 +79,12 @@ orderly-fits e due words past h q n inside small (Ends a) u = (at_now (GivesOnly
 
 -- ---- one operation more
 
+-- where each walk under way that outlasts an operation fits after it, each one does
+fits-after : (e : OpenCall) (due : Bool) {new : Words} {q n : ℕ} (past : List Op) (op : Op) → new ≡ words_after (op ∷ past) e.entry → q < length e.layout.ids → MayGive e q n (walk e.layout new q n)
+    → ((w : Walker) → invalidates e.layout op q n ≡ false → UnderWay e.layout e.entry q n past w → Fits e new due q n w) → (w : Walker) → UnderWay e.layout e.entry q n (op ∷ past) w → Fits e new due q n w
+fits-after e due {new} {q} {n} past op exact inside may =
+    after_op e.layout e.entry q n op past (Fits e new due q n) tt (λ w fits. subst (λ (x : Words). Fits e new due q n (goes_on e.layout x q n w)) exact (fits-goes_on e new due q n inside may w fits))
+
 -- where each walk under way fits after an operation, the edit stays orderly
 orderly-more : (e : OpenCall) (more : ℕ → Bool) (new : Words) (past : List Op) (op : Op) → AtEachMoment (GivesOnly e) past
     → new ≡ words_after (op ∷ past) e.entry → AllBreakFirst e.layout e.entry (op ∷ past) → AllClearUnreached e.layout e.entry (op ∷ past) → cleared_by (op ∷ past) ≡ e.cleared
@@ -112,9 +118,7 @@ orderly-set e due more words past page index word h fine breaks =
     (λ q n inside small.
     let f = fine q n inside small in
     let one = eqb q e.row && more n in
-    after_op e.layout e.entry q n (Set page index word) past (Fits e new one q n) tt
-    (λ w fits. subst (λ (x : Words). Fits e new one q n (goes_on e.layout x q n w)) exact (fits-goes_on e new one q n inside f.may w fits))
-    (λ w free u. fits-set e (eqb q e.row && due n) one words new q n f w (orderly-fits e due words past h q n inside small w u)))
+    fits-after e one past (Set page index word) exact inside f.may (λ w free u. fits-set e (eqb q e.row && due n) one words new q n f w (orderly-fits e due words past h q n inside small w u)))
 
 -- what a walk over the present words gives
 pub may-now : (e : OpenCall) (due : ℕ → Bool) (words : Words) (past : List Op) → IsInStep e due words past → (q n : ℕ) → q < length e.layout.ids → n < 2 ^ 27 → MayGive e q n (walk e.layout words q n)
@@ -140,8 +144,7 @@ orderly-invalidate e due more words past who run h is fewer =
     orderly-more e more words past (Invalidate who run) h.gives h.exact h.breaks h.clears h.cleared
     (λ q n inside small.
     let one = eqb q e.row && more n in
-    after_op e.layout e.entry q n (Invalidate who run) past (Fits e words one q n) tt
-    (λ w fits. subst (λ (x : Words). Fits e words one q n (goes_on e.layout x q n w)) h.exact (fits-goes_on e words one q n inside (may-now e due words past h q n inside small) w fits))
+    fits-after e one past (Invalidate who run) h.exact inside (may-now e due words past h q n inside small)
     (λ w free u. fits-due e (eqb q e.row && due n) one words q n (still-due e.row q (row_of e.layout.ids who) (due n) (more n) (in_run run n) is free (fewer n small)) w (orderly-fits e due words past h q n inside small w u)))
 
 -- pages are cleared that no partition reaches, while nothing is due
@@ -158,11 +161,7 @@ orderly-clearing e words past run h none =
     )
     (ap (λ runs. run ∷ runs) h.cleared)
     (λ q n inside small.
-    let one = eqb q e.row && false in
-    let may : MayGive e q n (walk e.layout words q n) = may-now e nothing words past h q n inside small in
-    after_op e.layout e.entry q n (Clear run) past (Fits e words one q n) tt
-    (λ w fits. subst (λ (x : Words). Fits e words one q n (goes_on e.layout x q n w)) h.exact (fits-goes_on e words one q n inside may w fits))
-    (λ w free u. orderly-fits e nothing words past h q n inside small w u))
+    fits-after e (eqb q e.row && false) past (Clear run) h.exact inside (may-now e nothing words past h q n inside small) (λ w free u. orderly-fits e nothing words past h q n inside small w u))
   where
     due_nothing : (b : Bool) → (b && false) ≡ false
     due_nothing b = grind (arith, common_steps, nat_tests)
@@ -214,9 +213,7 @@ orderly-cut e due words past page index who run h each breaks =
     let kept : (q n : ℕ) → q < length e.layout.ids → n < 2 ^ 27 → IsFine e (eqb q e.row && due n) (eqb q e.row && due n) words new q n → (w : Walker) → UnderWay e.layout e.entry q n (set ∷ past) w → Fits e new (eqb q e.row && due n) q n w =
     λ q n inside small f.
     let one = eqb q e.row && due n in
-    after_op e.layout e.entry q n set past (Fits e new one q n) tt
-    (λ w fits. subst (λ (x : Words). Fits e new one q n (goes_on e.layout x q n w)) exact (fits-goes_on e new one q n inside f.may w fits))
-    (λ w free u. fits-set e one one words new q n f w (orderly-fits e due words past h q n inside small w u)) in
+    fits-after e one past set exact inside f.may (λ w free u. fits-set e one one words new q n f w (orderly-fits e due words past h q n inside small w u)) in
     let between : (q n : ℕ) → q < length e.layout.ids → n < 2 ^ 27 → IsCut e words new q n → (w : Walker) → UnderWay e.layout e.entry q n (set ∷ past) w → FitsEither e words new q n w =
     λ q n inside small cut.
     after_op e.layout e.entry q n set past (FitsEither e words new q n) (inr tt)
@@ -224,10 +221,7 @@ orderly-cut e due words past page index who run h each breaks =
     (λ w free u. inl (fits-due e (eqb q e.row && due n) true words q n (λ t. absurd (cc)) w (orderly-fits e due words past h q n inside small w u))) in
     let fits : (q n : ℕ) → q < length e.layout.ids → n < 2 ^ 27 → (w : Walker) → UnderWay e.layout e.entry q n (Invalidate who run ∷ set ∷ past) w → Fits e new (eqb q e.row && due n) q n w =
     λ q n inside small.
-    let one = eqb q e.row && due n in
-    after_op e.layout e.entry q n (Invalidate who run) (set ∷ past) (Fits e new one q n) tt
-    (λ w fits. subst (λ (x : Words). Fits e new one q n (goes_on e.layout x q n w)) exact (fits-goes_on e new one q n inside (may-new q n inside small) w fits))
-    (λ w free u. elim (each q n inside small) [
+    fits-after e (eqb q e.row && due n) (set ∷ past) (Invalidate who run) exact inside (may-new q n inside small) (λ w free u. elim (each q n inside small) [
       | inl fine ↦ kept q n inside small fine w u
       | inr cut ↦ let covered = cut.0 in absurd (cc)
     ]) in

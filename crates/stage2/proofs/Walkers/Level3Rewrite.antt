@@ -2,7 +2,8 @@
 use Rattle.std.proofs.Common.{◌≡◌, ℕ, ◌+◌, ◌*◌, ◌/◌, ◌%◌, ◌<◌, ◌≤◌, Bool, true, false, ◌&&◌, ◌||◌, eqb, List, [], ◌∷◌, ◌++◌, Option, Some, None, refl, arith, ap, sym, subst, ◌∙◌, inl, inr}
 use Rattle.stage2.proofs.Names.{nat_tests, PageRun, covers, View, Pool, Words, words_of, put, Op, Set, Invalidate, Clear, Walked, Layout, slot, index_1, at_3, walk, walked, Gigabyte, Chunk, table_at, planned, AreSets, Filled, words_after, IsInvalid, OpenCall, MayGive, IsInStep, nothing, LeavesDue, StaysInStep, common_steps, Unmapped}
 use Rattle.stage2.proofs.Tree.WalkFrame.{put-other, IsUnheld, IsLevel3Write, table_at-level_3, walk-level_3, walk-level_3-other, walk-chunk}
-use Rattle.stage2.proofs.Walkers.Level3Write.{slot-zero, at_3-word, which_page}
+use Rattle.stage2.proofs.Walkers.Level3Write.{slot-zero, at_3-word}
+use Rattle.stage2.proofs.Tree.RootWrites.{is_pair}
 use Rattle.stage2.proofs.Walkers.InStep.{may-now, orderly-set, orderly-weaker}
 use Rattle.stage2.proofs.Walkers.BreakBeforeMake.{invalid-empty}
 use Rattle.stage2.proofs.Walkers.TableWrites.{fine-same, fine-made, breaks-invalid}
@@ -26,7 +27,7 @@ make-word : (e : OpenCall) (words : Words) (past : List Op) (c k i word : ℕ) �
     → IsInStep e nothing (put k i word words) (Set k i word ∷ past)
 make-word e words past c k i word h small invalid may o =
     orderly-set e nothing nothing words past k i word o
-    (λ r x inside below. elim (which_page e.row (512 * c + i) r x) [
+    (λ r x inside below. elim (is_pair e.row (512 * c + i) r x) [
       | inl at ↦ grind (arith, common_steps, nat_tests, at.0, was-word e.layout words e.row c k i h small x at.1, invalid-empty e.layout 3 (words k i) invalid, here-word e.layout words e.row c k i h small word x at.1, at.1, fine-made, table_at-level_3)
       | inr apart ↦ grind (arith, common_steps, nat_tests, fine-same, table_at-level_3, walk-level_3-other e.layout words e.row c k i word h r x below apart, may-now e nothing words past o r x inside below)
     ])
@@ -38,7 +39,7 @@ clear-word : (e : OpenCall) (due : ℕ → Bool) (words : Words) (past : List Op
 clear-word e due words past c k i word h small is_zero is_due may o =
     let new = put k i word words in
     orderly-set e due due words past k i word o
-    (λ r x inside below. elim (which_page e.row (512 * c + i) r x) [
+    (λ r x inside below. elim (is_pair e.row (512 * c + i) r x) [
       | inl at ↦
           let gone : walk e.layout new r x ≡ Unmapped = rw at.0 (here-word e.layout words e.row c k i h small word x at.1) ∙ ap (λ w. at_3 (slot e.layout 3 w)) is_zero ∙ ap at_3 (slot-zero e.layout 3) in
           record {

@@ -1,7 +1,8 @@
 -- Writes by which tables are filled, linked, cut off and given back, and what walks under way see of them.
-use Rattle.std.proofs.Common.{◌≡◌, ◌≢◌, ℕ, ◌+◌, ◌*◌, ◌/◌, ◌%◌, ◌^◌, ◌<◌, Bool, true, false, ◌&&◌, eqb, List, ◌∷◌, Some, None, length, arith, ap, sym, ◌∙◌, subst, ◌⊎◌, inl, inr}
+use Rattle.std.proofs.Common.{◌≡◌, ◌≢◌, ℕ, ◌+◌, ◌*◌, ◌/◌, ◌%◌, ◌^◌, ◌<◌, Bool, true, false, ◌&&◌, eqb, List, ◌∷◌, Some, None, length, arith, ap, sym, ◌∙◌, subst, inl, inr}
 use Rattle.stage2.proofs.Names.{nat_tests, PageRun, in_run, row_of, Words, put, Op, Set, Invalidate, Walked, Layout, Slot, Empty, slot, index_1, index_2, index_3, at_1, at_2, at_3, walk, Place, Root, Gigabyte, Chunk, next_page, chunk_table, table_at, IsPlace, IsForest, IsInvalid, BreaksFirst, OpenCall, MayGive, IsInStep, nothing, common_steps, Unmapped}
 use Rattle.stage2.proofs.Tree.WalkFrame.{put-other, put-same, walk-same, other_table, table_at-gigabyte, table_at-chunk, table_at-root, IsUnheld, table_at-unheld, walk-unheld, IsLevel2Write, table_at-level_2-other, walk-level_2, walk-level_2-other, walk-gigabyte, table_at-chunk_in}
+use Rattle.stage2.proofs.Tree.RootWrites.{is_pair}
 use Rattle.stage2.proofs.Walkers.Level3Write.{slot-zero}
 use Rattle.stage2.proofs.Walkers.InStep.{IsFine, may-now, orderly-set, orderly-cut, gigabyte-now}
 use Rattle.stage2.proofs.Tree.LinkTable.{walk-inside}
@@ -51,10 +52,6 @@ unmapped_3 s e = grind (arith, common_steps, nat_tests)
 
 -- ---- a word of a level 2 table
 
--- whether a page is in the chunk of a row
-in_chunk : (p c q x : ℕ) → ((q ≡ p) × (x / 512 ≡ c)) ⊎ (q ≡ p → x / 512 ≡ c → ⊥)
-in_chunk p c q x = grind (arith, common_steps, nat_tests)
-
 fine-level_2-other : (e : OpenCall) (due : ℕ → Bool) (words : Words) (past : List Op) (p g j i word q x : ℕ) → IsLevel2Write e.layout words p g j i word → IsInStep e due words past → q < length e.layout.ids → x < 2 ^ 27
     → (q ≡ p → x / 512 ≡ 512 * g + i → ⊥) → IsFine e (eqb q e.row && due x) (eqb q e.row && due x) words (put j i word words) q x
 fine-level_2-other e due words past p g j i word q x h o inside small other = grind (arith, common_steps, nat_tests, fine-same, table_at-level_2-other, walk-level_2-other e.layout words p g j i word h q x small other, may-now e due words past o q x inside small)
@@ -66,7 +63,7 @@ pub orderly-level_2 : (e : OpenCall) (words : Words) (past : List Op) (g j i wor
 orderly-level_2 e words past g j i word h invalid may o =
     let new = put j i word words in
     orderly-set e nothing nothing words past j i word o
-    (λ q x inside small. elim (in_chunk e.row (512 * g + i) q x) [
+    (λ q x inside small. elim (is_pair e.row (512 * g + i) q (x / 512)) [
       | inl at ↦
           let gigabyte : index_1 x ≡ g = let c = at.1 in omega (arith, h.index) in
           let index : index_2 x ≡ i = let c = at.1 in omega (arith, h.index) in
@@ -88,7 +85,7 @@ orderly-cut_chunk e due words past g j i who h is gives o =
     let new = put j i 0 words in
     let run : PageRun = record { first = 512 * (512 * g + i); count = 512 } in
     orderly-cut e due words past j i who run o
-    (λ q x inside small. elim (in_chunk e.row (512 * g + i) q x) [
+    (λ q x inside small. elim (is_pair e.row (512 * g + i) q (x / 512)) [
       | inl at ↦
           let covered : (eqb (row_of e.layout.ids who) q && in_run run x) ≡ true = let c = at.1 in let r = at.0 in grind (arith, nat_tests) in
           let gone : walk e.layout new q x ≡ Unmapped = rw at.0 (walk-level_2 e.layout words e.row g j i 0 h x at.1 ∙ ap (at_2 e.layout new x) (slot-zero e.layout 2)) in
@@ -109,10 +106,6 @@ pub level_2-zero : (layout : Layout) (words : Words) (row c j : ℕ) → IsFores
 level_2-zero layout words row c j forest partition small table = grind (arith, common_steps, nat_tests, slot-zero)
 
 -- ---- a word of a root
-
--- whether a page is in the gigabyte of a row
-in_gigabyte : (p g q x : ℕ) → ((q ≡ p) × (index_1 x ≡ g)) ⊎ (q ≡ p → index_1 x ≡ g → ⊥)
-in_gigabyte p g q x = grind (arith, common_steps, nat_tests)
 
 module _ (e : OpenCall) (words : Words) (g word : ℕ) (forest : IsForest e.layout words) (partition : e.row < length e.layout.ids) where
   -- all other tables keep their words
@@ -144,7 +137,7 @@ pub orderly-root : (e : OpenCall) (words : Words) (past : List Op) (g word : ℕ
 orderly-root e words past g word forest partition invalid may o =
     let new = put e.row g word words in
     orderly-set e nothing nothing words past e.row g word o
-    (λ q x inside small. elim (in_gigabyte e.row g q x) [
+    (λ q x inside small. elim (is_pair e.row g q (index_1 x)) [
       | inl at ↦ grind (arith, common_steps, nat_tests, invalid-empty, gigabyte-now, walk-inside, fine-made, no-table-below)
       | inr other ↦ fine-root-other e words g word forest partition nothing past q x o inside small other
     ])
@@ -158,7 +151,7 @@ orderly-cut_gigabyte e due words past g who forest partition is unmapped o =
     let new = put e.row g 0 words in
     let run : PageRun = record { first = 262144 * g; count = 262144 } in
     orderly-cut e due words past e.row g who run o
-    (λ q x inside small. elim (in_gigabyte e.row g q x) [
+    (λ q x inside small. elim (is_pair e.row g q (index_1 x)) [
       | inl at ↦
           let covered : (eqb (row_of e.layout.ids who) q && in_run run x) ≡ true = let c = at.1 in let r = at.0 in grind (arith, nat_tests) in
           let word : new q (index_1 x) ≡ 0 = rw (at.0, at.1) (put-same words e.row g 0) in
