@@ -1,6 +1,6 @@
 -- What a chunk and a gigabyte need depends on their pages alone.
-use Rattle.std.proofs.Common.{◌≡◌, ℕ, zero, suc, ◌+◌, ◌*◌, ◌/◌, ◌%◌, ◌<◌, Bool, true, false, not, ◌&&◌, ◌||◌, cond, leb, ltb, List, [], ◌∷◌, Some, None, is_some, refl, ap, ap₂, sym, ◌∙◌, arith, inl, inr}
-use Rattle.stage2.proofs.Names.{common_steps, nat_tests, View, is_alike, is_mixed, is_reached, PageRun, in_run, covers, edited, touches_run, touches_chunk, covers_chunk, IsOutcome, cases_Bool}
+use Rattle.std.proofs.Common.{◌≡◌, ℕ, zero, suc, ◌+◌, ◌*◌, ◌/◌, ◌%◌, ◌<◌, Bool, true, false, not, ◌&&◌, ◌||◌, cond, leb, List, [], ◌∷◌, Some, None, is_some, refl, ap, ap₂, sym, ◌∙◌, arith, inl, inr}
+use Rattle.stage2.proofs.Names.{common_steps, nat_tests, list_any, View, is_alike, is_mixed, is_reached, PageRun, in_run, covers, edited, touches_run, touches_chunk, covers_chunk, IsOutcome, cases_Bool}
 use Rattle.base.specs.Counts.{any_below}
 use Rattle.manifest.proofs.Tables.{alike-same, alike-refl, any_below-some, any_below-none, any_below-no}
 
@@ -41,18 +41,18 @@ reached-some v g i below some = any_below-some (λ i. is_some (v (262144 * g + i
 
 -- ---- a chunk that one run fills
 
-pub filled-page : (runs : List PageRun) (c n : ℕ) → covers_chunk c runs ≡ true → n / 512 ≡ c → covers runs n ≡ true
-filled-page [] c n filled at = absurd (cc)
-filled-page (run ∷ runs) c n filled at = elim (cases_Bool (leb run.first (512 * c) && leb (512 * c + 512) (run.first + run.count))) [
-  | inl t ↦ let here : in_run run n ≡ true = inside run.first run.count c n t at in rw here refl
-  | inr f ↦ let rest = filled-page runs c n (rw f at filled) at in rw rest (either (in_run run n))
+-- of runs that pass a test one does, and whatever it passes they pass
+pub any-one : (p : PageRun → Bool) (runs : List PageRun) → list_any p runs ≡ true → (r : PageRun) × (p r ≡ true) × ((q : PageRun → Bool) → q r ≡ true → list_any q runs ≡ true)
+any-one p [] some = absurd (cc)
+any-one p (r ∷ runs) some = elim (cases_Bool (p r)) [
+  | inl is ↦ (r, is, λ q holds. rw holds refl)
+  | inr isnt ↦ let rest = any-one p runs (rw isnt at some) in (rest.0, rest.1, λ q holds. grind (arith, common_steps, nat_tests, rest.2 q holds))
 ]
-  where
-    inside : (first count c n : ℕ) → (leb first (512 * c) && leb (512 * c + 512) (first + count)) ≡ true → n / 512 ≡ c → (leb first n && ltb n (first + count)) ≡ true
-    inside first count c n t at = grind (arith, nat_tests)
 
-    either : (x : Bool) → (x || true) ≡ true
-    either x = grind (arith, common_steps, nat_tests)
+pub filled-page : (runs : List PageRun) (c n : ℕ) → covers_chunk c runs ≡ true → n / 512 ≡ c → covers runs n ≡ true
+filled-page runs c n filled at =
+    let one = any-one (λ run. leb run.first (512 * c) && leb (512 * c + 512) (run.first + run.count)) runs filled in
+    one.2 (λ run. in_run run n) (grind (arith, nat_tests, one.1))
 
 pub same-unmixed : (answer : ℕ → View) (c : ℕ) (one : View) → ((n : ℕ) → n / 512 ≡ c → answer n ≡ one) → is_mixed answer c ≡ false
 unfolding is_mixed
@@ -64,17 +64,12 @@ same-unmixed answer c one same =
     alike-all a = grind (arith, common_steps, nat_tests, alike-refl)
 
 pub filled-touches : (runs : List PageRun) (c : ℕ) → covers_chunk c runs ≡ true → touches_chunk c runs ≡ true
-filled-touches [] c filled = absurd (cc)
-filled-touches (run ∷ runs) c filled = elim (cases_Bool (leb run.first (512 * c) && leb (512 * c + 512) (run.first + run.count))) [
-  | inl t ↦ let here : touches_run c run ≡ true = inside run.first run.count c t in rw here refl
-  | inr f ↦ let rest = filled-touches runs c (rw f at filled) in rw rest (either (touches_run c run))
-]
-  where
-    inside : (first count c : ℕ) → (leb first (512 * c) && leb (512 * c + 512) (first + count)) ≡ true → (ltb 0 count && (leb (first / 512) c && ltb c ((first + count + 511) / 512))) ≡ true
-    inside first count c t = grind (arith, nat_tests)
+filled-touches runs c filled =
+    let one = any-one (λ run. leb run.first (512 * c) && leb (512 * c + 512) (run.first + run.count)) runs filled in
+    one.2 (touches_run c) (grind (arith, nat_tests, one.1))
 
-    either : (x : Bool) → (x || true) ≡ true
-    either x = grind (arith, common_steps, nat_tests)
+pub covered-touched : (runs : List PageRun) (n : ℕ) → covers runs n ≡ true → touches_chunk (n / 512) runs ≡ true
+covered-touched runs n covered = let one = any-one (λ run. in_run run n) runs covered in one.2 (touches_run (n / 512)) (grind (arith, nat_tests, one.1))
 
 pub outcome-filled : (runs : List PageRun) (access : View) (before : ℕ → View) (c : ℕ) → covers_chunk c runs ≡ true → IsOutcome c (edited runs access before) (Some access)
 outcome-filled runs access before c filled =

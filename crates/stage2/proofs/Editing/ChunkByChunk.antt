@@ -1,9 +1,9 @@
 -- One chunk of a gigabyte after another.
-use Rattle.std.proofs.Common.{◌≡◌, ◌≢◌, ℕ, zero, suc, ◌+◌, ◌-◌, ◌*◌, ◌/◌, ◌^◌, ◌<◌, ◌≤◌, Bool, true, false, not, ◌&&◌, ◌||◌, cond, eqb, ltb, is_some, List, [], ◌∷◌, length, refl, arith, ap, sym, subst, ◌∙◌, inl, inr, add-one}
+use Rattle.std.proofs.Common.{◌≡◌, ◌≢◌, ℕ, zero, suc, ◌+◌, ◌-◌, ◌*◌, ◌/◌, ◌^◌, ◌<◌, ◌≤◌, Bool, true, false, not, ◌&&◌, cond, eqb, ltb, is_some, List, length, refl, arith, ap, sym, subst, ◌∙◌, inl, inr, add-one}
 use Rattle.std.proofs.lemmas.Bool.{cases_eq}
-use Rattle.stage2.proofs.Names.{nat_tests, PageRun, in_run, covers, View, Pages, used_by, row_quota, count_below, Walked, Layout, walk, walked, Gigabyte, Chunk, table_at, is_mixed, IsOrderly, answers, answer_of, linked, edited, touches_run, touches_chunk, answers_in, Redoes, Redoes_in, IsSite, IsGrowing, sum_below, grows_at, IsUnderway, common_steps}
+use Rattle.stage2.proofs.Names.{nat_tests, PageRun, covers, View, Pages, used_by, row_quota, count_below, Walked, Layout, walk, walked, Gigabyte, Chunk, table_at, is_mixed, IsOrderly, answers, answer_of, linked, edited, touches_chunk, answers_in, Redoes, Redoes_in, IsSite, IsGrowing, sum_below, grows_at, IsUnderway, common_steps}
 use Rattle.pool.proofs.Count.{count_below-same, count_below-at, count_below-more}
-use Rattle.stage2.proofs.Counting.Needs.{mixed-same}
+use Rattle.stage2.proofs.Counting.Needs.{mixed-same, covered-touched}
 use Rattle.stage2.proofs.Editing.FourChunkEdits.{tidy-answer}
 use Rattle.stage2.proofs.Editing.ChunkKeeps.{answer-walked}
 
@@ -146,13 +146,4 @@ module _ (layout : Layout) (row g j : ℕ) (runs : List PageRun) (access : View)
 -- ---- chunks that the runs leave alone
 
 pub untouched : (c : ℕ) (runs : List PageRun) (n : ℕ) → touches_chunk c runs ≡ false → n / 512 ≡ c → covers runs n ≡ false
-untouched c [] n none at = refl
-untouched c (run ∷ runs) n none at =
-    let rest : touches_chunk c runs ≡ false → covers runs n ≡ false = λ e. untouched c runs n e at in
-    one (touches_run c run) (touches_chunk c runs) (in_run run n) (covers runs n) none (out c run n at) rest
-  where
-    out : (c : ℕ) (run : PageRun) (n : ℕ) → n / 512 ≡ c → touches_run c run ≡ false → in_run run n ≡ false
-    out c run n at e = grind (arith, nat_tests)
-
-    one : (a b x y : Bool) → (a || b) ≡ false → (a ≡ false → x ≡ false) → (b ≡ false → y ≡ false) → (x || y) ≡ false
-    one a b x y e f h = grind (arith, common_steps, nat_tests)
+untouched c runs n none at = grind (arith, common_steps, nat_tests, covered-touched)

@@ -1,8 +1,8 @@
 -- The four edits of a chunk.
-use Rattle.std.proofs.Common.{◌≡◌, ◌≢◌, ℕ, ◌+◌, ◌*◌, ◌/◌, ◌%◌, ◌<◌, ◌==◌, Bool, true, false, not, List, [], is_some, Option, Some, None, refl, arith, ap, sym, ◌∙◌, ◌⊎◌, inl, inr}
-use Rattle.stage2.proofs.Names.{PageRun, covers, View, page_count, entry_of, table_word_of, Words, Pages, nonzero_in, InShare, put, mark, with_put, with_mark, IsLowestFree, Walked, Layout, Slot, Empty, Next, Bad, slot, slot_from, at_2, at_3, walk, walked, Place, Root, Gigabyte, Chunk, next_page, table_at, IsPlace, IsTidy, entry_for, answer_of, answers, linked, edited, Redoes, Redoes_in, IsWordFor, planned, Writes, answers_at, IsOutcome, IsEntryFor, IsSite, IsGrowing, block_answer, is_mixed, reached_in, nat_tests, common_steps, Unmapped}
+use Rattle.std.proofs.Common.{◌≡◌, ◌≢◌, ℕ, ◌+◌, ◌*◌, ◌/◌, ◌%◌, ◌<◌, ◌==◌, true, false, not, List, [], is_some, Option, Some, None, refl, arith, ap, sym, ◌∙◌, ◌⊎◌, inl, inr}
+use Rattle.stage2.proofs.Names.{PageRun, covers, View, page_count, entry_of, table_word_of, Words, Pages, nonzero_in, InShare, put, mark, with_put, with_mark, IsLowestFree, Walked, Layout, Slot, Empty, Next, Bad, slot, slot_from, at_2, at_3, walk, walked, Place, Root, Gigabyte, Chunk, next_page, table_at, IsPlace, IsTidy, entry_for, answer_of, answers, linked, edited, Redoes, Redoes_in, IsWordFor, planned, Writes, answers_at, IsOutcome, IsEntryFor, IsSite, IsGrowing, block_answer, is_mixed, reached_in, nat_tests, common_steps, Unmapped, cases_Bool}
 use Rattle.pool.proofs.Shares.{share_inside}
-use Rattle.stage2.proofs.Tree.WalkFrame.{put-other, put-same, walk-chunk, walk-gigabyte, table_at-root, table_at-chunk_in}
+use Rattle.stage2.proofs.Tree.WalkFrame.{put-other, put-same, walk-chunk, page-walk, walk-gigabyte, table_at-root, table_at-chunk_in}
 use Rattle.stage2.proofs.Walkers.Level3Write.{at_3-word}
 use Rattle.stage2.proofs.Tree.KnownWords.{second-known}
 use Rattle.stage2.proofs.Tree.LinkTable.{slot-table}
@@ -146,11 +146,18 @@ module _ {layout : Layout} {row c j : ℕ} {m : Pages} (h : IsSite layout row c 
   held new k some (inr t) = Hang k (record { inside = t.1; free = t.2; none = table-entry ∙ t.0; now = some; taken = t.3 })
 
   -- a level 3 word that stands for an answer
-  abbrev pub Stands : (ℕ → View) → Pages → ℕ → Type 0
-  Stands answer new k = (i : ℕ) → i < 512 → (at_3 (slot layout 3 (new.words k i)) ≡ walked (512 * c + i) (answer (512 * c + i))) × (slot layout 3 (new.words k i) ≡ Empty → new.words k i ≡ 0)
+  abbrev pub Stands : (ℕ → View) → ℕ → Pages → ℕ → Type 0
+  Stands answer k new i = (at_3 (slot layout 3 (new.words k i)) ≡ walked (512 * c + i) (answer (512 * c + i))) × (slot layout 3 (new.words k i) ≡ Empty → new.words k i ≡ 0)
+
+  -- as one does that was written for it
+  stand : (answer : ℕ → View) (k : ℕ) (new : Pages) (i : ℕ) (x : View) → IsWordFor (512 * c + i) x (new.words k i) → answer (512 * c + i) ≡ x → Stands answer k new i
+  stand answer k new i x is same = (
+    at_3-word layout (512 * c + i) (new.words k i) x is.entry ∙ ap (walked (512 * c + i)) (sym same),
+    λ empty. is.zero (answer-none layout (512 * c + i) x (sym (slot-word layout 3 (512 * c + i) (new.words k i) x is.entry) ∙ empty)),
+  )
 
   -- the chunk has the table k
-  pub tabled : (answer : ℕ → View) (k : ℕ) (new : Pages) → new.ids ≡ m.ids → new.quotas ≡ m.quotas → LeavesOthers new → slot layout 2 (new.words j (c % 512)) ≡ Next k → k ≢ row → Stands answer new k → Held new k → IsOutcome c answer None
+  pub tabled : (answer : ℕ → View) (k : ℕ) (new : Pages) → new.ids ≡ m.ids → new.quotas ≡ m.quotas → LeavesOthers new → slot layout 2 (new.words j (c % 512)) ≡ Next k → k ≢ row → ((i : ℕ) → i < 512 → Stands answer k new i) → Held new k → IsOutcome c answer None
       → Redoes_in layout row c j answer m new
   tabled answer k new ids quotas leaves read differs stands trade outcome =
       let e = edit-seen new leaves in
@@ -262,24 +269,17 @@ module _ {layout : Layout} {row c j : ℕ} {m : Pages} (h : IsSite layout row c 
       (λ b q i inside other at apart. writes.others q i (not-third k is_table b q inside other at))
       (ap (slot layout 2) (writes.others j (c % 512) (not-third k is_table (Gigabyte row (c / 512)) j in_gigabyte (λ f. cc) h.second)) ∙ is_table)
       (λ same. not-third k is_table (Root row) row h.partition (λ f. cc) (table_at-root layout old row) (sym same))
-      (λ i small. stands i small (covers runs (512 * c + i)) refl)
+      (λ i small. elim (cases_Bool (covers runs (512 * c + i))) [
+        | inl e ↦ stand (edited runs access (answers layout old row)) k new i access (writes.here i access small (rw e refl)) (rw e refl)
+        | inr e ↦
+            let n = 512 * c + i in
+            let read : new.words k i ≡ old k i = writes.stays i small (rw e refl) ∙ sym (third-seen k i (third-at k is_table)) in
+            let tidy : IsTidy n (walk layout old row n) = h.orderly.tidy row n h.partition (omega (arith, small, h.chunk)) in (
+              ap (λ w. at_3 (slot layout 3 w)) read ∙ sym (page-walk layout old row c i k h.partition small (third-at k is_table)) ∙ tidy-answer n (walk layout old row n) tidy ∙ rw e refl,
+              λ empty. read ∙ h.orderly.clean (Chunk row c) k i in_chunk (third-at k is_table) small (sym (ap (slot layout 3) read) ∙ empty),
+            )
+      ])
       (inl (ap next_page is_table, writes.taken)) outcome
-    where
-      stands : (i : ℕ) → i < 512 → (b : Bool) → covers runs (512 * c + i) ≡ b
-          → (at_3 (slot layout 3 (new.words k i)) ≡ walked (512 * c + i) (edited runs access (answers layout old row) (512 * c + i))) × (slot layout 3 (new.words k i) ≡ Empty → new.words k i ≡ 0)
-      stands i small true e =
-          let is = writes.here i access small (rw e refl) in
-          (at_3-word layout (512 * c + i) (new.words k i) access is.entry ∙ rw e refl, λ empty. is.zero (answer-none layout (512 * c + i) access (sym (slot-word layout 3 (512 * c + i) (new.words k i) access is.entry) ∙ empty)))
-      stands i small false e =
-          let n = 512 * c + i in
-          let chunk : n / 512 ≡ c = omega (arith, small) in
-          let index : n % 512 ≡ i = omega (arith, small) in
-          let read : new.words k i ≡ old k i = writes.stays i small (rw e refl) ∙ sym (third-seen k i (third-at k is_table)) in
-          let here : table_at layout old (Chunk row (n / 512)) ≡ Some k = ap (λ x. table_at layout old (Chunk row x)) chunk ∙ third-at k is_table in
-          let tidy : IsTidy n (walk layout old row n) = h.orderly.tidy row n h.partition (omega (arith, small, h.chunk)) in (
-            ap (λ w. at_3 (slot layout 3 w)) read ∙ sym (walk-chunk layout old row n k h.partition here ∙ ap (λ x. at_3 (slot layout 3 (old k x))) index) ∙ tidy-answer n (walk layout old row n) tidy ∙ rw e refl,
-            λ empty. read ∙ h.orderly.clean (Chunk row c) k i in_chunk (third-at k is_table) small (sym (ap (slot layout 3) read) ∙ empty),
-          )
 
   pub does-hang : (runs : List PageRun) (access before : View) (k : ℕ) (m1 m2 new : Pages) → next_page entry ≡ None → IsLowestFree m row k → ((n : ℕ) → n / 512 ≡ c → answers layout old row n ≡ before) → m1 ≡ with_mark k true m
       → Writes k c (planned runs access (Some before)) m1 m2 → new ≡ with_put j (c % 512) (table_word_of (layout.base + k)) m2 → IsOutcome c (edited runs access (answers layout old row)) None
@@ -290,7 +290,10 @@ module _ {layout : Layout} {row c j : ℕ} {m : Pages} (h : IsSite layout row c 
       (ap (slot layout 2) (ap (λ (x : Pages). x.words j (c % 512)) e ∙ put-same m2.words j (c % 512) (table_word_of (layout.base + k)))
       ∙ slot-table layout 2 k (omega arith) (let inside : k < page_count m.quotas = share_inside m.quotas row k lowest.inside in rw h.orderly.pages inside) h.orderly.fits)
       (λ same. not-fresh (Root row) row h.partition (table_at-root layout old row) (sym same))
-      (λ i small. stands i small (covers runs (512 * c + i)) refl)
+      (λ i small. elim (cases_Bool (covers runs (512 * c + i))) [
+        | inl f ↦ stand (edited runs access (answers layout old row)) k new i access (rw (read_k i) (writes.here i access small (rw f refl))) (rw f refl)
+        | inr f ↦ stand (edited runs access (answers layout old row)) k new i before (rw (read_k i) (writes.here i before small (rw f refl))) (rw f (was (512 * c + i) (omega (arith, small))))
+      ])
       (inr (none, lowest.inside, lowest.free, ap (λ (x : Pages). x.taken) e ∙ writes.taken ∙ ap (λ (x : Pages). x.taken) e1)) outcome
     where
       not-fresh : (b : Place) (q : ℕ) → IsPlace layout b → table_at layout old b ≡ Some q → q ≢ k
@@ -301,18 +304,6 @@ module _ {layout : Layout} {row c j : ℕ} {m : Pages} (h : IsSite layout row c 
 
       read_k : (i : ℕ) → new.words k i ≡ m2.words k i
       read_k i = read k i (λ same _. not-fresh (Gigabyte row (c / 512)) j in_gigabyte h.second (sym same))
-
-      stand : (i : ℕ) (x : View) → IsWordFor (512 * c + i) x (m2.words k i) → edited runs access (answers layout old row) (512 * c + i) ≡ x
-          → (at_3 (slot layout 3 (new.words k i)) ≡ walked (512 * c + i) (edited runs access (answers layout old row) (512 * c + i))) × (slot layout 3 (new.words k i) ≡ Empty → new.words k i ≡ 0)
-      stand i x is same = (
-        ap (λ w. at_3 (slot layout 3 w)) (read_k i) ∙ at_3-word layout (512 * c + i) (m2.words k i) x is.entry ∙ ap (walked (512 * c + i)) (sym same),
-        λ empty. read_k i ∙ is.zero (answer-none layout (512 * c + i) x (sym (slot-word layout 3 (512 * c + i) (m2.words k i) x is.entry) ∙ sym (ap (slot layout 3) (read_k i)) ∙ empty)),
-      )
-
-      stands : (i : ℕ) → i < 512 → (b : Bool) → covers runs (512 * c + i) ≡ b
-          → (at_3 (slot layout 3 (new.words k i)) ≡ walked (512 * c + i) (edited runs access (answers layout old row) (512 * c + i))) × (slot layout 3 (new.words k i) ≡ Empty → new.words k i ≡ 0)
-      stands i small true f = stand i access (writes.here i access small (rw f refl)) (rw f refl)
-      stands i small false f = stand i before (writes.here i before small (rw f refl)) (rw f (was (512 * c + i) (omega (arith, small))))
 
   -- ---- what the code reads
 

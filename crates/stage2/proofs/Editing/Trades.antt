@@ -45,13 +45,16 @@ pub record IsTrade (layout : Layout) (row : ℕ) (x : Place) (old new : Pages) :
   pub trade : Trade layout row x old new
 
 module _ {layout : Layout} {row : ℕ} {x : Place} {old new : Pages} (h : IsTrade layout row x old new) where
-  fresh_in : Trade layout row x old new → (k : ℕ) → table_at layout new.words x ≡ Some k → IsUnheld layout old.words k ⊎ (table_at layout old.words x ≡ Some k)
-  fresh_in (Stay t) k here = inr (sym t.table ∙ here)
-  fresh_in (Hang y t) k here = inl (λ b inside held. let same : k ≡ y = let now = t.now in cc in let taken : old.taken k ≡ true = h.orderly.taken b k inside held in let free : old.taken k ≡ false = ap old.taken same ∙ t.free in absurd (cc))
-  fresh_in (Drop y t) k here = let now = t.now in absurd (cc)
+  -- the place's table is taken, and hung there before or nowhere
+  here-now : Trade layout row x old new → (q : ℕ) → table_at layout new.words x ≡ Some q → (IsUnheld layout old.words q ⊎ (table_at layout old.words x ≡ Some q)) × (new.taken q ≡ true)
+  here-now (Stay t) q here = (inr (sym t.table ∙ here), ap (λ f. f q) t.taken ∙ h.orderly.taken x q h.at (sym t.table ∙ here))
+  here-now (Hang k t) q here =
+      let same : q ≡ k = let now = t.now in cc in
+      (inl (λ b inside held. let taken : old.taken q ≡ true = h.orderly.taken b q inside held in let free : old.taken q ≡ false = ap old.taken same ∙ t.free in absurd (cc)), ap (λ f. f q) t.taken ∙ ap (mark k true old.taken) same ∙ mark-same old.taken k true)
+  here-now (Drop k t) q here = let now = t.now in absurd (cc)
 
   pub fresh : (k : ℕ) → table_at layout new.words x ≡ Some k → IsUnheld layout old.words k ⊎ (table_at layout old.words x ≡ Some k)
-  fresh = fresh_in h.trade
+  fresh k here = (here-now h.trade k here).0
 
   elsewhere : (b : Place) → IsPlace layout b → b ≢ x → (q : ℕ) → table_at layout new.words x ≡ Some q → table_at layout new.words b ≡ Some q → ⊥
   elsewhere b in_b differs q here there = grind (arith, common_steps, nat_tests, fresh)
@@ -69,11 +72,6 @@ module _ {layout : Layout} {row : ℕ} {x : Place} {old new : Pages} (h : IsTrad
         ]
       ]
 
-  taken-here : Trade layout row x old new → (q : ℕ) → table_at layout new.words x ≡ Some q → new.taken q ≡ true
-  taken-here (Stay t) q here = ap (λ f. f q) t.taken ∙ h.orderly.taken x q h.at (sym t.table ∙ here)
-  taken-here (Hang k t) q here = let same : q ≡ k = let now = t.now in cc in ap (λ f. f q) t.taken ∙ ap (mark k true old.taken) same ∙ mark-same old.taken k true
-  taken-here (Drop k t) q here = let now = t.now in absurd (cc)
-
   taken-other : Trade layout row x old new → (b : Place) (q : ℕ) → IsPlace layout b → b ≢ x → table_at layout old.words b ≡ Some q → new.taken q ≡ true
   taken-other (Stay t) b q inside other was = ap (λ f. f q) t.taken ∙ h.orderly.taken b q inside was
   taken-other (Hang k t) b q inside other was = ap (λ f. f q) t.taken ∙ mark-kept old.taken k q (h.orderly.taken b q inside was)
@@ -81,7 +79,7 @@ module _ {layout : Layout} {row : ℕ} {x : Place} {old new : Pages} (h : IsTrad
 
   trade-taken : (b : Place) (q : ℕ) → IsPlace layout b → table_at layout new.words b ≡ Some q → new.taken q ≡ true
   trade-taken b q inside now = elim (h.is_x b) [
-    | inl f ↦ taken-here h.trade q (ap (table_at layout new.words) (sym f) ∙ now)
+    | inl f ↦ (here-now h.trade q (ap (table_at layout new.words) (sym f) ∙ now)).1
     | inr f ↦ taken-other h.trade b q inside f (sym (h.kept b inside f) ∙ now)
   ]
 
@@ -118,18 +116,15 @@ module _ {layout : Layout} {row : ℕ} {x : Place} {old new : Pages} (h : IsTrad
   same-at : (b : Place) → IsPlace layout b → (b ≡ x → table_at layout new.words x ≡ table_at layout old.words x) → hangs_at new.words b ≡ hangs_at old.words b
   same-at b inside same = grind (arith, common_steps, nat_tests)
 
-  gigabytes : (r : ℕ) → r < length layout.ids → ((g : ℕ) → Gigabyte r g ≡ x → table_at layout new.words x ≡ table_at layout old.words x)
-      → count_below (λ g. hangs_at new.words (Gigabyte r g)) 512 ≡ count_below (λ g. hangs_at old.words (Gigabyte r g)) 512
-  gigabytes r inside same = count_below-same (λ g. hangs_at old.words (Gigabyte r g)) (λ g. hangs_at new.words (Gigabyte r g)) 512 (λ g below. same-at (Gigabyte r g) (inside, below) (same g))
-
-  chunks : (r : ℕ) → r < length layout.ids → ((c : ℕ) → Chunk r c ≡ x → table_at layout new.words x ≡ table_at layout old.words x)
-      → count_below (λ c. hangs_at new.words (Chunk r c)) 262144 ≡ count_below (λ c. hangs_at old.words (Chunk r c)) 262144
-  chunks r inside same = count_below-same (λ c. hangs_at old.words (Chunk r c)) (λ c. hangs_at new.words (Chunk r c)) 262144 (λ c below. same-at (Chunk r c) (inside, below) (same c))
+  -- as many tables hang at some places
+  same-many : (at : ℕ → Place) (n : ℕ) → ((i : ℕ) → i < n → IsPlace layout (at i)) → ((i : ℕ) → at i ≡ x → table_at layout new.words x ≡ table_at layout old.words x)
+      → count_below (λ i. hangs_at new.words (at i)) n ≡ count_below (λ i. hangs_at old.words (at i)) n
+  same-many at n inside same = count_below-same (λ i. hangs_at old.words (at i)) (λ i. hangs_at new.words (at i)) n (λ i below. same-at (at i) (inside i below) (same i))
 
   hung-kept : (r : ℕ) → r < length layout.ids → (r ≡ row → table_at layout new.words x ≡ table_at layout old.words x) → hung layout new.words r ≡ hung layout old.words r
   hung-kept r inside same = elim h.of_row [
-    | inl f ↦ ap₂ (λ a b. a + b) (gigabytes r inside (λ g e. let e_r : r ≡ row = let z = f.1 in cc in same e_r)) (chunks r inside (λ c e. let z = f.1 in absurd (cc)))
-    | inr f ↦ ap₂ (λ a b. a + b) (gigabytes r inside (λ g e. let z = f.1 in absurd (cc))) (chunks r inside (λ c e. let e_r : r ≡ row = let z = f.1 in cc in same e_r))
+    | inl f ↦ ap₂ (λ a b. a + b) (same-many (Gigabyte r) 512 (λ g below. (inside, below)) (λ g e. let e_r : r ≡ row = let z = f.1 in cc in same e_r)) (same-many (Chunk r) 262144 (λ c below. (inside, below)) (λ c e. let z = f.1 in absurd (cc)))
+    | inr f ↦ ap₂ (λ a b. a + b) (same-many (Gigabyte r) 512 (λ g below. (inside, below)) (λ g e. let z = f.1 in absurd (cc))) (same-many (Chunk r) 262144 (λ c below. (inside, below)) (λ c e. let e_r : r ≡ row = let z = f.1 in cc in same e_r))
   ]
 
   -- one table more in words b than in words a
@@ -172,7 +167,7 @@ module _ {layout : Layout} {row : ℕ} {x : Place} {old new : Pages} (h : IsTrad
     taken = trade-taken;
     owned = trade-owned;
     hangs = trade-hangs;
-    used = (used_in h.trade);
+    used = used_in h.trade;
     clean = clean;
     tidy = tidy;
     mixed = mixed;

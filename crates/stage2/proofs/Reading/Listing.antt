@@ -1,6 +1,6 @@
 -- The entries of canonical tables are those that the views need.
 use Rattle.std.proofs.Common.{◌≡◌, ℕ, zero, suc, ◌+◌, ◌*◌, ◌/◌, ◌%◌, ◌<◌, ◌≤◌, Bool, true, false, cond, List, [], ◌∷◌, ◌++◌, Option, Some, None, is_some, length, refl, sym, ap, ap₂, ◌∙◌, append-nil, map, map-id, arith, eq-eqb}
-use Rattle.stage2.proofs.Names.{flat_map, option_map_or, View, row_of, is_mixed, is_reached, Entry, entry_of, leaf_level, Words, words_of, leaf_for, entry_for_table, word_at, number_of, each_below, page_entries, chunk_entries, gigabyte_entries, entries, answer_of, TableEntry, pages_at, entry_at, entries_from, table_entries, access_of, table_in, with_chunks, tree_entries, shown, entries_of, reading_of, Layout, slot, slot_from, view_of, AreCanonical, Root, Gigabyte, Chunk, table_at, next_page, at_2, at_3, Level, First, nat_tests, common_steps}
+use Rattle.stage2.proofs.Names.{flat_map, option_map_or, View, row_of, is_mixed, is_reached, Entry, entry_of, leaf_level, Words, words_of, leaf_for, entry_for_table, word_at, number_of, each_below, page_entries, chunk_entries, gigabyte_entries, entries, answer_of, TableEntry, pages_at, entry_at, entries_from, table_entries, access_of, table_in, with_chunks, tree_entries, shown, entries_of, reading_of, Layout, slot, slot_from, view_of, AreCanonical, Root, Gigabyte, Chunk, table_at, next_page, at_2, Level, First, nat_tests, common_steps}
 use Rattle.std.proofs.lemmas.List.Concat.{flat_map-append}
 use Rattle.words.proofs.RoundTrip.{entry-invalid}
 use Rattle.stage2.specs.Listing.{Listed, table_entry, leaf_entries}
@@ -10,7 +10,7 @@ use Rattle.stage2.specs.declared.table_page.Level.TheVariants.{Second, Third}
 use Rattle.stage2.proofs.Reading.Rows.{odd-leaf-word}
 use Rattle.stage2.proofs.Counting.Needs.{reached-none}
 use Rattle.stage2.proofs.Tree.Rows.{no-row}
-use Rattle.stage2.proofs.Tree.WalkFrame.{table_at-chunk_in, walk-chunk, walk-gigabyte}
+use Rattle.stage2.proofs.Tree.WalkFrame.{table_at-chunk_in, page-walk, walk-gigabyte}
 
 -- ---- lists that are made word by word
 
@@ -76,12 +76,7 @@ module _ {A : Type 0} (f : TableEntry → List A) (v : Listed → List A) (agree
 
     page-reads : (c k i : ℕ) → table_at t.layout words (Chunk row c) ≡ Some k → i < 512 → access_of (entry_of 3 (words k i)) ≡ view (512 * c + i)
     unfolding slot
-    page-reads c k i hangs small =
-        let n = 512 * c + i in
-        let chunk : n / 512 ≡ c = omega (arith, small) in
-        let index : n % 512 ≡ i = omega (arith, small) in
-        let there : table_at t.layout words (Chunk row (n / 512)) ≡ Some k = ap (λ x. table_at t.layout words (Chunk row x)) chunk ∙ hangs in
-        sym (ap answer_of (walk-chunk t.layout words row n k here there ∙ ap (λ x. at_3 (slot t.layout 3 (words k x))) index) ∙ (grind (arith, common_steps, nat_tests)))
+    page-reads c k i hangs small = sym (ap answer_of (page-walk t.layout words row c i k here small hangs) ∙ (grind (arith, common_steps, nat_tests)))
 
     -- the pages of a level 3 table
     pages-listed : (c k : ℕ) → c < 262144 → table_at t.layout words (Chunk row c) ≡ Some k → flat_map f (table_entries Third (512 * c) (words k)) ≡ flat_map v (page_entries view c)

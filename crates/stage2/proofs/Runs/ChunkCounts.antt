@@ -1,11 +1,12 @@
 -- How many chunks runs touch, and how many operations their edit takes at most, whatever the tables are.
 use Rattle.stage2.proofs.Names.{common_steps, option_map_or, nat_tests, PageRun, covers, are_normal, rise_above, part_in, part_count, lie_within, touches_chunk, sum_below, pages_among, pages_in, chunk_operations, chunks_operations, gigabyte_operations, row_operations, Touches, View, index_from, words_in}
-use Rattle.std.proofs.Common.{◌≡◌, ℕ, zero, suc, ◌+◌, ◌-◌, ◌*◌, ◌/◌, ◌%◌, ◌<◌, ◌≤◌, min, Bool, true, false, cond, ◌&&◌, leb, ltb, List, [], ◌∷◌, refl, ap, subst, ◌∙◌, arith, add-one, inl, inr}
+use Rattle.std.proofs.Common.{◌≡◌, ℕ, zero, suc, ◌+◌, ◌-◌, ◌*◌, ◌/◌, ◌%◌, ◌<◌, ◌≤◌, min, Bool, true, false, cond, ◌&&◌, leb, ltb, List, [], ◌∷◌, ap, subst, ◌∙◌, arith, add-one, inl, inr}
 use Rattle.std.proofs.lemmas.Bool.{cases_Bool, cases_eq, ltb-true, and_parts}
 use Rattle.std.proofs.lemmas.List.Sums.{sum_by-cons}
 use Rattle.stage2.proofs.Counting.Pieces.{pages_among-le, page-among, words-pages}
 use Rattle.pool.proofs.Count.{count_below-some}
-use Rattle.stage2.proofs.Editing.ChunkByChunk.{sum_below-more, sum_below-add, untouched}
+use Rattle.stage2.proofs.Editing.ChunkByChunk.{sum_below-more, sum_below-add}
+use Rattle.stage2.proofs.Counting.Needs.{covered-touched}
 use Rattle.stage2.proofs.Counting.Pieces.{words-pages}
 use Rattle.stage2.proofs.Runs.Normal.{end_of, any-within}
 use Rattle.stage2.proofs.Runs.Spans.{sum_below-none}
@@ -54,10 +55,10 @@ chunk-within : (runs : List PageRun) (access : View) (v : ℕ → View) (c : ℕ
 unfolding chunk_most touched
 chunk-within runs access v c normal = grind (arith, common_steps, nat_tests, pieces-most, pages_among-le)
 
-sums : (runs : List PageRun) (n : ℕ) → sum_below (chunk_most runs) n ≡ 516 * sum_below (touched runs) n
-unfolding sum_below chunk_most
-sums runs zero = refl
-sums runs (suc n) = let rest = sums runs n in omega (arith, rest)
+scaled : (k : ℕ) (f : ℕ → ℕ) (n : ℕ) → sum_below (λ c. k * f c) n ≡ k * sum_below f n
+unfolding sum_below
+scaled k f zero = omega arith
+scaled k f (suc n) = let rest = scaled k f n in omega (arith, rest)
 
 -- ---- gigabyte by gigabyte
 
@@ -88,11 +89,6 @@ unfolding sum_below
 rows f h zero le = omega arith
 rows f h (suc g) le = subst (λ n. sum_below (of_gigabyte f) n ≤ sum_below f (512 * n) + sum_below h (512 * n)) (add-one g) (rows-step f h g le (rows f h g le))
 
-twice : (runs : List PageRun) (n : ℕ) → sum_below (λ c. 2 * touched runs c) n ≡ 2 * sum_below (touched runs) n
-unfolding sum_below
-twice runs zero = refl
-twice runs (suc n) = let rest = twice runs n in omega (arith, rest)
-
 two : (runs : List PageRun) (c : ℕ) → min 2 (chunk_most runs c) ≤ 2 * touched runs c
 unfolding chunk_most
 two runs c = omega arith
@@ -117,9 +113,8 @@ module _ (runs : List PageRun) (first end : ℕ) (within : lie_within first end 
       omega (arith, sum_below-le (touched runs) (λ c. cond (between (first / 512) ((end + 511) / 512) c) 1 0) n one-between, (sum-between (first / 512) ((end + 511) / 512) n))
 
   all-most : sum_below (of_gigabyte (chunk_most runs)) 512 ≤ 518 * ((end + 511) / 512 - first / 512)
-  unfolding of_gigabyte
-  all-most =
-      omega (arith, rows (chunk_most runs) (λ c. 2 * touched runs c) 512 (two runs), twice runs (512 * 512), sums runs (512 * 512), together (512 * 512))
+  unfolding of_gigabyte chunk_most
+  all-most = omega (arith, rows (chunk_most runs) (λ c. 2 * touched runs c) 512 (two runs), scaled 2 (touched runs) (512 * 512), scaled 516 (touched runs) (512 * 512), together (512 * 512))
 
   pub row-operations : (access : View) (v : ℕ → View) → are_normal runs ≡ true → row_operations runs access v ≤ 518 * ((end + 511) / 512 - first / 512)
   unfolding of_gigabyte
@@ -139,12 +134,6 @@ member f zero x lt = absurd (omega (arith, lt))
 member f (suc n) x lt = elim (cases_eq x n) [
   | inl is ↦ rw is (omega arith)
   | inr differs ↦ let rest = member f n x (omega (arith, lt, differs)) in omega (arith, rest)
-]
-
-covered-touched : (runs : List PageRun) (n : ℕ) → covers runs n ≡ true → touches_chunk (n / 512) runs ≡ true
-covered-touched runs n covered = elim (cases_Bool (touches_chunk (n / 512) runs)) [
-  | inl t ↦ t
-  | inr f ↦ let none = untouched (n / 512) runs n f refl in absurd (cc)
 ]
 
 pub touched-operations : (runs : List PageRun) (access : View) (v : ℕ → View) (g : ℕ) → Touches runs g → 2 ≤ chunks_operations runs access v g

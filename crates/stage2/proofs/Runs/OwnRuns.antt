@@ -82,16 +82,6 @@ module _ (layout : Layout) (row c : ℕ) (runs part : List PageRun) (access : Vi
       let at = eqb-true _ _ two.0 in
       (ap₂ (λ x y. x && y) two.0 (sym (disturbs-part c runs part access same v n at) ∙ two.1), inr (ap (walked n) (edited-same c runs part access same v n at))))
 
-module _ (c : ℕ) (runs part : List PageRun) (is : part ≡ chunk_runs c runs) where
-  pub chunk-covers : (n : ℕ) → n / 512 ≡ c → covers part n ≡ covers runs n
-  chunk-covers n at = ap (λ rs. covers rs n) is ∙ covers-between (512 * c) (512 * c + 512) runs n (omega (arith, at)) (omega (arith, at))
-
-  pub chunk-touches : touches_chunk c part ≡ touches_chunk c runs
-  chunk-touches = ap (touches_chunk c) is ∙ touches-between (512 * c) (512 * c + 512) runs c (omega arith) (omega arith)
-
-  pub chunk-count : part_count c part ≡ part_count c runs
-  chunk-count = ap (part_count c) is ∙ count-between (512 * c) (512 * c + 512) runs c (omega arith) (omega arith)
-
 -- of a chunk it is all one whether these runs are asked or those
 pub record AreOwn (c : ℕ) (part runs : List PageRun) : Type 0 where
   pub covered : (n : ℕ) → n / 512 ≡ c → covers part n ≡ covers runs n
@@ -99,7 +89,11 @@ pub record AreOwn (c : ℕ) (part runs : List PageRun) : Type 0 where
   pub touches : touches_chunk c part ≡ touches_chunk c runs
 
 pub own-chunk : (c : ℕ) (runs part : List PageRun) → part ≡ chunk_runs c runs → AreOwn c part runs
-own-chunk c runs part is = record { covered = chunk-covers c runs part is; count = chunk-count c runs part is; touches = chunk-touches c runs part is }
+own-chunk c runs part is = record {
+  covered = λ n at. ap (λ rs. covers rs n) is ∙ covers-between (512 * c) (512 * c + 512) runs n (omega (arith, at)) (omega (arith, at));
+  count = ap (part_count c) is ∙ count-between (512 * c) (512 * c + 512) runs c (omega arith) (omega arith);
+  touches = ap (touches_chunk c) is ∙ touches-between (512 * c) (512 * c + 512) runs c (omega arith) (omega arith);
+}
 
 -- ---- a gigabyte
 

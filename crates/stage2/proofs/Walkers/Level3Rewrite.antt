@@ -1,7 +1,7 @@
 -- Words of a level 3 table that hangs are written, and what walks under way see of it.
 use Rattle.std.proofs.Common.{◌≡◌, ℕ, ◌+◌, ◌*◌, ◌/◌, ◌%◌, ◌<◌, ◌≤◌, Bool, true, false, ◌&&◌, ◌||◌, eqb, List, [], ◌∷◌, ◌++◌, Option, Some, None, refl, arith, ap, sym, subst, ◌∙◌, inl, inr}
-use Rattle.stage2.proofs.Names.{nat_tests, PageRun, covers, View, Pool, Words, words_of, put, Op, Set, Invalidate, Clear, Walked, Layout, slot, index_1, at_3, walk, walked, Gigabyte, Chunk, table_at, planned, AreSets, Filled, words_after, IsInvalid, OpenCall, MayGive, IsInStep, nothing, LeavesDue, StaysInStep, common_steps, Unmapped}
-use Rattle.stage2.proofs.Tree.WalkFrame.{put-other, IsUnheld, IsLevel3Write, table_at-level_3, walk-level_3, walk-level_3-other, walk-chunk}
+use Rattle.stage2.proofs.Names.{nat_tests, PageRun, covers, View, Pool, Words, words_of, put, Op, Set, Invalidate, Clear, Walked, Layout, slot, index_1, at_3, walk, walked, Gigabyte, Chunk, planned, AreSets, Filled, words_after, IsInvalid, OpenCall, MayGive, IsInStep, nothing, LeavesDue, StaysInStep, common_steps, Unmapped}
+use Rattle.stage2.proofs.Tree.WalkFrame.{put-other, IsUnheld, IsLevel3Write, table_at-level_3, walk-level_3, walk-level_3-other, page-walk}
 use Rattle.stage2.proofs.Walkers.Level3Write.{slot-zero, at_3-word}
 use Rattle.stage2.proofs.Tree.RootWrites.{is_pair}
 use Rattle.stage2.proofs.Walkers.InStep.{may-now, orderly-set, orderly-weaker}
@@ -17,10 +17,7 @@ module _ (layout : Layout) (words : Words) (row c k i : ℕ) (h : IsLevel3Write 
   here-word word n e = ap (walk layout (put k i word words) row) e ∙ walk-level_3 layout words row c k i word h small
 
   was-word : (n : ℕ) → n ≡ 512 * c + i → walk layout words row n ≡ at_3 (slot layout 3 (words k i))
-  was-word n e =
-      let chunk : n / 512 ≡ c = omega (arith, small) in
-      let index : n % 512 ≡ i = omega (arith, small) in
-      walk-chunk layout words row n k h.partition (ap (λ x. table_at layout words (Chunk row x)) chunk ∙ h.table) ∙ ap (λ x. at_3 (slot layout 3 (words k x))) index
+  was-word n e = ap (walk layout words row) e ∙ page-walk layout words row c i k h.partition small h.table
 
 -- an invalid word becomes valid
 make-word : (e : OpenCall) (words : Words) (past : List Op) (c k i word : ℕ) → IsLevel3Write e.layout words e.row c k → i < 512 → IsInvalid (words k i) → MayGive e e.row (512 * c + i) (at_3 (slot e.layout 3 word)) → IsInStep e nothing words past

@@ -1,7 +1,7 @@
 -- Pages that an edit disturbs, and that keep their answers, have none.
-use Rattle.std.proofs.Common.{◌≡◌, ◌≢◌, ℕ, ◌+◌, ◌*◌, ◌/◌, ◌^◌, ◌<◌, ◌≤◌, Bool, true, ◌&&◌, ◌||◌, leb, ltb, List, [], ◌∷◌, None, refl, arith, ◌⊎◌, inl, inr}
-use Rattle.stage2.proofs.Names.{nat_tests, PageRun, in_run, covers, View, is_mixed, edited, touches_run, touches_chunk, AreFree, disturbed, common_steps, cases_Bool, cases_eq}
-use Rattle.stage2.proofs.Counting.Needs.{mixed-same, equal-first}
+use Rattle.std.proofs.Common.{◌≡◌, ◌≢◌, ℕ, ◌+◌, ◌*◌, ◌/◌, ◌^◌, ◌<◌, ◌≤◌, true, ◌&&◌, leb, ltb, List, None, arith, ◌⊎◌, inl, inr}
+use Rattle.stage2.proofs.Names.{nat_tests, PageRun, in_run, covers, View, is_mixed, edited, touches_run, touches_chunk, AreFree, disturbed, common_steps, cases_eq}
+use Rattle.stage2.proofs.Counting.Needs.{mixed-same, equal-first, any-one}
 use Rattle.base.proofs.Booleans.{both}
 
 -- ---- a chunk that runs touch has a page of theirs
@@ -23,16 +23,10 @@ page-of c run t =
     inside first count x a b = grind (arith, nat_tests)
 
 pub covered-page : (c : ℕ) (runs : List PageRun) → touches_chunk c runs ≡ true → (x : ℕ) × (x / 512 ≡ c) × (covers runs x ≡ true)
-covered-page c [] t = absurd (cc)
-covered-page c (run ∷ runs) t = elim (cases_Bool (touches_run c run)) [
-  | inl here ↦ let p = page-of c run here in (p.0, p.1, rw p.2 refl)
-  | inr f ↦
-      let p = covered-page c runs (rw f at t) in
-      (p.0, p.1, rw p.2 (either (in_run run p.0)))
-]
-  where
-    either : (b : Bool) → (b || true) ≡ true
-    either b = grind (arith, common_steps, nat_tests)
+covered-page c runs t =
+    let one = any-one (touches_run c) runs t in
+    let p = page-of c one.0 one.1 in
+    (p.0, p.1, one.2 (λ run. in_run run p.0) p.2)
 
 -- ---- steady pages that are disturbed have no answer
 

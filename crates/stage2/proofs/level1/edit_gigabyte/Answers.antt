@@ -1,17 +1,10 @@
-use Rattle.stage2.proofs.Names.{View, pages_of, table_word_of, answers, edited, EditsGigabyte, ◌≡◌, ◌+◌, Bool, true, false, not, is_some, Option, None, Some, ℕ, sym, ap, subst, ◌∙◌, arith}
+use Rattle.stage2.proofs.Names.{View, pages_of, table_word_of, answers, edited, EditsGigabyte, ◌≡◌, ◌+◌, not, None, common_steps, sym, ap, subst, ◌∙◌, arith}
 use Rattle.stage2.proofs.Editing.Gigabyte.{is-none, finish-none}
 use Rattle.stage2.proofs.Editing.TabledGigabyte.{tabled-can, tabled-page, tabled-left, can-unlink, kept, emptied}
 use Rattle.stage2.proofs.Editing.UntabledGigabyte.{untabled-free, untabled-can, untabled-left, untabled-edited}
 use Rattle.stage2.proofs.Walkers.ZeroedTables.{stays-none}
 use Rattle.stage2.proofs.level1.edit_gigabyte.Goals as goal
 use Rattle.stage2.proofs.level1.edit_gigabyte.Goals.{in-Some, in-None+else-is_none}
-
--- where no table was found, one was not
-none-found : (found : Option ℕ) (j : ℕ) (none : Bool) → found ≡ Some j → is_some found ≡ not none → none ≡ true → ⊥
-none-found found j none is says so = let bad : true ≡ false = sym (ap is_some is) ∙ says ∙ ap not so in cc
-
-some-found : (found : Option ℕ) (none : Bool) → found ≡ None → is_some found ≡ not none → none ≡ false → ⊥
-some-found found none is says so = let bad : false ≡ true = sym (ap is_some is) ∙ says ∙ ap not so in cc
 
 pub take_page-second-requires : goal.take_page-second-requires
 take_page-second-requires g c = record { free = untabled-free c.requires (sym c.find_table-found.ensures ∙ c.in-None.is) (c.is_none.ensures ∙ ap not c.if-is_none.false) }
@@ -44,7 +37,7 @@ returns-then-is_none g c =
 
 pub put_word-requires-clause-room : goal.put_word-requires-clause-room
 put_word-requires-clause-room g c = elim c.match-found.branch [
-  | in-Some w ↦ absurd (none-found c.match-found.found w.in-Some.second c.is_none-2.result w.found-is c.is_none-2.ensures c.if-is_none-2.true)
+  | in-Some w ↦ absurd (grind (arith, common_steps, w.found-is, c.is_none-2.ensures, c.if-is_none-2.true))
   | in-None+else-is_none w ↦
       let taken = w.take_page-second in
       untabled-left c.requires (sym c.find_table-found.ensures ∙ w.in-None.is) (w.is_none.ensures ∙ ap not w.if-is_none.false) (g.met.M.TableMem.whole c.args.memory.now) (g.met.M.TableMem.free_is_zero c.args.memory.now taken.result)
@@ -53,7 +46,7 @@ put_word-requires-clause-room g c = elim c.match-found.branch [
 
 pub returns-then-is_none-2 : goal.returns-then-is_none-2
 returns-then-is_none-2 g c = elim c.match-found.branch [
-  | in-Some w ↦ absurd (none-found c.match-found.found w.in-Some.second c.is_none-2.result w.found-is c.is_none-2.ensures c.if-is_none-2.true)
+  | in-Some w ↦ absurd (grind (arith, common_steps, w.found-is, c.is_none-2.ensures, c.if-is_none-2.true))
   | in-None+else-is_none w ↦
       let taken = w.take_page-second in
       let word : c.table_word-link.result ≡ table_word_of (c.args.edit.now.layout.now.base + taken.result) = c.table_word-link.ensures.value ∙ ap table_word_of (c.address.ensures ∙ ap (λ j. c.args.edit.now.layout.now.base + j) w.second-is) in
@@ -67,19 +60,19 @@ returns-then-is_none-2 g c = elim c.match-found.branch [
 pub is_empty-requires : goal.is_empty-requires
 is_empty-requires g c = elim c.match-found.branch [
   | in-Some w ↦ rw w.second-is (tabled-page c.requires (sym c.find_table-found.ensures ∙ w.in-Some.is) (rw (w.second-is, w.memory-is) at c.edit_chunks.ensures))
-  | in-None+else-is_none w ↦ absurd (some-found c.match-found.found c.is_none-2.result (w.found-is ∙ w.in-None.is) c.is_none-2.ensures c.if-is_none-2.false)
+  | in-None+else-is_none w ↦ absurd (grind (arith, common_steps, w.found-is, w.in-None.is, c.is_none-2.ensures, c.if-is_none-2.false))
 ]
 
 pub unlink-requires-clause-can : goal.unlink-requires-clause-can
 unlink-requires-clause-can g c = elim c.match-found.branch [
   | in-Some w ↦ rw w.second-is (can-unlink c.requires (sym c.find_table-found.ensures ∙ w.in-Some.is) (rw (w.second-is, w.memory-is) at c.edit_chunks.ensures) (rw w.second-is at (c.is_empty.ensures.yes c.if-is_empty.true)))
-  | in-None+else-is_none w ↦ absurd (some-found c.match-found.found c.is_none-2.result (w.found-is ∙ w.in-None.is) c.is_none-2.ensures c.if-is_none-2.false)
+  | in-None+else-is_none w ↦ absurd (grind (arith, common_steps, w.found-is, w.in-None.is, c.is_none-2.ensures, c.if-is_none-2.false))
 ]
 
 pub unlink-requires-clause-room : goal.unlink-requires-clause-room
 unlink-requires-clause-room g c = elim c.match-found.branch [
   | in-Some w ↦ tabled-left c.requires (sym c.find_table-found.ensures ∙ w.in-Some.is) (rw (w.second-is, w.memory-is) at c.edit_chunks.ensures)
-  | in-None+else-is_none w ↦ absurd (some-found c.match-found.found c.is_none-2.result (w.found-is ∙ w.in-None.is) c.is_none-2.ensures c.if-is_none-2.false)
+  | in-None+else-is_none w ↦ absurd (grind (arith, common_steps, w.found-is, w.in-None.is, c.is_none-2.ensures, c.if-is_none-2.false))
 ]
 
 pub returns-then-is_empty : goal.returns-then-is_empty
@@ -87,11 +80,11 @@ returns-then-is_empty g c = elim c.match-found.branch [
   | in-Some w ↦
       emptied c.requires (sym c.find_table-found.ensures ∙ w.in-Some.is) (rw (w.second-is, w.memory-is) at c.edit_chunks.ensures) (rw w.second-is at (c.is_empty.ensures.yes c.if-is_empty.true))
       (rw w.second-is at c.unlink.ensures.pages) c.unlink.ensures.in_step c.unlink.ensures.room
-  | in-None+else-is_none w ↦ absurd (some-found c.match-found.found c.is_none-2.result (w.found-is ∙ w.in-None.is) c.is_none-2.ensures c.if-is_none-2.false)
+  | in-None+else-is_none w ↦ absurd (grind (arith, common_steps, w.found-is, w.in-None.is, c.is_none-2.ensures, c.if-is_none-2.false))
 ]
 
 pub returns-else-is_empty : goal.returns-else-is_empty
 returns-else-is_empty g c = elim c.match-found.branch [
   | in-Some w ↦ kept c.requires (sym c.find_table-found.ensures ∙ w.in-Some.is) (rw (w.second-is, w.memory-is) at c.edit_chunks.ensures) (rw w.second-is at (c.is_empty.ensures.no c.if-is_empty.false))
-  | in-None+else-is_none w ↦ absurd (some-found c.match-found.found c.is_none-2.result (w.found-is ∙ w.in-None.is) c.is_none-2.ensures c.if-is_none-2.false)
+  | in-None+else-is_none w ↦ absurd (grind (arith, common_steps, w.found-is, w.in-None.is, c.is_none-2.ensures, c.if-is_none-2.false))
 ]
