@@ -1,5 +1,5 @@
 -- The words of one level 3 table, one after another.
-use Rattle.stage2.proofs.Names.{nat_tests, View, Pages, PageRun, covers, planned, Writes, IsWordFor, below, common_steps, cases_Bool, ◌≡◌, ℕ, ◌+◌, ◌*◌, ◌<◌, ◌≤◌, Bool, true, false, ltb, List, [], Option, Some, None, refl, arith, sym, ◌∙◌, inl, inr}
+use Rattle.stage2.proofs.Names.{nat_tests, View, Pages, PageRun, covers, planned, Writes, IsWordFor, below, common_steps, cases_Bool, ◌≡◌, ℕ, ◌+◌, ◌*◌, ◌<◌, ◌≤◌, true, false, ltb, List, [], Option, Some, None, refl, arith, sym, ◌∙◌, inl, inr}
 use Rattle.words.proofs.RoundTrip.{entry-zero}
 
 before-at : (plan : ℕ → Option View) (m n : ℕ) (x : View) → below m plan n ≡ Some x → (n < m) × (plan n ≡ Some x)
@@ -31,6 +31,11 @@ writes-over k c i j plan part a b e le before same after so next = record {
   stays = λ x small none. grind (arith, common_steps, nat_tests, next.stays, so.stays, below-in);
 }
 
+-- words of one plan, which are those of another
+pub writes-as : {k c : ℕ} {plan : ℕ → Option View} (other : ℕ → Option View) {a b : Pages} → Writes k c plan a b → ((i : ℕ) (x : View) → i < 512 → other (512 * c + i) ≡ Some x → IsWordFor (512 * c + i) x (b.words k i))
+    → ((i : ℕ) → i < 512 → other (512 * c + i) ≡ None → b.words k i ≡ a.words k i) → Writes k c other a b
+writes-as other so here stays = record { ids = so.ids; quotas = so.quotas; taken = so.taken; others = so.others; here = here; stays = stays }
+
 -- pages from the i-th up to the j-th, for which nothing is planned
 pub writes-pass : (k c i j : ℕ) (plan : ℕ → Option View) (a b : Pages) → i ≤ j → ((x : ℕ) → i ≤ x → x < j → plan (512 * c + x) ≡ None)
     → Writes k c (below (512 * c + i) plan) a b → Writes k c (below (512 * c + j) plan) a b
@@ -39,49 +44,26 @@ writes-pass k c i j plan a b le none so = writes-over k c i j plan (λ n. None) 
 
 -- all of them: nothing is planned for the pages from the i-th on
 pub writes-all : (k c i : ℕ) (plan : ℕ → Option View) (a b : Pages) → ((x : ℕ) → x < 512 → i ≤ x → plan (512 * c + x) ≡ None) → Writes k c (below (512 * c + i) plan) a b → Writes k c plan a b
-writes-all k c i plan a b none so = record {
-  ids = so.ids;
-  quotas = so.quotas;
-  taken = so.taken;
-  others = so.others;
-  here = λ x v small given. elim (cases_Bool (ltb x i)) [
-    | inl t ↦ so.here x v small (below-in plan (512 * c + i) (512 * c + x) (let lt : x < i = grind (arith, nat_tests, t) in omega (arith, lt)) ∙ given)
-    | inr f ↦ let gone : plan (512 * c + x) ≡ None = none x small (grind (arith, nat_tests, f)) in absurd (cc)
-  ];
-  stays = λ x small gone. so.stays x small (below-none plan (512 * c + i) (512 * c + x) gone);
-}
-  where
-    below-none : (plan : ℕ → Option View) (m n : ℕ) → plan n ≡ None → below m plan n ≡ None
-    below-none plan m n none = grind (arith, common_steps, nat_tests)
+writes-all k c i plan a b none so =
+    writes-as plan so (λ x v small given. elim (cases_Bool (ltb x i)) [
+      | inl t ↦ so.here x v small (below-in plan (512 * c + i) (512 * c + x) (let lt : x < i = grind (arith, nat_tests, t) in omega (arith, lt)) ∙ given)
+      | inr f ↦ let gone : plan (512 * c + x) ≡ None = none x small (grind (arith, nat_tests, f)) in absurd (cc)
+    ])
+    (λ x small gone. so.stays x small (grind (arith, common_steps, nat_tests, gone)))
 
 -- ---- plans of the same words
 
 -- where the words of all pages in none of the runs are 0, they need no write
 pub writes-rest : (k c : ℕ) (runs : List PageRun) (access : View) (a b : Pages) → ((i : ℕ) → i < 512 → covers runs (512 * c + i) ≡ false → a.words k i ≡ 0)
     → Writes k c (planned runs access None) a b → Writes k c (planned runs access (Some None)) a b
-writes-rest k c runs access a b left so = record {
-  ids = so.ids;
-  quotas = so.quotas;
-  taken = so.taken;
-  others = so.others;
-  here = λ i x small at. here i x small (covers runs (512 * c + i)) refl at;
-  stays = λ i small none. absurd (grind (arith, common_steps, nat_tests));
-}
-  where
-    here : (i : ℕ) (x : View) → i < 512 → (t : Bool) → covers runs (512 * c + i) ≡ t → planned runs access (Some None) (512 * c + i) ≡ Some x → IsWordFor (512 * c + i) x (b.words k i)
-    here i x small true e given = so.here i x small (rw e (rw e at given))
-    here i x small false e given = grind (arith, common_steps, nat_tests, so.stays, entry-zero 3)
+writes-rest k c runs access a b left so =
+    writes-as (planned runs access (Some None)) so (λ i x small given. elim (cases_Bool (covers runs (512 * c + i))) [
+      | inl e ↦ so.here i x small (rw e (rw e at given))
+      | inr e ↦ grind (arith, common_steps, nat_tests, so.stays, entry-zero 3)
+    ])
+    (λ i small none. absurd (grind (arith, common_steps, nat_tests)))
 
 -- no runs, and all others: all words are 0
 pub writes-zero : (k c : ℕ) (runs : List PageRun) (a b : Pages) → Writes k c (planned runs None (Some None)) a b → Writes k c (planned [] None (Some None)) a b
-writes-zero k c runs a b so = record {
-  ids = so.ids;
-  quotas = so.quotas;
-  taken = so.taken;
-  others = so.others;
-  here = λ i x small given. so.here i x small (all runs (512 * c + i) (covers runs (512 * c + i)) refl ∙ given);
-  stays = λ i small none. absurd (cc);
-}
-  where
-    all : (runs : List PageRun) (n : ℕ) (t : Bool) → covers runs n ≡ t → planned runs None (Some None) n ≡ Some None
-    all runs n t e = grind (arith, common_steps, nat_tests)
+writes-zero k c runs a b so =
+    writes-as (planned [] None (Some None)) so (λ i x small given. let all : planned runs None (Some None) (512 * c + i) ≡ Some None = (grind (arith, common_steps, nat_tests)) in so.here i x small (all ∙ given)) (λ i small none. absurd (cc))

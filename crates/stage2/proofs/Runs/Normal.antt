@@ -29,17 +29,18 @@ normal-apart (r ∷ runs) i zero d e lt below = absurd (omega arith)
 normal-apart (r ∷ runs) zero (suc j) d e lt below = rise-first (end_of r) runs j d e (omega arith)
 normal-apart (r ∷ runs) (suc i) (suc j) d e lt below = normal-apart runs i j d (rise-normal (end_of r) runs e) (omega arith) (omega arith)
 
-pub ends-rise : (runs : List PageRun) → are_normal runs ≡ true → IsNonDecreasingBy end_of runs
-ends-rise runs e i j d le below = elim (cases_eq i j) [
+-- so they rise by what is no more than a run's end and no less than its first page
+by-rise : (f : PageRun → ℕ) (runs : List PageRun) → ((r : PageRun) → (r.first ≤ f r) × (f r ≤ end_of r)) → are_normal runs ≡ true → IsNonDecreasingBy f runs
+by-rise f runs between e i j d le below = elim (cases_eq i j) [
   | inl is ↦ rw is (omega arith)
-  | inr other ↦ let apart = normal-apart runs i j d e (omega (arith, le, other)) below in omega (arith, apart)
+  | inr other ↦ omega (arith, normal-apart runs i j d e (omega (arith, le, other)) below, (between (get_or runs i d)).1, (between (get_or runs j d)).0)
 ]
 
+pub ends-rise : (runs : List PageRun) → are_normal runs ≡ true → IsNonDecreasingBy end_of runs
+ends-rise runs = by-rise end_of runs (λ r. (omega arith, omega arith))
+
 pub firsts-rise : (runs : List PageRun) → are_normal runs ≡ true → IsNonDecreasingBy first_of runs
-firsts-rise runs e i j d le below = elim (cases_eq i j) [
-  | inl is ↦ rw is (omega arith)
-  | inr other ↦ let apart = normal-apart runs i j d e (omega (arith, le, other)) below in omega (arith, apart)
-]
+firsts-rise runs = by-rise first_of runs (λ r. (omega arith, omega arith))
 
 pub normal-drop : (n : ℕ) (runs : List PageRun) → are_normal runs ≡ true → are_normal (drop n runs) ≡ true
 normal-drop zero runs e = e

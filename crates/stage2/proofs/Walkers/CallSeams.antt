@@ -1,9 +1,9 @@
 -- Where one call ends and the next begins, and tables that hang only once a root's word is set.
 use Rattle.std.proofs.Common.{◌≡◌, ◌≢◌, ℕ, ◌/◌, ◌%◌, ◌^◌, ◌<◌, false, List, [], ◌∷◌, Some, None, length, arith, ap, sym, ◌∙◌, subst, ◌⊎◌, inl, inr}
-use Rattle.std.proofs.lemmas.Bool.{cases_eq}
 use Rattle.stage2.proofs.Names.{Access, View, row_of, Pool, Words, words_of, put, Op, Set, Walked, Layout, slot, walk, walked, Agrees, Place, Root, Gigabyte, Chunk, next_page, table_at, IsPlace, IsForest, words_after, invalidates, Since, Walker, Begins, Ends, UnderWay, begins, now, earlier, Moments, nat_tests, common_steps, Unmapped, Mapped}
 use Rattle.stage2.specs.Moments.{Second, Third, IsValid}
 use Rattle.stage2.proofs.Tree.WalkFrame.{put-same, put-other, other_table, table_at-root, table_at-gigabyte, table_at-chunk, IsUnheld}
+use Rattle.stage2.proofs.Tree.RootWrites.{is_pair}
 use Rattle.stage2.proofs.Walkers.Level3Write.{slot-zero}
 use Rattle.stage2.proofs.Walkers.InStep.{gigabyte-now}
 use Rattle.stage2.proofs.Walkers.UnderWay.{under_way-now}
@@ -38,27 +38,18 @@ module _ (layout : Layout) (linked : Words) (p g : ℕ) (forest : IsForest layou
   -- a table that hangs without the word hangs with it, and not below it
   pub hangs-linked : (b : Place) (k : ℕ) → IsPlace layout b → table_at layout (put p g 0 linked) b ≡ Some k → table_at layout linked b ≡ Some k
   hangs-linked (Root r) k inside at = table_at-root layout linked r ∙ sym (table_at-root layout (put p g 0 linked) r) ∙ at
-  hangs-linked (Gigabyte r h) k inside at = elim (cases_eq r p) [
-    | inl e ↦ elim (cases_eq h g) [
-      | inl f ↦ let none : table_at layout (put p g 0 linked) (Gigabyte r h) ≡ None = rw (e, f) gone in absurd (cc)
-      | inr f ↦ sym (table_at-gigabyte layout linked (put p g 0 linked) r h (put-other linked p g 0 r h (λ _ same. f same))) ∙ at
-    ]
-    | inr e ↦ sym (table_at-gigabyte layout linked (put p g 0 linked) r h (put-other linked p g 0 r h (λ same _. e same))) ∙ at
+  hangs-linked (Gigabyte r h) k inside at = elim (is_pair p g r h) [
+    | inl e ↦ let none : table_at layout (put p g 0 linked) (Gigabyte r h) ≡ None = rw (e.0, e.1) gone in absurd (cc)
+    | inr other ↦ sym (table_at-gigabyte layout linked (put p g 0 linked) r h (put-other linked p g 0 r h other)) ∙ at
   ]
-  hangs-linked (Chunk r c) k inside at = elim (cases_eq r p) [
-    | inl e ↦ elim (cases_eq (c / 512) g) [
-      | inl f ↦ let none : table_at layout (put p g 0 linked) (Gigabyte r (c / 512)) ≡ None = rw (e, f) gone in let nothing_below = no-table-below layout (put p g 0 linked) r c none in absurd (cc)
-      | inr f ↦ kept r c (λ _ same. f same) inside at
-    ]
-    | inr e ↦ kept r c (λ same _. e same) inside at
+  hangs-linked (Chunk r c) k inside at = elim (is_pair p g r (c / 512)) [
+    | inl e ↦ let none : table_at layout (put p g 0 linked) (Gigabyte r (c / 512)) ≡ None = rw (e.0, e.1) gone in let nothing_below = no-table-below layout (put p g 0 linked) r c none in absurd (cc)
+    | inr other ↦
+        sym (table_at-chunk layout linked (put p g 0 linked) r c (record {
+          first = put-other linked p g 0 r (c / 512) other;
+          second = λ j at_j. below (Gigabyte r (c / 512)) j (inside.0, omega (arith, inside.1)) at_j (λ f. cc) (c % 512);
+        })) ∙ at
   ]
-    where
-      kept : (r c : ℕ) → (r ≡ p → c / 512 ≡ g → ⊥) → IsPlace layout (Chunk r c) → table_at layout (put p g 0 linked) (Chunk r c) ≡ Some k → table_at layout linked (Chunk r c) ≡ Some k
-      kept r c other inside at =
-          sym (table_at-chunk layout linked (put p g 0 linked) r c (record {
-            first = put-other linked p g 0 r (c / 512) other;
-            second = λ j at_j. below (Gigabyte r (c / 512)) j (inside.0, omega (arith, inside.1)) at_j (λ f. cc) (c % 512);
-          })) ∙ at
 
   -- so while the word is 0, the tables below it may be written
   pub unheld-gigabyte : (j : ℕ) → g < 512 → table_at layout linked (Gigabyte p g) ≡ Some j → IsUnheld layout (put p g 0 linked) j

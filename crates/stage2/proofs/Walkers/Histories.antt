@@ -15,11 +15,15 @@ counted-append (op ∷ b) a n = ap (λ x. (x + 1) % 2 ^ 64) (counted-append b a 
 pub made-none : (s : Pool) → Made [] s s
 made-none s = record { operations = refl; count = refl; words = refl }
 
+-- what is planned may be part of another plan, of more pages
+sets-more : (k c i b : ℕ) (plan more : ℕ → Option View) (ops : List Op) → i ≤ b → ((n : ℕ) (answer : View) → plan n ≡ Some answer → more n ≡ Some answer) → AreSets k c plan i ops → AreSets k c more b ops
+sets-more k c i b plan more [] le all s = tt
+sets-more k c i b plan more (Set q x w ∷ ops) le all s = let lt = s.1 in (s.0, omega arith, (s.2.0, all (512 * c + x) s.2.0 s.2.1, s.2.2), sets-more k c x x plan more ops (omega arith) all s.3)
+sets-more k c i b plan more (Invalidate p r ∷ ops) le all s = absurd s
+sets-more k c i b plan more (Clear r ∷ ops) le all s = absurd s
+
 pub sets-wider : (k c i b : ℕ) (plan : ℕ → Option View) (ops : List Op) → i ≤ b → AreSets k c plan i ops → AreSets k c plan b ops
-sets-wider k c i b plan [] le s = tt
-sets-wider k c i b plan (Set q x w ∷ ops) le s = let lt = s.1 in (s.0, omega arith, s.2, s.3)
-sets-wider k c i b plan (Invalidate p r ∷ ops) le s = absurd s
-sets-wider k c i b plan (Clear r ∷ ops) le s = absurd s
+sets-wider k c i b plan ops le s = sets-more k c i b plan plan ops le (λ n answer is. is) s
 
 -- operations that each change their word, after others that do
 pub changes-append : (w : Words) (b a : List Op) → AllChange (words_after a w) b → AllChange w a → AllChange w (b ++ a)
@@ -50,12 +54,5 @@ filled-over k c i j plan part a b e le over so next = grind (arith, common_steps
 pub filled-wider : (k c i b : ℕ) (plan : ℕ → Option View) (a e : Pool) → i ≤ b → Filled k c i plan a e → Filled k c b plan a e
 filled-wider k c i b plan a e le h = record { ops = h.ops; made = h.made; sets = sets-wider k c i b plan h.ops le h.sets; changes = h.changes }
 
--- what is planned may be part of another plan
-sets-more : (k c b : ℕ) (plan more : ℕ → Option View) (ops : List Op) → ((n : ℕ) (answer : View) → plan n ≡ Some answer → more n ≡ Some answer) → AreSets k c plan b ops → AreSets k c more b ops
-sets-more k c b plan more [] all s = tt
-sets-more k c b plan more (Set q x w ∷ ops) all s = (s.0, s.1, (s.2.0, all (512 * c + x) s.2.0 s.2.1, s.2.2), sets-more k c x plan more ops all s.3)
-sets-more k c b plan more (Invalidate p r ∷ ops) all s = absurd s
-sets-more k c b plan more (Clear r ∷ ops) all s = absurd s
-
 pub filled-more : (k c b : ℕ) (plan more : ℕ → Option View) (a e : Pool) → ((n : ℕ) (answer : View) → plan n ≡ Some answer → more n ≡ Some answer) → Filled k c b plan a e → Filled k c b more a e
-filled-more k c b plan more a e all h = record { ops = h.ops; made = h.made; sets = sets-more k c b plan more h.ops all h.sets; changes = h.changes }
+filled-more k c b plan more a e all h = record { ops = h.ops; made = h.made; sets = sets-more k c b b plan more h.ops (omega arith) all h.sets; changes = h.changes }
