@@ -1,26 +1,19 @@
 -- An edit takes no more tables than there are chunks and gigabytes from the first that its runs touch to the last.
-use Rattle.stage2.proofs.Names.{common_steps, nat_tests, View, count_below, grow, PageRun, covers, edited, lie_within, cases_Bool, cases_lt}
-use Rattle.std.proofs.Common.{◌*◌, ◌≡◌, ℕ, zero, suc, ◌+◌, ◌-◌, ◌/◌, ◌<◌, ◌≤◌, Bool, true, List, arith, inl, inr}
+use Rattle.stage2.proofs.Names.{common_steps, nat_tests, View, count_below, grow, PageRun, covers, edited, lie_within, is_between, cases_lt}
+use Rattle.std.proofs.Common.{◌*◌, ◌≡◌, ℕ, ◌+◌, ◌-◌, ◌/◌, ◌<◌, ◌≤◌, Bool, true, List, arith}
 use Rattle.stage2.proofs.Counting.Growth.{grows-nothing}
 use Rattle.stage2.proofs.Runs.Normal.{any-within}
 use Rattle.stage2.proofs.Counting.Needs.{reached-same}
+use Rattle.stage2.proofs.Counting.Pieces.{count_below-fewer}
+use Rattle.stage2.proofs.Editing.ChunkByChunk.{count-sum}
+use Rattle.stage2.proofs.Runs.ChunkCounts.{sum-between}
 
 -- ---- counts of numbers between two others
 
-count-from : (f : ℕ → Bool) (low n : ℕ) → ((x : ℕ) → x < n → f x ≡ true → low ≤ x) → count_below f n ≤ n - low
-unfolding count_below
-count-from f low zero from = omega arith
-count-from f low (suc n) from = grind (arith, common_steps, nat_tests, count-from f low n (λ x lt. from x (omega (arith, lt))))
-
 pub count-within : (f : ℕ → Bool) (low high n : ℕ) → ((x : ℕ) → x < n → f x ≡ true → (low ≤ x) × (x < high)) → count_below f n ≤ high - low
-unfolding count_below
-count-within f low high zero within = omega arith
-count-within f low high (suc n) within = elim (cases_Bool (f n)) [
-  | inl t ↦
-      let here = within n (omega arith) t in
-      rw t (omega (arith, count-from f low n (λ x lt is. (within x (omega (arith, lt)) is).0), here.0, here.1))
-  | inr t ↦ let rest = count-within f low high n (λ x lt. within x (omega (arith, lt))) in rw t (omega (arith, rest))
-]
+count-within f low high n within =
+    let fewer = count_below-fewer f (is_between low high) n (λ x lt is. grind (arith, nat_tests, within x lt is)) in
+    omega (arith, fewer, count-sum (is_between low high) n, sum-between low high n)
 
 -- ---- what the runs touch
 

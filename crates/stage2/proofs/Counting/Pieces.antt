@@ -111,7 +111,7 @@ pub nonzero-most : (words : Words) (k : ℕ) → nonzero_in words k ≤ 512
 unfolding nonzero_in
 nonzero-most words k = count_below-le (λ i. not (words k i == 0)) 512
 
-or-most : (a b : ℕ → Bool) (n : ℕ) → count_below (λ k. a k || b k) n ≤ count_below a n + count_below b n
+pub or-most : (a b : ℕ → Bool) (n : ℕ) → count_below (λ k. a k || b k) n ≤ count_below a n + count_below b n
 unfolding count_below
 or-most a b zero = omega arith
 or-most a b (suc n) = let rest = or-most a b n in let here = bits (a n) (b n) in omega (arith, rest, here)

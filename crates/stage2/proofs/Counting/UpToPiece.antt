@@ -85,16 +85,10 @@ module _ {g : ℕ} {runs : List PageRun} {access : View} {v : ℕ → View} wher
         let count = count_below-more (grows g runs access v) i in
         let sum = sum_below-more (cost g runs access v) i in
         rw is record {
-          tables = up plan.tables one.tables (bit (grows g runs access v i)) (count_below (grows g runs access v) i) (count_below (grows g runs access v) (i + 1)) so.tables grown count;
-          operations = up_to (sum_below (cost g runs access v) i) plan.operations (chunk_operations rest access v (512 * g + i)) (cost g runs access v i) one.operations (sum_below (cost g runs access v) (i + 1)) so.operations made operations sum;
+          tables = omega (arith, so.tables, grown, count);
+          operations = omega (arith, so.operations, made, operations, sum);
           few = let few = so.few in omega (arith, few, grown, bit-most (grows g runs access v i));
           most = let many = so.most in omega (arith, many, most);
           left = left-later (512 * g + i) (512 * g + (i + 1)) rest runs (omega arith) so.left;
           last = omega (arith, lt);
         }
-      where
-        up : (count more one below next : ℕ) → count ≡ below → more ≡ one → next ≡ one + below → count + more ≡ next
-        up count more one below next a b c = omega arith
-
-        up_to : (below count own one more next : ℕ) → below ≤ count → own ≡ one → own ≤ more → next ≡ one + below → next ≤ count + more
-        up_to below count own one more next a b c d = omega arith

@@ -28,7 +28,7 @@ pub sum_below-up : (f : ℕ → ℕ) (n m : ℕ) → n ≤ m → sum_below f n �
 sum_below-up f n m le = let e : n + (m - n) ≡ m = omega (arith, le) in omega (arith, ap (sum_below f) e, sum_below-add f n (m - n))
 
 -- a count is a sum
-count-sum : (f : ℕ → Bool) (n : ℕ) → count_below f n ≡ sum_below (λ k. bit (f k)) n
+pub count-sum : (f : ℕ → Bool) (n : ℕ) → count_below f n ≡ sum_below (λ k. bit (f k)) n
 unfolding count_below sum_below
 count-sum f zero = refl
 count-sum f (suc n) = omega (arith, count-sum f n)

@@ -50,7 +50,4 @@ fronts-fit view v w b e edge_b edge_e is_v is_w =
     (λ c lt t. mixed-below view b c edge_b (sym (mixed_v c lt) ∙ t)) (λ c lt t. mixed-below view e c edge_e (sym (mixed_w c lt) ∙ t)) in
     let gigabytes = count_below-both (is_reached v) (is_reached w) (is_reached view) 512
     (λ g lt t. reached-below view b g (sym (reached_v g lt) ∙ t)) (λ g lt t. reached-below view e g (sym (reached_w g lt) ∙ t)) in
-    numbers (count_below (is_reached v) 512) (count_below (is_mixed v) 262144) (count_below (λ g. is_reached w g && not (is_reached v g)) 512) (count_below (λ c. is_mixed w c && not (is_mixed v c)) 262144) (count_below (is_reached view) 512) (count_below (is_mixed view) 262144) gigabytes chunks
-  where
-    numbers : (a b c d e f : ℕ) → a + c ≤ e → b + d ≤ f → (a + b) + (c + d) ≤ e + f
-    numbers a b c d e f x y = omega arith
+    omega (arith, gigabytes, chunks)

@@ -4,7 +4,7 @@ use Rattle.stage2.proofs.Names.{nat_tests, Access, View, row_of, is_reached, nee
 use Rattle.std.specs.Result.{OnOk}
 use Rattle.std.proofs.lemmas.Bool.{cases_Bool, ltb-true, eqb-true}
 use Rattle.pool.specs.Pool.{after_clear}
-use Rattle.pool.proofs.Count.{count_below-same, count_below-none, count_below-some}
+use Rattle.pool.proofs.Count.{count_below-same, count_below-some}
 use Rattle.pool.proofs.Shares.{row_quota-none, used_by-le}
 use Rattle.stage2.specs.Edits.{with_pages}
 use Rattle.stage2.specs.Tables.{TablesView, Fits, IsMadeReady}
@@ -13,7 +13,8 @@ use Rattle.stage2.proofs.Walkers.ZeroedTables.{counted-op, stays-none}
 use Rattle.stage2.proofs.Editing.RowOfPartition.{edited-walks}
 use Rattle.stage2.proofs.Tree.EntryWords.{entries}
 use Rattle.stage2.proofs.Walkers.InStep.{orderly-clearing}
-use Rattle.stage2.proofs.Counting.Needs.{mixed-same, mixed-none, reached-same, reached-none, reached-some}
+use Rattle.stage2.proofs.Counting.Quotas.{need-none}
+use Rattle.stage2.proofs.Counting.Needs.{mixed-same, reached-same, reached-none, reached-some}
 use Rattle.stage2.proofs.Editing.GigabyteByGigabyte.{used-need}
 use Rattle.stage2.proofs.Tree.Rows.{IsRow, row-found, no-row}
 use Rattle.stage2.proofs.Walkers.WholeEdit.{moments-none}
@@ -37,11 +38,6 @@ rootless t p n none = rw none refl
 
 pub found-none : (ids : List ℕ) (p : ℕ) → position (λ id. eqb id p) ids ≡ None → ltb (row_of ids p) (length ids) ≡ false
 found-none ids p is = grind (arith, common_steps, nat_tests)
-
--- nothing reached needs no table
-need-none : (v : ℕ → View) → ((n : ℕ) → v n ≡ None) → need v ≡ 0
-unfolding need
-need-none v none = grind (arith, common_steps, nat_tests, count_below-none, reached-none, mixed-none)
 
 -- the views of a partition, whether it has a root or not
 pub grow-found : (t : TablesView) (p : ℕ) (runs : List PageRun) (access : View) (row : Option ℕ) → row ≡ position (λ id. eqb id p) t.layout.ids
@@ -160,12 +156,9 @@ free-and-need t p h =
     elim (cases_Bool (ltb row (length t.layout.ids))) [
       | inl rooted ↦
           let used : used_by m row ≡ need (view_of t p) = used-need t.layout m row h (ltb-true _ _ rooted) in
-          numbers (row_quota m.quotas row) (used_by m row) (need (view_of t p)) (row_quota t.layout.quotas row) (used_by-le m row) used quota
-      | inr none ↦ grind (arith, common_steps, nat_tests, row_quota-none, rootless-need t p none, numbers)
+          omega (arith, used_by-le m row, used, quota)
+      | inr none ↦ grind (arith, common_steps, nat_tests, row_quota-none, rootless-need t p none)
     ]
-  where
-    numbers : (all used needs quota : ℕ) → used ≤ all → used ≡ needs → all ≡ quota → all - used + needs ≡ quota
-    numbers all used needs quota a b c = omega arith
 
 -- ---- what an edit asks
 

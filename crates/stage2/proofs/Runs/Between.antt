@@ -1,5 +1,5 @@
 -- The runs with pages from one up to another are found by two halvings, as runs stand upward.
-use Rattle.std.proofs.Common.{◌≡◌, ℕ, zero, suc, ◌+◌, ◌*◌, ◌<◌, ◌≤◌, true, false, ◌&&◌, Bool, leb, ltb, List, [], ◌∷◌, get_or, length, take, drop, refl, arith, ap, ◌∙◌, inl, inr}
+use Rattle.std.proofs.Common.{◌≡◌, ℕ, zero, suc, ◌+◌, ◌*◌, ◌<◌, ◌≤◌, true, false, ◌&&◌, Bool, leb, ltb, List, [], ◌∷◌, get_or, length, take, drop, filter, refl, arith, ap, ◌∙◌, inl, inr}
 use Rattle.stage2.proofs.Names.{common_steps, nat_tests, list_any, PageRun, in_run, covers, rise_above, runs_past, runs_before, runs_between, chunk_runs, covers_chunk, any-filter_same, cases_Bool, ltb-true, and_parts}
 use Rattle.stage2.proofs.Runs.Normal.{end_of, first_of}
 
@@ -29,28 +29,20 @@ before-halved end (r ∷ runs) (suc n) early late =
     rw here (ap (λ rest. r ∷ rest) (before-halved end runs n (λ k d lt small. early (suc k) d (omega (arith, lt)) (omega (arith, small))) (λ k d le lt. late (suc k) d (omega (arith, le)) (omega (arith, lt)))))
 
 -- both tests, one after the other
+filter-filter : (p q both : PageRun → Bool) → ((r : PageRun) → both r ≡ (p r && q r)) → (runs : List PageRun) → filter q (filter p runs) ≡ filter both runs
+filter-filter p q both same [] = refl
+filter-filter p q both same (r ∷ runs) = grind (arith, common_steps, nat_tests, same r, filter-filter p q both same runs)
+
 pub between-parts : (first end : ℕ) (runs : List PageRun) → runs_before end (runs_past first runs) ≡ runs_between first end runs
-between-parts first end [] = refl
-between-parts first end (r ∷ runs) = elim (cases_Bool (ltb first (end_of r))) [
-  | inl past ↦ elim (cases_Bool (ltb r.first end)) [
-    | inl early ↦ rw (past, early) (ap (λ rest. r ∷ rest) (between-parts first end runs))
-    | inr late ↦ rw (past, late) (between-parts first end runs)
-  ]
-  | inr over ↦ rw over (between-parts first end runs)
-]
+between-parts first end runs = filter-filter (λ r. ltb first (end_of r)) (λ r. ltb r.first end) (λ r. ltb first (end_of r) && ltb r.first end) (λ r. refl) runs
 
 -- of the runs that end behind a page the same ones have a page from a later one on
 pub between-past : (page first end : ℕ) (runs : List PageRun) → page ≤ first → runs_between first end (runs_past page runs) ≡ runs_between first end runs
-between-past page first end [] le = refl
-between-past page first end (r ∷ runs) le = elim (cases_Bool (ltb page (end_of r))) [
-  | inl past ↦ elim (cases_Bool (ltb first (end_of r) && ltb r.first end)) [
-    | inl in_both ↦ rw (past, in_both) (ap (λ rest. r ∷ rest) (between-past page first end runs le))
-    | inr out ↦ rw (past, out) (between-past page first end runs le)
-  ]
-  | inr over ↦
-      let out : (ltb first (end_of r) && ltb r.first end) ≡ false = grind (arith, nat_tests) in
-      rw (over, out) (between-past page first end runs le)
-]
+between-past page first end runs le =
+    filter-filter (λ r. ltb page (end_of r)) (λ r. ltb first (end_of r) && ltb r.first end) (λ r. ltb first (end_of r) && ltb r.first end) (λ r. behind r.first (r.first + r.count)) runs
+  where
+    behind : (x y : ℕ) → (ltb first y && ltb x end) ≡ (ltb page y && (ltb first y && ltb x end))
+    behind x y = grind (arith, nat_tests)
 
 -- and the same chunks are filled
 pub fills-past : (page c : ℕ) (runs : List PageRun) → page ≤ 512 * c → covers_chunk c (runs_past page runs) ≡ covers_chunk c runs
@@ -79,16 +71,10 @@ left-past c page rest past runs at is left = rw is record {
 
 -- those that end behind a later page are told of them
 pub past-later : (page later : ℕ) (runs : List PageRun) → page ≤ later → runs_past later (runs_past page runs) ≡ runs_past later runs
-past-later page later [] le = refl
-past-later page later (r ∷ runs) le = elim (cases_Bool (ltb page (end_of r))) [
-  | inl past ↦ elim (cases_Bool (ltb later (end_of r))) [
-    | inl t ↦ rw (past, t) (ap (λ rest. r ∷ rest) (past-later page later runs le))
-    | inr f ↦ rw (past, f) (past-later page later runs le)
-  ]
-  | inr over ↦
-      let out : ltb later (end_of r) ≡ false = grind (arith, nat_tests, over) in
-      rw (over, out) (past-later page later runs le)
-]
+past-later page later runs le = filter-filter (λ r. ltb page (end_of r)) (λ r. ltb later (end_of r)) (λ r. ltb later (end_of r)) (λ r. behind (r.first + r.count)) runs
+  where
+    behind : (y : ℕ) → ltb later y ≡ (ltb page y && ltb later y)
+    behind y = grind (arith, nat_tests)
 
 -- no more of them are
 pub past-past : (page first : ℕ) (rest past : List PageRun) → page ≡ first → past ≡ runs_past page rest → runs_past first past ≡ past

@@ -1,6 +1,6 @@
 -- How many chunks runs touch, and how many operations their edit takes at most, whatever the tables are.
-use Rattle.stage2.proofs.Names.{common_steps, option_map_or, nat_tests, PageRun, covers, are_normal, rise_above, part_in, part_count, lie_within, touches_chunk, sum_below, pages_among, pages_in, chunk_operations, chunks_operations, gigabyte_operations, row_operations, Touches, View, index_from, words_in}
-use Rattle.std.proofs.Common.{◌≡◌, ℕ, zero, suc, ◌+◌, ◌-◌, ◌*◌, ◌/◌, ◌%◌, ◌<◌, ◌≤◌, min, Bool, true, false, cond, ◌&&◌, leb, ltb, List, [], ◌∷◌, ap, subst, ◌∙◌, arith, add-one, inl, inr}
+use Rattle.stage2.proofs.Names.{common_steps, option_map_or, nat_tests, PageRun, covers, are_normal, rise_above, part_in, part_count, lie_within, touches_chunk, sum_below, pages_among, pages_in, chunk_operations, chunks_operations, gigabyte_operations, row_operations, Touches, View, index_from, words_in, is_between}
+use Rattle.std.proofs.Common.{◌≡◌, ℕ, zero, suc, ◌+◌, ◌-◌, ◌*◌, ◌/◌, ◌%◌, ◌<◌, ◌≤◌, min, true, false, cond, ltb, List, [], ◌∷◌, ap, subst, ◌∙◌, arith, add-one, inl, inr}
 use Rattle.std.proofs.lemmas.Bool.{cases_Bool, cases_eq, ltb-true, and_parts}
 use Rattle.std.proofs.lemmas.List.Sums.{sum_by-cons}
 use Rattle.stage2.proofs.Counting.Pieces.{pages_among-le, page-among, words-pages}
@@ -78,11 +78,7 @@ rows-step f h g le rest =
     let e : 512 * (g + 1) ≡ 512 * g + 512 = omega arith in
     let all : sum_below f (512 * (g + 1)) ≡ sum_below f (512 * g) + sum_below (λ y. f (512 * g + y)) 512 = ap (sum_below f) e ∙ sum_below-add f (512 * g) 512 in
     let others : sum_below h (512 * (g + 1)) ≡ sum_below h (512 * g) + sum_below (λ y. h (512 * g + y)) 512 = ap (sum_below h) e ∙ sum_below-add h (512 * g) 512 in
-    numbers (sum_below (λ x. of_gigabyte f x) (g + 1)) (sum_below (λ x. of_gigabyte f x) g) (sum_below (λ y. f (512 * g + y)) 512) (sum_below (λ y. h (512 * g + y)) 512) (sum_below f (512 * g)) (sum_below h (512 * g)) (sum_below f (512 * (g + 1))) (sum_below h (512 * (g + 1)))
-    (sum_below-more (λ x. of_gigabyte f x) g) (few (λ y. f (512 * g + y)) (λ y. h (512 * g + y)) 512 (λ y. le (512 * g + y))) rest all others
-  where
-    numbers : (next so one two f h fs hs : ℕ) → next ≡ (one + min 2 one) + so → min 2 one ≤ two → so ≤ f + h → fs ≡ f + one → hs ≡ h + two → next ≤ fs + hs
-    numbers next so one two f h fs hs a b c d e = omega arith
+    omega (arith, sum_below-more (of_gigabyte f) g, few (λ y. f (512 * g + y)) (λ y. h (512 * g + y)) 512 (λ y. le (512 * g + y)), rest, all, others)
 
 rows : (f h : ℕ → ℕ) (g : ℕ) → ((k : ℕ) → min 2 (f k) ≤ h k) → sum_below (of_gigabyte f) g ≤ sum_below f (512 * g) + sum_below h (512 * g)
 unfolding sum_below
@@ -95,22 +91,19 @@ two runs c = omega arith
 
 -- ---- the chunks from the first that runs touch to the last
 
-between : ℕ → ℕ → ℕ → Bool
-between first end c = leb first c && ltb c end
-
-sum-between : (first end n : ℕ) → sum_below (λ c. cond (between first end c) 1 0) n ≤ min n end - first
-unfolding sum_below between
+pub sum-between : (first end n : ℕ) → sum_below (λ c. cond (is_between first end c) 1 0) n ≤ min n end - first
+unfolding sum_below
 sum-between first end zero = omega arith
 sum-between first end (suc n) = grind (arith, common_steps, nat_tests, sum-between first end n)
 
 module _ (runs : List PageRun) (first end : ℕ) (within : lie_within first end runs ≡ true) where
-  one-between : (c : ℕ) → touched runs c ≤ cond (between (first / 512) ((end + 511) / 512) c) 1 0
-  unfolding touched between
-  one-between c = grind (arith, common_steps, nat_tests, touched, between, any-within)
+  one-between : (c : ℕ) → touched runs c ≤ cond (is_between (first / 512) ((end + 511) / 512) c) 1 0
+  unfolding touched
+  one-between c = grind (arith, common_steps, nat_tests, touched, any-within)
 
   together : (n : ℕ) → sum_below (touched runs) n ≤ (end + 511) / 512 - first / 512
   together n =
-      omega (arith, sum_below-le (touched runs) (λ c. cond (between (first / 512) ((end + 511) / 512) c) 1 0) n one-between, (sum-between (first / 512) ((end + 511) / 512) n))
+      omega (arith, sum_below-le (touched runs) (λ c. cond (is_between (first / 512) ((end + 511) / 512) c) 1 0) n one-between, (sum-between (first / 512) ((end + 511) / 512) n))
 
   all-most : sum_below (of_gigabyte (chunk_most runs)) 512 ≤ 518 * ((end + 511) / 512 - first / 512)
   unfolding of_gigabyte chunk_most

@@ -44,7 +44,7 @@ loop-number-preserved g c =
           let made : h i ≤ w.plan_gigabyte-more.result.operations = omega (arith, all, gigabyte-operations i runs part is access v) in
           rw w.plan-is (record {
             tables = omega arith;
-            operations = most c.loop-number.plan.operations w.plan_gigabyte-more.result.operations (h i) (sum_below h i) (sum_below h (i + 1)) so.operations made operations;
+            operations = omega (arith, so.operations, made, operations);
             few = bound 513 c.loop-number.plan.tables w.plan_gigabyte-more.result.tables i so.few w.plan_gigabyte-more.ensures.few;
             most = bound 525826 c.loop-number.plan.operations w.plan_gigabyte-more.result.operations i so.most w.plan_gigabyte-more.ensures.most;
           })
@@ -60,9 +60,6 @@ loop-number-preserved g c =
           })
     ]
   where
-    most : (count more one below next : ℕ) → below ≤ count → one ≤ more → next ≡ one + below → next ≤ count + more
-    most count more one below next a b c = omega arith
-
     bound : (k count one i : ℕ) → count ≤ k * i → one ≤ k → count + one ≤ k * (i + 1)
     bound k count one i a b = let more : k * (i + 1) ≡ k * i + k = omega arith in omega (arith, a, b, more)
 
