@@ -12,12 +12,10 @@ any_below-same f g (suc n) same = ap₂ (λ a b. a || b) (same n (omega arith)) 
 pub mixed-same : (v w : ℕ → View) (c : ℕ) → ((i : ℕ) → i < 512 → w (512 * c + i) ≡ v (512 * c + i)) → is_mixed w c ≡ is_mixed v c
 unfolding is_mixed
 mixed-same v w c same =
-    let first : w (512 * c) ≡ v (512 * c) = ap w (zeroth c) ∙ same 0 (omega arith) ∙ ap v (sym (zeroth c)) in
+    let zeroth : 512 * c ≡ 512 * c + 0 = omega arith in
+    let first : w (512 * c) ≡ v (512 * c) = ap w zeroth ∙ same 0 (omega arith) ∙ ap v (sym zeroth) in
     any_below-same (λ i. not (is_alike (v (512 * c + i)) (v (512 * c)))) (λ i. not (is_alike (w (512 * c + i)) (w (512 * c)))) 512
     (λ i below. ap₂ (λ a b. not (is_alike a b)) (same i below) first)
-  where
-    zeroth : (c : ℕ) → 512 * c ≡ 512 * c + 0
-    zeroth c = omega arith
 
 pub reached-same : (v w : ℕ → View) (g : ℕ) → ((i : ℕ) → i < 262144 → w (262144 * g + i) ≡ v (262144 * g + i)) → is_reached w g ≡ is_reached v g
 unfolding is_reached
@@ -93,10 +91,7 @@ unfolding is_mixed
 equal-first view c n unmixed at =
     let place : 512 * c + n % 512 ≡ n = omega (arith, at) in
     let one : not (is_alike (view (512 * c + n % 512)) (view (512 * c))) ≡ false = any_below-none (λ i. not (is_alike (view (512 * c + i)) (view (512 * c)))) 512 (n % 512) unmixed (omega arith) in
-    ap view (sym place) ∙ alike-same (view (512 * c + n % 512)) (view (512 * c)) (not_false (is_alike (view (512 * c + n % 512)) (view (512 * c))) one)
-  where
-    not_false : (b : Bool) → not b ≡ false → b ≡ true
-    not_false b e = grind (arith, common_steps, nat_tests)
+    ap view (sym place) ∙ alike-same (view (512 * c + n % 512)) (view (512 * c)) (grind (arith, common_steps, nat_tests, one))
 
 -- two pages of a chunk that answer otherwise make it mixed
 pub unlike-mixed : (view : ℕ → View) (c x y : ℕ) → x / 512 ≡ c → y / 512 ≡ c → is_alike (view x) (view y) ≡ false → is_mixed view c ≡ true

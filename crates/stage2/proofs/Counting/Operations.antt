@@ -1,6 +1,6 @@
 -- How many operations an edit makes: views that agree on a chunk make as many, and what each row of the edit order makes.
 use Rattle.stage2.proofs.Names.{common_steps, nat_tests, View, is_mixed, PageRun, covers, Words, Pool, words_of, nonzero_in, edited, touches_chunk, answers_at, block_answer, IsOutcome, IsWordFor, OthersAnswer, sum_below, pages_among, pages_in, reached_in, table_operations, chunk_operations, chunks_operations, gigabyte_operations, part_count, answer_of, Layout, Slot, Next, next_page, entry_of}
-use Rattle.std.proofs.Common.{◌≡◌, ℕ, zero, suc, ◌+◌, ◌*◌, ◌/◌, ◌%◌, ◌<◌, ◌==◌, min, Bool, true, false, not, cond, is_some, List, Some, None, refl, sym, ap, ap₂, subst, ◌∙◌, arith, inl, inr, ◌⊎◌}
+use Rattle.std.proofs.Common.{◌≡◌, ℕ, zero, suc, ◌+◌, ◌*◌, ◌/◌, ◌%◌, ◌<◌, ◌==◌, min, true, false, not, cond, is_some, List, Some, None, refl, sym, ap, ap₂, subst, ◌∙◌, arith, inl, inr, ◌⊎◌}
 use Rattle.std.proofs.lemmas.Bool.{cases_Bool}
 use Rattle.pool.proofs.Count.{count_below-same}
 use Rattle.stage2.proofs.Counting.Needs.{mixed-same, outcome-others, equal-first}
@@ -84,11 +84,8 @@ module _ (runs : List PageRun) (access : View) (v : ℕ → View) (c : ℕ) wher
 pub new-unmapped : (runs : List PageRun) (access before : View) (c : ℕ) → access ≡ None → is_some before ≡ true → reached_in (edited runs access (λ n. before)) c + pages_in runs c ≡ 512
 new-unmapped runs access before c none was =
     ap (λ k. k + pages_in runs c) (pages_among-same (λ i. not (covers runs (512 * c + i))) (λ i. is_some (edited runs access (λ n. before) (512 * c + i)))
-    (λ i lt. ap (λ a. is_some (cond (covers runs (512 * c + i)) a before)) none ∙ either (covers runs (512 * c + i))))
+    (λ i lt. (grind (arith, common_steps, nat_tests))))
     ∙ pages_among-not (λ i. covers runs (512 * c + i))
-  where
-    either : (b : Bool) → is_some (cond b None before) ≡ not b
-    either b = grind (arith, common_steps, nat_tests)
 
 -- all, where the others were reached otherwise
 pub new-all : (runs : List PageRun) (access before : View) (c : ℕ) → is_some access ≡ true → is_some before ≡ true → reached_in (edited runs access (λ n. before)) c ≡ 512

@@ -1,6 +1,6 @@
 -- How many pages of a chunk runs have, and what that tells of the words of its level 3 table.
 use Rattle.stage2.proofs.Names.{common_steps, nat_tests, count_below, PageRun, in_run, covers, are_normal, rise_above, Words, nonzero_in, index_from, words_in, is_between, pages_among, pages_in, end_from, part_in, cases_Bool, and_parts, eqb-true}
-use Rattle.std.proofs.Common.{◌≡◌, ◌≢◌, ℕ, zero, suc, ◌+◌, ◌-◌, ◌*◌, ◌/◌, ◌<◌, ◌≤◌, ◌==◌, cond, Bool, true, false, not, ◌&&◌, ◌||◌, eqb, leb, ltb, min, List, [], ◌∷◌, Some, None, take, drop, length, get_or, refl, sym, ap, ◌∙◌, arith, inl, inr}
+use Rattle.std.proofs.Common.{◌≡◌, ◌≢◌, ℕ, zero, suc, ◌+◌, ◌-◌, ◌*◌, ◌/◌, ◌<◌, ◌≤◌, ◌==◌, Bool, true, false, not, ◌&&◌, ◌||◌, eqb, leb, ltb, min, List, [], ◌∷◌, Some, None, take, drop, length, get_or, refl, sym, ap, ◌∙◌, arith, inl, inr}
 use Rattle.std.proofs.lemmas.List.{at_drop_all}
 use Rattle.pool.proofs.Count.{count_below-same, count_below-some, count_below-none, count_below-tail, count_below-more, count_below-le, count_below-all, count_below-witness}
 use Rattle.pool.proofs.RunWords.{words_in-left}
@@ -114,10 +114,7 @@ nonzero-most words k = count_below-le (λ i. not (words k i == 0)) 512
 pub or-most : (a b : ℕ → Bool) (n : ℕ) → count_below (λ k. a k || b k) n ≤ count_below a n + count_below b n
 unfolding count_below
 or-most a b zero = omega arith
-or-most a b (suc n) = let rest = or-most a b n in let here = bits (a n) (b n) in omega (arith, rest, here)
-  where
-    bits : (x y : Bool) → cond (x || y) 1 0 ≤ cond x 1 0 + cond y 1 0
-    bits x y = grind (arith, common_steps, nat_tests)
+or-most a b (suc n) = grind (arith, common_steps, nat_tests, or-most a b n)
 
 not-or : (a x : Bool) → not (a || x) ≡ true → (a ≡ false) × (x ≡ false)
 not-or a x e = grind (arith, common_steps, nat_tests)
@@ -170,10 +167,7 @@ none-beside words k which as_many all i lt out = elim (cases_Bool (words k i == 
 -- and where as many are left for the pages beside some, which are all of these, the words of those pages are 0
 pub none-among : (words : Words) (k : ℕ) (which : ℕ → Bool) → nonzero_in words k + pages_among which ≡ 512 → ((i : ℕ) → i < 512 → which i ≡ false → words k i ≢ 0) → (i : ℕ) → i < 512 → which i ≡ true → words k i ≡ 0
 none-among words k which left all i lt in_it =
-    none-beside words k (λ j. not (which j)) (omega (arith, left, pages_among-not which)) (λ j small beside. all j small (was-not (which j) beside)) i lt (ap not in_it)
-  where
-    was-not : (b : Bool) → not b ≡ true → b ≡ false
-    was-not b e = grind (arith, common_steps, nat_tests)
+    none-beside words k (λ j. not (which j)) (omega (arith, left, pages_among-not which)) (λ j small beside. all j small (grind (arith, common_steps, nat_tests))) i lt (ap not in_it)
 
 -- and where as many are not 0 as there are of some, beside which all are 0, none of their words is 0
 pub all-among : (words : Words) (k : ℕ) (which : ℕ → Bool) → nonzero_in words k ≡ pages_among which → ((i : ℕ) → i < 512 → which i ≡ false → words k i ≡ 0) → (i : ℕ) → i < 512 → which i ≡ true → words k i ≢ 0
@@ -187,23 +181,21 @@ pub part-within : (c : ℕ) (run part : PageRun) → part_in c run ≡ Some part
 unfolding part_in
 part-within c run part e = grind (arith, common_steps, nat_tests)
 
+-- a page by its index is its chunk's
+of-chunk : (b : Bool) (c i : ℕ) → i < 512 → (b && eqb ((512 * c + i) / 512) c) ≡ b
+of-chunk b c i lt = let at : (512 * c + i) / 512 ≡ c = omega (arith, lt) in grind (arith, common_steps, nat_tests)
+
 pub part-pages : (c : ℕ) (run part : PageRun) → part_in c run ≡ Some part → pages_among (λ i. in_run run (512 * c + i)) ≡ part.count
 part-pages c run part e =
     let within = part-within c run part e in
     let first = part.first - 512 * c in
     let end = part.first + part.count - 512 * c in
     pages_among-same (is_between first end) (λ i. in_run run (512 * c + i))
-    (λ i lt. sym (there (in_run run (512 * c + i)) ((512 * c + i) / 512) c (omega (arith, lt))) ∙ sym (part-some c run part (512 * c + i) e) ∙ (grind (arith, nat_tests)))
+    (λ i lt. sym (of-chunk (in_run run (512 * c + i)) c i lt) ∙ sym (part-some c run part (512 * c + i) e) ∙ (grind (arith, nat_tests)))
     ∙ pages_among-between first end (omega arith) (omega (arith, within.1)) ∙ omega (arith, within.0)
-  where
-    there : (b : Bool) (q c : ℕ) → q ≡ c → (b && eqb q c) ≡ b
-    there b q c e = grind (arith, common_steps, nat_tests)
 
 pub no-part-pages : (c : ℕ) (run : PageRun) → part_in c run ≡ None → pages_among (λ i. in_run run (512 * c + i)) ≡ 0
-no-part-pages c run e = pages_among-none (λ i. in_run run (512 * c + i)) (λ i lt. there (in_run run (512 * c + i)) ((512 * c + i) / 512) c (omega (arith, lt)) (part-none c run (512 * c + i) e))
-  where
-    there : (b : Bool) (q c : ℕ) → q ≡ c → (b && eqb q c) ≡ false → b ≡ false
-    there b q c e none = grind (arith, common_steps, nat_tests)
+no-part-pages c run e = pages_among-none (λ i. in_run run (512 * c + i)) (λ i lt. sym (of-chunk (in_run run (512 * c + i)) c i lt) ∙ part-none c run (512 * c + i) e)
 
 -- ---- one run after another
 

@@ -33,10 +33,7 @@ module _ (layout : Layout) (row c j : ℕ) (answer : ℕ → View) (old new : Pa
   mixed_other r d inside below differs =
       ap (λ o. is_some o) (table-other layout row c j old.words new.words h.edit (Chunk r d) (inside, below) differs)
       ∙ h.orderly.mixed r d inside below
-      ∙ sym (mixed-same (answers layout old.words r) (answers layout new.words r) d (λ i small. ap answer_of (apart r (512 * d + i) (omega arith) (λ e f. differs (ap₂ Chunk e (quotient d i small ∙ f))))))
-    where
-      quotient : (d i : ℕ) → i < 512 → d ≡ (512 * d + i) / 512
-      quotient d i small = omega arith
+      ∙ sym (mixed-same (answers layout old.words r) (answers layout new.words r) d (λ i small. ap answer_of (apart r (512 * d + i) (omega arith) (λ e f. differs (ap₂ Chunk e (omega (arith, small, f)))))))
 
   mixed : (r d : ℕ) → r < length layout.ids → d < 262144 → is_some (table_at layout new.words (Chunk r d)) ≡ is_mixed (answers layout new.words r) d
   mixed r d inside below = grind (arith, common_steps, nat_tests, is_chunk, mixed-same, answer-walked, mixed_other)

@@ -1,5 +1,5 @@
 -- What a front of a view needs: the pages below an edge of it.
-use Rattle.std.proofs.Common.{◌≡◌, ℕ, zero, suc, ◌+◌, ◌-◌, ◌*◌, ◌^◌, ◌<◌, ◌≤◌, Bool, true, false, not, ◌&&◌, cond, ltb, None, refl, sym, ◌∙◌, arith, inl, inr}
+use Rattle.std.proofs.Common.{◌≡◌, ℕ, zero, suc, ◌+◌, ◌-◌, ◌*◌, ◌^◌, ◌<◌, ◌≤◌, Bool, true, false, not, ◌&&◌, ltb, None, refl, sym, ◌∙◌, arith, inl, inr}
 use Rattle.stage2.proofs.Names.{nat_tests, View, count_below, is_mixed, is_reached, need, grow, IsEdge, view_below, common_steps, cases_Bool}
 use Rattle.stage2.proofs.Editing.Gigabyte.{not-reached}
 use Rattle.stage2.proofs.Counting.Needs.{mixed-same, reached-same, mixed-none, reached-none, equal-first}
@@ -26,12 +26,9 @@ reached-below : (view : ℕ → View) (b g : ℕ) → is_reached (view_below vie
 reached-below view b g reached = elim (cases_Bool (is_reached view g)) [
   | inl t ↦ t
   | inr f ↦
-      let none = reached-none (view_below view b) g (λ i small. either (ltb (262144 * g + i) b) (view (262144 * g + i)) (not-reached view g i f small)) in
+      let none = reached-none (view_below view b) g (λ i small. grind (arith, common_steps, nat_tests, not-reached view g i f small)) in
       absurd (cc)
 ]
-  where
-    either : (t : Bool) (a : View) → a ≡ None → cond t a None ≡ None
-    either t a e = grind (arith, common_steps, nat_tests)
 
 count_below-both : (f g all : ℕ → Bool) (n : ℕ) → ((k : ℕ) → k < n → f k ≡ true → all k ≡ true) → ((k : ℕ) → k < n → g k ≡ true → all k ≡ true) → count_below f n + count_below (λ k. g k && not (f k)) n ≤ count_below all n
 unfolding count_below

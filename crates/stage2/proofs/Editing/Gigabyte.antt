@@ -80,11 +80,8 @@ word-reaches layout row g k x m orderly inside below table lt nonzero = elim (ca
     by-slot (Next q) e none =
         let hangs : table_at layout m.words (Chunk row (512 * g + x)) ≡ Some q = chunk-table layout m.words row g x k lt table ∙ ap next_page e in
         let mixed : true ≡ is_mixed (answers layout m.words row) (512 * g + x) = sym (ap (λ o. is_some o) hangs) ∙ orderly.mixed row (512 * g + x) inside (omega (arith, lt, below)) in
-        let unmixed : is_mixed (answers layout m.words row) (512 * g + x) ≡ false = mixed-none (answers layout m.words row) (512 * g + x) (λ i small. ap (answers layout m.words row) (spot i) ∙ none (512 * x + i) (omega (arith, lt, small))) in
+        let unmixed : is_mixed (answers layout m.words row) (512 * g + x) ≡ false = mixed-none (answers layout m.words row) (512 * g + x) (λ i small. let spot : 512 * (512 * g + x) + i ≡ 262144 * g + (512 * x + i) = omega arith in ap (answers layout m.words row) spot ∙ none (512 * x + i) (omega (arith, lt, small))) in
         absurd (cc)
-      where
-        spot : (i : ℕ) → 512 * (512 * g + x) + i ≡ 262144 * g + (512 * x + i)
-        spot i = omega arith
     by-slot Bad e none = absurd (second-known layout m orderly row g x k inside below lt table e)
 
 -- a level 2 table that is all 0 may be taken away
@@ -142,7 +139,7 @@ module _ (layout : Layout) (row g k : ℕ) (m : Pages) (canonical : IsCanonical 
             (λ s y in_s lt_y apart. kept layout row g 0 (linked layout row g k mid) to r (Gigabyte s y) (in_s, lt_y) (λ e. apart (cc) (cc)) ∙ u.others s y in_s lt_y ∙ ap (λ (z : Pages). table_at layout z.words (Gigabyte s y)) linked-same)
             (λ s n small apart. same-walk layout row g 0 (linked layout row g k mid) to r s n small ∙ done-apart layout row g k answer m mid below u s n small apart ∙ ap (λ (z : Pages). walk layout z.words s n) linked-same)
             (ap (λ o. is_some o) (unlink-table layout row g k (linked layout row g k mid) h)
-            ∙ sym (reached-none (answers layout to.words row) g (λ i small. ap answer_of (same-walk layout row g 0 (linked layout row g k mid) to r row (262144 * g + i) (omega (arith, small, below)) ∙ unlink-unmapped layout row g k (linked layout row g k mid) h (262144 * g + i) (quotient i small)))));
+            ∙ sym (reached-none (answers layout to.words row) g (λ i small. ap answer_of (same-walk layout row g 0 (linked layout row g k mid) to r row (262144 * g + i) (omega (arith, small, below)) ∙ unlink-unmapped layout row g k (linked layout row g k mid) h (262144 * g + i) (omega (arith, small))))));
         ids = u.ids;
         quotas = u.quotas;
         walks = λ q n small.
@@ -153,9 +150,6 @@ module _ (layout : Layout) (row g k : ℕ) (m : Pages) (canonical : IsCanonical 
             omega (arith, subst (λ (z : Pages). used_by mid row ≤ used_by m row + count_below (λ x. grows_at (answers layout z.words row) answer (512 * g + x)) 512) linked-same u.used, less);
       } in
       subst (λ (z : Pages). EditsGigabyte layout row g answer m z) same made
-    where
-      quotient : (i : ℕ) → i < 262144 → (262144 * g + i) / 512 / 512 ≡ g
-      quotient i small = omega arith
 
 -- ---- a gigabyte in which pages are mapped
 

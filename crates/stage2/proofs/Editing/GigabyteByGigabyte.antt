@@ -1,5 +1,5 @@
 -- One gigabyte after another, and what a row needs.
-use Rattle.std.proofs.Common.{◌≡◌, ℕ, zero, suc, ◌+◌, ◌*◌, ◌/◌, ◌^◌, ◌<◌, ◌≤◌, max, Bool, true, false, not, ◌&&◌, cond, ltb, leb, List, get_or, length, refl, arith, ap, ap₂}
+use Rattle.std.proofs.Common.{◌≡◌, ℕ, zero, suc, ◌+◌, ◌*◌, ◌/◌, ◌^◌, ◌<◌, ◌≤◌, max, Bool, true, false, not, ◌&&◌, cond, List, get_or, length, refl, arith, ap, ap₂}
 use Rattle.stage2.proofs.Names.{nat_tests, PageRun, in_run, covers, View, Pages, used_by, row_quota, count_below, Layout, walk, is_reached, need, grow, IsCanonical, answers, answer_of, edited, gigabyte_operations, sum_below, grows_at, gigabyte_growth, EditsGigabyte, FitsGigabyte, IsPast, EditsRow, FitsRow, Touches, common_steps}
 use Rattle.base.specs.Pages.{IsRun}
 use Rattle.pool.proofs.Count.{count_below-same, count_below-more}
@@ -91,13 +91,10 @@ covers-at runs i n run lt is here = grind (arith, common_steps, nat_tests)
 pub touched : (runs : List PageRun) (i g : ℕ) (run : PageRun) → i < length runs → run ≡ get_or runs i run → IsRun run → run.first / 512 / 512 ≤ g → g < ((run.first + run.count + 511) / 512 + 511) / 512 → Touches runs g
 touched runs i g run lt is some from to =
     let a = some.0 in
-    let inside : in_run run (max run.first (262144 * g)) ≡ true = in_part run.first run.count g a from to in
+    let inside : in_run run (max run.first (262144 * g)) ≡ true = grind (arith, nat_tests, a, from, to) in
     record {
       page = max run.first (262144 * g);
       small = omega (arith, a, some.1, from, to);
       covered = covers-at runs i (max run.first (262144 * g)) run lt is inside;
       here = omega (arith, a, from, to);
     }
-  where
-    in_part : (first count g : ℕ) → 0 < count → first / 512 / 512 ≤ g → g < ((first + count + 511) / 512 + 511) / 512 → (leb first (max first (262144 * g)) && ltb (max first (262144 * g)) (first + count)) ≡ true
-    in_part first count g a from to = grind (arith, nat_tests)

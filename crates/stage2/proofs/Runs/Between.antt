@@ -39,17 +39,11 @@ between-parts first end runs = filter-filter (λ r. ltb first (end_of r)) (λ r.
 -- of the runs that end behind a page the same ones have a page from a later one on
 pub between-past : (page first end : ℕ) (runs : List PageRun) → page ≤ first → runs_between first end (runs_past page runs) ≡ runs_between first end runs
 between-past page first end runs le =
-    filter-filter (λ r. ltb page (end_of r)) (λ r. ltb first (end_of r) && ltb r.first end) (λ r. ltb first (end_of r) && ltb r.first end) (λ r. behind r.first (r.first + r.count)) runs
-  where
-    behind : (x y : ℕ) → (ltb first y && ltb x end) ≡ (ltb page y && (ltb first y && ltb x end))
-    behind x y = grind (arith, nat_tests)
+    filter-filter (λ r. ltb page (end_of r)) (λ r. ltb first (end_of r) && ltb r.first end) (λ r. ltb first (end_of r) && ltb r.first end) (λ r. grind (arith, nat_tests)) runs
 
 -- and the same chunks are filled
 pub fills-past : (page c : ℕ) (runs : List PageRun) → page ≤ 512 * c → covers_chunk c (runs_past page runs) ≡ covers_chunk c runs
-fills-past page c runs le = any-filter_same (λ run. leb run.first (512 * c) && leb (512 * c + 512) (run.first + run.count)) (λ run. ltb page (run.first + run.count)) true (λ run fills. here run.first run.count fills) runs
-  where
-    here : (start count : ℕ) → (leb start (512 * c) && leb (512 * c + 512) (start + count)) ≡ true → ltb page (start + count) ≡ true
-    here start count fills = grind (arith, nat_tests)
+fills-past page c runs le = any-filter_same (λ run. leb run.first (512 * c) && leb (512 * c + 512) (run.first + run.count)) (λ run. ltb page (run.first + run.count)) true (λ run fills. grind (arith, nat_tests, fills)) runs
 
 -- from a chunk on it is all one whether these runs are asked or those
 pub record AreLeft (c : ℕ) (rest runs : List PageRun) : Type 0 where
@@ -71,10 +65,7 @@ left-past c page rest past runs at is left = rw is record {
 
 -- those that end behind a later page are told of them
 pub past-later : (page later : ℕ) (runs : List PageRun) → page ≤ later → runs_past later (runs_past page runs) ≡ runs_past later runs
-past-later page later runs le = filter-filter (λ r. ltb page (end_of r)) (λ r. ltb later (end_of r)) (λ r. ltb later (end_of r)) (λ r. behind (r.first + r.count)) runs
-  where
-    behind : (y : ℕ) → ltb later y ≡ (ltb page y && ltb later y)
-    behind y = grind (arith, nat_tests)
+past-later page later runs le = filter-filter (λ r. ltb page (end_of r)) (λ r. ltb later (end_of r)) (λ r. ltb later (end_of r)) (λ r. grind (arith, nat_tests)) runs
 
 -- no more of them are
 pub past-past : (page first : ℕ) (rest past : List PageRun) → page ≡ first → past ≡ runs_past page rest → runs_past first past ≡ past

@@ -1,5 +1,5 @@
 -- An edit asks of a chunk, or of a gigabyte, only those of the runs that have pages there: it edits it as all runs do.
-use Rattle.std.proofs.Common.{◌≡◌, ℕ, ◌+◌, ◌*◌, ◌/◌, ◌<◌, ◌≤◌, max, min, Bool, true, false, not, ◌&&◌, ◌||◌, cond, eqb, leb, ltb, List, [], ◌∷◌, refl, arith, ap, ap₂, sym, ◌∙◌, inl, inr}
+use Rattle.std.proofs.Common.{◌≡◌, ℕ, ◌+◌, ◌*◌, ◌/◌, ◌<◌, ◌≤◌, max, min, Bool, true, false, not, ◌&&◌, ◌||◌, cond, eqb, ltb, List, [], ◌∷◌, refl, arith, ap, ap₂, sym, ◌∙◌, inl, inr}
 use Rattle.stage2.proofs.Names.{common_steps, option_map_or, nat_tests, View, is_mixed, PageRun, in_run, covers, Pool, Pages, Walked, edited, touches_run, touches_chunk, AreFree, Turns, disturbs, disturbed, Redoes_in, IsGrowing, gigabyte_growth, FitsGigabyte, EditsGigabyte, StaysInStep, answers, part_in, part_count, runs_between, chunk_runs, gigabyte_runs, gigabyte_operations, Layout, walk, walked}
 use Rattle.std.proofs.lemmas.Bool.{cases_Bool, eqb-true}
 use Rattle.std.proofs.lemmas.List.Sums.{sum_by-cons}
@@ -21,16 +21,10 @@ module _ (first end : ℕ) where
   meets run = ltb first (run.first + run.count) && ltb run.first end
 
   pub covers-between : (runs : List PageRun) (n : ℕ) → first ≤ n → n < end → covers (runs_between first end runs) n ≡ covers runs n
-  covers-between runs n from to = any-filter_same (λ run. in_run run n) meets true (λ run inside. here run.first run.count inside) runs
-    where
-      here : (start count : ℕ) → (leb start n && ltb n (start + count)) ≡ true → (ltb first (start + count) && ltb start end) ≡ true
-      here start count inside = grind (arith, nat_tests)
+  covers-between runs n from to = any-filter_same (λ run. in_run run n) meets true (λ run inside. grind (arith, nat_tests, inside)) runs
 
   pub touches-between : (runs : List PageRun) (c : ℕ) → first ≤ 512 * c → 512 * c + 512 ≤ end → touches_chunk c (runs_between first end runs) ≡ touches_chunk c runs
-  touches-between runs c from to = any-filter_same (touches_run c) meets true (λ run inside. here run.first run.count inside) runs
-    where
-      here : (start count : ℕ) → (ltb 0 count && (leb (start / 512) c && ltb c ((start + count + 511) / 512))) ≡ true → (ltb first (start + count) && ltb start end) ≡ true
-      here start count inside = grind (arith, nat_tests)
+  touches-between runs c from to = any-filter_same (touches_run c) meets true (λ run inside. grind (arith, nat_tests, inside)) runs
 
   no-part : (c : ℕ) → first ≤ 512 * c → 512 * c + 512 ≤ end → (run : PageRun) → meets run ≡ false → parts c run ≡ 0
   unfolding part_in
@@ -42,11 +36,8 @@ module _ (first end : ℕ) where
       let rest = count-between runs c from to in
       elim (cases_Bool (meets run)) [
         | inl t ↦ rw (t, sum_by-cons (parts c) run (runs_between first end runs), sum_by-cons (parts c) run runs) (ap (λ x. parts c run + x) rest)
-        | inr out ↦ rw (out, sum_by-cons (parts c) run runs, no-part c from to run out) (rest ∙ none_more (part_count c runs))
+        | inr out ↦ rw (out, sum_by-cons (parts c) run runs, no-part c from to run out) (omega (arith, rest))
       ]
-    where
-      none_more : (n : ℕ) → n ≡ 0 + n
-      none_more n = omega arith
 
 -- ---- a chunk
 

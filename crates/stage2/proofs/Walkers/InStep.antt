@@ -153,7 +153,7 @@ pub orderly-clearing : (e : OpenCall) (words : Words) (past : List Op) (run : Pa
     → IsInStep (with_clear run e) nothing words (Clear run ∷ past)
 orderly-clearing e words past run h none =
     orderly-more (with_clear run e) nothing words past (Clear run) h.gives h.exact h.breaks (
-      (λ q n a inside small here u. elim (h.stands q n inside small (Ends a) u (due_nothing (eqb q e.row))) [
+      (λ q n a inside small here u. elim (h.stands q n inside small (Ends a) u (grind (arith, common_steps, nat_tests))) [
         | inl unmapped ↦ unmapped
         | inr is ↦ is ∙ none q n inside small here
       ]),
@@ -162,9 +162,6 @@ orderly-clearing e words past run h none =
     (ap (λ runs. run ∷ runs) h.cleared)
     (λ q n inside small.
     fits-after e (eqb q e.row && false) past (Clear run) h.exact inside (may-now e nothing words past h q n inside small) (λ w free u. orderly-fits e nothing words past h q n inside small w u))
-  where
-    due_nothing : (b : Bool) → (b && false) ≡ false
-    due_nothing b = grind (arith, common_steps, nat_tests)
 
 -- invalidations of more pages may be thought due
 pub orderly-weaker : (e : OpenCall) (due more : ℕ → Bool) (words : Words) (past : List Op) → IsInStep e due words past → ((n : ℕ) → n < 2 ^ 27 → more n ≡ false → due n ≡ false) → IsInStep e more words past

@@ -1,5 +1,5 @@
 -- Words of a level 3 table that hangs are written, and what walks under way see of it.
-use Rattle.std.proofs.Common.{◌≡◌, ℕ, ◌+◌, ◌*◌, ◌/◌, ◌%◌, ◌<◌, ◌≤◌, Bool, true, false, ◌&&◌, ◌||◌, eqb, List, [], ◌∷◌, ◌++◌, Option, Some, None, refl, arith, ap, sym, subst, ◌∙◌, inl, inr}
+use Rattle.std.proofs.Common.{◌≡◌, ℕ, ◌+◌, ◌*◌, ◌/◌, ◌%◌, ◌<◌, ◌≤◌, Bool, true, ◌&&◌, ◌||◌, eqb, List, [], ◌∷◌, ◌++◌, Option, Some, None, refl, arith, ap, sym, subst, ◌∙◌, inl, inr}
 use Rattle.stage2.proofs.Names.{nat_tests, PageRun, covers, View, Pool, Words, words_of, put, Op, Set, Invalidate, Clear, Walked, Layout, slot, index_1, at_3, walk, walked, Gigabyte, Chunk, planned, AreSets, Filled, words_after, IsInvalid, OpenCall, MayGive, IsInStep, nothing, LeavesDue, StaysInStep, common_steps, Unmapped}
 use Rattle.stage2.proofs.Tree.WalkFrame.{put-other, IsUnheld, IsLevel3Write, table_at-level_3, walk-level_3, walk-level_3-other, page-walk}
 use Rattle.stage2.proofs.Walkers.Level3Write.{slot-zero, at_3-word}
@@ -43,14 +43,11 @@ clear-word e due words past c k i word h small is_zero is_due may o =
             gigabyte = λ j f. table_at-level_3 e.layout words e.row c k i word h (Gigabyte r (index_1 x)) (inside, omega arith) ∙ f;
             chunk = λ j f. table_at-level_3 e.layout words e.row c k i word h (Chunk r (x / 512)) (inside, omega arith) ∙ f;
             may = rw (gone, at.0, at.1) may;
-            owed = λ free. absurd (not_free r e.row x (512 * c + i) (due x) at.0 (ap due at.1 ∙ is_due) free);
+            owed = λ free. absurd (grind (arith, common_steps, nat_tests, at.0, ap due at.1 ∙ is_due, free));
           }
       | inr apart ↦ grind (arith, common_steps, nat_tests, fine-same, table_at-level_3, walk-level_3-other e.layout words e.row c k i word h r x below apart, may-now e due words past o r x inside below)
     ])
     (λ a inside at. rw is_zero (breaks-zero e.layout e.entry past k i))
-  where
-    not_free : (r row x n : ℕ) (due : Bool) → r ≡ row → due ≡ true → (eqb r row && due) ≡ false → ⊥
-    not_free r row x n due e f free = grind (arith, nat_tests)
 
 -- ---- all that are planned
 
@@ -113,15 +110,9 @@ pub clears-made : {layout : Layout} {row k c : ℕ} {plan : ℕ → Option View}
 clears-made {layout} {row} {k} {c} {plan} {which} {old} {new} f only h e due allows o =
     let here : IsLevel3Write e.layout (words_of old.memory.words) e.row c k = rw (allows.same_layout, allows.same_row) h in
     let more : ℕ → Bool = λ n. due n || which n in
-    let weak = orderly-weaker e due more (words_of old.memory.words) old.operations o.orderly (λ n small f. left (due n) (which n) f) in
+    let weak = orderly-weaker e due more (words_of old.memory.words) old.operations o.orderly (λ n small f. (grind (arith, common_steps, nat_tests))) in
     made-in-step e due more f.ops old new f.made o
-    (sets-cleared e more (words_of old.memory.words) old.operations k c 512 plan which f.ops f.sets (omega arith) only here (λ i small w. (right (due (512 * c + i)) (which (512 * c + i)) w, (allows.may (512 * c + i) (omega arith) w).0)) weak)
-  where
-    left : (a b : Bool) → (a || b) ≡ false → a ≡ false
-    left a b e = grind (arith, common_steps, nat_tests)
-
-    right : (a b : Bool) → b ≡ true → (a || b) ≡ true
-    right a b e = grind (arith, common_steps, nat_tests)
+    (sets-cleared e more (words_of old.memory.words) old.operations k c 512 plan which f.ops f.sets (omega arith) only here (λ i small w. ((grind (arith, common_steps, nat_tests)), (allows.may (512 * c + i) (omega arith) w).0)) weak)
 
 pub clears-filled : {layout : Layout} {row k c b : ℕ} {plan : ℕ → Option View} {which : ℕ → Bool} {old new : Pool} → Filled k c b plan old new → IsUnheld layout (words_of old.memory.words) k → LeavesDue layout row which old new
 clears-filled {layout} {row} {k} {c} {b} {plan} {which} {old} {new} f h e due allows o = filled-unheld e (λ n. due n || which n) layout k c b plan old new f allows.same_layout h (clears-none layout row which old e due allows o)

@@ -15,12 +15,9 @@ page-of c run t =
     let to : c < (run.first + run.count + 511) / 512 = let a = two.1 in grind (arith, nat_tests) in
     let has : 0 < run.count = grind (arith, nat_tests) in
     elim (cases_eq (run.first / 512) c) [
-      | inl e ↦ (run.first, e, inside run.first run.count run.first (omega arith) (omega (arith, has)))
-      | inr e ↦ (512 * c, omega arith, inside run.first run.count (512 * c) (omega (arith, from, e)) (omega (arith, to)))
+      | inl e ↦ (run.first, e, grind (arith, nat_tests, has))
+      | inr e ↦ (512 * c, omega arith, grind (arith, nat_tests, from, e, to))
     ]
-  where
-    inside : (first count x : ℕ) → first ≤ x → x < first + count → (leb first x && ltb x (first + count)) ≡ true
-    inside first count x a b = grind (arith, nat_tests)
 
 pub covered-page : (c : ℕ) (runs : List PageRun) → touches_chunk c runs ≡ true → (x : ℕ) × (x / 512 ≡ c) × (covers runs x ≡ true)
 covered-page c runs t =
