@@ -100,12 +100,9 @@ module _ (runs : List PageRun) (access : View) (v : ℕ → View) (c : ℕ) (bel
         let y = 512 * c + other.0 in
         let within : edited runs access v x ≡ access = ap (λ b. cond b access (v x)) page.2 in
         let beside : edited runs access v y ≡ None = ap (λ b. cond b access (v y)) other.2 ∙ other.3 in
-        let now = unlike-mixed (edited runs access v) c x y (omega (arith, page.1)) (omega (arith, other.1)) (ap₂ is_alike within beside ∙ unlike access maps) in
+        let now = unlike-mixed (edited runs access v) c x y (omega (arith, page.1)) (omega (arith, other.1)) (ap₂ is_alike within beside ∙ (grind (arith, common_steps, nat_tests, maps))) in
         let table : table_operations runs access v c ≡ pages_in runs c + cond (is_some access) 0 (part_count c runs) = rw (now, was) refl in
         omega (arith, table ∙ ap (λ b. pages_in runs c + cond b 0 (part_count c runs)) maps, enough))
-      where
-        unlike : (a : View) → is_some a ≡ true → is_alike a None ≡ false
-        unlike a e = grind (arith, common_steps, nat_tests)
 
     -- in a chunk none of whose pages is reached
     pub few-hung : ((i : ℕ) → i < 512 → v (512 * c + i) ≡ None) → row_operations runs access v ≤ n + 5

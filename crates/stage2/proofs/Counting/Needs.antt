@@ -56,10 +56,7 @@ pub same-unmixed : (answer : ℕ → View) (c : ℕ) (one : View) → ((n : ℕ)
 unfolding is_mixed
 same-unmixed answer c one same =
     any_below-no (λ i. not (is_alike (answer (512 * c + i)) (answer (512 * c)))) 512
-    (λ i below. ap₂ (λ a b. not (is_alike a b)) (same (512 * c + i) (omega (arith, below))) (same (512 * c) (omega arith)) ∙ ap not (alike-all one))
-  where
-    alike-all : (a : View) → is_alike a a ≡ true
-    alike-all a = grind (arith, common_steps, nat_tests, alike-refl)
+    (λ i below. ap₂ (λ a b. not (is_alike a b)) (same (512 * c + i) (omega (arith, below))) (same (512 * c) (omega arith)) ∙ (let alike : is_alike one one ≡ true = grind (arith, common_steps, nat_tests, alike-refl) in ap not alike))
 
 pub filled-touches : (runs : List PageRun) (c : ℕ) → covers_chunk c runs ≡ true → touches_chunk c runs ≡ true
 filled-touches runs c filled =
@@ -77,11 +74,8 @@ outcome-filled runs access before c filled =
 -- where the pages in none of the runs answer as those of the runs, all do
 pub outcome-others : (runs : List PageRun) (access : View) (before : ℕ → View) (c : ℕ) → ((n : ℕ) → n / 512 ≡ c → covers runs n ≡ false → before n ≡ access) → IsOutcome c (edited runs access before) (Some access)
 outcome-others runs access before c others =
-    let same = λ (n : ℕ) (at : n / 512 ≡ c). all (covers runs n) n refl at in
+    let same : (n : ℕ) → n / 512 ≡ c → edited runs access before n ≡ access = λ n at. grind (arith, common_steps, nat_tests, others n at) in
     record { same = λ one is n at. same n at ∙ (let e : access ≡ one = cc in e); mixed = sym (same-unmixed (edited runs access before) c access same) }
-  where
-    all : (b : Bool) (n : ℕ) → covers runs n ≡ b → n / 512 ≡ c → edited runs access before n ≡ access
-    all b n e at = grind (arith, common_steps, nat_tests)
 
 -- ---- chunks that are not mixed
 

@@ -1,6 +1,6 @@
 -- How many pages of a chunk runs have, and what that tells of the words of its level 3 table.
 use Rattle.stage2.proofs.Names.{common_steps, nat_tests, count_below, PageRun, in_run, covers, are_normal, rise_above, Words, nonzero_in, index_from, words_in, is_between, pages_among, pages_in, end_from, part_in, cases_Bool, and_parts, eqb-true}
-use Rattle.std.proofs.Common.{◌≡◌, ◌≢◌, ℕ, zero, suc, ◌+◌, ◌-◌, ◌*◌, ◌/◌, ◌<◌, ◌≤◌, ◌==◌, Bool, true, false, not, ◌&&◌, ◌||◌, eqb, leb, ltb, min, List, [], ◌∷◌, Some, None, take, drop, length, get_or, refl, sym, ap, ◌∙◌, arith, inl, inr}
+use Rattle.std.proofs.Common.{◌≡◌, ◌≢◌, ℕ, zero, suc, ◌+◌, ◌-◌, ◌*◌, ◌/◌, ◌<◌, ◌≤◌, ◌==◌, Bool, true, false, not, ◌&&◌, ◌||◌, eqb, ltb, List, [], ◌∷◌, Some, None, take, drop, length, get_or, refl, sym, ap, ◌∙◌, arith, inl, inr}
 use Rattle.std.proofs.lemmas.List.{at_drop_all}
 use Rattle.pool.proofs.Count.{count_below-same, count_below-some, count_below-none, count_below-tail, count_below-more, count_below-le, count_below-all, count_below-witness}
 use Rattle.pool.proofs.RunWords.{words_in-left}
@@ -217,10 +217,7 @@ run-words : (c : ℕ) (run : PageRun) → index_from (512 * c) (run.first + run.
 run-words c run =
     let first = index_from (512 * c) run.first in
     let end = index_from (512 * c) (run.first + run.count) in
-    sym (pages_among-same (is_between first end) (λ x. in_run run (512 * c + x)) (λ x lt. among run.first (run.first + run.count) (512 * c) x lt) ∙ pages_among-between first end (omega arith) (omega arith))
-  where
-    among : (a b s x : ℕ) → x < 512 → (leb a (s + x) && ltb (s + x) b) ≡ is_between (min (a - s) 512) (min (b - s) 512) x
-    among a b s x lt = grind (arith, nat_tests)
+    sym (pages_among-same (is_between first end) (λ x. in_run run (512 * c + x)) (λ x lt. grind (arith, nat_tests, lt)) ∙ pages_among-between first end (omega arith) (omega arith))
 
 -- those of the runs from the i-th on, and the pages of those before it
 words-from : (c n i : ℕ) (runs : List PageRun) → are_normal runs ≡ true → n + i ≡ length runs → pages_in (take i runs) c + words_in (512 * c) (drop i runs) ≡ pages_in runs c

@@ -6,7 +6,6 @@ use Rattle.stage2.proofs.Editing.ChunkEdit.{IsChunkEdit, table-other, walk-apart
 use Rattle.stage2.proofs.Counting.Needs.{mixed-same}
 use Rattle.stage2.proofs.Editing.Trades.{Trade, traded}
 
-
 pub answer-walked : (n : ℕ) (a : View) → answer_of (walked n a) ≡ a
 answer-walked n a = grind (arith, common_steps, nat_tests)
 

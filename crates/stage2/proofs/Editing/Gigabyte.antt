@@ -68,11 +68,8 @@ word-reaches layout row g k x m orderly inside below table lt nonzero = elim (ca
   | inr f ↦ absurd (by-slot (slot layout 2 (m.words k x)) refl (λ i small. not-reached (answers layout m.words row) g i f small))
 ]
   where
-    place : 512 * (512 * g + x) ≡ 262144 * g + 512 * x
-    place = omega arith
-
     none-n : ((i : ℕ) → i < 262144 → answers layout m.words row (262144 * g + i) ≡ None) → answer_of (at_2 layout m.words (512 * (512 * g + x)) (slot layout 2 (m.words k x))) ≡ None
-    none-n none = sym (ap answer_of (chunk-walk layout m row g x k inside lt table)) ∙ ap (answers layout m.words row) place ∙ none (512 * x) (omega (arith, lt))
+    none-n none = let place : 512 * (512 * g + x) ≡ 262144 * g + 512 * x = omega arith in sym (ap answer_of (chunk-walk layout m row g x k inside lt table)) ∙ ap (answers layout m.words row) place ∙ none (512 * x) (omega (arith, lt))
 
     by-slot : (s : Slot) → slot layout 2 (m.words k x) ≡ s → ((i : ℕ) → i < 262144 → answers layout m.words row (262144 * g + i) ≡ None) → ⊥
     by-slot Empty e none = nonzero (orderly.clean (Gigabyte row g) k x (inside, below) table lt e)

@@ -70,11 +70,8 @@ module _ {e : RowEdit} {g : ℕ} {runs : List PageRun} {first : Pool} {r0 : ℕ}
             (λ n small at.
             let nothing : v n ≡ None = ap answer_of (untabled layout m e.row n can.canonical.orderly e.inside small (ap (λ q. table_at layout m.words (Gigabyte e.row q)) at ∙ none)) in
             gives-new g runs e.access v n (walk layout (words_of new.memory.words) e.row n) at nothing
-            (made.walks e.row n small ∙ ap (λ b. cond b (walked n (edited runs e.access v n)) (walk layout m.words e.row n)) (here e.row (n / 512 / 512) g at)))
+            (let here : (eqb e.row e.row && eqb (n / 512 / 512) g) ≡ true = grind (arith, nat_tests) in made.walks e.row n small ∙ ap (λ b. cond b (walked n (edited runs e.access v n)) (walk layout m.words e.row n)) here))
             (ap (λ (s : Pages). s.words) puts) logged)
-          where
-            here : (x y z : ℕ) → y ≡ z → (eqb x x && eqb y z) ≡ true
-            here x y z same = grind (arith, nat_tests)
 
         pub untabled-edited : {r3 : ℕ} → r3 + 1 ≡ r2 → IsGigabyteEdited e g runs first r0 new r3
         untabled-edited last = record {

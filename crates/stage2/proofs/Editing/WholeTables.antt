@@ -117,7 +117,7 @@ pub edited-rooted : (layout : Layout) (old new : Pool) (room left p row : ℕ) (
     → AreEdited p runs access (view layout old room) (view layout new left)
 edited-rooted layout old new room left p row runs access is canonical edits stays free within enough =
     let walks = edited-walks layout p row runs access (pages_of old.memory) (pages_of new.memory) is canonical.orderly edits in
-    let root : has_root (view layout old room) p ≡ true = below-root layout.ids p row is in
+    let root : has_root (view layout old room) p ≡ true = (let a = is.is in let b = is.inside in grind (arith, nat_tests)) in
     let in_step : EditsInStep p runs access (view layout old room) (view layout new left) = subst (λ r. AreFree (λ n. true) runs access (answers layout (words_of old.memory.words) r)
     → StaysInStep layout r (disturbed runs (answers layout (words_of old.memory.words) r) (edited runs access (answers layout (words_of old.memory.words) r))) (λ n. walked n (edited runs access (answers layout (words_of old.memory.words) r) n)) old new) is.is stays in
     record {
@@ -129,9 +129,6 @@ edited-rooted layout old new room left p row runs access is canonical edits stay
       room = let all : room ≤ left + row_operations runs access (view_of (view layout old room) p) = subst (λ r. room ≤ left + row_operations runs access (answers layout (words_of old.memory.words) r)) is.is enough in rw root all;
       canonical = are-canonical (view layout new left) edits.canonical free within;
     }
-  where
-    below-root : (ids : List ℕ) (p row : ℕ) → IsRow ids p row → ltb (row_of ids p) (length ids) ≡ true
-    below-root ids p row is = let a = is.is in let b = is.inside in grind (arith, nat_tests)
 
 pub edited-rootless : (t : TablesView) (p : ℕ) (runs : List PageRun) (access : View) → has_root t p ≡ false → StaysOut p runs access → AreCanonical t → AreEdited p runs access t t
 edited-rootless t p runs access none out canonical = grind (arith, common_steps, nat_tests, both, rootless, rootless-moments t p runs access none out, stays-none)

@@ -113,11 +113,8 @@ module _ (runs : List PageRun) (first end : ℕ) (within : lie_within first end 
   unfolding of_gigabyte
   row-operations access v normal =
       let each = sum_below-le (gigabyte_operations runs access v) (of_gigabyte (chunk_most runs)) 512
-      (λ g. twos (chunks_operations runs access v g) (sum_below (λ y. chunk_most runs (512 * g + y)) 512) (sum_below-le (λ x. chunk_operations runs access v (512 * g + x)) (λ x. chunk_most runs (512 * g + x)) 512 (λ x. chunk-within runs access v (512 * g + x) normal))) in
+      (λ g. let le = (sum_below-le (λ x. chunk_operations runs access v (512 * g + x)) (λ x. chunk_most runs (512 * g + x)) 512 (λ x. chunk-within runs access v (512 * g + x) normal)) in omega (arith, le)) in
       omega (arith, all-most, each)
-    where
-      twos : (a b : ℕ) → a ≤ b → a + min 2 a ≤ b + min 2 b
-      twos a b le = omega (arith, le)
 
 -- ---- a gigabyte that the runs touch
 

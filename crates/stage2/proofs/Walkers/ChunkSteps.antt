@@ -1,5 +1,5 @@
 -- The edits of the chunks of a gigabyte, and of gigabytes, one after another, as walks under way see them.
-use Rattle.std.proofs.Common.{◌≡◌, ℕ, ◌+◌, ◌*◌, ◌/◌, ◌<◌, Bool, true, false, ◌&&◌, ◌||◌, eqb, cond, List, length, arith, ap, sym, ◌∙◌, inr}
+use Rattle.std.proofs.Common.{◌≡◌, ℕ, ◌+◌, ◌*◌, ◌/◌, ◌<◌, true, false, ◌&&◌, eqb, cond, List, length, arith, ap, sym, ◌∙◌, inr}
 use Rattle.std.proofs.lemmas.Bool.{eqb-true}
 use Rattle.stage2.proofs.Names.{nat_tests, PageRun, covers, View, Pool, Pages, Layout, walked, answers, linked, edited, touches_chunk, AreFree, disturbs, disturbed, answers_in, IsUnderway, StaysInStep, IsSeated, disturbed_below, common_steps}
 use Rattle.stage2.proofs.Editing.ChunkByChunk.{quotient, still-answers, still-mixed, now-mixed}
@@ -41,7 +41,4 @@ module _ (layout : Layout) (row g j : ℕ) (runs : List PageRun) (access : View)
       let v : ℕ → View = answers layout (linked layout row g j old).words row in
       let w : ℕ → View = edited runs access v in
       stays-as layout row (disturbed_below g i runs v w) (disturbed_below g (i + 1) runs v w) (λ n. walked n (w n)) a b so
-      (λ n small. below-more g i runs v w n lt ∙ none (disturbed_below g i runs v w n) (n / 512) (512 * g + i) (disturbs runs v w n) untouched)
-    where
-      none : (d : Bool) (x c : ℕ) (e : Bool) → touches_chunk c runs ≡ false → (d || (eqb x c && (touches_chunk x runs && e))) ≡ d
-      none d x c e free = grind (arith, common_steps, nat_tests)
+      (λ n small. below-more g i runs v w n lt ∙ (grind (arith, common_steps, nat_tests, untouched)))

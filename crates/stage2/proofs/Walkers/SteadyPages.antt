@@ -1,6 +1,6 @@
 -- Pages that an edit disturbs, and that keep their answers, have none.
-use Rattle.std.proofs.Common.{◌≡◌, ◌≢◌, ℕ, ◌+◌, ◌*◌, ◌/◌, ◌^◌, ◌<◌, ◌≤◌, true, ◌&&◌, leb, ltb, List, None, arith, ◌⊎◌, inl, inr}
-use Rattle.stage2.proofs.Names.{nat_tests, PageRun, in_run, covers, View, is_mixed, edited, touches_run, touches_chunk, AreFree, disturbed, common_steps, cases_eq}
+use Rattle.std.proofs.Common.{◌≡◌, ◌≢◌, ℕ, ◌+◌, ◌*◌, ◌/◌, ◌^◌, ◌<◌, ◌≤◌, max, true, List, None, arith, ◌⊎◌}
+use Rattle.stage2.proofs.Names.{nat_tests, PageRun, in_run, covers, View, is_mixed, edited, touches_run, touches_chunk, AreFree, disturbed, common_steps}
 use Rattle.stage2.proofs.Counting.Needs.{mixed-same, equal-first, any-one}
 use Rattle.base.proofs.Booleans.{both}
 
@@ -8,16 +8,10 @@ use Rattle.base.proofs.Booleans.{both}
 
 page-of : (c : ℕ) (run : PageRun) → touches_run c run ≡ true → (x : ℕ) × (x / 512 ≡ c) × (in_run run x ≡ true)
 page-of c run t =
-    let all = both (ltb 0 run.count) (leb (run.first / 512) c && ltb c ((run.first + run.count + 511) / 512)) t in
-    let some : ltb 0 run.count ≡ true = all.0 in
-    let two = both (leb (run.first / 512) c) (ltb c ((run.first + run.count + 511) / 512)) all.1 in
-    let from : run.first / 512 ≤ c = let a = two.0 in grind (arith, nat_tests) in
-    let to : c < (run.first + run.count + 511) / 512 = let a = two.1 in grind (arith, nat_tests) in
-    let has : 0 < run.count = grind (arith, nat_tests) in
-    elim (cases_eq (run.first / 512) c) [
-      | inl e ↦ (run.first, e, grind (arith, nat_tests, has))
-      | inr e ↦ (512 * c, omega arith, grind (arith, nat_tests, from, e, to))
-    ]
+    let has : 0 < run.count = grind (arith, nat_tests, t) in
+    let from : run.first / 512 ≤ c = grind (arith, nat_tests, t) in
+    let to : c < (run.first + run.count + 511) / 512 = grind (arith, nat_tests, t) in
+    (max run.first (512 * c), omega (arith, has, from, to), grind (arith, nat_tests, has, from, to))
 
 pub covered-page : (c : ℕ) (runs : List PageRun) → touches_chunk c runs ≡ true → (x : ℕ) × (x / 512 ≡ c) × (covers runs x ≡ true)
 covered-page c runs t =
