@@ -105,11 +105,8 @@ table-words layout words c k clean = count_below-same (λ i. is_some (answers_at
           let word : words k (n % 512) ≡ 0 = ap (words k) index ∙ grind (arith, nat_tests, empty) in
           let none : answers_at layout words (Next k) n ≡ None = ap answer_of (at_3-word layout n (words k (n % 512)) None (ap (entry_of 3) word ∙ entry-zero 3)) in
           rw empty (ap (λ a. is_some a) (sym none))
-      | inr other ↦ rw other (sym (reached (answers_at layout words (Next k) n) (λ none. let gone : words k i ≡ 0 = ap (words k) (sym index) ∙ clean n at none in grind (arith, nat_tests, gone, other))))
+      | inr other ↦ grind (arith, common_steps, nat_tests, other, index, clean n at)
     ])
-  where
-    reached : (a : View) → (a ≡ None → ⊥) → is_some a ≡ true
-    reached a e = grind (arith, common_steps, nat_tests)
 
 -- ---- a chunk without a table
 

@@ -23,10 +23,7 @@ same-word n None a b p q = p.zero refl ∙ sym (q.zero refl)
 same-word n (Some access) a b p q =
     let x = word-leaf 3 a n access p.entry in
     let y = word-leaf 3 b n access q.entry in
-    x.spelled ∙ ap (λ z. leaf_word_of z n access) (page x.block x.at_level ∙ sym (page y.block y.at_level)) ∙ sym y.spelled
-  where
-    page : (z : Bool) → 3 ≡ leaf_level z → z ≡ false
-    page z e = grind (arith, common_steps, nat_tests)
+    x.spelled ∙ ap (λ z. leaf_word_of z n access) (let same : x.block ≡ y.block = grind (arith, common_steps, nat_tests, x.at_level, y.at_level) in same) ∙ sym y.spelled
 
 -- a page beside some that are fewer than 512
 page-beside : (which : ℕ → Bool) → pages_among which < 512 → (i : ℕ) × (i < 512) × (which i ≡ false)

@@ -128,12 +128,10 @@ module _ (layout : Layout) (row g j : ℕ) (runs : List PageRun) (access : View)
               let one = redoes-used layout row (512 * g + i) (edited runs access (answers_in layout row (512 * g + i) j mid)) (linked layout row g j mid) (linked layout row g j new) inside (omega (arith, lt, below)) h.orderly r in
               let was : bit (is_mixed (answers layout (linked layout row g j mid).words row) (512 * g + i)) ≡ bit (is_mixed before (512 * g + i)) = ap bit (ap (λ x. is_mixed (answers layout (linked layout row x j mid).words row) (512 * g + i)) (sym quotient) ∙ still-mixed) in
               let now : bit (is_mixed (edited runs access (answers_in layout row (512 * g + i) j mid)) (512 * g + i)) ≡ bit (is_mixed after (512 * g + i)) = ap bit now-mixed in
-              omega (arith, one, was, now, count_below-more (λ x. grows_at before after (512 * g + x)) i, (grown (is_mixed after (512 * g + i)) (is_mixed before (512 * g + i))), h.used);
+              let grown : bit (is_mixed after (512 * g + i)) ≤ bit (is_mixed before (512 * g + i)) + bit (grows_at before after (512 * g + i)) = grind (arith, common_steps, nat_tests) in
+              omega (arith, one, was, now, count_below-more (λ x. grows_at before after (512 * g + x)) i, grown, h.used);
         }
       where
-        grown : (now was : Bool) → bit now ≤ bit was + bit (now && not was)
-        grown now was = grind (arith, common_steps, nat_tests)
-
         here : (n : ℕ) (a b : Walked) → n / 512 ≡ 512 * g + i → cond (eqb row row && eqb (n / 512) (512 * g + i)) a b ≡ a
         here n a b at = grind (arith, nat_tests)
 

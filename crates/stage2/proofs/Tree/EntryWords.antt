@@ -48,13 +48,7 @@ module _ (layout : Layout) (m : Pages) (h : IsOrderly layout m) where
 
   -- a word of a table's kind is that of a table
   pub points-table : (row g i q : ℕ) → row < length layout.ids → g < 512 → i < 512 → table_at layout m.words (Gigabyte row g) ≡ Some q → m.words q i % 4 ≡ 3 → is_some (next_page (slot layout 2 (m.words q i))) ≡ true
-  points-table row g i q inside below small table points = by-slot (slot layout 2 (m.words q i)) refl
-    where
-      by-slot : (s : Slot) → slot layout 2 (m.words q i) ≡ s → is_some (next_page (slot layout 2 (m.words q i))) ≡ true
-      by-slot Empty is = let zero = h.clean (Gigabyte row g) q i (inside, below) table small is in absurd (omega (arith, zero, points))
-      by-slot (Next k) is = rw is refl
-      by-slot (Maps p a) is = absurd (block-points layout p (m.words q i) a is points)
-      by-slot Bad is = absurd (second-known layout m h row g i q inside below small table is)
+  points-table row g i q inside below small table points = grind (arith, common_steps, nat_tests, h.clean (Gigabyte row g) q i (inside, below) table small, block-points layout, second-known layout m h row g i q inside below small table)
 
   -- ---- a level 3 table
 
