@@ -1,6 +1,7 @@
 -- What a chunk and a gigabyte need depends on their pages alone.
 use Rattle.std.proofs.Common.{◌≡◌, ℕ, zero, suc, ◌+◌, ◌*◌, ◌/◌, ◌%◌, ◌<◌, Bool, true, false, not, ◌&&◌, ◌||◌, cond, leb, List, [], ◌∷◌, Some, None, is_some, refl, ap, ap₂, sym, ◌∙◌, arith, inl, inr}
-use Rattle.stage2.proofs.Names.{common_steps, nat_tests, list_any, View, is_alike, is_mixed, is_reached, PageRun, in_run, covers, edited, touches_run, touches_chunk, covers_chunk, IsOutcome, cases_Bool}
+use Rattle.stage2.proofs.Names.{common_steps, nat_tests, list_any, View, is_alike, is_mixed, is_reached, PageRun, in_run, covers, edited, touches_run, touches_chunk, covers_chunk, IsOutcome, cases_Bool, count_below, grows_at}
+use Rattle.pool.proofs.Count.{count_below-same}
 use Rattle.base.specs.Counts.{any_below}
 use Rattle.manifest.proofs.Tables.{alike-same, alike-refl, any_below-some, any_below-none, any_below-no}
 
@@ -21,7 +22,10 @@ pub reached-same : (v w : ℕ → View) (g : ℕ) → ((i : ℕ) → i < 262144 
 unfolding is_reached
 reached-same v w g same = any_below-same (λ i. is_some (v (262144 * g + i))) (λ i. is_some (w (262144 * g + i))) 262144 (λ i below. ap (λ a. is_some a) (same i below))
 
--- ---- the one answer of a chunk
+-- as many chunks of a gigabyte grow
+pub grows-same : (v w x y : ℕ → View) (g : ℕ) → ((n : ℕ) → n / 512 / 512 ≡ g → x n ≡ v n) → ((n : ℕ) → n / 512 / 512 ≡ g → y n ≡ w n) → count_below (λ i. grows_at x y (512 * g + i)) 512 ≡ count_below (λ i. grows_at v w (512 * g + i)) 512
+grows-same v w x y g same also = count_below-same (λ i. grows_at v w (512 * g + i)) (λ i. grows_at x y (512 * g + i)) 512 (λ i lt. ap₂ (λ a b. a && not b)
+    (mixed-same w y (512 * g + i) (λ z small. also (512 * (512 * g + i) + z) (omega (arith, lt, small)))) (mixed-same v x (512 * g + i) (λ z small. same (512 * (512 * g + i) + z) (omega (arith, lt, small)))))
 
 -- ---- nothing is reached
 

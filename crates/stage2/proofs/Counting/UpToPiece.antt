@@ -40,12 +40,11 @@ module _ {g : ℕ} {runs : List PageRun} {access : View} {v : ℕ → View} wher
     -- chunks that no run touches need nothing
     gap : (k : ℕ) → i ≤ k → k ≤ 512 → ((x : ℕ) → i ≤ x → x < k → touches_chunk (512 * g + x) rest ≡ false) → (later : List PageRun) → AreLeft (512 * g + k) later runs → IsPlanned g runs access v k later plan
     gap k from most apart later left =
-        let all : i + (k - i) ≡ k = omega (arith, from) in
-        let nothing = sum_below-tail (cost g runs access v) (k - i) i (λ x low lt. ap (λ t. cond t (3 + table_operations runs access v (512 * g + x)) 0) (spare x low (apart x low (omega (arith, lt, from))))) in
+        let nothing = sum_below-tail (cost g runs access v) i k from (λ x low lt. ap (λ t. cond t (3 + table_operations runs access v (512 * g + x)) 0) (spare x low (apart x low lt))) in
         let few = so.few in
         record {
           tables = so.tables ∙ sym (count_below-tail (grows g runs access v) i k from (λ x low lt. grows-nothing runs access v (512 * g + x) (λ n at. untouched (512 * g + x) runs n (spare x low (apart x low lt)) at)));
-          operations = omega (arith, nothing, ap (sum_below (cost g runs access v)) all, so.operations);
+          operations = omega (arith, nothing, so.operations);
           few = omega (arith, few, from);
           most = omega (arith, so.most, from);
           left = left;

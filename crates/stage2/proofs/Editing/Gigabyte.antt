@@ -1,15 +1,14 @@
 -- The edit of a gigabyte, from its chunks and its link.
-use Rattle.std.proofs.Common.{◌≡◌, ◌≢◌, ℕ, ◌+◌, ◌-◌, ◌*◌, ◌/◌, ◌^◌, ◌<◌, ◌≤◌, true, false, not, ◌&&◌, cond, eqb, ltb, is_some, List, Some, None, length, refl, arith, ap, ap₂, sym, subst, ◌∙◌, inl, inr}
+use Rattle.std.proofs.Common.{◌≡◌, ◌≢◌, ℕ, ◌+◌, ◌-◌, ◌*◌, ◌/◌, ◌^◌, ◌<◌, ◌≤◌, true, false, ◌&&◌, cond, eqb, ltb, is_some, List, Some, None, length, refl, arith, ap, sym, subst, ◌∙◌, inl, inr}
 use Rattle.std.proofs.lemmas.Bool.{cases_Bool}
 use Rattle.stage2.proofs.Names.{nat_tests, PageRun, covers, View, table_word_of, Pages, with_put, with_mark, used_by, row_quota, count_below, Layout, Slot, Empty, Next, Maps, Bad, slot, at_2, walk, walked, Root, Gigabyte, Chunk, next_page, table_at, is_mixed, is_reached, IsOrderly, IsCanonical, answers, answer_of, linked, edited, chunks_operations, grows_at, gigabyte_growth, IsUnderway, EditsGigabyte, Touches, common_steps}
 use Rattle.words.proofs.RoundTrip.{word-table}
-use Rattle.pool.proofs.Count.{count_below-same}
 use Rattle.pool.proofs.Shares.{used_by-take, used_by-give}
 use Rattle.stage2.proofs.Counting.Operations.{chunks-same}
 use Rattle.stage2.proofs.Tree.KnownWords.{chunk-walk, second-known}
 use Rattle.stage2.proofs.Tree.RootWrites.{is_pair, at-pair}
 use Rattle.stage2.proofs.Tree.WalkFrame.{chunk-table, put-other, table_at-root}
-use Rattle.stage2.proofs.Counting.Needs.{mixed-same, reached-same, reached-some, reached-none, mixed-none}
+use Rattle.stage2.proofs.Counting.Needs.{grows-same, reached-same, reached-some, reached-none, mixed-none}
 use Rattle.manifest.proofs.Tables.{any_below-none}
 use Rattle.stage2.proofs.Tree.PutTwice.{with_put-twice, with_put-there}
 use Rattle.stage2.proofs.Editing.RootLinks.{IsLink, IsUnlink, IsRooted, rooted, same-walk, kept, link-rooted, unlink-rooted, unlink-table, unlink-unmapped, untabled}
@@ -174,11 +173,7 @@ module _ (layout : Layout) (row g k : ℕ) (runs : List PageRun) (access : View)
 
   same-growth : count_below (λ x. grows_at (answers layout (linked layout row g k (with_mark k true m)).words row) (edited runs access (answers layout (linked layout row g k (with_mark k true m)).words row)) (512 * g + x)) 512
       ≡ count_below (λ x. grows_at (answers layout m.words row) (edited runs access (answers layout m.words row)) (512 * g + x)) 512
-  same-growth = count_below-same (λ x. grows_at (answers layout m.words row) (edited runs access (answers layout m.words row)) (512 * g + x))
-      (λ x. grows_at (answers layout (linked layout row g k (with_mark k true m)).words row) (edited runs access (answers layout (linked layout row g k (with_mark k true m)).words row)) (512 * g + x)) 512
-      (λ x lt. ap₂ (λ a b. a && not b)
-      (mixed-same (edited runs access (answers layout m.words row)) (edited runs access (answers layout (linked layout row g k (with_mark k true m)).words row)) (512 * g + x) (λ i small. same-edited (512 * (512 * g + x) + i) (omega (arith, lt, small, below))))
-      (mixed-same (answers layout m.words row) (answers layout (linked layout row g k (with_mark k true m)).words row) (512 * g + x) (λ i small. same-answers (512 * (512 * g + x) + i) (omega (arith, lt, small, below)))))
+  same-growth = grows-same (answers layout m.words row) (edited runs access (answers layout m.words row)) _ _ g (λ n at. same-answers n (omega (arith, at, below))) (λ n at. same-edited n (omega (arith, at, below)))
 
   -- its chunks make as many operations, seen so
   pub link-chunks : (new : Pages) → new ≡ with_mark k true m → chunks_operations runs access (answers layout (linked layout row g k new).words row) g ≡ chunks_operations runs access (answers layout m.words row) g

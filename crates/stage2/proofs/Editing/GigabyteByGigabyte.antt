@@ -4,7 +4,7 @@ use Rattle.stage2.proofs.Names.{nat_tests, PageRun, in_run, covers, View, Pages,
 use Rattle.base.specs.Pages.{IsRun}
 use Rattle.pool.proofs.Count.{count_below-same, count_below-more}
 use Rattle.stage2.proofs.Counting.Operations.{gigabyte-same}
-use Rattle.stage2.proofs.Counting.Needs.{mixed-same, reached-same}
+use Rattle.stage2.proofs.Counting.Needs.{reached-same, grows-same}
 use Rattle.stage2.proofs.Editing.ChunkByChunk.{sum_below-more, sum_below-up, count_below-add}
 use Rattle.stage2.proofs.Editing.FourChunkEdits.{tidy-answer}
 
@@ -38,8 +38,7 @@ growth-same : (v w x y : ℕ → View) (g : ℕ) → ((n : ℕ) → n / 512 / 51
 growth-same v w x y g same also =
     ap₂ (λ a b. a + b)
     (ap₂ (λ a b. cond (a && not b) 1 0) (reached-same w y g (λ i small. also (262144 * g + i) (omega (arith, small)))) (reached-same v x g (λ i small. same (262144 * g + i) (omega (arith, small)))))
-    (count_below-same (λ i. grows_at v w (512 * g + i)) (λ i. grows_at x y (512 * g + i)) 512
-    (λ i lt. ap₂ (λ a b. a && not b) (mixed-same w y (512 * g + i) (λ z small. also (512 * (512 * g + i) + z) (omega (arith, lt, small)))) (mixed-same v x (512 * g + i) (λ z small. same (512 * (512 * g + i) + z) (omega (arith, lt, small))))))
+    (grows-same v w x y g same also)
 
 -- ---- from gigabyte to gigabyte
 

@@ -1,5 +1,5 @@
 -- The chunks of a gigabyte before one are edited, and these runs are left for the others: one piece after another.
-use Rattle.std.proofs.Common.{◌≡◌, ◌≢◌, ℕ, zero, suc, ◌+◌, ◌-◌, ◌*◌, ◌/◌, ◌%◌, ◌<◌, ◌≤◌, eqb, true, false, cond, None, List, sym, ap, subst, ◌∙◌, arith}
+use Rattle.std.proofs.Common.{◌≡◌, ◌≢◌, ℕ, ◌+◌, ◌-◌, ◌*◌, ◌/◌, ◌%◌, ◌<◌, ◌≤◌, eqb, true, false, cond, None, List, sym, ap, subst, ◌∙◌, arith}
 use Rattle.stage2.proofs.Names.{View, page_count, row_of, PageRun, covers, Pool, IsWhole, pages_of, words_of, taken_of, after_replaces, edited, touches_chunk, AreFree, StaysInStep, chunk_runs, sum_below, table_operations, chunk_operations, Layout, slot, walked, next_page, Piece, ChunkEdit, RowEdit, Site, block_step, answers_in, covers_chunk, IsAt, GrowsChunk, HasFree, CanEditChunks, AreChunksEdited, operations_in_table, IsUnderway, IsNextPiece, IsSeated, disturbed_below, nat_tests, common_steps, part_count}
 use Rattle.stage2.specs.inner.Clauses.{CanEditChunk, IsChunkEdited, ReplacesBlocks, linked_view}
 use Rattle.stage2.proofs.Counting.Needs.{filled-touches}
@@ -12,7 +12,7 @@ use Rattle.stage2.proofs.Editing.MadeEdit.{touches-made, site-made, grows-made, 
 use Rattle.stage2.proofs.Runs.Between.{AreLeft, left-all, left-later, left-past}
 use Rattle.stage2.proofs.Runs.Left.{left-touches}
 use Rattle.stage2.proofs.Runs.OwnRuns.{AreOwn, own-chunk, chunk-growing, chunk-redoes, chunk-free, chunk-stays}
-use Rattle.stage2.proofs.Runs.Spans.{underway-gap, stays-gap}
+use Rattle.stage2.proofs.Runs.Spans.{climbed, underway-gap, stays-gap}
 use Rattle.stage2.proofs.Walkers.ChunkSteps.{march-edit, march-seated, march-free}
 use Rattle.stage2.proofs.Walkers.ZeroedTables.{stays-none}
 use Rattle.std.proofs.lemmas.Bool.{eqb-true}
@@ -50,14 +50,11 @@ module _ {e : RowEdit} {j g : ℕ} {runs : List PageRun} {first : Pool} {r0 : �
     -- chunks are passed over that they leave alone
     gap : (k : ℕ) → i ≤ k → k ≤ 512 → ((x : ℕ) → i ≤ x → x < k → touches_chunk (512 * g + x) rest ≡ false) → (later : List PageRun) → AreLeft (512 * g + k) later runs → IsUpTo e j g runs first r0 k later now r
     gap k from most apart later left =
-        let all : i + (k - i) ≡ k = omega (arith, from) in
-        let none : (x : ℕ) → i ≤ x → x < i + (k - i) → touches_chunk (512 * g + x) runs ≡ false = λ x low lt. alone x low (apart x low (omega (arith, lt, from))) in
+        let none : (x : ℕ) → i ≤ x → x < k → touches_chunk (512 * g + x) runs ≡ false = λ x low lt. alone x low (apart x low lt) in
         let room = so.room in
         record {
-          underway = subst (λ n. IsUnderway e.layout.now e.row g j n (after e j g runs first) (pages_of first.memory) (pages_of now.memory)) all
-              (underway-gap e.layout.now e.row g j runs e.access (pages_of first.memory) (pages_of now.memory) e.inside below (k - i) i (omega (arith, from, most)) none so.underway);
-          in_step = λ seated free. subst (λ n. StaysInStep e.layout.now e.row (disturbed_below g n runs (linked_view e g j first) (after e j g runs first)) (λ n. walked n (after e j g runs first n)) first now) all
-              (stays-gap e.layout.now e.row g j runs e.access (pages_of first.memory) (pages_of now.memory) e.inside below first now (k - i) i (omega (arith, from, most)) none so.underway (so.in_step seated free));
+          underway = underway-gap e.layout.now e.row g j runs e.access (pages_of first.memory) (pages_of now.memory) e.inside below i k from most none so.underway;
+          in_step = λ seated free. stays-gap e.layout.now e.row g j runs e.access (pages_of first.memory) (pages_of now.memory) e.inside below first now i k from most none so.underway (so.in_step seated free);
           left = left;
           last = most;
           room = omega (arith, sum_below-up (cost e j g runs first) i k from, room);
@@ -147,12 +144,9 @@ module _ {e : RowEdit} {j g : ℕ} {runs : List PageRun} {first : Pool} {r0 : �
       fills : (x : ℕ) → i ≤ x → x < end → covers_chunk (512 * g + x) runs ≡ true
       fills x from to = sym (so.left.fills (512 * g + x) (omega (arith, from))) ∙ filled x from to
 
-      three : (k : ℕ) → i + k ≤ end → sum_below (cost e j g runs first) i + 3 * k ≤ sum_below (cost e j g runs first) (i + k)
-      three zero le = let start : i + 0 ≡ i = omega arith in rw start (omega arith)
-      three (suc k) le = grind (arith, common_steps, nat_tests, three k (omega (arith, le)), sum_below-more (cost e j g runs first) (i + k), filled-touches, fills, touched)
-
       spent : sum_below (cost e j g runs first) i + 3 * (end - i) ≤ sum_below (cost e j g runs first) end
-      spent = let all : i + (end - i) ≡ end = omega (arith, ahead) in let so_many = three (end - i) (omega (arith, ahead)) in subst (λ n. sum_below (cost e j g runs first) i + 3 * (end - i) ≤ sum_below (cost e j g runs first) n) all so_many
+      spent = climbed (λ n. sum_below (cost e j g runs first) i + 3 * (n - i) ≤ sum_below (cost e j g runs first) n) i end (omega (arith, ahead))
+          (λ x from to le. grind (arith, common_steps, nat_tests, sum_below-more (cost e j g runs first) x, filled-touches, fills x from to)) (omega arith)
 
       pub blocks-room : 3 * end ≤ r + 3 * i
       blocks-room = grind (arith, common_steps, nat_tests, sum_below-up, spent)

@@ -1,5 +1,5 @@
 -- The gigabytes of a row before one are edited: one after another.
-use Rattle.std.proofs.Common.{◌≡◌, ◌≢◌, ℕ, ◌+◌, ◌-◌, ◌/◌, ◌<◌, ◌≤◌, true, false, List, subst, sym, ◌∙◌, arith}
+use Rattle.std.proofs.Common.{◌≡◌, ◌≢◌, ℕ, ◌+◌, ◌-◌, ◌/◌, ◌<◌, ◌≤◌, true, false, List, sym, ◌∙◌, arith}
 use Rattle.stage2.proofs.Names.{PageRun, covers, Pool, pages_of, AreFree, StaysInStep, IsCanonical, gigabyte_runs, sum_below, gigabyte_operations, walked, RowEdit, row_view, row_after, CanEditGigabyte, IsGigabyteEdited, operations_in_gigabyte, IsPast, Touches, nat_tests, common_steps}
 use Rattle.stage2.specs.inner.Clauses.{CanEditRow, IsRowEdited}
 use Rattle.stage2.specs.inner.Gigabytes.{LieInGigabyte}
@@ -29,13 +29,10 @@ module _ {e : RowEdit} {runs : List PageRun} {first : Pool} {r0 : ℕ} where
     -- gigabytes that the runs leave alone
     pub row-ahead : (k : ℕ) → i ≤ k → k ≤ 512 → ((n : ℕ) → i ≤ n / 512 / 512 → n / 512 / 512 < k → covers runs n ≡ false) → IsRowUpTo e runs first r0 k now r
     row-ahead k from most none =
-        let all : i + (k - i) ≡ k = omega (arith, from) in
         let room = so.room in
         record {
-          past = subst (λ n. IsPast e.layout.now e.row n (row_after e runs first) (pages_of first.memory) (pages_of now.memory)) all
-              (past-gap e.layout.now e.row runs e.access (pages_of first.memory) (pages_of now.memory) e.inside (k - i) i (omega (arith, from, most)) (λ n low high. none n low (omega (arith, high, from))) so.past);
-          in_step = λ free. subst (λ n. StaysInStep e.layout.now e.row (disturbed_before n runs (row_view e.layout.now e.row first) (row_after e runs first)) (λ n. walked n (row_after e runs first n)) first now) all
-              (cross-gap e.layout.now e.row runs (row_view e.layout.now e.row first) (row_after e runs first) first now (k - i) i (so.in_step free));
+          past = past-gap e.layout.now e.row runs e.access (pages_of first.memory) (pages_of now.memory) e.inside i k from most none so.past;
+          in_step = λ free. cross-gap e.layout.now e.row runs (row_view e.layout.now e.row first) (row_after e runs first) first now i k from (so.in_step free);
           room = omega (arith, sum_below-up (cost e runs first) i k from, room);
         }
 

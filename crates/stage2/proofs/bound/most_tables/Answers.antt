@@ -1,4 +1,4 @@
-use Rattle.stage2.proofs.Names.{View, edited, sum_below, view_in, gigabyte_growth, nat_tests, common_steps, ◌≡◌, ℕ, ◌+◌, ◌-◌, inr, ap, arith}
+use Rattle.stage2.proofs.Names.{View, edited, view_in, gigabyte_growth, nat_tests, common_steps, ℕ, ◌-◌, inr, arith}
 use Rattle.stage2.proofs.Counting.Growth.{growth-nothing}
 use Rattle.stage2.proofs.Editing.ChunkByChunk.{sum_below-more}
 use Rattle.stage2.proofs.Editing.GigabyteByGigabyte.{grow-sum}
@@ -19,6 +19,5 @@ returns g c =
     let grows : ℕ → ℕ = gigabyte_growth before (edited runs access before) in
     let span = c.gigabyte_span-span.result in
     let i = c.loop-number.number in
-    let all : i + (512 - i) ≡ 512 = omega (arith, c.gigabyte_span-span.ensures.most, c.loop-number.auto.number-end c.gigabyte_span-span.ensures.ordered) in
-    let tail = sum_below-tail grows (512 - i) i (λ x from to. growth-nothing runs access before x (λ n at. outside-gigabytes runs span.first span.end n c.gigabyte_span-span.ensures.within (inr (omega (arith, from, at, c.loop-number-test.false))))) in
-    omega (arith, c.loop-number.invariant.most, tail, ap (sum_below grows) all, grow-sum before (edited runs access before))
+    let tail = sum_below-tail grows i 512 (omega (arith, c.gigabyte_span-span.ensures.most, c.loop-number.auto.number-end c.gigabyte_span-span.ensures.ordered)) (λ x from to. growth-nothing runs access before x (λ n at. outside-gigabytes runs span.first span.end n c.gigabyte_span-span.ensures.within (inr (omega (arith, from, at, c.loop-number-test.false))))) in
+    omega (arith, c.loop-number.invariant.most, tail, grow-sum before (edited runs access before))

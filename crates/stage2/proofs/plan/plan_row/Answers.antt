@@ -1,4 +1,4 @@
-use Rattle.stage2.proofs.Names.{pages_of, edited, answers_of, sum_below, gigabyte_operations, gigabyte_growth, Plan, View, covers, nat_tests, common_steps, ◌≡◌, ℕ, ◌+◌, ◌-◌, ◌*◌, ◌/◌, ◌≤◌, false, inr, sym, ap, ◌∙◌, arith}
+use Rattle.stage2.proofs.Names.{pages_of, edited, answers_of, gigabyte_operations, gigabyte_growth, Plan, View, covers, nat_tests, common_steps, ◌≡◌, ℕ, ◌+◌, ◌-◌, ◌*◌, ◌/◌, ◌≤◌, false, inr, sym, ap, ◌∙◌, arith}
 use Rattle.stage2.proofs.Editing.ChunkByChunk.{sum_below-more}
 use Rattle.stage2.proofs.Editing.GigabyteByGigabyte.{grow-sum}
 use Rattle.stage2.proofs.Runs.Spans.{sum_below-none, sum_below-tail, outside-gigabytes}
@@ -74,11 +74,10 @@ returns g c =
     let i = c.loop-number.number in
     let most = c.gigabyte_span-span.ensures.most in
     let last : i ≤ c.gigabyte_span-span.result.end = c.loop-number.auto.number-end c.gigabyte_span-span.ensures.ordered in
-    let e : i + (512 - i) ≡ 512 = omega (arith, most, last) in
     let none : (x : ℕ) → i ≤ x → (n : ℕ) → n / 512 / 512 ≡ x → covers runs n ≡ false =
     λ x from n at. outside-gigabytes runs c.gigabyte_span-span.result.first c.gigabyte_span-span.result.end n c.gigabyte_span-span.ensures.within (inr (omega (arith, from, at, c.loop-number-test.false))) in
     record {
-      tables = so.tables ∙ sym (sum_below-tail f (512 - i) i (λ x from to. growth-nothing runs access v x (none x from))) ∙ ap (sum_below f) e ∙ grow-sum v (edited runs access v);
-      operations = grind (arith, common_steps, nat_tests, sum_below-tail, operations-nothing);
+      tables = so.tables ∙ sym (sum_below-tail f i 512 (omega (arith, most, last)) (λ x from to. growth-nothing runs access v x (none x from))) ∙ grow-sum v (edited runs access v);
+      operations = omega (arith, so.operations, sum_below-tail h i 512 (omega (arith, most, last)) (λ x from to. operations-nothing runs access v x (none x from)));
       most = let few = so.most in omega (arith, few, last, most);
     }
