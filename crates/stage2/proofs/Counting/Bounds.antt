@@ -1,6 +1,5 @@
 -- An edit takes no more tables than there are chunks and gigabytes from the first that its runs touch to the last.
-use Rattle.stage2.proofs.Names.{common_steps, nat_tests, View, count_below, grow, PageRun, covers, edited, lie_within, is_between, cases_lt}
-use Rattle.std.proofs.Common.{◌*◌, ◌≡◌, ℕ, ◌+◌, ◌-◌, ◌/◌, ◌<◌, ◌≤◌, Bool, true, List, arith}
+use Rattle.stage2.proofs.Names.{common_steps, nat_tests, View, count_below, grow, PageRun, covers, edited, lie_within, is_between, cases_lt, ◌*◌, ◌≡◌, ℕ, ◌+◌, ◌-◌, ◌/◌, ◌<◌, ◌≤◌, Bool, true, List, arith}
 use Rattle.stage2.proofs.Counting.Growth.{grows-nothing}
 use Rattle.stage2.proofs.Runs.Normal.{any-within}
 use Rattle.stage2.proofs.Counting.Needs.{reached-same}

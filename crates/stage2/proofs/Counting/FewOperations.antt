@@ -1,7 +1,6 @@
 -- An edit whose pages lie in one chunk, and which writes no words of level 3 but theirs.
-use Rattle.stage2.proofs.Names.{common_steps, View, is_mixed, is_alike, nat_tests, PageRun, in_run, covers, Pages, nonzero_in, edited, answers_at, answers_of, entry_in, block_answer, is_between, answer_of, part_in, part_count, pages_among, pages_in, reached_in, table_operations, chunk_operations, gigabyte_operations, row_operations, Layout, Slot, Next, Bad, next_page, entry_of}
+use Rattle.stage2.proofs.Names.{common_steps, View, is_mixed, is_alike, nat_tests, PageRun, in_run, covers, Pages, nonzero_in, edited, answers_at, answers_of, entry_in, block_answer, is_between, answer_of, part_in, part_count, pages_among, pages_in, reached_in, table_operations, chunk_operations, gigabyte_operations, row_operations, Layout, Slot, Next, Bad, next_page, entry_of, cases_lt}
 use Rattle.std.proofs.Common.{ltb, max, min, ◌≡◌, ◌≢◌, ℕ, ◌+◌, ◌-◌, ◌*◌, ◌/◌, ◌%◌, ◌<◌, ◌≤◌, Bool, true, false, cond, is_some, List, [], ◌∷◌, length, Option, Some, None, refl, sym, ap, ap₂, ◌∙◌, arith}
-use Rattle.std.proofs.lemmas.Bool.{cases_lt}
 use Rattle.pool.proofs.Count.{count_below-some}
 use Rattle.stage2.proofs.Counting.Bounds.{count-within}
 use Rattle.stage2.proofs.Counting.Growth.{IsRead, view-same, view-spelled}

@@ -1,7 +1,6 @@
 -- How many operations an edit makes: views that agree on a chunk make as many, and what each row of the edit order makes.
-use Rattle.stage2.proofs.Names.{common_steps, nat_tests, View, is_mixed, PageRun, covers, Words, Pool, words_of, nonzero_in, edited, touches_chunk, answers_at, block_answer, IsOutcome, IsWordFor, OthersAnswer, sum_below, pages_among, pages_in, reached_in, table_operations, chunk_operations, chunks_operations, gigabyte_operations, part_count, answer_of, Layout, Slot, Next, next_page, entry_of}
+use Rattle.stage2.proofs.Names.{common_steps, nat_tests, View, is_mixed, PageRun, covers, Words, Pool, words_of, nonzero_in, edited, touches_chunk, answers_at, block_answer, IsOutcome, IsWordFor, OthersAnswer, sum_below, pages_among, pages_in, reached_in, table_operations, chunk_operations, chunks_operations, gigabyte_operations, part_count, answer_of, Layout, Slot, Next, next_page, entry_of, cases_Bool}
 use Rattle.std.proofs.Common.{◌≡◌, ℕ, zero, suc, ◌+◌, ◌*◌, ◌/◌, ◌%◌, ◌<◌, ◌==◌, min, true, false, not, cond, is_some, List, Some, None, refl, sym, ap, ap₂, subst, ◌∙◌, arith, inl, inr, ◌⊎◌}
-use Rattle.std.proofs.lemmas.Bool.{cases_Bool}
 use Rattle.pool.proofs.Count.{count_below-same}
 use Rattle.stage2.proofs.Counting.Needs.{mixed-same, outcome-others, equal-first}
 use Rattle.stage2.proofs.Counting.Pieces.{pages_among-same, pages_among-all, pages_among-not}

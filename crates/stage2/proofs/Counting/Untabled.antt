@@ -1,7 +1,6 @@
 -- An edit takes a level 3 table in chunks alone that have none, and a level 2 table in gigabytes that have none.
 use Rattle.std.proofs.Common.{◌≡◌, ◌%◌, ℕ, ◌+◌, ◌*◌, ◌<◌, ◌≤◌, ◌&&◌, true, not, cond, is_some, is_none, List, Option, Some, None, length, refl, ap, ◌∙◌, arith}
-use Rattle.std.proofs.lemmas.Bool.{eqb-true}
-use Rattle.stage2.proofs.Names.{common_steps, nat_tests, View, count_below, is_mixed, PageRun, Pool, pages_of, edited, touches_chunk, IsCanonical, Layout, next_page, second_of, entry_in, is_between, points_at, view_in, grows_at, gigabyte_growth}
+use Rattle.stage2.proofs.Names.{common_steps, nat_tests, View, count_below, is_mixed, PageRun, Pool, pages_of, edited, touches_chunk, IsCanonical, Layout, next_page, second_of, entry_in, is_between, points_at, view_in, grows_at, gigabyte_growth, eqb-true}
 use Rattle.stage2.specs.inner.Clauses.{second_in}
 use Rattle.stage2.proofs.Counting.Growth.{grows-nothing, reached-second, read-at, entry-mixed}
 use Rattle.stage2.proofs.Counting.Pieces.{count_below-fewer}

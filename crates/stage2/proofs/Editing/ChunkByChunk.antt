@@ -1,7 +1,6 @@
 -- One chunk of a gigabyte after another.
-use Rattle.std.proofs.Common.{◌≡◌, ◌≢◌, ℕ, zero, suc, ◌+◌, ◌-◌, ◌*◌, ◌/◌, ◌^◌, ◌<◌, ◌≤◌, Bool, true, false, not, ◌&&◌, cond, eqb, ltb, is_some, List, length, refl, arith, ap, sym, subst, ◌∙◌, inl, inr, add-one}
-use Rattle.std.proofs.lemmas.Bool.{cases_eq}
-use Rattle.stage2.proofs.Names.{nat_tests, PageRun, covers, View, Pages, used_by, row_quota, count_below, Walked, Layout, walk, walked, Gigabyte, Chunk, table_at, is_mixed, IsOrderly, answers, answer_of, linked, edited, touches_chunk, answers_in, Redoes, Redoes_in, IsSite, IsGrowing, sum_below, grows_at, IsUnderway, common_steps}
+use Rattle.std.proofs.Common.{◌≡◌, ◌≢◌, ℕ, zero, suc, ◌+◌, ◌-◌, ◌*◌, ◌/◌, ◌^◌, ◌<◌, ◌≤◌, Bool, true, false, ◌&&◌, cond, eqb, ltb, is_some, List, length, refl, arith, ap, sym, subst, ◌∙◌, inl, inr, add-one}
+use Rattle.stage2.proofs.Names.{nat_tests, PageRun, covers, View, Pages, used_by, row_quota, count_below, Walked, Layout, walk, walked, Gigabyte, Chunk, table_at, is_mixed, IsOrderly, answers, answer_of, linked, edited, touches_chunk, answers_in, Redoes, Redoes_in, IsSite, IsGrowing, sum_below, grows_at, IsUnderway, common_steps, cases_eq}
 use Rattle.pool.proofs.Count.{count_below-same, count_below-at, count_below-more}
 use Rattle.stage2.proofs.Counting.Needs.{mixed-same, covered-touched}
 use Rattle.stage2.proofs.Editing.FourChunkEdits.{tidy-answer}

@@ -1,7 +1,6 @@
 -- Chunks that follow one another, each of which a run has whole and none of which has a table: their level 2 words are replaced.
 use Rattle.std.proofs.Common.{◌≡◌, ℕ, zero, suc, ◌+◌, ◌*◌, ◌%◌, ◌^◌, ◌<◌, ◌≤◌, ◌==◌, Bool, true, false, List, length, Some, None, refl, sym, ap, subst, ◌∙◌, arith, inl, inr}
-use Rattle.std.proofs.lemmas.Bool.{cases_Bool, eqb-true}
-use Rattle.stage2.proofs.Names.{Access, View, page_count, row_of, PageRun, Entry, Invalid, Table, Leaf, leaf_word_of, entry_of, IsLeafWord, Pages, Pool, IsWhole, words_of, pages_of, put, with_put, after_break, after_make, after_replaces, Layout, slot, slot_from, walked, next_page, block_step, edited, answers_in, covers_chunk, IsEntryFor, Puts, IsUnderway, Made, replaced, StaysInStep, answers, linked, IsSeated, disturbed_below, nat_tests, common_steps}
+use Rattle.stage2.proofs.Names.{Access, View, page_count, row_of, PageRun, Entry, Invalid, Table, Leaf, leaf_word_of, entry_of, IsLeafWord, Pages, Pool, IsWhole, words_of, pages_of, put, with_put, after_break, after_make, after_replaces, Layout, slot, slot_from, walked, next_page, block_step, edited, answers_in, covers_chunk, IsEntryFor, Puts, IsUnderway, Made, replaced, StaysInStep, answers, linked, IsSeated, disturbed_below, nat_tests, common_steps, cases_Bool, eqb-true}
 use Rattle.words.specs.declared.word.Entry.TheVariants.{Wrong}
 use Rattle.words.proofs.RoundTrip.{entry-block, entry-zero, word-leaf, word-table, type-table}
 use Rattle.pool.proofs.Words.{pages_of-set}

@@ -204,7 +204,7 @@ module _ {layout : Layout} {row c j : ℕ} {m : Pages} (h : IsSite layout row c 
   third-apart k e = not-third k e (Gigabyte row (c / 512)) j in_gigabyte (λ f. cc) h.second
 
   -- the word of a page of the chunk's table that is not reached is 0
-  unreached-zero : (k n : ℕ) → entry ≡ Next k → n / 512 ≡ c → answers layout old row n ≡ None → m.words k (n % 512) ≡ 0
+  pub unreached-zero : (k n : ℕ) → entry ≡ Next k → n / 512 ≡ c → answers layout old row n ≡ None → m.words k (n % 512) ≡ 0
   unreached-zero k n is_table chunk none =
       let i = n % 512 in
       let small : i < 512 = omega arith in

@@ -1,7 +1,6 @@
 -- The edit of a gigabyte, from its chunks and its link.
 use Rattle.std.proofs.Common.{◌≡◌, ◌≢◌, ℕ, ◌+◌, ◌-◌, ◌*◌, ◌/◌, ◌^◌, ◌<◌, ◌≤◌, true, false, ◌&&◌, cond, eqb, ltb, is_some, List, Some, None, length, refl, arith, ap, sym, subst, ◌∙◌, inl, inr}
-use Rattle.std.proofs.lemmas.Bool.{cases_Bool}
-use Rattle.stage2.proofs.Names.{nat_tests, PageRun, covers, View, table_word_of, Pages, with_put, with_mark, used_by, row_quota, count_below, Layout, Slot, Empty, Next, Maps, Bad, slot, at_2, walk, walked, Root, Gigabyte, Chunk, next_page, table_at, is_mixed, is_reached, IsOrderly, IsCanonical, answers, answer_of, linked, edited, chunks_operations, grows_at, gigabyte_growth, IsUnderway, EditsGigabyte, Touches, common_steps}
+use Rattle.stage2.proofs.Names.{nat_tests, PageRun, covers, View, table_word_of, Pages, with_put, with_mark, used_by, row_quota, count_below, Layout, Slot, Empty, Next, Maps, Bad, slot, at_2, walk, walked, Root, Gigabyte, Chunk, next_page, table_at, is_mixed, is_reached, IsOrderly, IsCanonical, answers, answer_of, linked, edited, chunks_operations, grows_at, gigabyte_growth, IsUnderway, EditsGigabyte, Touches, common_steps, cases_Bool}
 use Rattle.words.proofs.RoundTrip.{word-table}
 use Rattle.pool.proofs.Shares.{used_by-take, used_by-give}
 use Rattle.stage2.proofs.Counting.Operations.{chunks-same}
@@ -31,12 +30,11 @@ canonical-from layout row g old new canonical orderly others apart here = record
   orderly = orderly;
   reached = λ r x inside below. elim (is_pair row g r x) [
     | inl e ↦ rw (e.0, e.1) here
-    | inr e ↦ grind (arith, common_steps, nat_tests, canonical.reached r x inside below, reached-same, quotient)
+    | inr e ↦
+        ap (λ o. is_some o) (others r x inside below e) ∙ canonical.reached r x inside below
+        ∙ sym (reached-same (answers layout old.words r) (answers layout new.words r) x (λ i small. ap answer_of (apart r (262144 * x + i) (omega (arith, small, below)) (λ s at. e s (omega (arith, small, at))))))
   ];
 }
-  where
-    quotient : (x i : ℕ) → i < 262144 → x ≡ (262144 * x + i) / 512 / 512
-    quotient x i small = omega arith
 
 -- ---- after the last chunk
 

@@ -1,7 +1,6 @@
 -- Words of a table that follow one another and are written at once.
 use Rattle.std.proofs.Common.{◌≡◌, ◌≢◌, ℕ, zero, suc, ◌+◌, ◌-◌, ◌*◌, ◌^◌, ◌<◌, ◌≤◌, Bool, true, false, List, length, slice_index, Some, None, refl, sym, ap, subst, ◌∙◌, arith, inl, inr}
-use Rattle.std.proofs.lemmas.Bool.{cases_eq, cases_lt}
-use Rattle.stage2.proofs.Names.{nat_tests, Access, View, page_count, Leaf, leaf_word_of, entry_of, IsLeafWord, pages_of, Pool, IsWhole, words_of, entry_for, step_for, IsWordFor, Writes, some_pages, WritesPlan, AreSets, AllChange, Filled, words_after, common_steps}
+use Rattle.stage2.proofs.Names.{nat_tests, Access, View, page_count, Leaf, leaf_word_of, entry_of, IsLeafWord, pages_of, Pool, IsWhole, words_of, entry_for, step_for, IsWordFor, Writes, some_pages, WritesPlan, AreSets, AllChange, Filled, words_after, common_steps, cases_eq, cases_lt}
 use Rattle.words.proofs.RoundTrip.{entry-zero, entry-page, word-leaf}
 use Rattle.pool.specs.Pool.{words_set, sets_of, after_sets}
 use Rattle.pool.proofs.Words.{words_of-set_at}
@@ -105,13 +104,7 @@ module _ (k c first end word step : ℕ) (answer : View) (s : Pool) (whole : IsW
         | inr behind ↦ let bad : None ≡ Some a = sym (some-after c first end answer i behind) ∙ given in absurd (cc)
       ]
     ];
-    stays = λ i below none. elim (cases_lt i first) [
-      | inl before ↦ words_set-beside s.memory.words k first (end - first) word step i room small (inl before)
-      | inr from ↦ elim (cases_lt i end) [
-        | inl lt ↦ let bad : Some answer ≡ None = sym (some-in c first end answer i from lt) ∙ none in absurd (cc)
-        | inr behind ↦ words_set-beside s.memory.words k first (end - first) word step i room small (inr (omega (arith, behind, ordered)))
-      ]
-    ];
+    stays = λ i below none. grind (arith, common_steps, nat_tests, cases_lt i first, cases_lt i end, some-in c first end answer i, words_set-beside s.memory.words k first (end - first) word step i room small);
   }
 
   filled-stretch : Filled k c end (some_pages c first end answer) s (after_sets k first (end - first) word step s)

@@ -1,7 +1,6 @@
 -- The edit of a gigabyte that gets its level 2 table, from that of its chunks.
 use Rattle.std.proofs.Common.{◌≡◌, ℕ, ◌+◌, ◌/◌, ◌%◌, ◌<◌, true, false, ◌&&◌, eqb, cond, is_some, None, Some, List, sym, ap, subst, ◌∙◌, arith}
-use Rattle.std.proofs.lemmas.Bool.{eqb-true}
-use Rattle.stage2.proofs.Names.{nat_tests, View, PageRun, Pages, Pool, IsWhole, pages_of, words_of, taken_of, with_mark, after_take, IsLowestFree, Set, table_word_of, AreFree, Turns, edited, StaysInStep, IsLogged, IsOrderly, answers, answer_of, linked, walk, walked, Gigabyte, table_at, RowEdit, second_at, row_view, HasFree, Puts, CanEditChunks, AreChunksEdited, CanEditGigabyte, IsGigabyteEdited, GigabyteInStep, operations_in_chunks, operations_in_gigabyte, IsUnderway, IsSeated, disturbed_below, common_steps}
+use Rattle.stage2.proofs.Names.{nat_tests, View, PageRun, Pages, Pool, IsWhole, pages_of, words_of, taken_of, with_mark, after_take, IsLowestFree, Set, table_word_of, AreFree, Turns, edited, StaysInStep, IsLogged, IsOrderly, answers, answer_of, linked, walk, walked, Gigabyte, table_at, RowEdit, second_at, row_view, HasFree, Puts, CanEditChunks, AreChunksEdited, CanEditGigabyte, IsGigabyteEdited, GigabyteInStep, operations_in_chunks, operations_in_gigabyte, IsUnderway, IsSeated, disturbed_below, common_steps, eqb-true}
 use Rattle.stage2.specs.inner.Clauses.{EditsInGigabyte}
 use Rattle.stage2.specs.inner.Gigabytes.{Fits}
 use Rattle.stage2.proofs.Editing.Gigabyte.{touched-below, link-has-free, link-fits, same-answers, link-chunks, finish-link}

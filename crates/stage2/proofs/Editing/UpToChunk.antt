@@ -1,6 +1,6 @@
 -- The chunks of a gigabyte before one are edited, and these runs are left for the others: one piece after another.
 use Rattle.std.proofs.Common.{◌≡◌, ◌≢◌, ℕ, ◌+◌, ◌-◌, ◌*◌, ◌/◌, ◌%◌, ◌<◌, ◌≤◌, eqb, true, false, cond, None, List, sym, ap, subst, ◌∙◌, arith}
-use Rattle.stage2.proofs.Names.{View, page_count, row_of, PageRun, covers, Pool, IsWhole, pages_of, words_of, taken_of, after_replaces, edited, touches_chunk, AreFree, StaysInStep, chunk_runs, sum_below, table_operations, chunk_operations, Layout, slot, walked, next_page, Piece, ChunkEdit, RowEdit, Site, block_step, answers_in, covers_chunk, IsAt, GrowsChunk, HasFree, CanEditChunks, AreChunksEdited, operations_in_table, IsUnderway, IsNextPiece, IsSeated, disturbed_below, nat_tests, common_steps, part_count}
+use Rattle.stage2.proofs.Names.{View, page_count, row_of, PageRun, covers, Pool, IsWhole, pages_of, words_of, taken_of, after_replaces, edited, touches_chunk, AreFree, StaysInStep, chunk_runs, sum_below, table_operations, chunk_operations, Layout, slot, walked, next_page, Piece, ChunkEdit, RowEdit, Site, block_step, answers_in, covers_chunk, IsAt, GrowsChunk, HasFree, CanEditChunks, AreChunksEdited, operations_in_table, IsUnderway, IsNextPiece, IsSeated, disturbed_below, nat_tests, common_steps, part_count, eqb-true}
 use Rattle.stage2.specs.inner.Clauses.{CanEditChunk, IsChunkEdited, ReplacesBlocks, linked_view}
 use Rattle.stage2.proofs.Counting.Needs.{filled-touches}
 use Rattle.stage2.proofs.Counting.Operations.{chunk-same}
@@ -15,7 +15,6 @@ use Rattle.stage2.proofs.Runs.OwnRuns.{AreOwn, own-chunk, chunk-growing, chunk-r
 use Rattle.stage2.proofs.Runs.Spans.{climbed, underway-gap, stays-gap}
 use Rattle.stage2.proofs.Walkers.ChunkSteps.{march-edit, march-seated, march-free}
 use Rattle.stage2.proofs.Walkers.ZeroedTables.{stays-none}
-use Rattle.std.proofs.lemmas.Bool.{eqb-true}
 
 -- the answers after the edit
 abbrev pub after : RowEdit → ℕ → ℕ → List PageRun → Pool → ℕ → View

@@ -1,8 +1,7 @@
 -- What clauses say of the tables: canonical tables, and an edit of a partition that has a root or has none.
 use Rattle.std.proofs.Common.{◌≡◌, ℕ, ◌+◌, ◌-◌, ◌*◌, ◌/◌, ◌%◌, ◌^◌, ◌<◌, ◌≤◌, Bool, true, false, not, ◌&&◌, cond, eqb, ltb, List, length, position, Option, Some, None, is_some, Result, Ok, refl, sym, ap, subst, ◌∙◌, arith, inl, inr}
-use Rattle.stage2.proofs.Names.{nat_tests, Access, View, row_of, is_reached, need, grow, PageRun, in_run, covers, Clear, Pool, pages_of, words_of, taken_of, used_by, row_quota, free_of, all_lie_in, edited, AreFree, Turns, disturbed, answers_of, EditsRow, StaysInStep, IsCanonical, answers, answer_of, row_operations, Layout, walk_in, view_of, has_root, AreCanonical, AreTurnedFor, edit_operations, AreEdited, ShowsMoments, EditsInStep, ClearsInStep, walk, walk_across, walked, common_steps, Unmapped}
+use Rattle.stage2.proofs.Names.{nat_tests, Access, View, row_of, is_reached, need, grow, PageRun, in_run, covers, Clear, Pool, pages_of, words_of, taken_of, used_by, row_quota, free_of, all_lie_in, edited, AreFree, Turns, disturbed, answers_of, EditsRow, StaysInStep, IsCanonical, answers, answer_of, row_operations, Layout, walk_in, view_of, has_root, AreCanonical, AreTurnedFor, edit_operations, AreEdited, ShowsMoments, EditsInStep, ClearsInStep, walk, walk_across, walked, common_steps, Unmapped, cases_Bool, ltb-true, eqb-true}
 use Rattle.std.specs.Result.{OnOk}
-use Rattle.std.proofs.lemmas.Bool.{cases_Bool, ltb-true, eqb-true}
 use Rattle.pool.specs.Pool.{after_clear}
 use Rattle.pool.proofs.Count.{count_below-same, count_below-some}
 use Rattle.pool.proofs.Shares.{row_quota-none, used_by-le}

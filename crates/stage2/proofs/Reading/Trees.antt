@@ -1,6 +1,5 @@
 -- The entries of a tree of tables, one after another.
-use Rattle.std.proofs.Common.{arith, ◌≡◌, ℕ, [], ◌∷◌, Option, refl}
-use Rattle.stage2.proofs.Names.{nat_tests, common_steps, option_map_or, entry_of, Words, Cursor, First, TableEntry, table_entries, table_in, with_chunks, tree_entries, left_in, left_of}
+use Rattle.stage2.proofs.Names.{nat_tests, common_steps, option_map_or, entry_of, Words, Cursor, First, TableEntry, table_entries, table_in, with_chunks, tree_entries, left_in, left_of, arith, ◌≡◌, ℕ, [], ◌∷◌, Option, refl}
 use Rattle.stage2.specs.declared.table_page.Level.TheVariants.{Second, Third}
 use Rattle.stage2.specs.Reading.{with_pages}
 

@@ -1,13 +1,11 @@
 -- How many chunks runs touch, and how many operations their edit takes at most, whatever the tables are.
-use Rattle.stage2.proofs.Names.{common_steps, option_map_or, nat_tests, PageRun, covers, are_normal, rise_above, part_in, part_count, lie_within, touches_chunk, sum_below, pages_among, pages_in, chunk_operations, chunks_operations, gigabyte_operations, row_operations, Touches, View, index_from, words_in, is_between}
+use Rattle.stage2.proofs.Names.{common_steps, option_map_or, nat_tests, PageRun, covers, are_normal, rise_above, part_in, part_count, lie_within, touches_chunk, sum_below, pages_among, pages_in, chunk_operations, chunks_operations, gigabyte_operations, row_operations, Touches, View, index_from, words_in, is_between, cases_Bool, cases_eq, ltb-true, and_parts}
 use Rattle.std.proofs.Common.{◌≡◌, ℕ, zero, suc, ◌+◌, ◌-◌, ◌*◌, ◌/◌, ◌%◌, ◌<◌, ◌≤◌, min, true, false, cond, ltb, List, [], ◌∷◌, ap, subst, ◌∙◌, arith, add-one, inl, inr}
-use Rattle.std.proofs.lemmas.Bool.{cases_Bool, cases_eq, ltb-true, and_parts}
 use Rattle.std.proofs.lemmas.List.Sums.{sum_by-cons}
 use Rattle.stage2.proofs.Counting.Pieces.{pages_among-le, page-among, words-pages}
 use Rattle.pool.proofs.Count.{count_below-some}
 use Rattle.stage2.proofs.Editing.ChunkByChunk.{sum_below-more, sum_below-add}
 use Rattle.stage2.proofs.Counting.Needs.{covered-touched}
-use Rattle.stage2.proofs.Counting.Pieces.{words-pages}
 use Rattle.stage2.proofs.Runs.Normal.{end_of, any-within}
 use Rattle.stage2.proofs.Runs.Spans.{sum_below-none}
 use Rattle.stage2.proofs.Walkers.SteadyPages.{covered-page}

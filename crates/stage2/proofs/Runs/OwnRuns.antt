@@ -1,9 +1,7 @@
 -- An edit asks of a chunk, or of a gigabyte, only those of the runs that have pages there: it edits it as all runs do.
 use Rattle.std.proofs.Common.{◌≡◌, ℕ, ◌+◌, ◌*◌, ◌/◌, ◌<◌, ◌≤◌, max, min, Bool, true, false, not, ◌&&◌, ◌||◌, cond, eqb, ltb, List, [], ◌∷◌, refl, arith, ap, ap₂, sym, ◌∙◌, inl, inr}
-use Rattle.stage2.proofs.Names.{common_steps, option_map_or, nat_tests, View, is_mixed, PageRun, in_run, covers, Pool, Pages, Walked, edited, touches_run, touches_chunk, AreFree, Turns, disturbs, disturbed, Redoes_in, IsGrowing, gigabyte_growth, FitsGigabyte, EditsGigabyte, StaysInStep, answers, part_in, part_count, runs_between, chunk_runs, gigabyte_runs, gigabyte_operations, Layout, walk, walked}
-use Rattle.std.proofs.lemmas.Bool.{cases_Bool, eqb-true}
+use Rattle.stage2.proofs.Names.{common_steps, option_map_or, nat_tests, View, is_mixed, PageRun, in_run, covers, Pool, Pages, Walked, edited, touches_run, touches_chunk, AreFree, Turns, disturbs, disturbed, Redoes_in, IsGrowing, gigabyte_growth, FitsGigabyte, EditsGigabyte, StaysInStep, answers, part_in, part_count, runs_between, chunk_runs, gigabyte_runs, gigabyte_operations, Layout, walk, walked, cases_Bool, eqb-true, any-filter_same}
 use Rattle.std.proofs.lemmas.List.Sums.{sum_by-cons}
-use Rattle.std.proofs.lemmas.Map.Views.{any-filter_same}
 use Rattle.pool.proofs.Count.{count_below-same}
 use Rattle.stage2.proofs.Walkers.ZeroedTables.{stays-wider}
 use Rattle.stage2.proofs.Counting.Needs.{mixed-same, reached-same}

@@ -1,7 +1,6 @@
 -- The edits of the chunks of a gigabyte, and of gigabytes, one after another, as walks under way see them.
 use Rattle.std.proofs.Common.{◌≡◌, ℕ, ◌+◌, ◌*◌, ◌/◌, ◌<◌, true, false, ◌&&◌, eqb, cond, List, length, arith, ap, sym, ◌∙◌, inr}
-use Rattle.std.proofs.lemmas.Bool.{eqb-true}
-use Rattle.stage2.proofs.Names.{nat_tests, PageRun, covers, View, Pool, Pages, Layout, walked, answers, linked, edited, touches_chunk, AreFree, disturbs, disturbed, answers_in, IsUnderway, StaysInStep, IsSeated, disturbed_below, common_steps}
+use Rattle.stage2.proofs.Names.{nat_tests, PageRun, covers, View, Pool, Pages, Layout, walked, answers, linked, edited, touches_chunk, AreFree, disturbs, disturbed, answers_in, IsUnderway, StaysInStep, IsSeated, disturbed_below, common_steps, eqb-true}
 use Rattle.stage2.proofs.Editing.ChunkByChunk.{quotient, still-answers, still-mixed, now-mixed}
 use Rattle.stage2.proofs.Walkers.ZeroedTables.{stays-wider, stays-more, stays-as}
 use Rattle.stage2.proofs.Walkers.Disturbed.{below-more, disturbs-same}

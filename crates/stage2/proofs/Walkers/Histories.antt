@@ -1,6 +1,5 @@
 -- Operations, one after another.
-use Rattle.std.proofs.Common.{◌≡◌, ℕ, ◌+◌, ◌*◌, ◌%◌, ◌^◌, ◌≤◌, List, [], ◌∷◌, ◌++◌, refl, ap, sym, ◌∙◌, arith, Option, Some}
-use Rattle.stage2.proofs.Names.{View, Op, Set, Invalidate, Clear, Words, Pool, put, words_after, counted, Made, AreSets, AllChange, Filled, nat_tests, common_steps}
+use Rattle.stage2.proofs.Names.{View, Op, Set, Invalidate, Clear, Words, Pool, put, words_after, counted, Made, AreSets, AllChange, Filled, nat_tests, common_steps, ◌≡◌, ℕ, ◌+◌, ◌*◌, ◌%◌, ◌^◌, ◌≤◌, List, [], ◌∷◌, ◌++◌, refl, ap, sym, ◌∙◌, arith, Option, Some}
 
 after-append : (b a : List Op) (w : Words) → words_after (b ++ a) w ≡ words_after b (words_after a w)
 after-append [] a w = refl

@@ -1,12 +1,10 @@
 -- A chunk whose gigabyte's table hangs, or hangs only once the root's word is written: what hangs in the words as they are.
 use Rattle.std.proofs.Common.{◌≡◌, ◌≢◌, ℕ, ◌+◌, ◌*◌, ◌/◌, ◌%◌, ◌^◌, ◌<◌, true, false, Some, None, length, refl, arith, ap, sym, subst, ◌∙◌, inl, inr}
-use Rattle.stage2.proofs.Names.{View, table_word_of, Words, Pages, put, Layout, Empty, Next, slot, IsInvalid, at_2, walk, walked, Place, Gigabyte, Chunk, next_page, table_at, IsPlace, IsForest, answers, Redoes_in, IsSite, IsEntryFor, IsOutcome, IsSeated, nat_tests, common_steps, Unmapped}
-use Rattle.stage2.proofs.Walkers.BreakBeforeMake.{empty-invalid}
-use Rattle.stage2.proofs.Walkers.TableWrites.{unmapped_3}
+use Rattle.stage2.proofs.Names.{View, table_word_of, Words, Pages, put, Layout, Next, slot, IsInvalid, at_2, walk, walked, Place, Gigabyte, Chunk, next_page, table_at, IsPlace, IsForest, answers, Redoes_in, IsSite, IsEntryFor, IsOutcome, IsSeated, nat_tests, common_steps}
 use Rattle.stage2.proofs.Tree.WalkFrame.{IsLevel3Write, IsUnheld, AgreeOutside, table_at-outside}
 use Rattle.stage2.proofs.Tree.PutTwice.{put-twice, put-there}
 use Rattle.stage2.proofs.Walkers.CallSeams.{hangs-linked, unheld-gigabyte, unheld-chunk}
-use Rattle.stage2.proofs.Editing.FourChunkEdits.{old, entry, table-entry, walk-entry, at_2-seen, third-at, slot-word, no-table, at_2-block, tidy-answer}
+use Rattle.stage2.proofs.Editing.FourChunkEdits.{old, entry, table-entry, walk-entry, at_2-seen, third-at, unreached-zero, slot-word, no-table, at_2-block}
 use Rattle.stage2.proofs.Walkers.StepLists.{IsHung}
 
 module _ {layout : Layout} {row c j : ℕ} {m : Pages} (h : IsSite layout row c j m) where
@@ -83,12 +81,9 @@ block-no-table layout c word one is = ap next_page (slot-word layout 2 (512 * c)
 
 pub invalid-word : {layout : Layout} {row c j : ℕ} {m : Pages} (h : IsSite layout row c j m) (k i : ℕ) → entry h ≡ Next k → i < 512 → answers layout (old h) row (512 * c + i) ≡ None → IsInvalid (m.words k i)
 invalid-word {layout} {row} {c} {j} {m} h k i is small none =
-    let n = 512 * c + i in
-    let chunk : n / 512 ≡ c = omega (arith, small) in
-    let index : n % 512 ≡ i = omega (arith, small) in
-    let gone : walk layout (old h) row n ≡ Unmapped = tidy-answer n (walk layout (old h) row n) (h.orderly.tidy row n h.partition (omega (arith, small, h.chunk))) ∙ ap (walked n) none in
-    let empty : slot layout 3 (m.words k (n % 512)) ≡ Empty = (unmapped_3 (slot layout 3 (m.words k (n % 512))) (ap (at_2 layout m.words n) (sym is) ∙ (sym (gives-entry h n chunk) ∙ gone))) in
-    empty-invalid layout 3 (m.words k i) (ap (λ x. slot layout 3 (m.words k x)) (sym index) ∙ empty)
+    let chunk : (512 * c + i) / 512 ≡ c = omega (arith, small) in
+    let index : (512 * c + i) % 512 ≡ i = omega (arith, small) in
+    ap (λ x. m.words k x % 2) (sym index) ∙ ap (λ w. w % 2) (unreached-zero h k (512 * c + i) is chunk none)
 
 -- the table of the chunk hangs
 pub level_3-seen : {layout : Layout} {row c j : ℕ} {m : Pages} (h : IsSite layout row c j m) → (e : m.words row (c / 512) ≡ table_word_of (layout.base + j)) → (k : ℕ) → entry h ≡ Next k → IsLevel3Write layout m.words row c k

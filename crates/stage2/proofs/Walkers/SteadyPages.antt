@@ -1,6 +1,5 @@
 -- Pages that an edit disturbs, and that keep their answers, have none.
-use Rattle.std.proofs.Common.{◌≡◌, ◌≢◌, ℕ, ◌+◌, ◌*◌, ◌/◌, ◌^◌, ◌<◌, ◌≤◌, max, true, List, None, arith, ◌⊎◌}
-use Rattle.stage2.proofs.Names.{nat_tests, PageRun, in_run, covers, View, is_mixed, edited, touches_run, touches_chunk, AreFree, disturbed, common_steps}
+use Rattle.stage2.proofs.Names.{nat_tests, PageRun, in_run, covers, View, is_mixed, edited, touches_run, touches_chunk, AreFree, disturbed, common_steps, ◌≡◌, ◌≢◌, ℕ, ◌+◌, ◌*◌, ◌/◌, ◌^◌, ◌<◌, ◌≤◌, max, true, List, None, arith, ◌⊎◌}
 use Rattle.stage2.proofs.Counting.Needs.{mixed-same, equal-first, any-one}
 use Rattle.base.proofs.Booleans.{both}
 

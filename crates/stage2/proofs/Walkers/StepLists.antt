@@ -1,7 +1,6 @@
 -- Lists of operations that keep an edit in step.
 use Rattle.std.proofs.Common.{◌≡◌, ◌≢◌, ℕ, ◌+◌, ◌*◌, ◌/◌, ◌%◌, ◌^◌, ◌<◌, Bool, true, eqb, List, [], ◌∷◌, ◌++◌, Option, Some, None, length, refl, arith, ap, sym, subst, ◌∙◌, ◌⊎◌, inl, inr}
-use Rattle.std.proofs.lemmas.Bool.{cases_Bool}
-use Rattle.stage2.proofs.Names.{nat_tests, View, row_of, Pool, Words, words_of, put, Op, Set, Invalidate, Clear, Walked, Layout, slot, at_2, Place, Gigabyte, Chunk, next_page, table_at, IsPlace, IsForest, counted, Made, AreSets, Filled, replaced, words_after, IsInvalid, OpenCall, MayGive, IsInStep, IsInStepIn, nothing, StaysInStep, common_steps, Unmapped}
+use Rattle.stage2.proofs.Names.{nat_tests, View, row_of, Pool, Words, words_of, put, Op, Set, Invalidate, Clear, Walked, Layout, slot, at_2, Place, Gigabyte, Chunk, next_page, table_at, IsPlace, IsForest, counted, Made, AreSets, Filled, replaced, words_after, IsInvalid, OpenCall, MayGive, IsInStep, IsInStepIn, nothing, StaysInStep, common_steps, Unmapped, cases_Bool}
 use Rattle.stage2.specs.inner.History.{broken}
 use Rattle.stage2.proofs.Tree.WalkFrame.{put-same, IsUnheld, table_at-unheld, IsLevel2Write, table_at-level_2, table_at-level_2-other, walk-level_2}
 use Rattle.stage2.proofs.Tree.RootWrites.{is_chunk, forest-level_2}

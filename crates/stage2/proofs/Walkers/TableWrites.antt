@@ -1,6 +1,6 @@
 -- Writes by which tables are filled, linked, cut off and given back, and what walks under way see of them.
 use Rattle.std.proofs.Common.{◌≡◌, ◌≢◌, ℕ, ◌+◌, ◌*◌, ◌/◌, ◌%◌, ◌^◌, ◌<◌, Bool, true, false, ◌&&◌, eqb, List, ◌∷◌, Some, None, length, arith, ap, sym, ◌∙◌, subst, inl, inr}
-use Rattle.stage2.proofs.Names.{nat_tests, PageRun, in_run, row_of, Words, put, Op, Set, Invalidate, Walked, Layout, Slot, Empty, slot, index_1, index_2, index_3, at_1, at_2, at_3, walk, Place, Root, Gigabyte, Chunk, next_page, chunk_table, table_at, IsPlace, IsForest, IsInvalid, BreaksFirst, OpenCall, MayGive, IsInStep, nothing, common_steps, Unmapped}
+use Rattle.stage2.proofs.Names.{nat_tests, PageRun, in_run, row_of, Words, put, Op, Set, Invalidate, Walked, Layout, Empty, slot, index_1, index_2, index_3, at_1, at_2, walk, Place, Root, Gigabyte, Chunk, next_page, chunk_table, table_at, IsPlace, IsForest, IsInvalid, BreaksFirst, OpenCall, MayGive, IsInStep, nothing, common_steps, Unmapped}
 use Rattle.stage2.proofs.Tree.WalkFrame.{put-other, put-same, walk-same, other_table, table_at-gigabyte, table_at-chunk, table_at-root, IsUnheld, table_at-unheld, walk-unheld, IsLevel2Write, table_at-level_2-other, walk-level_2, walk-level_2-other, walk-gigabyte, table_at-chunk_in}
 use Rattle.stage2.proofs.Tree.RootWrites.{is_pair}
 use Rattle.stage2.proofs.Walkers.Level3Write.{slot-zero}
@@ -44,11 +44,6 @@ orderly-unheld e due words past page index word unheld o =
     (walk-unheld e.layout words page index word unheld q n small)
     (may-now e due words past o q n inside small))
     (λ a inside at. absurd (unheld a inside at))
-
--- ---- an invalid word of a level 3 table becomes valid
-
-pub unmapped_3 : (s : Slot) → at_3 s ≡ Unmapped → s ≡ Empty
-unmapped_3 s e = grind (arith, common_steps, nat_tests)
 
 -- ---- a word of a level 2 table
 

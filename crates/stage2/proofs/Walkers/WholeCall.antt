@@ -1,7 +1,6 @@
 -- What walkers see of a whole call: from its entry on, over an edit, and at its end.
 use Rattle.std.proofs.Common.{◌≡◌, ℕ, ◌/◌, ◌^◌, ◌<◌, true, ◌&&◌, eqb, cond, List, [], None, refl, arith, ap, sym, subst, ◌∙◌, ◌⊎◌, inl, inr, eq-eqb}
-use Rattle.std.proofs.lemmas.Bool.{ltb-true}
-use Rattle.stage2.proofs.Names.{PageRun, covers, View, row_of, is_mixed, Words, words_of, all_lie_in, Layout, walk, walked, Agrees, answers, answer_of, edited, AreFree, disturbed, IsSteady, StaysInStep, Moments, view_of, has_root, ReachSo, ShowsMoments, EditsInStep, nat_tests, common_steps}
+use Rattle.stage2.proofs.Names.{PageRun, covers, View, row_of, is_mixed, Words, words_of, all_lie_in, Layout, walk, walked, Agrees, answers, answer_of, edited, AreFree, disturbed, IsSteady, StaysInStep, Moments, view_of, has_root, ReachSo, ShowsMoments, EditsInStep, nat_tests, common_steps, ltb-true}
 use Rattle.stage2.specs.Edits.{with_pages}
 use Rattle.stage2.specs.Tables.{TablesView, AreFreeFor, ClearsNothing, edit_from, IsCallInStep}
 use Rattle.stage2.proofs.Tree.Rows.{same_row}

@@ -1,5 +1,4 @@
-use Rattle.std.proofs.Common.{ℕ, ◌%◌, ◌<◌, cond, is_some, arith, sym, ap, subst, ◌∙◌}
-use Rattle.stage2.proofs.Names.{page_count, Pages, Pool, Words, pages_of, words_of, put, StaysAtChunk, IsSeatedAt, chunk_after, pages_in, nat_tests, common_steps}
+use Rattle.stage2.proofs.Names.{page_count, Pages, Pool, Words, pages_of, words_of, put, StaysAtChunk, IsSeatedAt, chunk_after, pages_in, nat_tests, common_steps, ℕ, ◌%◌, ◌<◌, cond, is_some, arith, sym, ap, subst, ◌∙◌}
 use Rattle.stage2.proofs.Tree.WalkFrame.{IsUnheld}
 use Rattle.stage2.proofs.Walkers.ZeroedTables.{stays-after, stays-taken}
 use Rattle.stage2.proofs.Walkers.StepLists.{stays-replaced, stays-filled, unheld-word}

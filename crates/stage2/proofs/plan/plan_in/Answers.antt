@@ -1,5 +1,4 @@
-use Rattle.std.proofs.Common.{◌≡◌, ◌≤◌, ℕ, ◌+◌, ◌*◌, ◌/◌, cond, Some, refl, sym, ap, ◌∙◌, arith}
-use Rattle.stage2.proofs.Names.{nat_tests, common_steps, View, pages_of, Layout, Slot, Next, answers_at, answers_of, IsSpelled, table_operations}
+use Rattle.stage2.proofs.Names.{nat_tests, common_steps, View, pages_of, Layout, Slot, Next, answers_at, answers_of, IsSpelled, table_operations, ◌≡◌, ◌≤◌, ℕ, ◌+◌, ◌*◌, ◌/◌, cond, Some, refl, sym, ap, ◌∙◌, arith}
 use Rattle.stage2.proofs.Editing.ChunkByChunk.{bit}
 use Rattle.stage2.proofs.Editing.MadeEdit.{touches-made}
 use Rattle.stage2.proofs.Counting.Growth.{IsRead, grows-entry, second-page, entry-view, view-same, view-mixed, view-spelled, view-taken}
