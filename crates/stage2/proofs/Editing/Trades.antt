@@ -89,10 +89,7 @@ module _ {layout : Layout} {row : ℕ} {x : Place} {old new : Pages} (h : IsTrad
   hangs_in : Trade layout row x old new → (r q : ℕ) → InShare old.quotas r q → new.taken q ≡ true → Hangs layout new.words q
   hangs_in (Stay t) r q inside held =
       let was = h.orderly.hangs r q inside (sym (ap (λ f. f q) t.taken) ∙ held) in
-      elim (h.is_x was.0) [
-        | inl f ↦ (x, h.at, t.table ∙ ap (table_at layout old.words) (sym f) ∙ was.2)
-        | inr f ↦ (was.0, was.1, h.kept was.0 was.1 f ∙ was.2)
-      ]
+      grind (arith, common_steps, nat_tests, was.1, was.2, h.is_x was.0, h.kept was.0 was.1, h.at, t.table)
   hangs_in (Hang k t) r q inside held = elim (cases_eq q k) [
     | inl same ↦ (x, h.at, t.now ∙ ap Some (sym same))
     | inr differs ↦ grind (arith, common_steps, nat_tests, h.orderly.hangs, mark-other old.taken k q true differs, h.kept, t.none)
@@ -101,7 +98,7 @@ module _ {layout : Layout} {row : ℕ} {x : Place} {old new : Pages} (h : IsTrad
     | inl same ↦ grind (arith, common_steps, nat_tests, mark-same old.taken k false)
     | inr differs ↦
         let was = h.orderly.hangs r q inside (sym (mark-other old.taken k q false differs) ∙ sym (ap (λ f. f q) t.taken) ∙ held) in
-        (was.0, was.1, h.kept was.0 was.1 (λ f. differs (let bad : table_at layout old.words x ≡ Some q = ap (table_at layout old.words) (sym f) ∙ was.2 in let here = t.was in cc)) ∙ was.2)
+        grind (arith, common_steps, nat_tests, was.1, was.2, h.kept was.0 was.1, t.was)
   ]
 
   trade-hangs : (r q : ℕ) → InShare new.quotas r q → new.taken q ≡ true → Hangs layout new.words q
