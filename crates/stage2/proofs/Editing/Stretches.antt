@@ -90,20 +90,16 @@ module _ (k c first end word step : ℕ) (answer : View) (s : Pool) (whole : IsW
     quotas = refl;
     taken = refl;
     others = λ q i apart. words_set-other s.memory.words k first (end - first) word step q i room small apart;
-    here = λ i a below given. elim (cases_lt i first) [
-      | inl before ↦ let bad : None ≡ Some a = sym (some-before c first end answer i before) ∙ given in absurd (cc)
-      | inr from ↦ elim (cases_lt i end) [
-        | inl lt ↦
-            let same : Some answer ≡ Some a = sym (some-in c first end answer i from lt) ∙ given in
-            let index : first + (i - first) ≡ i = omega (arith, from) in
-            let within : i - first < end - first = omega (arith, from, lt) in
-            let word_at : words_of (words_set s.memory.words k first (end - first) word step) k i ≡ word + step * (i - first) =
-            ap (words_of (words_set s.memory.words k first (end - first) word step) k) (sym index) ∙ words_set-at s.memory.words k first (end - first) word step (i - first) room small within in
-            let answers : answer ≡ a = cc in
-            rw (word_at, ← answers) (subst (λ j. IsWordFor (512 * c + j) answer (word + step * (i - first))) index (is (i - first) within))
-        | inr behind ↦ let bad : None ≡ Some a = sym (some-after c first end answer i behind) ∙ given in absurd (cc)
-      ]
-    ];
+    here = λ i a below given.
+        let from : first ≤ i = grind (arith, common_steps, nat_tests, given, cases_lt i first, some-before c first end answer i) in
+        let lt : i < end = grind (arith, common_steps, nat_tests, given, cases_lt i end, some-after c first end answer i) in
+        let same : Some answer ≡ Some a = sym (some-in c first end answer i from lt) ∙ given in
+        let index : first + (i - first) ≡ i = omega (arith, from) in
+        let within : i - first < end - first = omega (arith, from, lt) in
+        let word_at : words_of (words_set s.memory.words k first (end - first) word step) k i ≡ word + step * (i - first) =
+        ap (words_of (words_set s.memory.words k first (end - first) word step) k) (sym index) ∙ words_set-at s.memory.words k first (end - first) word step (i - first) room small within in
+        let answers : answer ≡ a = cc in
+        rw (word_at, ← answers) (subst (λ j. IsWordFor (512 * c + j) answer (word + step * (i - first))) index (is (i - first) within));
     stays = λ i below none. grind (arith, common_steps, nat_tests, cases_lt i first, cases_lt i end, some-in c first end answer i, words_set-beside s.memory.words k first (end - first) word step i room small);
   }
 

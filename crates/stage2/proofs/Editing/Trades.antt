@@ -61,16 +61,7 @@ module _ {layout : Layout} {row : ℕ} {x : Place} {old new : Pages} (h : IsTrad
 
   trade-forest : IsForest layout new.words
   trade-forest a b q in_a in_b at_a at_b =
-      elim (h.is_x a) [
-        | inl e ↦ elim (h.is_x b) [
-          | inl f ↦ e ∙ sym f
-          | inr f ↦ absurd (elsewhere b in_b f q (ap (table_at layout new.words) (sym e) ∙ at_a) at_b)
-        ]
-        | inr e ↦ elim (h.is_x b) [
-          | inl f ↦ absurd (elsewhere a in_a e q (ap (table_at layout new.words) (sym f) ∙ at_b) at_a)
-          | inr f ↦ h.orderly.forest a b q in_a in_b (sym (h.kept a in_a e) ∙ at_a) (sym (h.kept b in_b f) ∙ at_b)
-        ]
-      ]
+      grind (arith, common_steps, nat_tests, h.is_x a, h.is_x b, elsewhere a in_a, elsewhere b in_b, h.kept a in_a, h.kept b in_b, h.orderly.forest a b q in_a in_b)
 
   taken-other : Trade layout row x old new → (b : Place) (q : ℕ) → IsPlace layout b → b ≢ x → table_at layout old.words b ≡ Some q → new.taken q ≡ true
   taken-other (Stay t) b q inside other was = ap (λ f. f q) t.taken ∙ h.orderly.taken b q inside was
@@ -78,10 +69,7 @@ module _ {layout : Layout} {row : ℕ} {x : Place} {old new : Pages} (h : IsTrad
   taken-other (Drop k t) b q inside other was = ap (λ f. f q) t.taken ∙ mark-other old.taken k q false (λ same. other (h.orderly.forest b x k inside h.at (was ∙ ap Some same) t.was)) ∙ h.orderly.taken b q inside was
 
   trade-taken : (b : Place) (q : ℕ) → IsPlace layout b → table_at layout new.words b ≡ Some q → new.taken q ≡ true
-  trade-taken b q inside now = elim (h.is_x b) [
-    | inl f ↦ (here-now h.trade q (ap (table_at layout new.words) (sym f) ∙ now)).1
-    | inr f ↦ taken-other h.trade b q inside f (sym (h.kept b inside f) ∙ now)
-  ]
+  trade-taken b q inside now = grind (arith, common_steps, nat_tests, h.is_x b, here-now h.trade q, taken-other h.trade b q inside, h.kept b inside)
 
   trade-owned : (b : Place) (q : ℕ) → IsPlace layout b → table_at layout new.words b ≡ Some q → Owns new.quotas b q
   trade-owned b q inside now = grind (arith, common_steps, nat_tests)
