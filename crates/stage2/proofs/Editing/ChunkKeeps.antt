@@ -1,5 +1,5 @@
 -- An edit of a chunk, whichever of its kinds, keeps the tables orderly.
-use Rattle.std.proofs.Common.{◌≡◌, ◌≢◌, ℕ, ◌+◌, ◌*◌, ◌/◌, ◌%◌, ◌^◌, ◌<◌, is_some, Some, length, refl, arith, ap, ap₂, sym, ◌∙◌, inl, inr}
+use Rattle.std.proofs.Common.{◌≡◌, ◌≢◌, ℕ, ◌+◌, ◌*◌, ◌/◌, ◌%◌, ◌^◌, ◌<◌, is_some, Some, length, refl, arith, ap, ap₂, sym, ◌∙◌, inr}
 use Rattle.stage2.proofs.Names.{nat_tests, View, Pages, Layout, slot, Empty, walk, walked, Place, Gigabyte, Chunk, table_at, IsPlace, IsTidy, is_mixed, IsOrderly, answers, answer_of, level_at, Redoes, common_steps}
 use Rattle.stage2.proofs.Tree.RootWrites.{is_chunk, is_pair}
 use Rattle.stage2.proofs.Editing.ChunkEdit.{IsChunkEdit, table-other, walk-apart}
@@ -38,18 +38,9 @@ module _ (layout : Layout) (row c j : ℕ) (answer : ℕ → View) (old new : Pa
   mixed r d inside below = grind (arith, common_steps, nat_tests, is_chunk, mixed-same, answer-walked, mixed_other)
 
   clean : (a : Place) (q i : ℕ) → IsPlace layout a → table_at layout new.words a ≡ Some q → i < 512 → slot layout (level_at a) (new.words q i) ≡ Empty → new.words q i ≡ 0
-  clean a q i inside at below none = elim (is_chunk a row c) [
-    | inl f ↦ h.clean_table q i (ap (table_at layout new.words) (sym f) ∙ at) below (rw f at none)
-    | inr f ↦
-        let was : table_at layout old.words a ≡ Some q = sym (table-other layout row c j old.words new.words h.edit a inside f) ∙ at in
-        elim (is_pair j (c % 512) q i) [
-          | inl e ↦
-              rw (e.0, e.1) (h.clean_entry (rw (h.orderly.forest a (Gigabyte row (c / 512)) j inside (h.edit.partition, omega (arith, h.edit.chunk)) (was ∙ ap Some e.0) h.edit.second, e.0, e.1) at none))
-          | inr e ↦
-              let same : new.words q i ≡ old.words q i = h.edit.same a q i inside f was e in
-              same ∙ h.orderly.clean a q i inside was below (rw same at none)
-        ]
-  ]
+  clean a q i inside at below none =
+      let place : IsPlace layout (Gigabyte row (c / 512)) = (h.edit.partition, omega (arith, h.edit.chunk)) in
+      grind (arith, common_steps, nat_tests, is_chunk a row c, is_pair j (c % 512) q i, h.clean_table q i, h.clean_entry, table-other layout row c j old.words new.words h.edit a inside, h.orderly.forest a (Gigabyte row (c / 512)) j inside place, h.edit.second, h.edit.same a q i inside, h.orderly.clean a q i inside)
 
   orderly : IsOrderly layout new
   orderly =
